@@ -167,7 +167,7 @@ RanAt DestPhase.Running ran ended = (ran ≡ true) × (ended ≡ false)
 RanAt DestPhase.Paused ran ended = Unit {0}
 RanAt DestPhase.Ended ran ended = ended ≡ true
 
--- the epoch of a destination while the link is up: the source's own, but an earlier one while it is paused
+-- the epoch of a destination while the link is up: the source's, an earlier one while it is paused, and any while it is idle
 abbrev pub EpochAt : DestPhase → ℕ → ℕ → Type 0
 EpochAt DestPhase.Idle epoch source_epoch = Unit {0}
 EpochAt DestPhase.Advised epoch source_epoch = epoch ≡ source_epoch

@@ -138,7 +138,7 @@ pub record Slept (world : World) (step : Step) (k : ℕ) (command : Command) : T
 abbrev pub AllAccess : List CpuState → Type 0
 AllAccess processors = (k : ℕ) (command : Command) → outstanding (processor_at processors k) ≡ Some command → is_access command ≡ true
 
--- so on both nodes: only a load or a store waits
+-- on both nodes only a load or a store waits
 pub record AreAccesses (world : World) : Type 0 where
   pub source : AllAccess world.source.guest.cpus
   pub destination : AllAccess world.destination.guest.cpus
