@@ -15,7 +15,7 @@ use Rattle.mig_model.specs.Promises.{is_recv}
 use Rattle.mig_model.proofs.StepCases.{MakesWorld, made-next, made-ok}
 use Rattle.mig_model.proofs.UrgentSteps.{urgent-next}
 
--- what tells that the source has switched in an epoch, and is not to be told again what the destination needs: its epoch, whether it
+-- what decides that the source has switched in an epoch, and that no Recv lists again what the destination needs: its epoch, whether it
 -- has switched, its phase, and whether the link is up
 abbrev HasPushed : ℕ → ℕ → Bool → SourcePhase → Bool → Type 0
 HasPushed pushed epoch switched phase up = (pushed < epoch) ⊎ ((epoch ≡ pushed) × (switched ≡ true) × (up ≡ true → is_source_paused phase ≡ false))

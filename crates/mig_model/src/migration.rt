@@ -38,8 +38,8 @@ ghost use Rattle.mig_model.specs.Runs.{Happens, IsRun, Outcome, needs_memory, ou
 ghost use Rattle.mig_model.specs.Parts.{Grows, ChangesParts};
 ghost use Rattle.mig_model.specs.Promises.{AreAccesses, IsReached, IsComplete, IsAlone, ArePaired, AreUnderWay, IsPut, IsZeroed, keeps_remaining, owed_changed, leaves_settled, is_retry_of, IsDelivered, IsDeliveredBack, IsDeliveredUrgent, takes_forward, takes_back, takes_urgent, is_break, is_recv, is_last, Completes, CanComplete, has_recv, Slept};
 
-/// The commands in the transcript, made in turn on one flat memory, give the replies in it, and what the guest sees is that memory at
-/// the end. Before the destination runs it is the source's; from then on each page is the destination's own, or that of the source
+/// The commands in the transcript, made in turn on one flat memory, give the replies in it, and at the end the guest sees that memory.
+/// Until the destination runs the guest sees the source's memory; from then on each page is the destination's own, or that of the source
 /// from which it is still owed, or zeros.
 pub fn every_schedule()
     ensures transcript { (world : World) → IsReached world → IsFlatRun world.transcript }
@@ -126,8 +126,8 @@ pub fn what_a_switch_keeps()
         outcome (after_steps (next world Step.Switch) steps) (Step.Deliver n) ≡ Ok (Effect.TookPackage owed) → KeepsClean world (after_steps (next world Step.Switch) steps) }
 {}
 
-/// Once the destination has run, each owed page is to be pushed, in flight on either wire, or arrived, and each copy in flight or arrived
-/// has the bytes that the source holds.
+/// Once the destination has run, each copy in flight or arrived has the bytes that the source holds; and while the link is up and the
+/// source is stopped, each owed page is to be pushed, in flight on either wire, or arrived.
 pub fn owed_pages_are_under_way()
     ensures { (world : World) → IsReached world → world.destination.has_run ≡ true → AreUnderWay world }
 {}
