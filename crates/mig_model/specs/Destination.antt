@@ -196,8 +196,8 @@ destination_act_by false false None = Zeroed
 abbrev pub destination_act : Destination → Fault → Act
 destination_act node fault = destination_act_by (is_forgotten node.guest.space fault.page) (is_present node.guest.space fault.page) (get node.owed fault.page)
 
--- the destination after that, with the fault no longer held: a missing page becomes zeros or, if it is owed, is requested once. Its
--- sleepers sleep on if it is requested, and are woken else
+-- the destination after that, with the fault no longer held: a missing page becomes zeros or, if it is owed, is requested once. The
+-- sleepers of a requested page sleep on; those of any other page are woken
 abbrev pub destination_acted_by : Act → Destination → ℕ → Destination
 destination_acted_by Zeroed node page = record node { guest = resolved node.guest page (zero_installed node.guest.space page); held = rest_held node.held }
 destination_acted_by (Requested origin) node page = record node { held = rest_held node.held; requests = requesting node.requests origin }

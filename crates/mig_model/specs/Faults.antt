@@ -40,8 +40,8 @@ abbrev pub is_too_soon : Destination → Frame → Bool
 is_too_soon node (End urgent) = not (finmap.len node.owed == 0) && is_empty node.arrivals && nat_le urgent node.urgent_taken
 is_too_soon node frame = false
 
--- whether the epoch of a frame is right: Advise may have any, Resume has a later one than the destination's own, and any other frame its
--- own
+-- whether the epoch of a frame is right: any for Advise, a later one than the destination's own for Resume, and its own for any other
+-- frame
 abbrev pub is_of_epoch : ℕ → ℕ → Frame → Bool
 is_of_epoch own epoch Advise = true
 is_of_epoch own epoch Resume = nat_lt own epoch

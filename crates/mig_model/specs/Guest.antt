@@ -72,7 +72,7 @@ read_guest guest cpu message =
 
 -- Faults
 
--- a fault that a handler has read: its page, and whether it is a write-protect one
+-- a fault that a handler has read: its page, and whether it is a write-protect fault
 pub record Fault : Type 0 where
   pub page : ℕ
   pub wp : Bool

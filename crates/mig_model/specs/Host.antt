@@ -33,7 +33,7 @@ coded_host =
 abbrev pub bare_host : Host
 bare_host = record { areas = empty; bytes = empty }
 
--- the byte at an address of the pages: 0 where the page is not present
+-- the byte at an address: 0 if its page is not present
 abbrev pub byte_in : FinMap nat_cmp (List ℕ) → ℕ → ℕ
 byte_in bytes addr = slice_index (page_at bytes (addr / PAGE_SIZE)) (addr % PAGE_SIZE)
 

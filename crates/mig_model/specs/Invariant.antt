@@ -48,7 +48,7 @@ AreRight (noted ∷ events) = IsRight noted.message × AreRight events
 
 -- What is in flight
 
--- where a wire to the destination is in the order of its frames: Advise, copies, Discard, Package, copies, End
+-- the place of a wire to the destination in the order of its frames: Advise, copies, Discard, Package, copies, End
 pub data Flow : Type 0 where
   BeforeAdvise : Flow
   Copies : Flow
@@ -100,7 +100,7 @@ are_requests_and_done (sent ∷ rest) = is_request sent.frame && are_requests_an
 abbrev pub flow_of : Source → Flow
 flow_of source = if source.end_epoch == source.epoch then AfterEnd else Pushed
 
--- while the destination runs and the source is stopped
+-- what holds of owed pages while the destination runs and the source is stopped
 pub record IsFlowing (source : Source) (destination : Destination) (forward urgent : List Sent) : Type 0 where
   -- each owed page is to be pushed, in flight on either wire, or arrived
   pub whereabouts : (page origin : ℕ) → get destination.owed page ≡ Some origin → (is_urgent_or_left source.remaining urgent origin || has_copy (copies_of forward) origin || has_copy destination.arrivals origin) ≡ true
@@ -238,7 +238,7 @@ pub record AreSoundCopies (to : DestPhase) (has_run : Bool) (kept : FinMap nat_c
 
 -- the pages that are owed, and the copies that have arrived for them
 pub record IsSoundOwing (bytes : FinMap nat_cmp (List ℕ)) (destination : Space) (has_run ended : Bool) (owed : Owed) (arrivals : List Copy) : Type 0 where
-  -- a destination that has not run owes nothing, and holds no event and no arrival
+  -- a destination that has not run is owed nothing, and has a fresh space and no arrival
   pub not_run : has_run ≡ false → (owed ≡ finmap.empty) × (destination ≡ fresh_space) × (arrivals ≡ [])
   -- no source page is owed to two pages, and each is present at the source
   pub one_to_one : (page other origin : ℕ) → get owed page ≡ Some origin → get owed other ≡ Some origin → page ≡ other

@@ -129,7 +129,7 @@ unregister_error space start len =
 abbrev pub unregister_answer : Space → ℕ → ℕ → Result Wake Errno
 unregister_answer space start len = answered_by (unregister_error space start len) (Range start len)
 
--- no page of the range is registered, and none is write-protected
+-- the space once no page of a range is registered or write-protected
 abbrev pub unregistered_in : Space → ℕ → ℕ → Space
 unregistered_in space first count = record space { object = unregistered space.object first count; protected = without space.protected first count }
 
@@ -200,7 +200,7 @@ installed space first count bytes protect =
       protected = pages_where (λ page. contains space.protected page || (protect && in_range first count page));
     }
 
--- why a call stopped: the own error of the page if that is the first of the range, else EAGAIN
+-- the error at which a call stopped: that of the page itself if it is the first of the range, else EAGAIN
 abbrev pub stop_error : ℕ → Errno → Errno
 stop_error zero own = own
 stop_error (suc count) own = Eagain
@@ -215,7 +215,7 @@ pub record Put : Type 0 where
   pub fault : Option Errno
   pub wake : Wake
 
--- the answer once `done` of `count` pages are put: all of them, or those before the page that failed by its own error
+-- the answer once `done` of `count` pages are put: all of them, or those before the page that failed with its own error
 abbrev pub put_answer : ℕ → ℕ → ℕ → ℕ → Errno → Put
 put_answer start count done bits own =
     record { bytes = PAGE_SIZE * done; fault = if done == count then None else Some (stop_error done own); wake = wakes start done bits }

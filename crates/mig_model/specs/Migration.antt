@@ -1,5 +1,6 @@
 -- The machine: what each step of a world answers, and the world after it. Processors, fault handlers, pushers and deliveries make
--- steps; the break of a channel, its notice and its resumption are steps as well.
+-- steps; the break of a channel, its notice and its resumption are steps as well. The sentence above a step names its refusals in the
+-- order in which they are tested; the first that applies is given.
 use Rattle.std.specs.Prelude.{ℕ, ◌+◌, ◌-◌, ◌*◌, ◌^◌, ◌==◌, ◌&&◌, ◌||◌, not, nat_lt, Bool, true, false, if◌then◌else◌, Option, Some, None, is_some, Result, Ok, Err, List, [], ◌∷◌, ◌++◌, length}
 use Rattle.std.specs.FinSet as finset
 use Rattle.std.specs.FinSet.{contains}
@@ -49,19 +50,19 @@ pub record World : Type 0 where
   -- the commands that took effect, in that order, with their replies
   pub transcript : List Entry
 
--- a world in which nothing has happened, whose counts stand at the numbers given
+-- a world of `cpus` processors in which nothing has happened, whose epoch and number of rounds are those given
 abbrev pub first_world_with : ℕ → ℕ → ℕ → World
 first_world_with cpus epoch rounds =
     record { source = first_source cpus epoch rounds; destination = first_destination cpus; forward = empty_wire; back = empty_wire; urgent = empty_wire; up = true; transcript = [] }
 
--- a world in which nothing has happened
+-- a world of `cpus` processors in which nothing has happened
 abbrev pub first_world : ℕ → World
 first_world cpus = first_world_with cpus 0 0
 
 -- Which node runs the processors
 
--- the guest where it runs: at the source until it has stopped, at the destination once that has run. In between nobody runs it, and
--- its processors are as the source left them
+-- the guest at the node that runs it: the source until Switch, the destination once it has run. In between no node runs it, and its
+-- processors are as the source left them
 abbrev pub guest_by : Bool → Guest → Guest → Guest
 guest_by true from to = to
 guest_by false from to = from
@@ -83,7 +84,7 @@ with_guest_by false world guest = record world { source = record world.source { 
 abbrev pub with_guest : World → Guest → World
 with_guest world guest = with_guest_by world.destination.has_run world guest
 
--- What steps are asked before they are made
+-- Tests by which steps are refused
 
 -- whether the guest has no such processor: the refusal NoCpu
 abbrev pub has_no_cpu : World → ℕ → Bool
@@ -111,7 +112,7 @@ abbrev pub is_early : Destination → Frame → Bool
 is_early node (End urgent) = nat_lt node.urgent_taken urgent
 is_early node frame = false
 
--- whether a side is paused: it has noticed a break of the channel and not gone on since
+-- whether a side is paused: it has noticed a break of the channel, and has not gone on since
 abbrev pub is_paused_at : World → Side → Bool
 is_paused_at world Side.Source = is_source_paused world.source.phase
 is_paused_at world Side.Destination = is_dest_paused world.destination.phase
@@ -166,7 +167,7 @@ try_effect cpu (Call reply left) = Effect.InCall cpu left
 abbrev pub try_command : World → ℕ → Command → Answer
 try_command world cpu command = made (try_effect cpu (took_by (is_access command) (guest_of world).space command)) (after_command world cpu command)
 
--- Issue of a command: refused as NoCpu if the guest lacks the processor, Busy unless it is idle, Phase while no node runs the guest
+-- Issue of a command: refused as NoCpu if the guest lacks the processor, Busy unless that is idle, Phase while no node runs the guest
 abbrev pub issue : World → ℕ → Command → Answer
 issue world cpu command =
     unless

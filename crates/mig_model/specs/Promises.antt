@@ -1,4 +1,4 @@
--- The promises, as words for the laws of a migration.
+-- The words in which the laws of a migration are stated.
 use Rattle.std.specs.Prelude.{◌≡◌, ℕ, ◌+◌, ◌-◌, ◌/◌, ◌<◌, ◌||◌, nat_lt, ◌==◌, if◌then◌else◌, Bool, true, false, Some, None, List, [], Option, ◌∷◌, IsOk}
 use Rattle.std.specs.FinMap as finmap
 use Rattle.std.specs.FinMap.{get, contains_key}
@@ -51,9 +51,9 @@ pub record IsAlone (world : World) : Type 0 where
   pub none_settled : (page : ℕ) → settled world.destination page ≡ None
   pub none_arrived : world.destination.arrivals ≡ []
 
--- the pairs of pages that are owed, in the table and in the settled relation: one to one, each source page is present at the source,
--- and each page that is still owed is mapped, registered for missing faults, and missing. A destination that has ended has none, and
--- no copy waits
+-- owed pages and their origins are one to one, in the table and in the settled relation. Each origin is present at the source, and each
+-- page that is still owed is mapped, registered for missing faults, and missing. A destination that has ended is owed nothing, and no
+-- copy waits
 pub record ArePaired (world : World) : Type 0 where
   pub one_to_one : (page other origin : ℕ) → get world.destination.owed page ≡ Some origin → get world.destination.owed other ≡ Some origin → page ≡ other
   pub present : (page origin : ℕ) → get world.destination.owed page ≡ Some origin → is_present (space_of world.source) origin ≡ true
@@ -64,7 +64,7 @@ pub record ArePaired (world : World) : Type 0 where
   pub missing : (page origin : ℕ) → settled world.destination page ≡ Some origin → is_present world.destination.guest.space page ≡ false
   pub ended : world.destination.ended ≡ true → (world.destination.owed ≡ finmap.empty) × (world.destination.arrivals ≡ [])
 
--- where the destination has run: while the link is up and the source is stopped, each owed page is to be pushed, in flight on either
+-- once the destination has run: while the link is up and the source is stopped, each owed page is to be pushed, in flight on either
 -- wire, or arrived; and each copy in flight or arrived has the bytes that the source holds for its page
 pub record AreUnderWay (world : World) : Type 0 where
   pub whereabouts : world.up ≡ true → is_stopped world.source.phase ≡ true → (page origin : ℕ) → get world.destination.owed page ≡ Some origin →
@@ -116,7 +116,7 @@ owed_changed owed (DontNeed addr len) Done = gone owed (addr / PAGE_SIZE) (pages
 owed_changed owed (DontNeed addr len) (Refused Enomem) = gone owed (addr / PAGE_SIZE) (pages_of len)
 owed_changed owed _ _ = owed
 
--- the steps that are neither a map call nor an install
+-- the steps that leave the settled relation as it is: all but a map call and Install
 abbrev pub leaves_settled : Step → Bool
 leaves_settled (Step.Issue cpu command) = is_access command
 leaves_settled Step.Install = false
@@ -129,7 +129,7 @@ abbrev pub is_retry_of : Step → ℕ → Bool
 is_retry_of (Step.Retry cpu) k = cpu == k
 is_retry_of step k = false
 
--- a step is the Issue of a processor, and its command slept
+-- a step is the Issue of this command by a processor, which then sleeps
 pub record Slept (world : World) (step : Step) (k : ℕ) (command : Command) : Type 0 where
   pub step_is : step ≡ Step.Issue k command
   pub sleeps : took_by (is_access command) (guest_of world).space command ≡ Sleep
@@ -197,19 +197,19 @@ pub record IsDeliveredUrgent (old new : World) (sent : Sent) (rest : List Sent) 
   pub destination : new.destination ≡ urgent_took old.destination sent.frame
   pub urgent : new.urgent ≡ wire_behind rest
 
--- the steps that take from the urgent wire
+-- the steps that take frames from the urgent wire: DeliverUrgent and Break
 abbrev pub takes_urgent : Step → Bool
 takes_urgent (Step.DeliverUrgent n) = true
 takes_urgent Step.Break = true
 takes_urgent step = false
 
--- the steps that take from the wire to the destination
+-- the steps that take frames from the wire to the destination: Deliver and Break
 abbrev pub takes_forward : Step → Bool
 takes_forward (Step.Deliver n) = true
 takes_forward Step.Break = true
 takes_forward step = false
 
--- the steps that take from the wire back
+-- the steps that take frames from the wire back: DeliverBack and Break
 abbrev pub takes_back : Step → Bool
 takes_back (Step.DeliverBack n) = true
 takes_back Step.Break = true

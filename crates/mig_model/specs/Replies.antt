@@ -13,7 +13,7 @@ abbrev pub last_reply : List Entry → ℕ → Option Reply
 last_reply [] k = None
 last_reply (entry ∷ entries) k = elim (last_reply entries k) [ Some reply ↦ Some reply | None ↦ if entry.cpu == k then Some entry.reply else None ]
 
--- the reply that a processor in a call will get
+-- the reply that a processor in a map call will get
 abbrev pub call_reply : CpuState → Option Reply
 call_reply (CpuState.InCall reply left) = Some reply
 call_reply processor = None

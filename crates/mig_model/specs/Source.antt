@@ -233,7 +233,8 @@ source_rebuilt Received.NotRun owed node =
 source_rebuilt Received.Running owed node = record node { phase = SourcePhase.Stopped; asked = []; remaining = owed }
 source_rebuilt Received.Ended owed node = released node
 
--- what the source sends then: if it has switched and the destination has not run, a Discard of nothing and a Package that owes all pages
+-- what the source sends then: if it has switched and the destination has not run, a Discard of nothing and a Package that owes all
+-- present pages
 abbrev pub rebuild_frames : Received → Source → List Frame
 rebuild_frames Received.NotRun node = if node.switched then package_frames node no_pages (present (space_of node)) else []
 rebuild_frames Received.Running node = []

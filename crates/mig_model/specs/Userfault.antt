@@ -72,7 +72,7 @@ registered_where object test mode =
 abbrev pub unregistered : Object → ℕ → ℕ → Object
 unregistered object first count = record object { missing = without object.missing first count; protect = without object.protect first count }
 
--- the object once a range of pages has gone to a new place, where it may be longer or shorter: a page keeps its mode when it moves,
+-- the object once a range of pages has moved to a new place, where it may be longer or shorter: a page keeps its mode when it moves,
 -- and the pages by which the range grows have the mode given
 abbrev pub moved_modes : Object → ℕ → ℕ → ℕ → ℕ → Mode → Object
 moved_modes object from count to new_count growth =

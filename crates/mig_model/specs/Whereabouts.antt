@@ -56,7 +56,7 @@ abbrev pub has_copy : List Copy → ℕ → Bool
 has_copy [] page = false
 has_copy (copy ∷ copies) page = copy.page == page || has_copy copies page
 
--- each copy has the bytes that its page has in this map, where it is present
+-- the page of each copy is present in this map, with the bytes of the copy
 abbrev pub AreFaithful : FinMap nat_cmp (List ℕ) → List Copy → Type 0
 AreFaithful bytes [] = Unit {0}
 AreFaithful bytes (copy ∷ copies) = (get bytes copy.page ≡ Some copy.bytes) × AreFaithful bytes copies
