@@ -26,7 +26,7 @@ pub enum Place {
     Anywhere,
     /// At this address, replacing what is mapped there: MAP_FIXED of mmap(2).
     Fixed(Addr),
-    /// At this address, where nothing may be mapped: MAP_FIXED_NOREPLACE of mmap(2).
+    /// At this address, if nothing is mapped there: MAP_FIXED_NOREPLACE of mmap(2).
     NoReplace(Addr),
 }
 
@@ -108,7 +108,7 @@ pub enum Reply {
     Done,
     /// A mapping was made or resized, and begins at this address.
     At(Addr),
-    /// An access to a page that is not mapped, or whose protection forbids it: SIGSEGV.
+    /// An access to a page that is not mapped, or whose protection forbids it: SIGSEGV. `mapped` says whether the page is mapped.
     Segv { mapped: bool },
     /// An access whose form is wrong: its width is not 1, 2, 4 or 8 bytes, its address is not a multiple of the width, or its value does
     /// not fit.

@@ -5,7 +5,7 @@ use crate::{Command, PageNo};
 /// One step of a world: one event of a processor, a handler, a pusher, a delivery or the channel.
 #[derive(Clone, Copy, Debug, PartialEq, Eq)]
 pub enum Step {
-    /// A processor makes a command.
+    /// A processor issues a command.
     Issue { cpu: u8, command: Command },
     /// A processor that was woken tries its command again.
     Retry { cpu: u8 },

@@ -72,7 +72,7 @@ abbrev pub ArePageBytes : List (List ℕ) → Type 0
 ArePageBytes [] = Unit {0}
 ArePageBytes (bytes ∷ pages) = IsPageBytes bytes × ArePageBytes pages
 
--- a load or store of the right form: aligned, at an address of 64 bits, with a value that fits its width
+-- a load or store of the right form: aligned, and at an address of 64 bits; the value of a store fits its width
 abbrev pub IsRightAccess : Command → Type 0
 IsRightAccess (Load addr width) = (is_aligned addr width ≡ true) × (addr < 2 ^ 64)
 IsRightAccess (Store addr width value) = (is_aligned addr width ≡ true) × (value < 256 ^ width) × (addr < 2 ^ 64)
