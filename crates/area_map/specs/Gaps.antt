@@ -10,7 +10,7 @@ pub record IsFreeRange (areas : List Area) (count start : ℕ) : Type 0 where
   pub high : start + count ≤ HIGH_PAGE
   pub free : (page : ℕ) → start ≤ page → page < start + count → prot_in areas page ≡ None
 
--- and it is the least such range
+-- and it is the lowest such range
 pub record IsFreePage (areas : List Area) (count start : ℕ) : Type 0 where
   pub range : IsFreeRange areas count start
   pub least : (other : ℕ) → IsFreeRange areas count other → start ≤ other
