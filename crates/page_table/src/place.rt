@@ -1,4 +1,5 @@
-//! Leaves, and one place for a leaf: what is read, put in, written, taken out and cleared there. Pages go by their number in the leaf.
+//! Leaves, and one place for a leaf: reading, putting, writing, taking out and clearing pages there. A page is named by its number in
+//! the leaf.
 
 ghost use Rattle.std.specs.Prelude.{◌≡◌, ℕ, ◌+◌, ◌*◌, ◌%◌, ◌<◌, ◌≤◌, ◌&&◌, ◌||◌, Bool, true, false, nat_eq, if◌then◌else◌, Some, None, IfOk, OnOk, is_some, length};
 ghost use Rattle.std.specs.Option.{option_copied};
@@ -18,7 +19,7 @@ use mig_base::{NoMemory, PAGE_BYTES};
 use std::alloc::Global;
 
 impl Leaf {
-    /// A leaf of missing pages.
+    /// A leaf of missing pages. `NoMemory` if it cannot be allocated.
     pub fn new(alloc: Global) -> Result<Self, NoMemory>
         ensures { IfOk result (λ leaf. (i : ℕ) → leaf_cell leaf i ≡ no_cell) }
     {
@@ -36,7 +37,7 @@ impl Leaf {
         self.pages[i as usize].is_some()
     }
 
-    /// Puts the present pages into a set, where the leaf is that of that number.
+    /// Puts the present pages into a set. The leaf is number `at` of its table. `NoMemory` may leave some of them in the set.
     pub fn gather(&self, at: u32, pages: &mut PageSet) -> Result<(), NoMemory>
         requires { at < CHUNK }
         ensures { OnOk result ((q : ℕ) → contains pages.new q ≡ (contains pages.old q || (in_range (CHUNK * at) CHUNK q && is_some (leaf_cell self.now (q % CHUNK)).0))) }
@@ -124,7 +125,7 @@ pub fn place_is_protected(place: &Place, i: u32) -> bool
     }
 }
 
-/// Makes the leaf, where there is none.
+/// Makes the leaf if there is none. `NoMemory` if it cannot be allocated.
 pub fn place_make(alloc: Global, place: &mut Place) -> Result<(), NoMemory>
     ensures same { (i : ℕ) → cell_in place.new i ≡ cell_in place.old i }
     ensures there { OnOk result (is_place place.new ≡ true) }
@@ -139,7 +140,7 @@ pub fn place_make(alloc: Global, place: &mut Place) -> Result<(), NoMemory>
     }
 }
 
-/// Puts the present pages of the place of that number into a set.
+/// Puts the present pages of place number `at` into a set. `NoMemory` may leave some of them in the set.
 pub fn place_gather(place: &Place, at: u32, pages: &mut PageSet) -> Result<(), NoMemory>
     requires { at < CHUNK }
     ensures { OnOk result ((q : ℕ) → contains pages.new q ≡ (contains pages.old q || (in_range (CHUNK * at) CHUNK q && is_some (cell_in place.now (q % CHUNK)).0))) }
