@@ -205,8 +205,8 @@ impl PageTable {
     /// Moves the `count` pages from `from` on, with their protection, to those from `to` on. No byte is copied. The ranges do not
     /// overlap, and both end at or below page 0x100000.
     ///
-    /// The pages of the target range are dropped first, so that a missing source page is missing there too. The source range is
-    /// missing afterwards. `NoMemory`, for the room of the target's leaves, leaves the table as it was.
+    /// The target range loses the pages that it had, also where the source page is missing. The source range is missing afterwards.
+    /// `NoMemory`, for the room of the target's leaves, leaves the table as it was.
     pub fn move_range(&mut self, from: PageNo, to: PageNo, count: u32) -> Result<(), NoMemory>
         requires inside { (from + count ≤ HIGH_PAGE) × (to + count ≤ HIGH_PAGE) }
         requires apart { (from + count ≤ to) ⊎ (to + count ≤ from) }

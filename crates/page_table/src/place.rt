@@ -50,7 +50,7 @@ impl Leaf {
         Ok(())
     }
 
-    /// Takes a page out, and tells whether it was protected.
+    /// Takes a page out, and returns whether it was protected.
     pub fn take(&mut self, i: u32) -> (Page, bool)
         requires { i < CHUNK }
         ensures taken { result ≡ leaf_cell self.old i }
@@ -151,7 +151,7 @@ pub fn place_gather(place: &Place, at: u32, pages: &mut PageSet) -> Result<(), N
     }
 }
 
-/// Takes a page out, and tells whether it was protected.
+/// Takes a page out, and returns whether it was protected.
 pub fn place_take(place: &mut Place, i: u32) -> (Page, bool)
     requires { i < CHUNK }
     ensures taken { result ≡ cell_in place.old i }

@@ -68,7 +68,7 @@ pub fn make_place(alloc: Global, places: &mut Vec<Place>, page: PageNo) -> Resul
     place_make(alloc, &mut places[at])
 }
 
-/// Takes a page out, and tells whether it was protected.
+/// Takes a page out, and returns whether it was protected.
 pub fn take_at(places: &mut Vec<Place>, page: PageNo) -> (Page, bool)
     ensures taken { result ≡ cell_at places.old.items page }
     ensures whole { IsWhole result.0 }
