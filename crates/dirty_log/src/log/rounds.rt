@@ -79,9 +79,9 @@ impl DirtyLog {
         (end - first).min(most)
     }
 
-    /// Write-protects a page, which is clean from then on: the caller has to send its bytes before the page changes. Refused with `Changing`
-    /// while an event is unread, with `PageNotSendable` if the page is missing or not registered for write-protect faults, and with
-    /// `NoMemory`.
+    /// Write-protects a page, which is clean from then on: the caller has to send its bytes before the page changes. Refused with
+    /// `Changing` while an event is unread, with `PageNotSendable` if the page is missing or not registered for write-protect faults, and
+    /// with `NoMemory`.
     pub fn protect_page(&mut self, space: &mut Space, page: PageNo) -> Result<(), Refusal>
         requires lent { IsLent space.old }
         requires page { page < HIGH_PAGE }
