@@ -10,7 +10,7 @@ use Rattle.area_map.specs.declared.edit.Side.{Side}
 use Rattle.area_map.specs.declared.edit.Edit.{Edit}
 use Rattle.area_map.specs.Areas.{prot_in, AreRuns, EndsBefore, BeginsAfter}
 
--- the area ends below the page, and if it touches the page, its protection is not `prot`
+-- the area lies below the page, and if it touches the page, its protection is not `prot`
 pub record StandsBelow (page : ℕ) (prot : Option Prot) (area : Area) : Type 0 where
   pub apart : area.first + area.count ≤ page
   pub differ : area.first + area.count ≡ page → Some area.prot ≢ prot

@@ -73,7 +73,7 @@ impl Leaf {
         set_member(&mut self.protected, i, protected);
     }
 
-    /// Writes bytes into a page, where it is present.
+    /// Writes bytes into a page, from byte `offset` on. A missing page stays missing.
     pub fn write(&mut self, i: u32, offset: usize, bytes: &[u8])
         requires place { i < CHUNK }
         requires inside { offset + length bytes.now ≤ PAGE_SIZE }
@@ -178,7 +178,7 @@ pub fn place_put(place: &mut Place, i: u32, page: Page, protected: bool)
     }
 }
 
-/// Writes bytes into a page, where it is present.
+/// Writes bytes into a page, from byte `offset` on. A missing page stays missing.
 pub fn place_write(place: &mut Place, i: u32, offset: usize, bytes: &[u8])
     requires place { i < CHUNK }
     requires inside { offset + length bytes.now ≤ PAGE_SIZE }

@@ -56,7 +56,7 @@ Stops pages first count done None = done ≡ count
 Stops pages first count done (Some stop.Present) = (done < count) × (contains_key pages (first + done) ≡ true)
 Stops pages first count done (Some stop.NoMemory) = (done < count) × (contains_key pages (first + done) ≡ false)
 
--- the first `done` pages of the range were missing and can be put; `stop` is why no more were
+-- a call put the first `done` pages of the range, all of which were missing, and `stop` is why it put no more
 pub record IsPut (pages : FinMap nat_cmp (List ℕ)) (first count done : ℕ) (stop : Option PutFault) : Type 0 where
   pub few : done ≤ count
   pub missing : (i : ℕ) → i < done → contains_key pages (first + i) ≡ false

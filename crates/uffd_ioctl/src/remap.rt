@@ -72,7 +72,7 @@ pub(crate) fn apply(
     }
 }
 
-/// Unmaps the end of a range.
+/// Unmaps the end of a range. `NoMemory` changes nothing.
 fn shrink(areas: &mut AreaMap, pages: &mut PageTable, range: Remap) -> Result<(), NoMemory>
     requires range { IsRemap range }
     requires prot { HasProt areas.old range.from range.count }
@@ -91,7 +91,7 @@ fn shrink(areas: &mut AreaMap, pages: &mut PageTable, range: Remap) -> Result<()
     Ok(())
 }
 
-/// Adds pages of zeros to the end of a range.
+/// Adds pages of zeros to the end of a range. `NoMemory` changes nothing.
 fn grow(
     areas: &mut AreaMap,
     pages: &mut PageTable,
@@ -115,7 +115,7 @@ fn grow(
     Ok(())
 }
 
-/// Moves a range. The pages that fit into both ranges move; the rest are dropped.
+/// Moves a range. The pages that fit into both ranges move; the rest are dropped. `NoMemory` changes nothing.
 fn relocate(
     areas: &mut AreaMap,
     pages: &mut PageTable,

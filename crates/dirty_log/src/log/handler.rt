@@ -62,9 +62,9 @@ impl DirtyLog {
         Ok(())
     }
 
-    /// Resolves the first held fault according to the present state of its page, and wakes the processors that sleep on the page. Returns
-    /// how it was resolved, and the address of the page. Refused with `NothingThere` if no fault is held, with `Changing` while an event is
-    /// unread, and with `NoMemory` if a missing page cannot be made zeros.
+    /// Resolves the first held fault according to the present state of its page, and wakes the processors that sleep on the page.
+    /// Returns how it was resolved, and the address of the page. Refused with `NothingThere` if no fault is held, with `Changing`
+    /// while an event is unread, and with `NoMemory` if a missing page cannot be made zeros.
     pub fn act(&mut self, space: &mut Space, cpus: &mut Cpus) -> Result<(Act, Addr), Refusal>
         requires lent { IsLent space.old }
         ensures accepted { OnOk result (act_refusal self.old space.old ≡ None) }

@@ -128,8 +128,8 @@ impl DirtyLog {
         Ok(Sent::read(space, page))
     }
 
-    /// Write-protects the `count` pages from `first` on, then reads their bytes in order, also those of pages of zeros. The pages are clean
-    /// from then on. Refused like [`DirtyLog::send_page`], for any page of the range.
+    /// Write-protects the `count` pages from `first` on, then reads their bytes in order, also those of pages of zeros. The pages are
+    /// clean from then on. Refused like [`DirtyLog::send_page`], for any page of the range.
     pub fn send_run(
         &mut self,
         space: &mut Space,

@@ -164,7 +164,8 @@ pub fn numbered(alloc: Global, places: &Vec<Place>) -> Result<PageSet, NoMemory>
     Ok(pages)
 }
 
-/// Extends the set of the pages that have a number by those from `first` up to, but not including, `end`.
+/// Extends the set of the pages that have a number by those from `first` up to, but not including, `end`. `NoMemory` may leave
+/// the set changed.
 fn insert_numbered(
     pages: &mut PageSet,
     places: &Vec<Place>,

@@ -144,8 +144,9 @@ impl Source {
         })
     }
 
-    /// Announces to the destination that nothing more is sent in this epoch. Refused with `Phase` unless the source is stopped and
-    /// has sent no End in this epoch, and with `PagesLeft` while pages remain. It takes no memory.
+    /// Announces to the destination that nothing more is sent in this epoch. The frame has the number of frames that were put on the
+    /// urgent wire in this epoch. Refused with `Phase` unless the source is stopped and has sent no End in this epoch, and with
+    /// `PagesLeft` while pages remain. It takes no memory.
     pub fn end(&mut self) -> Result<(Effect, Frame), Refusal>
         ensures made { IfOk result (λ told. IsMade self.old Step.End told.0 (frame_of told.1 ∷ []) self.new) }
         ensures frame { IfOk result (λ told. IsFrame (frame_of told.1)) }

@@ -19,10 +19,10 @@ use mig_base::{
 use page_table::PutFault;
 
 impl Space {
-    /// Makes a load or store of a processor; no other command is allowed. An access that is malformed or not permitted is answered as one
-    /// flat memory answers it. An access to a missing page registered for missing faults is a page fault, and so is a store to a protected
-    /// page registered for write-protect faults: the processor sleeps, and a message is queued, unless one of the same kind for the page is
-    /// unread. Any other access is answered as one flat memory answers it. A load leaves a missing page missing.
+    /// Makes a load or store of a processor; no other command is allowed. An access that is malformed or not permitted is answered as
+    /// one flat memory answers it. An access to a missing page registered for missing faults is a page fault, and so is a store to a
+    /// protected page registered for write-protect faults: the processor sleeps, and a message is queued, unless one of the same kind
+    /// for the page is unread. Any other access is answered as one flat memory answers it. A load leaves a missing page missing.
     ///
     /// `NoMemory` only if the access needs memory, to queue a page fault or to make a page present; it changes nothing.
     pub fn access(&mut self, cpu: u8, command: Command) -> Result<Access, NoMemory>
@@ -138,8 +138,8 @@ impl Space {
         }
     }
 
-    /// Writes the `width` bytes of a number at an address, and makes their page present. `NoMemory` only if the page is missing; it changes
-    /// nothing.
+    /// Writes the `width` bytes of a number at an address, and makes their page present. `NoMemory` only if the page is missing; it
+    /// changes nothing.
     fn write(&mut self, addr: Addr, width: u8, value: u64) -> Result<(), NoMemory>
         requires high { addr < HIGH }
         requires aligned { is_form addr width ≡ true }

@@ -38,7 +38,7 @@ impl Userfault {
     }
 }
 
-/// Registers a run of pages in the sets of both modes. `NoMemory` may leave one of them changed.
+/// Registers a run of pages in the sets of both modes. `NoMemory` may leave the sets changed.
 fn register_run(
     missing: &mut PageSet,
     protect: &mut PageSet,
