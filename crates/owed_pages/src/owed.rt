@@ -22,7 +22,7 @@ use std::marker::Model;
 /// The table of owed pages: which page of the source, the *origin*, is to fill which page of the destination.
 ///
 /// No page of the source is owed at two pages. Pages and origins lie below `HIGH_PAGE`. `home`, `origin` and `settle` take the
-/// same few steps whatever is owed. The number of pairs is kept, so `len` and `is_empty` read it.
+/// same few steps whatever is owed. The number of pairs is kept, so that `len` and `is_empty` do not count.
 #[derive(Drop)]
 pub struct Owed {
     alloc: Global,

@@ -14,8 +14,9 @@
 //!
 //! A table has two levels, so that a look-up is one index and another: up to 1024 places, each for 1024 pages. A place is
 //! empty until one of its pages is put; then it has a [`leaf::Leaf`], a list of 1024 pages that may be missing and a set
-//! of flags. `specs/Leaves.antt` says what a place and a list of places hold of one page. The modules follow: `leaf` (the lists
-//! of 1024), `place` (one place), `table` (all places), and `page_table` (the type that callers see).
+//! of flags. `specs/Leaves.antt` says what a place and a list of places have for one page. The modules follow: `leaf` (the lists
+//! of 1024), `place` (one place), `table` (all places), `unprotect` (ending the protection of a range), and `page_table` (the type
+//! that callers see).
 #![tactic(auto)]
 
 mod leaf;

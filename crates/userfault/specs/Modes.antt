@@ -10,7 +10,7 @@ use Rattle.mig_base.specs.Tests.{same_bool}
 use Rattle.userfault.specs.declared.modes.Mode.{Mode}
 use Rattle.userfault.specs.declared.object.moves.RangeModes.{RangeModes}
 
--- the machine's word for a mode
+-- the machine's mode that a mode of the code means
 abbrev pub mode_of : Mode → machine.Mode
 mode_of mode = record { missing = mode.missing; protect = mode.protect }
 

@@ -107,7 +107,7 @@ pub fn run_of(set: &PageSet, from: PageNo, end: PageNo, want: bool) -> (PageNo, 
     (start, stop)
 }
 
-/// Whether a set has all pages of a range; true if that is not `asked`.
+/// Whether a set has all pages of a range. It is true unless `asked`.
 pub fn has_all(set: &PageSet, first: PageNo, count: u32, asked: bool) -> bool
     requires { first + count ≤ HIGH_PAGE }
     ensures { result ≡ is_every (λ page. not asked || contains set.now page) first count }

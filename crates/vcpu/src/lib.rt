@@ -9,7 +9,7 @@
 //!
 //! Contracts see the processors as a list of [`mig_base::cpu_state::CpuState`], and each call is one step of
 //! `mig_model`'s `specs/Cpus.antt`; `specs/Answers.antt` says what each call answers. The modules follow: `cpus` (the type that
-//! callers see), `fault` (why it could not be made), and `sleepers` (whom a call wakes).
+//! callers see), `fault` (why processors could not be made), and `sleepers` (whom a call wakes).
 #![tactic(auto)]
 
 mod cpus;

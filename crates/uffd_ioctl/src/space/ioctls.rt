@@ -128,7 +128,7 @@ impl Space {
         Ok(Wake::Range { start, len })
     }
 
-    /// UFFDIO_COPY: makes the missing pages from `start` on present, each with its 4096 of the bytes, write-protected with bit 1 of
+    /// UFFDIO_COPY: makes the missing pages from `start` on present, each with its 4096 bytes of `bytes`, write-protected with bit 1 of
     /// the mode (UFFDIO_COPY_MODE_WP), and wakes those that sleep there, unless bit 0 is set (UFFDIO_COPY_MODE_DONTWAKE). It stops
     /// at the first page that is present or cannot be allocated: the pages put before stay, and their sleepers are woken as above. The
     /// error is then EAGAIN; if that page is the first of the range, it is EEXIST or `NoMemory`.
