@@ -1,4 +1,4 @@
--- The header of a text: 12 bytes. The first rule that it breaks is the fault of the stream.
+-- The header of a text: 12 bytes. The first rule that it breaks decides the fault of the stream.
 use Rattle.std.specs.Prelude.{ℕ, Bool, ◌&&◌, ◌==◌, if◌then◌else◌, List, take, drop, slice_index, Option, Some, None, Result, Ok, Err}
 use Rattle.std.specs.Int.{w32, from_be_bytes}
 use Rattle.frame_decoder.specs.declared.fault.StreamFault.{StreamFault}

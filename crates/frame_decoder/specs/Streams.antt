@@ -38,7 +38,7 @@ pub record IsTextOf (version : Version) (bytes : List ℕ) (sent : Sent) : Type 
 
 -- The version that is fixed
 
--- a frame of this version may come: any, or that which is fixed
+-- a frame of this version may come: any version if none is fixed, and otherwise the fixed one alone
 abbrev pub May : (fixed : Option Version) → Version → Type 0
 May None version = Unit {0}
 May (Some fixed) version = fixed ≡ version

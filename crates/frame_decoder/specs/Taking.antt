@@ -55,7 +55,7 @@ pub record IsOneFrame (fixed : Option Version) (bytes : List ℕ) : Type 0 where
 abbrev pub FillEnds : (fixed : Option Version) → (new rest : List ℕ) → Type 0
 FillEnds fixed new rest = ((rest ≡ []) × IsPart fixed new) ⊎ IsOneFrame fixed new
 
--- so it ends, and no byte is lost
+-- filling ends so, and no byte is lost: the held bytes and the rest of the piece are what was held, and the piece behind it
 pub record IsFilledUp (fixed : Option Version) (old piece new rest : List ℕ) : Type 0 where
   pub joined : new ++ rest ≡ old ++ piece
   pub ends : FillEnds fixed new rest

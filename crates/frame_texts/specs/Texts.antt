@@ -151,7 +151,7 @@ text version epoch frame = if has_frame version frame then header_text version (
 
 -- Frames that can be read back from their texts
 
--- each page that a frame carries has its 4096 bytes: only then does the text have the length that the machine counts
+-- each page that a frame carries has its 4096 bytes: then the text has the length that the machine counts
 abbrev pub HasWholePages : Frame → Type 0
 HasWholePages (Page page bytes) = length bytes ≡ PAGE_SIZE
 HasWholePages (Run first pages) = AllByRecursion (λ bytes. length bytes ≡ PAGE_SIZE) pages
@@ -165,7 +165,7 @@ AreBelow pages = (page : ℕ) → contains pages page ≡ true → page < HIGH_P
 abbrev pub AreMappedBelow : FinMap nat_cmp Prot → Type 0
 AreMappedBelow areas = (page : ℕ) → contains_key areas page ≡ true → page < HIGH_PAGE
 
--- what a processor waits for fits its fields: nothing, or a load or store whose numbers have 64 bits
+-- what a processor waits for fits its fields: nothing, or a load or store whose address and value fit 64 bits
 abbrev pub FitsCommand : Option Command → Type 0
 FitsCommand None = Unit {0}
 FitsCommand (Some (Load addr width)) = addr < 2 ^ 64

@@ -69,7 +69,7 @@ pub(crate) fn goes_on(entries: &[Entry], opening: &[Entry], list: &[Answer], cpu
     next_wanted(there, left, cpu).is_none()
 }
 
-/// The least processor whose answers are not those of its seat, or whose seat came back twice, or was handed out and did not come back.
+/// The least processor whose answers are not those of its seat, or whose seat did not come back as it has to.
 pub(crate) fn first_wrong(
     entries: &[Entry],
     opening: &[Entry],
@@ -90,7 +90,8 @@ pub(crate) fn first_wrong(
     None
 }
 
-/// Whether the processor's answers are those of its seat, and the seat came back as it has to.
+/// Whether the processor's answers are those of its seat, and the seat came back as it has to: at most once, exactly once if it was handed
+/// out, and not at all if the world does not have the processor.
 fn is_right(
     entries: &[Entry],
     opening: &[Entry],

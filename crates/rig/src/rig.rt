@@ -29,7 +29,7 @@ use world::World;
 /// Why the seats or claims with which a rig was closed do not agree with its world.
 #[derive(Clone, Copy, Debug, PartialEq, Eq)]
 pub enum CloseFault {
-    /// The answers of the processor with this number are not those of its seat, or its seat did not come back once.
+    /// The answers of the processor with this number are not those of its seat, or its seat did not come back as it has to.
     Answers(u8),
     /// A page of the claims neither remains to be sent nor was claimed by the seat that came with them.
     Claims,

@@ -10,11 +10,11 @@ use std::thread;
 pub struct Course {
     /// The number of calls that the processors have made. One that stops early counts its other calls too.
     calls: AtomicU64,
-    /// Whether the migration may end, since no cut is still to come.
+    /// Whether the migration may end: no cut is still to come.
     may_end: AtomicBool,
     /// Whether the workers have nothing more to do.
     is_over: AtomicBool,
-    /// Whether a thread could not be started, or had no memory for its seat.
+    /// Whether a thread could not be started, or memory for one was refused.
     is_lacking: AtomicBool,
 }
 
@@ -72,12 +72,12 @@ impl Course {
         self.is_over.load(Ordering::SeqCst)
     }
 
-    /// Notes that a thread could not be started, or had no memory for its seat.
+    /// Notes that a thread could not be started, or that memory for one was refused.
     pub fn lack(&self) {
         self.is_lacking.store(true, Ordering::SeqCst);
     }
 
-    /// Whether a thread could not be started, or had no memory for its seat.
+    /// Whether a thread could not be started, or memory for one was refused.
     pub fn is_lacking(&self) -> bool {
         self.is_lacking.load(Ordering::SeqCst)
     }

@@ -28,7 +28,7 @@ impl Destination {
     /// Puts the first arrival where its page belongs now, by moving its bytes: UFFDIO_COPY for that page, or UFFDIO_ZEROPAGE for a page of
     /// zeros. The page is no longer owed, its request ends, and those that sleep on it are woken. A copy of a page that is owed nowhere is
     /// dropped. Refused as `Phase` before it has run, as `NothingThere` if no copy waits, and as `Changing` while an event is unread;
-    /// then as `NoMemory`, for a copy that is installed alone.
+    /// then as `NoMemory`, only for a copy that is installed.
     pub fn install(&mut self) -> Result<Effect, Refusal>
         ensures made { IfOk result (λ effect. IsMade self.old Step.Install effect [] self.new) }
         ensures refused { IfErr result (λ refusal. IsRefused self.old Step.Install refusal) }
