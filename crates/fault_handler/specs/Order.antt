@@ -45,8 +45,7 @@ pub record IsReady (space : Space) (owed : Owed) : Type 0 where
 pub record IsInOrder (has_run : Bool) (space : Space) (owed : Owed) : Type 0 where
   pub ready : has_run ≡ true → IsReady space owed
 
--- the owed pages of the source are among those that the Package owed, which may all be mapped at once; and each requested page may be
--- mapped
+-- the owed pages of the source are among those that the Package owed, which may all be mapped at once; requested pages may be mapped
 pub record HasPages (owed : Owed) (requests : List ℕ) : Type 0 where
   pub first : FinSet nat_cmp
   pub few : AreFewPages first

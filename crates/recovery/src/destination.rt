@@ -57,8 +57,7 @@ pub fn report_received(alloc: Global, destination: &Destination) -> Result<Frame
     Ok(Frame::Recv { state, owed })
 }
 
-/// The requests of the destination once more, in their order: it sends them behind a Recv if it runs. `NoMemory` comes if their memory is
-/// refused.
+/// The requests of the destination once more, in order: it sends them behind a Recv if it runs. `NoMemory` comes if room is refused.
 pub fn rerequest(alloc: Global, destination: &Destination) -> Result<Vec<Frame>, NoMemory>
     ensures frames { IfOk result (λ frames. frames_of frames.items ≡ map wire.Frame.Request destination.now.requests) }
     ensures well_formed { IfOk result (λ frames. AreWellFormed (frames_of frames.items)) }

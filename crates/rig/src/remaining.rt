@@ -12,8 +12,7 @@ use pusher::{ClaimSeat, Claims};
 use std::alloc::Global;
 use world::World;
 
-/// The epoch, and the pages that remain in it, ascending. `Phase` unless the source is stopped, and then `NoMemory` if the list has no
-/// room.
+/// The epoch, and the pages that remain in it, ascending. `Phase` unless the source is stopped, then `NoMemory` if the list has no room.
 pub(crate) fn remaining_in(alloc: Global, world: &World) -> Result<(u32, Vec<PageNo>), Refusal>
     ensures epoch { IfOk result (λ r. r.0 ≡ world.now.source.epoch) }
     ensures pages { IfOk result (λ r. Lists world.now.source.remaining r.1.items) }

@@ -37,8 +37,7 @@ left chunks = drop chunks.taken chunks.reading.items
 abbrev pub in_full : List (Vec ℕ) → List Sent
 in_full chunks = flat_map (λ (chunk : Vec ℕ). frames_in chunk.items) chunks
 
--- the frames in flight, in the order in which they were sent: those of the chunk that is read, of the full ones, and of the one that is
--- written
+-- the frames in flight, in the order in which they were sent: of the chunk that is read, the full ones, and the one that is written
 abbrev pub in_flight : Chunks → List Sent
 in_flight chunks = frames_in (left chunks) ++ (in_full chunks.full.items ++ frames_in chunks.writing.items)
 

@@ -25,7 +25,7 @@ pub(crate) struct Chunks {
     /// The chunk that is read, and the number of its bytes that were taken.
     pub(crate) reading: Vec<u8>,
     pub(crate) taken: usize,
-    /// The chunks behind it, which have no room left.
+    /// The chunks behind it, which are no longer written.
     pub(crate) full: VecDeque<Vec<u8>>,
     /// The chunk that is written.
     pub(crate) writing: Vec<u8>,

@@ -99,8 +99,7 @@ impl Wire {
         self.held
     }
 
-    /// Reserves room for `count` frames, however long they are. `NoMemory` comes if the room is refused; what is in flight stays either
-    /// way.
+    /// Reserves room for `count` frames, however long they are. `NoMemory` comes if it is refused; what is in flight stays either way.
     pub fn reserve(&mut self, count: usize) -> Result<(), NoMemory>
         ensures stays { self.new.wire ≡ self.old.wire }
         ensures bytes { bytes_of self.new ≡ bytes_of self.old }

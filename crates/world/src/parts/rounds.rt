@@ -79,8 +79,7 @@ impl Parts {
         Ok(effect)
     }
 
-    /// The refusal of a step that sends, from that of its source: a wrong phase counts before a broken link, and a broken link before all
-    /// else.
+    /// The refusal of a step that sends, from that of its source: a wrong phase counts before a broken link, all else behind it.
     pub(super) fn unless_down(&self, checked: Result<(), Refusal>) -> Result<(), Refusal>
         ensures { result ≡ unless_down self.now.up checked }
     {
