@@ -69,9 +69,7 @@ pub fn rerequest(alloc: Global, destination: &Destination) -> Result<Vec<Frame>,
 fn requests_for(alloc: Global, pages: &[PageNo]) -> Result<Vec<Frame>, NoMemory>
     ensures { IfOk result (λ asked. asked.items ≡ map frames.Frame.Request pages.now) }
 {
-    let frames = pages
-        .iter()
-        .map(|page| Frame::Request { page: *page })
-        .collect(alloc)?;
+    let mut frames = Vec::with_capacity(alloc, pages.len())?;
+    frames.extend(pages.iter().map(|page| Frame::Request { page: *page }))?;
     Ok(frames)
 }

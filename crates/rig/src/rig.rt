@@ -285,24 +285,29 @@ impl Rig {
         )
     }
 
-    /// Makes the steps over and over, each turn as the gate says.
+    /// Makes the steps over and over, each turn as the gate says. Yields after each round of them in which it made none.
     fn work<R: Wait, G: Gate>(&self, rt: &R, gate: &G, who: Worker, steps: &[Step])
         requires { 0 < length steps.now }
     {
         let mut at = 0;
+        let mut is_idle = true;
         for turn in 0..u64::MAX {
             if at >= steps.len() {
                 at = 0;
+                if is_idle {
+                    thread::yield_now();
+                }
+                is_idle = true;
             }
             let next = steps[at];
             at += 1;
             match gate.pass(who, StepKind::of(next), turn) {
                 Pass::Go => {
-                    if self.make(rt, next).is_err() {
-                        thread::yield_now();
+                    if self.make(rt, next).is_ok() {
+                        is_idle = false;
                     }
                 }
-                Pass::Skip => thread::yield_now(),
+                Pass::Skip => {}
                 Pass::Stop => return,
             }
         }

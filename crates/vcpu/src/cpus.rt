@@ -91,11 +91,8 @@ impl Cpus {
     pub fn commands(&self) -> Result<Vec<Option<Command>>, NoMemory>
         ensures { IfOk result (λ commands. commands.items ≡ map outstanding self.now) }
     {
-        let commands = self
-            .states
-            .iter()
-            .map(|state| command_of(*state))
-            .collect(self.alloc)?;
+        let mut commands = Vec::with_capacity(self.alloc, self.states.len())?;
+        commands.extend(self.states.iter().map(|state| command_of(*state)))?;
         Ok(commands)
     }
 

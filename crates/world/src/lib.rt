@@ -16,6 +16,7 @@
 
 mod frames;
 mod parts;
+pub mod prelude;
 pub mod world;
 
 pub use crate::world::World;
