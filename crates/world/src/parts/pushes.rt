@@ -74,7 +74,7 @@ impl Parts {
     }
 
     /// Whether the source has stopped and is not paused, and then whether the link is up.
-    fn ensure_stopped_up(&self) -> Result<(), Refusal>
+    pub(super) fn ensure_stopped_up(&self) -> Result<(), Refusal>
         ensures { result ≡ stopped_answer (world_of self.now) }
     {
         if self.source.phase() != SourcePhase::Stopped {
