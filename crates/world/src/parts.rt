@@ -11,6 +11,7 @@ mod deliveries;
 mod handlers;
 mod pushes;
 mod rounds;
+mod would;
 
 use fault_handler::Destination;
 use mig_base::Entry;

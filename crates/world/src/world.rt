@@ -5,7 +5,7 @@ ghost use Rattle.mig_base.specs.Flat.{IsFlatRun};
 ghost use Rattle.mig_model.specs.Runs.{Happens, IsRun};
 ghost use Rattle.mig_model.specs.Views.{new_world_with};
 ghost use Rattle.vcpu.specs.Answers.{is_count};
-ghost use Rattle.world.specs.Answers.{new_refusal};
+ghost use Rattle.world.specs.Answers.{IsAnswered, new_refusal};
 ghost use Rattle.world.specs.Headline.{Headline};
 
 mod views;
@@ -102,6 +102,14 @@ impl World {
         ensures headline { Headline self.new }
     {
         self.parts.step(step)
+    }
+
+    /// How [`World::step`] would refuse a step, memory aside: the refusal exactly where the machine refuses the step with it, and `Ok`
+    /// else. It changes nothing, takes no memory, and walks over no pages and no frames.
+    pub fn would(&self, step: Step) -> Result<(), Refusal>
+        ensures { IsAnswered self.now step result }
+    {
+        self.parts.would(step)
     }
 
     /// Makes steps in turn, and returns the outcome of each. It goes on after a step that is refused. If the call itself returns

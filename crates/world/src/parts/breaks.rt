@@ -6,6 +6,7 @@ ghost use Rattle.mig_model.specs.Migration.{has_started, is_paused_at};
 ghost use Rattle.mig_model.specs.Runs.{Happens};
 ghost use Rattle.mig_model.specs.Source.{is_released};
 ghost use Rattle.precopy.specs.Answers.{next_count};
+ghost use Rattle.world.specs.Answers.{IsAnswered, resume_answer};
 ghost use Rattle.world.specs.Worlds.{IsWorld, world_of};
 
 use super::Parts;
@@ -23,12 +24,7 @@ impl Parts {
         requires { IsWorld (world_of self.old) }
         ensures { Happens (world_of self.old) Step.Break result (world_of self.new) }
     {
-        if !self.is_under_way() {
-            return Err(Refusal::Phase);
-        }
-        if !self.up {
-            return Err(Refusal::Broken);
-        }
+        self.check_break()?;
         self.forward.clear();
         self.back.clear();
         self.urgent.clear();
@@ -41,15 +37,7 @@ impl Parts {
         requires { IsWorld (world_of self.old) }
         ensures { Happens (world_of self.old) (Step.Notice side) result (world_of self.new) }
     {
-        if !self.is_under_way() {
-            return Err(Refusal::Phase);
-        }
-        if self.is_paused(side) {
-            return Err(Refusal::Phase);
-        }
-        if self.up {
-            return Err(Refusal::NotBroken);
-        }
+        self.check_notice(side)?;
         match side {
             Side::Source => notice_source(&mut self.source),
             Side::Destination => notice_dest(&self.source, &mut self.destination),
@@ -61,6 +49,59 @@ impl Parts {
         requires { IsWorld (world_of self.old) }
         ensures { Happens (world_of self.old) Step.Resume result (world_of self.new) }
     {
+        let epoch = self.resumed_epoch()?;
+        let Ok(()) = self.forward.reserve(1) else {
+            return Err(Refusal::NoMemory);
+        };
+        self.source.set_epoch(epoch);
+        self.forward.push(epoch, Frame::Resume);
+        self.up = true;
+        Ok(Effect::Resumed { epoch })
+    }
+
+    /// Whether the channel can break.
+    pub(super) fn check_break(&self) -> Result<(), Refusal>
+        ensures { IsAnswered (world_of self.now) Step.Break result }
+    {
+        if !self.is_under_way() {
+            return Err(Refusal::Phase);
+        }
+        if !self.up {
+            return Err(Refusal::Broken);
+        }
+        Ok(())
+    }
+
+    /// Whether a side can notice that the channel is broken.
+    pub(super) fn check_notice(&self, side: Side) -> Result<(), Refusal>
+        ensures { IsAnswered (world_of self.now) (Step.Notice side) result }
+    {
+        if !self.is_under_way() {
+            return Err(Refusal::Phase);
+        }
+        if self.is_paused(side) {
+            return Err(Refusal::Phase);
+        }
+        if self.up {
+            return Err(Refusal::NotBroken);
+        }
+        Ok(())
+    }
+
+    /// Whether both sides can go on, want of memory aside.
+    pub(super) fn check_resume(&self) -> Result<(), Refusal>
+        ensures { IsAnswered (world_of self.now) Step.Resume result }
+    {
+        match self.resumed_epoch() {
+            Ok(_) => Ok(()),
+            Err(refusal) => Err(refusal),
+        }
+    }
+
+    /// The epoch in which both sides can go on.
+    fn resumed_epoch(&self) -> Result<u32, Refusal>
+        ensures { result ≡ resume_answer (world_of self.now) }
+    {
         if !self.is_paused(Side::Source) {
             return Err(Refusal::Phase);
         }
@@ -70,14 +111,7 @@ impl Parts {
         if self.up {
             return Err(Refusal::NotBroken);
         }
-        let epoch = next_epoch(&self.source)?;
-        let Ok(()) = self.forward.reserve(1) else {
-            return Err(Refusal::NoMemory);
-        };
-        self.source.set_epoch(epoch);
-        self.forward.push(epoch, Frame::Resume);
-        self.up = true;
-        Ok(Effect::Resumed { epoch })
+        next_epoch(&self.source)
     }
 
     /// Whether a migration has begun, and is not complete.

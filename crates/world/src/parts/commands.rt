@@ -54,7 +54,7 @@ impl Parts {
     }
 
     /// Whether a processor can begin a command; memory is not considered.
-    fn check_issue(&self, cpu: u8) -> Result<(), Refusal>
+    pub(super) fn check_issue(&self, cpu: u8) -> Result<(), Refusal>
         ensures { (command : Command) → IsAnswered (world_of self.now) (Step.Issue cpu command) result }
     {
         self.cpus().ensure_idle(cpu)?;
@@ -65,7 +65,7 @@ impl Parts {
     }
 
     /// Whether a processor can try its load or store again; memory is not considered.
-    fn check_retry(&self, cpu: u8) -> Result<(), Refusal>
+    pub(super) fn check_retry(&self, cpu: u8) -> Result<(), Refusal>
         ensures { IsAnswered (world_of self.now) (Step.Retry cpu) result }
     {
         let _command = self.cpus().woken(cpu)?;

@@ -89,7 +89,7 @@ impl Parts {
     }
 
     /// `Phase` unless a migration has begun, and then `Broken` unless the link is up.
-    fn ensure_moving(&self) -> Result<(), Refusal>
+    pub(super) fn ensure_moving(&self) -> Result<(), Refusal>
         ensures { result ≡ moving_answer (world_of self.now) }
     {
         if self.source.phase() == SourcePhase::Idle {

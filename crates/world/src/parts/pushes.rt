@@ -74,7 +74,7 @@ impl Parts {
     }
 
     /// `Phase` unless the source has stopped and is not paused, and then `Broken` unless the link is up.
-    fn ensure_stopped_up(&self) -> Result<(), Refusal>
+    pub(super) fn ensure_stopped_up(&self) -> Result<(), Refusal>
         ensures { result ≡ stopped_answer (world_of self.now) }
     {
         if self.source.phase() != SourcePhase::Stopped {

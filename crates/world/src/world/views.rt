@@ -1,16 +1,19 @@
 //! The getters of a world.
 
-ghost use Rattle.std.specs.Prelude.{◌≡◌, ◌≤◌, length};
+ghost use Rattle.std.specs.Prelude.{◌≡◌, ◌≤◌, length, IfOk};
+ghost use Rattle.std.specs.Option.{option_map};
 ghost use Rattle.mig_base.specs.declared.phase.WorldPhase.{WorldPhase};
+ghost use Rattle.mig_model.specs.Source.{not_clean};
+ghost use Rattle.mig_model.specs.Userfault.{changing, next_message};
 ghost use Rattle.mig_model.specs.Views as views;
 ghost use Rattle.world.specs.Headline.{IsMoved};
 
 use super::World;
 use mig_base::counts::Counts;
 use mig_base::cpu_state::CpuState;
-use mig_base::phase::SourcePhase;
+use mig_base::phase::{DestPhase, SourcePhase};
 use mig_base::refusal::Refusal;
-use mig_base::{MAX_CPUS, PageSet, WorldPhase};
+use mig_base::{MAX_CPUS, Message, NoMemory, PageNo, PageSet, WorldPhase};
 use wires::Wire;
 
 impl World {
@@ -95,6 +98,84 @@ impl World {
         ensures { result.now.wire ≡ self.now.urgent }
     {
         &self.parts.urgent
+    }
+
+    /// Whether the link between the nodes is up.
+    pub fn is_up(&self) -> bool
+        ensures { result ≡ self.now.up }
+    {
+        self.parts.up
+    }
+
+    /// How far the destination is.
+    pub fn destination_phase(&self) -> DestPhase
+        ensures { result ≡ self.now.destination.phase }
+    {
+        self.parts.destination.phase()
+    }
+
+    /// How many events of map calls the source's handler has not read yet. While there are any, steps are refused as `Changing`.
+    pub fn source_events(&self) -> usize
+        ensures { result ≡ changing self.now.source.guest.space.object }
+    {
+        self.parts.source.space().changing()
+    }
+
+    /// The same at the destination.
+    pub fn destination_events(&self) -> usize
+        ensures { result ≡ changing self.now.destination.guest.space.object }
+    {
+        self.parts.destination.space().changing()
+    }
+
+    /// The message that the source's handler reads next, a page fault or an event, if one waits.
+    pub fn source_message(&self) -> Option<Message>
+        ensures { result ≡ option_map (λ noted. noted.message) (next_message self.now.source.guest.space.object) }
+    {
+        self.parts.source.space().next_message()
+    }
+
+    /// The same at the destination.
+    pub fn destination_message(&self) -> Option<Message>
+        ensures { result ≡ option_map (λ noted. noted.message) (next_message self.now.destination.guest.space.object) }
+    {
+        self.parts.destination.space().next_message()
+    }
+
+    /// How many faults the source's handler has read and not resolved yet.
+    pub fn source_held(&self) -> usize
+        ensures { result ≡ length self.now.source.log.held }
+    {
+        self.parts.source.log().held()
+    }
+
+    /// How many copies wait at the destination to be installed.
+    pub fn arrivals(&self) -> usize
+        ensures { result ≡ length self.now.destination.arrivals }
+    {
+        self.parts.destination.arrivals()
+    }
+
+    /// The pages of the source that the destination has asked for and not got, in the order in which it first asked.
+    pub fn requests(&self) -> &[PageNo]
+        ensures { result.now ≡ self.now.destination.requests }
+    {
+        self.parts.destination.requests()
+    }
+
+    /// How many requests have reached the source and were not served yet.
+    pub fn asked(&self) -> usize
+        ensures { result ≡ length self.now.source.asked }
+    {
+        self.parts.source.asked()
+    }
+
+    /// The present pages of the source that are not clean, as a set of its own: those that a round would have to send, and a Switch
+    /// would owe. `NoMemory` where there is no room for the set.
+    pub fn dirty_pages(&self) -> Result<PageSet, NoMemory>
+        ensures { IfOk result (λ pages. pages ≡ not_clean self.now.source) }
+    {
+        self.parts.source.log().dirty(self.parts.source.space())
     }
 
     /// The number of processors of the guest.
