@@ -1,3 +1,4 @@
+pub mod Clean
 pub mod Fronts
 pub mod Lines
 pub mod Pieces

@@ -1,10 +1,9 @@
 -- What is listed of one line after the other.
-use Rattle.std.proofs.Common.{◌≡◌, ℕ, ◌+◌, ◌<◌, ◌≤◌, List, [], ◌∷◌, ◌++◌, length, true, false, refl, sym, ap, subst, ◌∙◌, append_assoc, append-nil, arith, inl, inr, length-append}
+use Rattle.std.proofs.Common.{◌≡◌, ℕ, ◌+◌, ◌<◌, List, [], ◌∷◌, ◌++◌, length, true, false, refl, sym, ap, subst, ◌∙◌, append_assoc, append-nil, arith, inl, inr, length-append}
 use Rattle.std.specs.List.{concat}
 use Rattle.std.specs.Str.Lines.{strip_carriage_return}
 use Rattle.std.proofs.lemmas.List.Folds.{concat-append}
 use Rattle.grammar.specs.declared.line.Language.{Language}
-use Rattle.grammar.specs.declared.line.Line.{Line}
 use Rattle.grammar.specs.Spelling.{Spells}
 use Rattle.grammar.specs.Lines.{HasNoFeed, BeginsWrong}
 use Rattle.grammar.proofs.Cuts.{feed_inside, one_cut}

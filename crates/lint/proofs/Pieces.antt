@@ -1,14 +1,13 @@
 -- A piece of the input, line by line.
-use Rattle.std.proofs.Common.{◌≡◌, ℕ, ◌+◌, ◌<◌, ◌≤◌, List, [], ◌∷◌, ◌++◌, length, Option, Bool, true, inl, refl, sym, ap, subst, ◌∙◌, append_assoc, append-nil, arith, length-append}
+use Rattle.std.proofs.Common.{◌≡◌, ℕ, ◌+◌, List, [], ◌∷◌, ◌++◌, Option, Bool, true, inl, refl, sym, ap, subst, ◌∙◌, append_assoc, append-nil, arith, length-append}
 use Rattle.std.specs.Prelude.{Result, Ok, Err, OnOk, OnErr}
 use Rattle.std.specs.List.{concat}
-use Rattle.std.specs.Io.KnownBytes.{Appends}
 use Rattle.grammar.specs.declared.line.Language.{Language}
 use Rattle.grammar.specs.Lines.{HasNoFeed}
 use Rattle.grammar.proofs.Cuts.{no_feed-append}
 use Rattle.engine.specs.Engine.{Front}
 use Rattle.lint.specs.declared.linter.Linter.{Linter}
-use Rattle.lint.specs.Parts.{IsFront, IsRight, Holds, Listed, ListsRaw, ListsEnded, Advances, Fed, ListsSome, FedUntil, Last, ListsLast, CloseFault}
+use Rattle.lint.specs.Parts.{IsFront, IsRight, Holds, Listed, ListsRaw, ListsEnded, Advances, Fed, FedUntil, Last, ListsLast, CloseFault}
 use Rattle.engine.specs.declared.fault.RunFault.TheVariants as faults
 use Rattle.lint.proofs.Lines.{lists_more, lists_then, lists_one, concat_more}
 
@@ -51,7 +50,6 @@ lists_line name a b held front line text texts q one raw_text =
 parts_then : (bytes front rest line behind : List ℕ) → bytes ≡ front ++ rest → rest ≡ line ++ 10 ∷ behind → bytes ≡ (front ++ (line ++ 10 ∷ [])) ++ behind
 parts_then bytes front rest line behind e cut =
     e ∙ ap (λ (t : List ℕ). front ++ t) (cut ∙ sym (append_assoc line (10 ∷ []) behind)) ∙ sym (append_assoc front (line ++ 10 ∷ []) behind)
-
 
 pub feeds_line : (name : List ℕ) (a b d e : Linter) (held bytes rest line behind : List ℕ) (q : Feeds name a held bytes rest b) → rest ≡ line ++ 10 ∷ behind → HasNoFeed line → IsSame b d
     → Listed name true d (q.fed.advances.rest ++ line) e.output.items → Holds e [] → e.number ≡ d.number + 1 → e.language ≡ d.language → Feeds name a held bytes behind e

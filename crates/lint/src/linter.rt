@@ -134,13 +134,7 @@ impl Linter {
         ensures clean { self.new.clean ≡ self.old.clean }
         ensures output { OnErr result (self.new.output.items ≡ self.old.output.items) }
     {
-        let wrong = wrong_in(
-            self.language,
-            &mut self.tokens,
-            &self.line,
-            self.len,
-            ended,
-        )?;
+        let wrong = wrong_in(self.language, &mut self.tokens, &self.line, self.len, ended)?;
         let Some(reason) = wrong else {
             return Ok(());
         };

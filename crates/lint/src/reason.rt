@@ -25,7 +25,10 @@ pub(crate) enum Problem<'a> {
 impl fmt::Display for Problem<'_> {
     fn fmt<W: fmt::Write>(&self, f: &mut fmt::Formatter<W>) -> fmt::Result {
         match *self {
-            Problem::TooLong(len) => write!(f, "a line has at most 256 bytes, and this one has {len}"),
+            Problem::TooLong(len) => write!(
+                f,
+                "a line has at most 256 bytes, and this one has {len}"
+            ),
             Problem::Word(_) => write!(f, "word"),
             Problem::Unknown => write!(f, "not a line"),
         }

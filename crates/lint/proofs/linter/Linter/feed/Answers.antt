@@ -1,6 +1,5 @@
-use Rattle.std.proofs.Common.{◌∷◌, ◌++◌, ◌∙◌, length, ap, refl, arith, length-append}
-use Rattle.std.proofs.lemmas.Result.{err_from_is_err_and}
-use Rattle.lint.proofs.Pieces.{IsSame, feeds_none, feeds_line, feeds_until, feeds_rest, result_fed, result_until}
+use Rattle.std.proofs.Common.{◌∷◌, ◌∙◌, length, ap, refl, arith, length-append}
+use Rattle.lint.proofs.Pieces.{IsSame, feeds_none, feeds_line, result_fed, result_until}
 use Rattle.lint.proofs.linter.Linter.feed.Goals as goal
 
 pub returns-in_err-hold-clause-err : goal.returns-in_err-hold-clause-err

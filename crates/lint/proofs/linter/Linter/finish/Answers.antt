@@ -1,4 +1,3 @@
-use Rattle.std.proofs.Common.{◌∙◌}
 use Rattle.std.proofs.lemmas.Result.{err_from_is_err_and}
 use Rattle.lint.proofs.Pieces.{last_unwritten}
 use Rattle.lint.proofs.linter.Linter.finish.Goals as goal

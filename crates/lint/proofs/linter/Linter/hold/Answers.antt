@@ -1,5 +1,4 @@
-use Rattle.std.proofs.Common.{◌≡◌, ◌-◌, ◌++◌, ◌∙◌, length, min, ap, arith, length-append}
-use Rattle.std.proofs.lemmas.Grind.{common_steps}
+use Rattle.std.proofs.Common.{◌≡◌, ◌-◌, ◌∙◌, length, min, arith, length-append}
 use Rattle.grammar.proofs.Cuts.{no_feed-append}
 use Rattle.lint.proofs.Fronts.{front_then}
 use Rattle.lint.proofs.linter.Linter.hold.Goals as goal
