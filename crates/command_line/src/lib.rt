@@ -1,12 +1,12 @@
 //! The command line of `postmig`, and its exit statuses.
 //!
-//! `postmig run` reads a script from standard input and writes one line for each step to standard output, or with
-//! `--transcript` one for each command that took effect; `postmig check` reads such a transcript, and says whether it is that of
-//! one flat memory; `postmig frames` reads frames, and writes what a destination answers to each; `postmig threads` reads nothing,
-//! runs a migration in threads, and writes a report. `docs/SCRIPT.md` says what a script is, `docs/FORMATS.md` what a frame is, and
-//! `docs/THREADS.md` what a run in threads is. [`answer`] is what the program's `main` does; the exit statuses are
-//! `specs/Status.antt`. What a run or a check reads and writes is the crate `engine`; for frames it is the crate `frames`, and for
-//! threads the crate `threads`.
+//! `postmig run` reads a script from standard input and writes one line for each step to standard output, or with `--transcript` one for
+//! each command that took effect. `postmig check` reads such a transcript, and says whether it is that of one flat memory.
+//! `postmig frames` reads frames, and writes a destination's answer to each. `postmig threads` reads nothing, runs a migration in
+//! threads, and writes a report. `docs/SCRIPT.md` defines scripts, `docs/FORMATS.md` frames, and `docs/THREADS.md` a run in threads.
+//!
+//! [`answer`] is the body of the program's `main`; the exit statuses are those of `specs/Status.antt`. Reading and writing is done by
+//! `engine` for scripts and transcripts, by `frames` for frames, and by `threads` for a run in threads.
 #![tactic(auto)]
 
 ghost use Rattle.std.specs.Prelude.{◌≡◌, ◌≤◌, IfOk, IfErr, OnOk};
@@ -27,7 +27,7 @@ use threads::run_threads;
 /// What `--version` prints behind the program's name.
 const VERSION: &str = "0.1.0";
 
-/// The bytes of an argument that a message shows at most.
+/// The most bytes of an argument that a message shows.
 const LONGEST_SHOWN: usize = 4096;
 
 const ALL_DONE: u8 = 0;
@@ -90,7 +90,7 @@ fn command_line<'a>(alloc: Global) -> Result<Command<'a>, AllocError> {
     let check = Command::new(alloc, "check").about(
         "Says whether the transcript on standard input is that of one flat memory",
     );
-    // (the name in usage lines, whatever the file is called)
+    // The name in usage lines, whatever the file is called.
     Command::new(alloc, "postmig")
         .bin_name("postmig")?
         .about("Runs scripts on a model of post-copy live migration")
@@ -102,7 +102,7 @@ fn command_line<'a>(alloc: Global) -> Result<Command<'a>, AllocError> {
         .subcommand(threads_command(alloc)?)
 }
 
-/// The exit status of a run or a check: whether all is well, or the fault that ended it.
+/// The exit status of a run or a check, by its answer or the fault that ended it.
 fn status_of(outcome: Result<bool, RunFault>) -> u8
     ensures answer { IfOk outcome (λ answer. result ≡ answer_status answer) }
     ensures fault { IfErr outcome (λ fault. result ≡ fault_status fault) }
@@ -116,7 +116,7 @@ fn status_of(outcome: Result<bool, RunFault>) -> u8
     }
 }
 
-/// Says on standard error why a run or a check ended early, and gives its exit status.
+/// Says on standard error why a run or a check ended early, and returns its exit status.
 fn explain(rt: &HostRuntime, outcome: Result<bool, RunFault>) -> u8
     ensures answer { IfOk outcome (λ answer. result ≡ answer_status answer) }
     ensures fault { IfErr outcome (λ fault. result ≡ fault_status fault) }
@@ -142,7 +142,7 @@ fn check_input(rt: &HostRuntime) -> u8 {
     explain(rt, outcome)
 }
 
-/// The exit status of frames that were handed to a destination.
+/// The exit status for a stream of frames.
 fn frames_status_of(outcome: Result<(), FramesFault>) -> u8
     ensures ok { OnOk outcome (result ≡ 0) }
     ensures fault { IfErr outcome (λ fault. result ≡ frames_fault_status fault) }
@@ -155,7 +155,7 @@ fn frames_status_of(outcome: Result<(), FramesFault>) -> u8
     }
 }
 
-/// Hands the frames on standard input to a destination. Says on standard error why they ended early.
+/// Hands the frames on standard input to a destination. Says on standard error why the stream ended early.
 fn take_frames(rt: &HostRuntime, cpus: u8) -> u8
     requires low { 1 ≤ cpus }
     requires high { cpus ≤ 16 }
@@ -182,7 +182,7 @@ fn run_in_threads<T: Threads + Wait + Sync>(
     explain(rt, outcome)
 }
 
-/// Does what the command line asks for, and gives the exit status.
+/// Carries out the parsed command line, and returns the exit status.
 fn do_command<T: Threads + Wait + Sync>(rt: &HostRuntime, handle: &T, matches: &ArgMatches) -> u8 {
     match matches.subcommand() {
         Some(("run", matches)) => {
@@ -215,8 +215,8 @@ fn do_command<T: Threads + Wait + Sync>(rt: &HostRuntime, handle: &T, matches: &
     }
 }
 
-/// Says on standard error which argument is not UTF-8: its number, and its bytes as far as they are text. One of more than 4,096 bytes is
-/// passed over.
+/// Says on standard error which argument is not UTF-8: its number, and its bytes with those that are not text replaced. An argument of
+/// more than 4,096 bytes is skipped.
 fn name_bad_argument(rt: &HostRuntime) -> io::Result<()> {
     let mut room = [0; LONGEST_SHOWN];
     for number in 1..usize::MAX {
@@ -233,7 +233,7 @@ fn name_bad_argument(rt: &HostRuntime) -> io::Result<()> {
     eprintln!(rt; "\nFor more information, try '--help'.")
 }
 
-/// Reads the command line, does what it asks for, and gives the exit status.
+/// Reads the command line, carries it out, and returns the exit status.
 fn dispatch<T: Threads + Wait + Sync>(rt: &HostRuntime, handle: &T) -> io::Result<u8> {
     let words: Vec<String> = match env::args(rt) {
         Ok(words) => words.collect(rt.alloc())?,
@@ -262,7 +262,7 @@ fn dispatch<T: Threads + Wait + Sync>(rt: &HostRuntime, handle: &T) -> io::Resul
     Ok(do_command(rt, handle, &matches))
 }
 
-/// Does what the command line asks for, and gives the exit status. An argument that is not UTF-8 is a fault of the command line.
+/// Reads the command line, carries it out, and returns the exit status. An argument that is not UTF-8 is a fault of the command line.
 /// `handle` starts the threads of `postmig threads`, and waits for them; a program passes its runtime as both.
 pub fn answer<T: Threads + Wait + Sync>(rt: &HostRuntime, handle: &T) -> ExitCode {
     match dispatch(rt, handle) {

@@ -1,4 +1,4 @@
--- What the machine's SendRun makes of a source, and why it is refused; the pages of a run can be sent.
+-- How the machine's SendRun changes a source, and why it is refused; the pages of a run can be sent.
 use Rattle.std.proofs.Common.{◌≡◌, ℕ, zero, suc, ◌+◌, ◌*◌, ◌<◌, ◌≤◌, List, sym, subst, true, false, not, ltb, None, [], ◌∷◌, length, refl, ap, ◌∙◌, inl, inr, arith}
 use Rattle.std.specs.Prelude.{Ok, Err}
 use Rattle.std.specs.FinSet.{contains}

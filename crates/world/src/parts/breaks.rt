@@ -1,4 +1,4 @@
-//! Broken channels, and their resumption.
+//! Broken channels, and the resume after them.
 
 ghost use Rattle.std.specs.Prelude.{◌≡◌, ◌||◌, not};
 ghost use Rattle.mig_base.specs.declared.schedule.Step.{Step};
@@ -18,7 +18,7 @@ use precopy::Source;
 use recovery::{notice_dest, notice_source};
 
 impl Parts {
-    /// The channel breaks: all that is in flight is lost. It takes no memory.
+    /// The channel breaks: all frames in flight are lost. It takes no memory.
     pub(super) fn break_link(&mut self) -> Result<Effect, Refusal>
         requires { IsWorld (world_of self.old) }
         ensures { Happens (world_of self.old) Step.Break result (world_of self.new) }
@@ -56,7 +56,7 @@ impl Parts {
         }
     }
 
-    /// Both sides go on over a new channel, in the next epoch, and the destination is told.
+    /// Both sides go on over a new channel, in the next epoch: the source sends Resume.
     pub(super) fn resume(&mut self) -> Result<Effect, Refusal>
         requires { IsWorld (world_of self.old) }
         ensures { Happens (world_of self.old) Step.Resume result (world_of self.new) }
@@ -101,7 +101,7 @@ impl Parts {
     }
 }
 
-/// The epoch that a resumption begins.
+/// The epoch that a Resume begins. `CountUsed` if it would not fit 32 bits.
 fn next_epoch(source: &Source) -> Result<u32, Refusal>
     ensures { result ≡ next_count source.now.epoch }
 {

@@ -1,4 +1,4 @@
-//! What a world tells of itself.
+//! The getters of a world.
 
 ghost use Rattle.std.specs.Prelude.{◌≡◌, ◌≤◌, length};
 ghost use Rattle.mig_base.specs.declared.phase.WorldPhase.{WorldPhase};
@@ -14,7 +14,7 @@ use mig_base::{MAX_CPUS, PageSet, WorldPhase};
 use wires::Wire;
 
 impl World {
-    /// How far the migration has come, whether its channel is broken or not.
+    /// How far the migration has come, whether or not its channel is broken.
     pub fn phase(&self) -> WorldPhase
         ensures phase { result ≡ views.phase_of self.now }
         ensures complete { result ≡ WorldPhase.Complete → IsMoved self.now }
@@ -28,8 +28,8 @@ impl World {
         }
     }
 
-    /// How many pages are owed: once the destination has run, those that it still needs; before, those that the last Package owed, and
-    /// none before the switch.
+    /// The number of owed pages: once the destination has run, those that it still needs; before, those that the last Package owed, and 0
+    /// before the switch.
     pub fn owed_left(&self) -> u32
         ensures { result ≡ views.owed_left self.now }
     {
@@ -40,7 +40,7 @@ impl World {
         }
     }
 
-    /// The rounds made, the pages sent, the copies installed and given up, and the messages of page faults read, at both nodes.
+    /// The rounds made, the pages sent, the copies installed and dropped, and the page faults read at both nodes.
     pub fn counts(&self) -> Counts
         ensures { result ≡ views.counts_of self.now }
     {
@@ -55,7 +55,7 @@ impl World {
         }
     }
 
-    /// The epoch of the source: a push belongs to the one in which it is made.
+    /// The epoch of the source. A push names the epoch for which it was decided.
     pub fn epoch(&self) -> u32
         ensures { result ≡ self.now.source.epoch }
     {
@@ -69,7 +69,7 @@ impl World {
         self.parts.source.remaining()
     }
 
-    /// How far the source is.
+    /// The phase of the source.
     pub fn source_phase(&self) -> SourcePhase
         ensures { result ≡ self.now.source.phase }
     {
@@ -90,14 +90,14 @@ impl World {
         &self.parts.back
     }
 
-    /// The wire to the destination for pages that were asked for.
+    /// The urgent wire to the destination, for pages that were requested.
     pub fn urgent(&self) -> &Wire
         ensures { result.now.wire ≡ self.now.urgent }
     {
         &self.parts.urgent
     }
 
-    /// How many processors the guest has.
+    /// The number of processors of the guest.
     pub fn cpus(&self) -> u8
         ensures count { result ≡ length self.now.source.guest.cpus }
         ensures range { (1 ≤ result) × (result ≤ MAX_CPUS) }
@@ -105,7 +105,7 @@ impl World {
         self.parts.source.cpus().count()
     }
 
-    /// What a processor does, where the guest runs; while it runs nowhere, as at the switch. `NoCpu` where there is no such processor.
+    /// The state of a processor, at the destination once that has run, and at the source before. `NoCpu` if there is no such processor.
     pub fn cpu_state(&self, cpu: u8) -> Result<CpuState, Refusal>
         ensures { result ≡ views.cpu_state self.now cpu }
     {
