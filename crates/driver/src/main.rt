@@ -32,7 +32,11 @@ fn draw_command<R: Rng>(rng: &mut R) -> Command {
             place: Place::Fixed(0x10000),
         },
         1 => Command::Load { addr, width },
-        _ => Command::Store { addr, width, value: u64::from(addr) },
+        _ => Command::Store {
+            addr,
+            width,
+            value: u64::from(addr),
+        },
     }
 }
 
@@ -63,7 +67,10 @@ fn draw<R: Rng>(rng: &mut R, epoch: u32) -> Step {
         18 => Step::Resume,
         19..=29 => Step::Deliver { n: u64::MAX },
         30..=39 => Step::Retry { cpu },
-        _ => Step::Issue { cpu, command: draw_command(rng) },
+        _ => Step::Issue {
+            cpu,
+            command: draw_command(rng),
+        },
     }
 }
 

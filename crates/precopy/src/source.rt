@@ -1,6 +1,6 @@
 //! The type that callers see: the source of a migration.
 
-ghost use Rattle.std.specs.Prelude.{◌≡◌, ◌↔◌, false, IfOk, Err};
+ghost use Rattle.std.specs.Prelude.{◌≡◌, ◌↔◌, false, length, IfOk, Err};
 ghost use Rattle.mig_model.specs.Source as machine;
 ghost use Rattle.vcpu.specs.Answers.{is_count};
 
@@ -120,6 +120,13 @@ impl Source {
         ensures { result.now ≡ self.now.remaining }
     {
         &self.remaining
+    }
+
+    /// The number of requests from the destination that were not served yet.
+    pub fn asked(&self) -> usize
+        ensures { result ≡ length self.now.asked }
+    {
+        self.asked.len()
     }
 
     /// The number of rounds of pre-copy so far, plus the number that the source was made with.

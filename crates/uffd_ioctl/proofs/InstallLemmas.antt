@@ -408,7 +408,7 @@ pub record IsMovedIn (old new : Space) (page : ℕ) (bytes : List ℕ) : Type 0 
   pub copied : new ≡ copied old (4096 * page) bytes 0
   pub installed : new ≡ installed old page 1 (λ i. bytes) false
 
-quiet_tested : (count : ℕ) → count ≡ 0 → ltb 0 count ≡ false
+pub quiet_tested : (count : ℕ) → count ≡ 0 → ltb 0 count ≡ false
 quiet_tested count h = rw h refl
 
 pub moved_in : (areas : FinMap nat_cmp Prot) (old new : Pages) (object : Object) (now : Space) (page : ℕ) (bytes : List ℕ) → space_of areas old object ≡ now → IsSoundSpace (space_of areas old object) → IsPage page
