@@ -1,5 +1,5 @@
-//! A driver of a migration: it draws one step after another until the migration is complete, and prints how many of them the world took. `docs/LIBRARY.md`
-//! explains it, and is where to begin a driver of your own.
+//! A driver of a migration: it draws steps until the migration is complete, and prints the number of steps that the world took.
+//! docs/LIBRARY.md explains it. Copy this crate to begin a driver of your own.
 #![tactic(auto)]
 
 ghost use Rattle.std.specs.Prelude.{◌<◌};
@@ -10,7 +10,7 @@ use std::io;
 use std::process::ExitCode;
 use world::prelude::*;
 
-/// The guest has this many processors.
+/// The number of the guest's processors.
 const CPUS: u8 = 2;
 
 /// A number below `end`.
@@ -21,7 +21,7 @@ fn below<R: Rng>(rng: &mut R, end: u32) -> u32
     rng.next_u32() % end
 }
 
-/// What a processor does: it maps pages once, and then loads and stores.
+/// A command of a processor: it maps the eight pages, loads or stores.
 fn draw_command<R: Rng>(rng: &mut R) -> Command {
     let addr = 0x10000 + 8 * u64::from(below(rng, 4096));
     let width = 8;
@@ -74,7 +74,7 @@ fn draw<R: Rng>(rng: &mut R, epoch: u32) -> Step {
     }
 }
 
-/// Draws steps until the migration is complete, at most `most`, and answers how many of them the world took.
+/// Draws at most `most` steps, until the migration is complete. Returns the number of steps that the world took.
 fn drive<R: Rng>(world: &mut World, rng: &mut R, most: u32) -> u32 {
     let mut taken = 0_u32;
     for _ in 0..most {

@@ -88,7 +88,7 @@ impl Parts {
         Ok(())
     }
 
-    /// Whether both sides can go on, want of memory aside.
+    /// Whether both sides can go on; memory is not considered.
     pub(super) fn check_resume(&self) -> Result<(), Refusal>
         ensures { IsAnswered (world_of self.now) Step.Resume result }
     {
