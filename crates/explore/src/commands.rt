@@ -43,8 +43,8 @@ fn draw_len<R: Rng>(rng: &mut R) -> u64
     ensures { result < 0x10_0000 }
 {
     let pages = match below(rng, 8) {
-        0..=4 => 1,
-        5..=6 => 2,
+        0..=3 => 1,
+        4..=5 => 2,
         _ => below(rng, 5),
     };
     match below(rng, 32) {
@@ -74,7 +74,7 @@ fn draw_access<R: Rng>(rng: &mut R, page: Addr) -> Command
     };
     let within = u64::from(below(rng, 4096) & !7);
     let addr = page + within;
-    if in_share(rng, 8) {
+    if in_share(rng, 6) {
         return Command::Load { addr, width };
     }
     let value = match below(rng, 4) {
@@ -141,12 +141,12 @@ fn draw_move<R: Rng>(rng: &mut R, page: Addr, other: Addr) -> Command {
 /// A call that changes mappings, or clears pages.
 fn draw_map_call<R: Rng>(rng: &mut R, page: Addr, other: Addr) -> Command {
     match below(rng, 16) {
-        0..=6 => draw_move(rng, page, other),
-        7..=8 => Command::Munmap {
+        0..=4 => draw_move(rng, page, other),
+        5..=6 => Command::Munmap {
             addr: page,
             len: draw_len(rng),
         },
-        9..=10 => Command::DontNeed {
+        7..=8 => Command::DontNeed {
             addr: page,
             len: draw_len(rng),
         },

@@ -102,15 +102,15 @@ fn draw_sender<R: Rng>(rng: &mut R, course: &Course, memo: &Memo, world: &World)
     }
 }
 
-/// A push of a page: of the one that was requested, or of one that is owed.
+/// A push of the page that was requested, or of one that is owed. The source serves requests where its profile has it wait for them.
 fn draw_push<R: Rng>(rng: &mut R, course: &Course, memo: &Memo, world: &World) -> Order {
-    let urgent = in_share(rng, course.weights.urgent);
     let page = match memo.asked {
-        Some(page) if below(rng, 4) > 0 => page,
-        _ => draw_of(rng, course, world.remaining()),
+        Some(page) if below(rng, 8) > 0 => page,
+        _ if in_share(rng, course.weights.background) => draw_of(rng, course, world.remaining()),
+        _ => return Order::Make(Step::Serve),
     };
     Order::Push {
-        urgent,
+        urgent: in_share(rng, course.weights.urgent),
         page,
         epoch: None,
     }

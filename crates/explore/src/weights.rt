@@ -25,6 +25,8 @@ pub(crate) struct Weights {
     pub pieces: u8,
     /// Of 16 pushes, those on the urgent wire.
     pub urgent: u8,
+    /// Of 16 draws of a push, those of a page that was not requested.
+    pub background: u8,
     /// Of 16 sends, those of several pages.
     pub runs: u8,
     /// From which sixteenth of the script on the migration starts, at the earliest.
@@ -35,23 +37,24 @@ pub(crate) struct Weights {
 }
 
 /// The weight of the link while the channel is lost.
-pub(crate) const REPAIR: u8 = 12;
+pub(crate) const REPAIR: u8 = 60;
 
 /// Some of each.
 const BALANCED: Weights = Weights {
-    guest: 26,
-    source_handler: 12,
-    sender: 14,
-    pusher: 14,
-    wires: 26,
-    dest_handler: 20,
+    guest: 100,
+    source_handler: 40,
+    sender: 50,
+    pusher: 60,
+    wires: 100,
+    dest_handler: 80,
     link: 1,
-    maps: 3,
+    maps: 2,
     pieces: 2,
     urgent: 6,
+    background: 6,
     runs: 4,
-    start: 1,
-    switch_from: 3,
+    start: 2,
+    switch_from: 4,
     switch_to: 8,
 };
 
@@ -65,38 +68,42 @@ impl Profile {
                 weights.maps = 6;
             }
             Profile::Precopy => {
-                weights.source_handler = 20;
-                weights.sender = 24;
+                weights.source_handler = 80;
+                weights.sender = 100;
                 weights.link = 0;
                 weights.switch_from = 13;
                 weights.switch_to = 17;
             }
             Profile::Postcopy => {
-                weights.guest = 36;
+                weights.guest = 150;
                 weights.link = 0;
-                weights.switch_from = 2;
-                weights.switch_to = 3;
+                weights.sender = 20;
+                weights.background = 3;
+                weights.switch_from = 3;
+                weights.switch_to = 6;
             }
             Profile::Moves => {
                 weights.maps = 9;
-                weights.dest_handler = 26;
+                weights.dest_handler = 110;
                 weights.link = 0;
-                weights.switch_from = 2;
-                weights.switch_to = 6;
+                weights.switch_from = 4;
+                weights.switch_to = 7;
             }
             Profile::Breaks => {
-                weights.link = 6;
+                weights.link = 8;
                 weights.switch_to = 12;
             }
             Profile::Urgent => {
-                weights.guest = 36;
-                weights.dest_handler = 26;
+                weights.guest = 150;
+                weights.dest_handler = 110;
                 weights.urgent = 13;
-                weights.switch_from = 2;
-                weights.switch_to = 4;
+                weights.sender = 20;
+                weights.background = 2;
+                weights.switch_from = 4;
+                weights.switch_to = 7;
             }
             Profile::Bytes => {
-                weights.wires = 60;
+                weights.wires = 240;
                 weights.pieces = 13;
             }
             Profile::Runs => {
