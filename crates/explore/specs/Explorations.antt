@@ -6,10 +6,10 @@ use Rattle.grammar.specs.declared.line.Language.TheVariants.{Script}
 use Rattle.grammar.specs.declared.line.Line.{Line}
 use Rattle.grammar.specs.declared.line.Line.TheVariants.{Skipped, Do}
 use Rattle.grammar.specs.declared.order.Order.{Order}
-use Rattle.grammar.specs.Lines.{HasNoFeed}
+use Rattle.grammar.specs.Lines.{HasNoFeed, Reads}
 use Rattle.grammar.specs.Spelling.{Spells}
 use Rattle.engine.specs.declared.line_runner.Mode.TheVariants.{Lines}
-use Rattle.engine.specs.Script.{Obeys}
+use Rattle.engine.specs.Script.{Obeys, Runs}
 use Rattle.engine.specs.WorldState.{WorldState}
 
 -- the text, without a line feed, is a line of a script that says this
@@ -76,3 +76,11 @@ pub record Stops (answers : Bool) (start : WorldState) (most : ℕ) (before afte
   pub few : count ≤ most
   pub explored : Explored answers start count end (written ++ more)
   pub appends : Appends before after written
+
+-- the text is a script of so many lines, whose run leads from the first state to the last
+pub record IsScript (start end : WorldState) (count : ℕ) (text : List ℕ) : Type 0 where
+  pub lines : List Line
+  pub out : List ℕ
+  pub number : length lines ≡ count
+  pub reads : Reads Script text lines []
+  pub runs : Runs Lines start lines end out

@@ -31,8 +31,8 @@ pub(crate) fn draw_of<R: Rng>(rng: &mut R, course: &Course, pages: &PageSet) -> 
 /// The first address of a page that a command names: often one that is owed, or that is in flight.
 fn draw_address<R: Rng>(rng: &mut R, course: &Course, memo: &Memo, owed: &PageSet) -> Addr {
     let page = match below(rng, 8) {
-        0 => memo.sent,
-        1..=3 => draw_of(rng, course, owed),
+        0..=1 => memo.sent,
+        2..=4 => draw_of(rng, course, owed),
         _ => draw_page(rng, course),
     };
     u64::from(page) * PAGE_SIZE
@@ -120,13 +120,18 @@ fn draw_place<R: Rng>(rng: &mut R, page: Addr) -> Place {
 
 /// A move of a range to another page, or its growth.
 fn draw_move<R: Rng>(rng: &mut R, page: Addr, other: Addr) -> Command {
-    let old_len = draw_len(rng);
-    let new_len = match below(rng, 4) {
+    let old_len = match below(rng, 4) {
+        0 => draw_len(rng),
+        _ => PAGE_SIZE,
+    };
+    let new_len = match below(rng, 8) {
         0 => draw_len(rng),
         _ => old_len,
     };
-    let fixed = match below(rng, 4) {
-        0 => None,
+    let fixed = match below(rng, 8) {
+        0..=1 => None,
+        2 => Some(other),
+        _ if other == page => None,
         _ => Some(other),
     };
     Command::Mremap {
@@ -141,8 +146,8 @@ fn draw_move<R: Rng>(rng: &mut R, page: Addr, other: Addr) -> Command {
 /// A call that changes mappings, or clears pages.
 fn draw_map_call<R: Rng>(rng: &mut R, page: Addr, other: Addr) -> Command {
     match below(rng, 16) {
-        0..=4 => draw_move(rng, page, other),
-        5..=6 => Command::Munmap {
+        0..=5 => draw_move(rng, page, other),
+        6 => Command::Munmap {
             addr: page,
             len: draw_len(rng),
         },
@@ -158,11 +163,12 @@ fn draw_map_call<R: Rng>(rng: &mut R, page: Addr, other: Addr) -> Command {
     }
 }
 
-/// What a processor does. The first line of a script maps its pages.
+/// What a processor does: in `maps` of 16 draws a map call. The first line of a script maps its pages.
 pub(crate) fn draw_command<R: Rng>(
     rng: &mut R,
     course: &Course,
     memo: &Memo,
+    maps: u8,
     owed: &PageSet,
 ) -> Command {
     if memo.line == 0 {
@@ -173,7 +179,7 @@ pub(crate) fn draw_command<R: Rng>(
         };
     }
     let page = draw_address(rng, course, memo, owed);
-    if in_share(rng, course.weights.maps) {
+    if in_share(rng, maps) {
         let other = draw_address(rng, course, memo, owed);
         return draw_map_call(rng, page, other);
     }

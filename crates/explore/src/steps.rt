@@ -74,9 +74,25 @@ fn draw_guest<R: Rng>(rng: &mut R, course: &Course, memo: &Memo, world: &World) 
     if let Ok(CpuState::Woken(_)) = world.cpu_state(cpu) {
         return Step::Retry { cpu };
     }
+    draw_issue(rng, course, memo, world, cpu)
+}
+
+/// A command of a processor.
+fn draw_issue<R: Rng>(
+    rng: &mut R,
+    course: &Course,
+    memo: &Memo,
+    world: &World,
+    cpu: u8,
+) -> Step {
+    let maps = match world.phase() {
+        WorldPhase::Idle | WorldPhase::Precopy => course.weights.maps,
+        WorldPhase::Switching | WorldPhase::Postcopy => course.weights.moves,
+        WorldPhase::Complete => course.weights.maps,
+    };
     Step::Issue {
         cpu,
-        command: draw_command(rng, course, memo, world.remaining()),
+        command: draw_command(rng, course, memo, maps, world.remaining()),
     }
 }
 
@@ -141,8 +157,8 @@ fn draw_bytes<R: Rng>(rng: &mut R, course: &Course) -> u64 {
 fn draw_delivery<R: Rng>(rng: &mut R, course: &Course) -> Step {
     let n = draw_bytes(rng, course);
     match below(rng, 8) {
-        0..=3 => Step::Deliver { n },
-        4..=5 => Step::DeliverBack { n },
+        0..=2 => Step::Deliver { n },
+        3..=4 => Step::DeliverBack { n },
         _ => Step::DeliverUrgent { n },
     }
 }
@@ -235,10 +251,7 @@ fn draw_any<R: Rng>(rng: &mut R, course: &Course, memo: &Memo, world: &World) ->
             epoch: draw_epoch(rng, world.epoch()),
         },
         3..=4 => Order::Make(Step::Retry { cpu }),
-        5 => Order::Make(Step::Issue {
-            cpu,
-            command: draw_command(rng, course, memo, world.remaining()),
-        }),
+        5 => Order::Make(draw_issue(rng, course, memo, world, cpu)),
         6..=8 => Order::Make(draw_delivery(rng, course)),
         9 => Order::Make(draw_send(rng, course)),
         _ => Order::Make(draw_word(rng)),
@@ -284,12 +297,20 @@ fn draw_made<R: Rng>(rng: &mut R, course: &Course, memo: &Memo, world: &World) -
 
 /// An order that the world would refuse, if one is found.
 fn draw_refused<R: Rng>(rng: &mut R, course: &Course, memo: &Memo, world: &World) -> Order {
-    let mut order = draw_any(rng, course, memo, world);
+    let mut order = draw_either(rng, course, memo, world);
     for _ in 0..DRAWS {
         if !would_make(world, order) {
             break;
         }
-        order = draw_any(rng, course, memo, world);
+        order = draw_either(rng, course, memo, world);
     }
     order
+}
+
+/// What the world may do next, or a step of any kind.
+fn draw_either<R: Rng>(rng: &mut R, course: &Course, memo: &Memo, world: &World) -> Order {
+    match below(rng, 2) {
+        0 => draw_any(rng, course, memo, world),
+        _ => draw_likely(rng, course, memo, world),
+    }
 }

@@ -19,8 +19,10 @@ pub(crate) struct Weights {
     pub dest_handler: u8,
     /// The loss of the channel. A channel that is lost is noticed and resumed at once or later, by `REPAIR`.
     pub link: u8,
-    /// Of 16 commands, those that are map calls.
+    /// Of 16 commands, those that are map calls until the source switches.
     pub maps: u8,
+    /// The same from then on.
+    pub moves: u8,
     /// Of 16 deliveries, those of a few bytes.
     pub pieces: u8,
     /// Of 16 pushes, those on the urgent wire.
@@ -49,13 +51,14 @@ const BALANCED: Weights = Weights {
     dest_handler: 80,
     link: 1,
     maps: 2,
+    moves: 3,
     pieces: 2,
     urgent: 6,
     background: 6,
     runs: 4,
-    start: 2,
-    switch_from: 4,
-    switch_to: 8,
+    start: 3,
+    switch_from: 5,
+    switch_to: 9,
 };
 
 impl Profile {
@@ -79,18 +82,19 @@ impl Profile {
                 weights.link = 0;
                 weights.sender = 20;
                 weights.background = 3;
-                weights.switch_from = 3;
+                weights.switch_from = 4;
                 weights.switch_to = 6;
             }
             Profile::Moves => {
-                weights.maps = 9;
-                weights.dest_handler = 110;
+                weights.moves = 10;
+                weights.sender = 20;
+                weights.wires = 60;
                 weights.link = 0;
                 weights.switch_from = 4;
                 weights.switch_to = 7;
             }
             Profile::Breaks => {
-                weights.link = 8;
+                weights.link = 5;
                 weights.switch_to = 12;
             }
             Profile::Urgent => {
