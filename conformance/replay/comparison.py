@@ -17,7 +17,8 @@ from .world import World, replay
 @dataclass
 class Job:
     """A script with the answers that a model gives. fault: what the model says on standard error, None where that is not known. program: the words
-    that start a postmig, or None. implementation: the words that start the program which is compared instead of a replay."""
+    that start a postmig, or None. implementation: the words that start the program which is compared instead of a replay. recipe: of a random script
+    that is yet to be made, its seed, profile and number of lines."""
 
     name: str
     data: bytes
@@ -26,6 +27,7 @@ class Job:
     fault: Optional[str] = ""
     program: list = None
     implementation: list = None
+    recipe: tuple = None
 
 
 @dataclass
@@ -107,8 +109,6 @@ class Comparison:
         self.job, self.result = job, Result(job.name)
         self.done, self.is_late, self.has_stopped = 0, False, False
         self.program = job.program
-        if job.answers is None:
-            job.answers, job.fault = answers_of(job.program, job.settings.cpus, job.data)
 
     def differ(self, where, line="", model="", other=""):
         self.result.differing.append((where, line, model, other))

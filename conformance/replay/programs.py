@@ -12,6 +12,7 @@ import time
 
 from . import machine, table
 from .comparison import Job, Result, answers_of, compare, cpus_of
+from .generator import PROFILES, generate
 from .minimise import minimise
 from .settings import FOLDER, HOST, Settings
 
@@ -19,8 +20,10 @@ TOP = FOLDER.parent
 LAUNCHER = TOP / "postmig"
 PROVED = TOP / "crates" / "postmig" / "out" / "postmig"
 STORED = FOLDER / "scripts"
-# Of the stored scripts a quick run takes each seventh.
-QUICK = 7
+# Of the stored scripts a quick run takes each third.
+QUICK = 3
+# The processors of the guests of random scripts, by seed.
+CPUS = (2, 1, 3, 4, 2, 16, 2, 8)
 
 
 def options(description):
@@ -93,8 +96,11 @@ def job_of(arguments, path):
         require_program(arguments)
     answers = beside.read_text().splitlines() if beside.exists() else None
     data = path.read_bytes()
-    implementation = shlex.split(arguments.impl) if getattr(arguments, "impl", None) else None
-    return Job(str(path), data, settings, answers, None, program, implementation)
+    return Job(str(path), data, settings, answers, None, program, implementation_of(arguments))
+
+
+def implementation_of(arguments):
+    return shlex.split(arguments.impl) if getattr(arguments, "impl", None) else None
 
 
 def in_processes(jobs, work, items):
@@ -122,7 +128,7 @@ def show(result, kinds):
 def compare_all(arguments, jobs):
     """Compares, and prints the table. The status: 3 where something was unexpected."""
     begun, total, differing = time.time(), Result("all"), []
-    for result in in_processes(arguments.jobs, compare, jobs):
+    for result in in_processes(arguments.jobs, compare_written, jobs):
         add(total, result)
         show(result, [("UNEXPECTED", result.differing), ("known", result.shown if arguments.show else [])])
         if result.differing:
@@ -136,20 +142,61 @@ def compare_all(arguments, jobs):
 
 def differs(job, data):
     """Whether a shorter script still has something unexpected. Its answers are the program's."""
-    shorter = Job(job.name, data, job.settings, None, "", job.program, job.implementation)
-    return bool(compare(shorter).differing)
+    shorter = Job(job.name, data, job.settings, None, None, job.program, job.implementation)
+    return bool(compare_written(shorter).differing)
 
 
 def minimise_all(arguments, jobs, differing):
     require_program(arguments)
     for job in jobs:
         if job.name in differing:
+            written(job)
             print(f"minimised {job.name}", *minimise(job.data, functools.partial(differs, job)), sep="\n    ", flush=True)
 
 
-def answered(arguments, name, cpus, data):
-    """A generated script, with its answers yet to be made."""
+def generating_options(parser):
+    parser.add_argument("--profiles", metavar="A,B", help=f"random scripts of these profiles: {', '.join(PROFILES)}; or `every`")
+    parser.add_argument("--seeds", metavar="FIRST:LAST", default="1:20", help="with these seeds (1:20)")
+    parser.add_argument("--steps", type=int, default=200, metavar="N", help="of so many lines (200)")
+    return parser
+
+
+def cpus_of_seed(seed):
+    return CPUS[seed % len(CPUS)]
+
+
+def random_jobs(arguments):
+    """Random scripts that are yet to be made: a worker makes each with its answers."""
+    if not arguments.profiles:
+        return
+    first, _, last = arguments.seeds.partition(":")
+    profiles = list(PROFILES) if arguments.profiles == "every" else arguments.profiles.split(",")
     program = require_program(arguments)
-    implementation = shlex.split(arguments.impl) if getattr(arguments, "impl", None) else None
-    answers, fault = answers_of(program, cpus, data)
-    return Job(name, data, settings_of(arguments, cpus), answers, fault, program, implementation)
+    for profile in profiles:
+        for seed in range(int(first), int(last or first) + 1):
+            settings = settings_of(arguments, cpus_of_seed(seed))
+            name = f"{profile}/{seed}.cpus{settings.cpus}.script"
+            yield Job(name, None, settings, None, None, program, implementation_of(arguments), (seed, profile, arguments.steps))
+
+
+def named_jobs(arguments):
+    """Scripts of which the program gives the answers, also where some stand beside them."""
+    program = require_program(arguments)
+    for path in arguments.scripts:
+        settings = settings_of(arguments, cpus_of(path))
+        yield Job(str(path), path.read_bytes(), settings, None, None, program, implementation_of(arguments))
+
+
+def written(job):
+    """The job with its script and its answers."""
+    if job.data is None:
+        seed, profile, steps = job.recipe
+        lines, job.answers = generate(job.program, seed, profile, job.settings.cpus, steps)
+        job.data, job.fault = ("\n".join(lines) + "\n").encode(), ""
+    elif job.answers is None:
+        job.answers, job.fault = answers_of(job.program, job.settings.cpus, job.data)
+    return job
+
+
+def compare_written(job):
+    return compare(written(job))
