@@ -72,8 +72,11 @@ def missing(host, any_kernel=False):
         lacking = lack()
         if lacking and not (any_kernel and lacking.startswith("Linux 6.17")):
             return lacking
-        build_host()
+        try:
+            build_host()
+        except subprocess.CalledProcessError:
+            return "the host of this folder does not compile here"
     said = refused_userfault(host)
     if said:
-        return f"root or unprivileged userfaultfd, and free addresses from 0x10000 on, are needed; the host says: {said}"
+        return f"a userfaultfd, and free addresses from 0x10000 up to 0x100000000, are needed; the host says: {said}"
     return None

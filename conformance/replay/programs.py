@@ -157,7 +157,7 @@ def minimise_all(arguments, jobs, differing):
 def generating_options(parser):
     parser.add_argument("--profiles", metavar="A,B", help=f"random scripts of these profiles: {', '.join(PROFILES)}; or `every`")
     parser.add_argument("--seeds", metavar="FIRST:LAST", default="1:20", help="with these seeds (1:20)")
-    parser.add_argument("--steps", type=int, default=200, metavar="N", help="of so many lines (200)")
+    parser.add_argument("--steps", type=int, default=200, metavar="N", help="of at most N lines (200)")
     return parser
 
 

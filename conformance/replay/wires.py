@@ -112,11 +112,11 @@ class Wire:
         self.held = 0
 
     def completes(self, count):
-        """The first frame, if so many bytes complete it."""
+        """The first frame, if this number of bytes completes it."""
         return self.sent[0] if count >= self.sent[0].length() - self.held else None
 
     def arrive(self, count):
-        """So many bytes arrive: the frame that they complete, if any."""
+        """This number of bytes arrives: the frame that they complete, if any."""
         if not self.completes(count):
             self.held += count
             return None

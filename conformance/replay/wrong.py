@@ -1,4 +1,4 @@
-"""Wrong replays: in each, one step of a node does the wrong thing on the kernel. A comparison has to tell each of them apart.
+"""Wrong replays: in each, one step of a node does the wrong thing on the kernel. A comparison has to find each of them.
 
 Each function changes the classes of a replay, for the rest of the process."""
 
@@ -182,7 +182,7 @@ def protects_after_reading():
     Source.read_protected = read_protected
 
 
-TOLD_APART = (
+FOUND_BY_REPLAYS = (
     sends_unprotected,
     stays_protected,
     source_without_missing,
