@@ -1,55 +1,47 @@
-"""Single things that a kernel does, as docs/LINUX.md states them: short sessions with one host, each of which asks whether its sentence holds."""
+"""Single things that a kernel does, as docs/LINUX.md states them: short sessions with one host.
 
-from contextlib import contextmanager
+single-calls has a block for each: its sentence, and the commands of the host protocol with the answers that show it."""
 
 from .host import Host
 from .pages import PAGE
-from .settings import Record
+from .settings import FOLDER, Record
 
-FEATURES = 0x4D
+PROCESSORS = 3
 
 
-@contextmanager
-def session(settings, features=FEATURES):
+def read_facts():
+    """(sentence, [(command, answer)]) of each block. @N stands for the bytes N of a whole page."""
+    facts = []
+    for block in (FOLDER / "single-calls").read_text().split("\n\n")[1:]:
+        sentence, *lines = block.strip().splitlines()
+        facts.append((sentence.removeprefix("# "), [tuple(line.split(" -> ")) for line in lines]))
+    return facts
+
+
+def spelled(text):
+    """With the bytes of a page in hexadecimal."""
+    return " ".join(word[1:].zfill(2) * PAGE if word.startswith("@") else word for word in text.split())
+
+
+def wrong_answer(settings, commands):
+    """The first command that is answered otherwise, with its answer; None where all are as they should."""
     host = Host(settings, Record())
     try:
-        host.must(f"open 0x{features:x}")
-        yield host
+        for command, answer in commands:
+            found = host.ask(spelled(command))
+            if found != spelled(answer):
+                return f"{command} -> {found[:100]}"
     finally:
         host.close()
-
-
-def map_watched(host, addr, pages):
-    """Pages that are mapped, present and registered for missing faults."""
-    host.ask(f"cpu 0 mmap {pages * PAGE} rw fixed 0x{addr:x}")
-    for page in range(pages):
-        host.ask(f"cpu 0 store 0x{addr + page * PAGE:x} 1 {7 + page}")
-    host.must(f"register 0x{addr:x} {pages * PAGE} 1")
-
-
-def reading_wakes_nobody(settings):
-    """Reading UNMAP lets the munmap return and wakes nobody who sleeps on the page; UFFDIO_WAKE does."""
-    with session(settings) as host:
-        host.ask(f"cpu 0 mmap {PAGE} rw fixed 0x10000")
-        host.must(f"register 0x10000 {PAGE} 1")
-        asleep = host.ask("cpu 0 load 0x10000 8") == "blocked" and host.ask("read").startswith("fault")
-        unmapped = host.ask(f"cpu 1 munmap 0x10000 {PAGE}") == "blocked" and host.ask("read") == "unmap 0x10000 0x11000"
-        sleeps_on = host.ask("await 1") == "ret 0" and host.ask("states") == "ri"
-        host.must(f"wake 0x10000 {PAGE}")
-        return asleep and unmapped and sleeps_on and host.ask("await 0") == "segv unmapped"
-
-
-def registers_without_events(settings):
-    """UFFDIO_REGISTER does not need the three events to have been requested."""
-    with session(settings, 0x1) as host:
-        host.ask(f"cpu 0 mmap {PAGE} rw fixed 0x10000")
-        return host.ask(f"register 0x10000 {PAGE} 3") == "ok" and host.ask(f"cpu 0 munmap 0x10000 {PAGE}") == "ret 0"
+    return None
 
 
 def two_blocks_grow(settings):
-    """Two processors grow a block each by mremap, which names no address. The second block may go where the first one was, and UNMAP of that place
-    is read behind the REMAP to it."""
-    with session(settings) as host:
+    """Two processors grow a block each by mremap, which names no address: the second block goes where the first one was, and UNMAP of that place is read behind the
+    REMAP to it."""
+    host = Host(settings, Record())
+    try:
+        host.must("open 0x4d")
         base = int(host.ask(f"cpu 0 mmap {98 * PAGE} r").split()[1])
         second, first = base + PAGE, base + 34 * PAGE
         for addr, pages in (first, 64), (second, 32):
@@ -60,46 +52,18 @@ def two_blocks_grow(settings):
         messages = [host.ask("read") for _ in range(4)]
         host.ask("await 0")
         moved = int(host.ask("await 1").split()[1])
-        old_place, new_place = f"unmap 0x{first:x} 0x{first + 64 * PAGE:x}", f"remap 0x{second:x} 0x{first:x} {32 * PAGE}"
-        return moved == first and messages.index(old_place) > messages.index(new_place)
+    finally:
+        host.close()
+    old_place, new_place = f"unmap 0x{first:x} 0x{first + 64 * PAGE:x}", f"remap 0x{second:x} 0x{first:x} {32 * PAGE}"
+    if moved != first:
+        return f"the second block went to 0x{moved:x}, and the first was at 0x{first:x}"
+    if messages.index(old_place) < messages.index(new_place):
+        return f"messages in this order: {messages}"
+    return None
 
 
-def first_page_goes(settings):
-    """A dontneed of which another thread unmaps the first page, while REMOVE is unread, is ENOMEM, and the rest is not cleared."""
-    with session(settings) as host:
-        map_watched(host, 0x10000, 2)
-        asleep = host.ask(f"cpu 0 dontneed 0x10000 {2 * PAGE}") == "blocked"
-        host.ask(f"cpu 1 munmap 0x10000 {PAGE}")
-        messages = {host.ask("read"), host.ask("read")}
-        ended = host.ask("await 0") == "ret -12" and host.ask("await 1") == "ret 0"
-        both = messages == {"remove 0x10000 0x12000", "unmap 0x10000 0x11000"}
-        return asleep and ended and both and host.ask("cpu 0 load 0x11000 1") == "value 0x8"
-
-
-def dontneed_clears_late(settings):
-    """Until REMOVE was read a load gets the old value, and a store is answered; then the page is cleared, with that store."""
-    with session(settings) as host:
-        map_watched(host, 0x10000, 1)
-        asleep = host.ask(f"cpu 0 dontneed 0x10000 {PAGE}") == "blocked"
-        old = host.ask("cpu 1 load 0x10000 1") == "value 0x7" and host.ask("cpu 1 store 0x10000 1 9") == "done"
-        host.ask("read")
-        return asleep and old and host.ask("await 0") == "ret 0" and host.ask("bits 0x10000") == "0 0"
-
-
-def no_protection(settings):
-    """A present page of a mapping without protection is read through /proc/self/mem, and not by a load."""
-    with session(settings) as host:
-        host.ask(f"cpu 0 mmap {PAGE} none fixed 0x10000")
-        host.must(f"register 0x10000 {PAGE} 3")
-        host.must("copy 0x10000 0 " + "07" * PAGE)
-        return host.ask("cpu 0 load 0x10000 1") == "segv protected" and host.ask("page 0x10000") == "07" * PAGE
-
-
-FACTS = (
-    reading_wakes_nobody,
-    registers_without_events,
-    two_blocks_grow,
-    first_page_goes,
-    dontneed_clears_late,
-    no_protection,
-)
+def all_facts():
+    """(sentence, what is wrong with it under some settings, if anything)."""
+    for sentence, commands in read_facts():
+        yield sentence, lambda settings, commands=commands: wrong_answer(settings, commands)
+    yield " ".join(two_blocks_grow.__doc__.split()), two_blocks_grow
