@@ -39,8 +39,8 @@ def errors(*pairs):
 
 
 def moves_all_the_same(model, kernel):
-    """What the model refuses for its areas the kernel does, or refuses for another reason."""
-    return model == "refused EFAULT" and re.fullmatch(r"at 0x[0-9a-f]+|refused (EINVAL|ENOMEM)", kernel) is not None
+    """What the model refuses for its areas the kernel does."""
+    return model == "refused EFAULT" and re.fullmatch(r"at 0x[0-9a-f]+", kernel) is not None
 
 
 # tag: (section, what differs, whether a pair of replies is that difference)

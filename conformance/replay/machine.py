@@ -28,11 +28,11 @@ def setting(name):
         return None
 
 
-def lack():
+def lack(any_kernel):
     """What this machine lacks to be a host, in one line; None where it can be one."""
     if sys.platform != "linux" or platform.machine() != "x86_64":
         return f"Linux on x86-64 is needed, and this is {platform.system()} on {platform.machine()}"
-    if kernel() < LEAST_KERNEL:
+    if kernel() < LEAST_KERNEL and not any_kernel:
         return f"Linux 6.17 or later is needed, and this is {platform.release()} (--any-kernel tries it all the same)"
     least = setting("vm/mmap_min_addr")
     if least is not None and least > LOW:
@@ -69,13 +69,13 @@ def refused_userfault(host):
 def missing(host, any_kernel=False):
     """The sentence for a machine that cannot replay; None where it can. The host that comes with the repository is built."""
     if host == [str(HOST)]:
-        lacking = lack()
-        if lacking and not (any_kernel and lacking.startswith("Linux 6.17")):
+        lacking = lack(any_kernel)
+        if lacking:
             return lacking
         try:
             build_host()
-        except subprocess.CalledProcessError:
-            return "the host of this folder does not compile here"
+        except (subprocess.CalledProcessError, OSError) as error:
+            return f"the host cannot be compiled: {error}"
     said = refused_userfault(host)
     if said:
         return f"a userfaultfd, and free addresses from 0x10000 up to 0x100000000, are needed; the host says: {said}"

@@ -213,7 +213,7 @@ class MremapCall(MapCall):
         if HIGH <= command.addr < PROCESS_END:
             return self.model_only("refused EFAULT")
         difference = "mremap-to-a-size-past-the-space" if command.new > PROCESS_END else "mremap-of-several-areas"
-        if self.end > 1 << 64:
+        if self.end > PROCESS_END:
             difference = "refusal-order"
         return self.on_copy(command, "refused EFAULT", difference, command.addr if command.target is None else None)
 
