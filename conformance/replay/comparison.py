@@ -18,7 +18,7 @@ from .world import World, replay
 class Job:
     """A script with the answers that a model gives. fault: what the model says on standard error, None where that is not known. program: the words
     that start a postmig, or None. implementation: the words that start the program which is compared instead of a replay. recipe: of a random script
-    that is yet to be made, its seed, profile and number of lines."""
+    that is yet to be made, its seed, profile and number of lines. is_stored: whether the answers are those of a file."""
 
     name: str
     data: bytes
@@ -28,6 +28,7 @@ class Job:
     program: list = None
     implementation: list = None
     recipe: tuple = None
+    is_stored: bool = False
 
 
 @dataclass
@@ -116,6 +117,7 @@ class Comparison:
     def run(self):
         result, job, fault = self.result, self.job, ""
         result.totals["scripts"] += 1
+        self.compare_stored()
         try:
             if job.implementation:
                 self.take_lines(implementation_lines(job))
@@ -131,6 +133,16 @@ class Comparison:
             self.excuse_late()
         result.totals["scripts with something unexpected"] += bool(result.differing)
         return result
+
+    def compare_stored(self):
+        """Answers of a file have to be the program's, where there is one."""
+        job = self.job
+        if not job.is_stored or not job.program:
+            return
+        now, _ = answers_of(job.program, job.settings.cpus, job.data)
+        if now != job.answers:
+            at = next((at for at, pair in enumerate(zip(now, job.answers)) if pair[0] != pair[1]), min(len(now), len(job.answers)))
+            self.differ("the stored answers", f"answer {at + 1}", "".join(now[at : at + 1]), self.wanted(at))
 
     def wanted(self, at):
         return self.job.answers[at] if at < len(self.job.answers) else "(nothing)"

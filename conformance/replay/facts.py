@@ -37,8 +37,8 @@ def wrong_answer(settings, commands):
 
 
 def two_blocks_grow(settings):
-    """Two processors grow a block each by mremap, which names no address: the second block goes where the first one was, and UNMAP of that place is read behind the
-    REMAP to it."""
+    """Two processors grow a block each by mremap, which names no address: the second block goes where the first one was, and UNMAP of that
+    place is read behind the REMAP to it."""
     host = Host(settings, Record())
     try:
         host.must("open 0x4d")

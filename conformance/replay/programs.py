@@ -96,7 +96,7 @@ def job_of(arguments, path):
         require_program(arguments)
     answers = beside.read_text().splitlines() if beside.exists() else None
     data = path.read_bytes()
-    return Job(str(path), data, settings, answers, None, program, implementation_of(arguments))
+    return Job(str(path), data, settings, answers, None, program, implementation_of(arguments), is_stored=beside.exists())
 
 
 def implementation_of(arguments):
