@@ -283,7 +283,7 @@ class Guest:
             self.record.tag("read-early")
 
     def next_event(self):
-        """The model's next event; of a call in the kernel it is read there. Answers (event, the processor whose call ends with it)."""
+        """The model's next event; of a call in the kernel it is read there. Answers (event, the call that ends with it)."""
         call, event = self.events.popleft()
         if call.is_in_kernel():
             self.read_in_kernel(call, event)

@@ -1,5 +1,6 @@
 """One host: a process that takes the host protocol of ../README.md."""
 
+import collections
 import errno
 import select
 import subprocess
@@ -7,6 +8,9 @@ import sys
 
 from .errors import Finding
 from .pages import HIGH, PAGE, name, pages_of
+
+# How many processes may be ending at the same time.
+MOST_ENDING = 6
 
 
 def number_range(text):
@@ -18,7 +22,18 @@ def refusal(value):
     return "refused " + errno.errorcode.get(-value, str(-value))
 
 
+def reap(process):
+    try:
+        process.wait(timeout=30)
+    except subprocess.TimeoutExpired:
+        process.kill()
+        process.wait()
+
+
 class Host:
+    # The processes that were asked to end.
+    ending = collections.deque()
+
     def __init__(self, settings, record):
         self.settings, self.record = settings, record
         words = settings.host + [str(settings.cpus)]
@@ -48,13 +63,16 @@ class Host:
             raise Finding(f"{line[:100]} -> {said}")
 
     def close(self):
-        if self.process.poll() is None:
-            try:
-                self.process.communicate(b"quit\n", timeout=5)
-            except (OSError, subprocess.TimeoutExpired):
-                self.process.kill()
-                self.process.wait()
+        """Ends the process, and does not wait for it: that takes long on a busy machine, since each of its threads has to run once more."""
+        try:
+            self.process.stdin.write(b"quit\n")
+            self.process.stdin.close()
+        except OSError:
+            self.process.kill()
         self.process.stdout.close()
+        self.ending.append(self.process)
+        while len(self.ending) > MOST_ENDING:
+            reap(self.ending.popleft())
 
     # ---- what the kernel says of the map ----
 
