@@ -13,7 +13,7 @@ pub(crate) enum Tail {
     Target,
 }
 
-/// What stands behind a first word.
+/// What stands behind a first word, of a line or of a reply.
 #[derive(Clone, Copy)]
 pub(crate) struct Form {
     /// How the line is written.
@@ -121,23 +121,40 @@ pub(crate) fn command_form(word: &[u8]) -> Option<Form> {
     Some(form)
 }
 
-/// What stands behind a reply's first word.
-pub(crate) fn reply_words(word: &[u8]) -> Option<&'static [Wanted]> {
-    match word {
-        b"value" => Some(&[Wanted::Value]),
-        b"done" => Some(&[]),
-        b"at" => Some(&[Wanted::Addr]),
-        b"segv" => Some(&[Wanted::Segv]),
-        b"bad" => Some(&[Wanted::Access]),
-        b"refused" => Some(&[Wanted::Errno]),
-        _ => None,
-    }
+/// The form of the reply that begins with this word.
+pub(crate) fn reply_form(word: &[u8]) -> Option<Form> {
+    let form = match word {
+        b"done" => alone("done"),
+        b"value" => Form {
+            words: &[Wanted::Value],
+            ..alone("value VALUE")
+        },
+        b"at" => Form {
+            words: &[Wanted::Addr],
+            ..alone("at ADDR")
+        },
+        b"segv" => Form {
+            words: &[Wanted::Segv],
+            ..alone("segv unmapped|protected")
+        },
+        b"bad" => Form {
+            words: &[Wanted::Access],
+            ..alone("bad access")
+        },
+        b"refused" => Form {
+            words: &[Wanted::Errno],
+            ..alone("refused ERRNO")
+        },
+        _ => return None,
+    };
+    Some(form)
 }
 
 /// How a line is written.
 #[derive(Clone, Copy)]
 pub(crate) enum Usage {
     Order(&'static str),
+    Reply(&'static str),
     /// A command, in a script or a transcript.
     Command(Language, &'static str),
 }
@@ -146,6 +163,7 @@ impl fmt::Display for Usage {
     fn fmt<W: fmt::Write>(&self, f: &mut fmt::Formatter<W>) -> fmt::Result {
         match *self {
             Usage::Order(text) => write!(f, "the line is `{text}`"),
+            Usage::Reply(text) => write!(f, "the reply is `{text}`"),
             Usage::Command(Language::Script, text) => write!(f, "the line is `cpu K {text}`"),
             Usage::Command(Language::Transcript, text) => {
                 write!(f, "the line is `K {text} => REPLY`")

@@ -31,6 +31,11 @@ pub(crate) enum Problem<'a> {
         wanted: Wanted,
         near: Option<&'static str>,
     },
+    /// A first word may be meant to be this command.
+    NearCommand {
+        word: &'a [u8],
+        near: &'static str,
+    },
     Missing {
         wanted: Wanted,
         usage: Usage,
@@ -82,7 +87,7 @@ impl fmt::Display for ByteFault {
     fn fmt<W: fmt::Write>(&self, f: &mut fmt::Formatter<W>) -> fmt::Result {
         match *self {
             ByteFault::Tab => write!(f, "a tab is not a space"),
-            ByteFault::ByteOrderMark => write!(f, "a byte order mark: save the file as ASCII"),
+            ByteFault::ByteOrderMark => write!(f, "a byte order mark: save the file without it"),
             ByteFault::Utf16 => write!(f, "UTF-16: save the file as ASCII"),
             ByteFault::NonBreakingSpace => write!(f, "a non-breaking space is not a space"),
             ByteFault::Nul => write!(f, "a NUL byte is not printable ASCII"),
@@ -113,6 +118,15 @@ fn digit_of(radix: u32) -> &'static str {
     }
 }
 
+/// What one may have meant who wrote this byte in a number.
+fn hint_of(byte: u8, radix: u32) -> &'static str {
+    match (byte, radix) {
+        (b'a'..=b'f' | b'A'..=b'F', 10) => "; a hexadecimal number begins with `0x`",
+        (b'k' | b'K' | b'M' | b'G', 10) => "; lengths are in bytes",
+        _ => "",
+    }
+}
+
 /// How many digits a number in a radix may have.
 fn most_of(radix: u32) -> &'static str {
     match radix {
@@ -130,7 +144,8 @@ impl fmt::Display for NumberFault {
             NumberFault::Digit { byte, radix } => {
                 let shown = char::from(byte);
                 let digit = digit_of(radix);
-                write!(f, "is not a number: `{shown}` is not {digit}")
+                let hint = hint_of(byte, radix);
+                write!(f, "is not a number: `{shown}` is not {digit}{hint}")
             }
             NumberFault::Digits { count, radix } => {
                 let most = most_of(radix);
@@ -171,7 +186,7 @@ impl fmt::Display for Problem<'_> {
             Problem::Case { word, right } => {
                 let word = Shown(word);
                 let rule = case_of(right);
-                write!(f, "{word} is `{right}`: {rule}")
+                write!(f, "write `{right}`, not {word}: {rule}")
             }
             Problem::Unexpected { word, wanted, near } => {
                 let word = Shown(word);
@@ -180,6 +195,11 @@ impl fmt::Display for Problem<'_> {
                     Some(near) => { write!(f, "{word} is not {phrase}: did you mean `{near}`?") }
                     None => write!(f, "{word} is not {phrase}"),
                 }
+            }
+            Problem::NearCommand { word, near } => {
+                let word = Shown(word);
+                let phrase = Wanted::Order.phrase();
+                write!(f, "{word} is not {phrase}: did you mean `cpu K {near}`?")
             }
             Problem::Missing { wanted, usage } => {
                 let name = wanted.name();

@@ -1,7 +1,7 @@
 //! Going over the words of a line, up to the first that is wrong.
 
-use crate::form::{Form, Tail, Usage, command_form, order_form, reply_words};
-use crate::near::{in_other_case, meant};
+use crate::form::{Form, Tail, Usage, command_form, order_form, reply_form};
+use crate::near::{in_other_case, meant, nearest};
 use crate::number::{is_meant, number_fault};
 use crate::problem::Problem;
 use crate::reason::Reason;
@@ -22,6 +22,18 @@ fn unexpected(word: &[u8], wanted: Wanted) -> Problem<'_> {
         word,
         wanted,
         near: meant(word, choices),
+    }
+}
+
+/// Why a word, which begins no order, is not the first word of a script line.
+fn first_problem(word: &[u8]) -> Problem<'_> {
+    let commands = Wanted::Command.choices();
+    match (
+        nearest(word, Wanted::Order.choices(), 1),
+        nearest(word, commands, 1),
+    ) {
+        (None, Some(near)) => Problem::NearCommand { word, near },
+        _ => unexpected(word, Wanted::Order),
     }
 }
 
@@ -154,7 +166,7 @@ fn take_order<'a>(words: &mut Words<'a>) -> Result<(), Reason<'a>> {
         Some(form) => Problem::NoProcessor {
             usage: Usage::Command(Language::Script, form.usage),
         },
-        None => unexpected(word.text, Wanted::Order),
+        None => first_problem(word.text),
     };
     Err(Reason::at(word.column, problem))
 }
@@ -185,13 +197,10 @@ fn take_cpu<'a>(words: &mut Words<'a>) -> Result<(), Reason<'a>> {
 fn take_reply<'a>(words: &mut Words<'a>) -> Result<(), Reason<'a>> {
     let usage = Usage::Command(Language::Transcript, "COMMAND");
     let word = take(words, Wanted::Reply, usage)?;
-    let Some(behind) = reply_words(word.text) else {
-        return Ok(());
-    };
-    for wanted in behind {
-        take(words, *wanted, usage)?;
+    match reply_form(word.text) {
+        Some(form) => take_form(words, form, Usage::Reply(form.usage)),
+        None => Ok(()),
     }
-    take_end(words, usage)
 }
 
 /// A line of a transcript without `=>`.
