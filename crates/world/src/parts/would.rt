@@ -200,7 +200,7 @@ impl Parts {
     }
 
     /// Whether the source has stopped, and has sent End in its epoch.
-    fn has_sent_end(&self) -> bool
+    pub(crate) fn has_sent_end(&self) -> bool
         ensures { result ≡ has_told self.now.source }
     {
         match self.source.phase() {

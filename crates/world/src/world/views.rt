@@ -6,6 +6,7 @@ ghost use Rattle.mig_base.specs.declared.phase.WorldPhase.{WorldPhase};
 ghost use Rattle.mig_model.specs.Source.{not_clean};
 ghost use Rattle.mig_model.specs.Userfault.{changing, next_message};
 ghost use Rattle.mig_model.specs.Views as views;
+ghost use Rattle.world.specs.Answers.{has_told};
 ghost use Rattle.world.specs.Headline.{IsMoved};
 
 use super::World;
@@ -112,6 +113,13 @@ impl World {
         ensures { result ≡ self.now.destination.phase }
     {
         self.parts.destination.phase()
+    }
+
+    /// Whether the source has stopped, and has sent End in its epoch.
+    pub fn has_sent_end(&self) -> bool
+        ensures { result ≡ has_told self.now.source }
+    {
+        self.parts.has_sent_end()
     }
 
     /// How many events of map calls the source's handler has not read yet. While there are any, steps are refused as `Changing`.
