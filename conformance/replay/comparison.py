@@ -176,8 +176,8 @@ class Comparison:
         """The memory of the kernel at the end has to follow from the transcript: that of the replay, and that of the model."""
         memory, node = world.memory(), world.running()
         totals = self.result.totals
-        totals["completed"] += world.source.phase == "released"
-        totals["ran at the destination"] += world.destination.has_run
+        totals["migrations that completed"] += world.source.phase == "released"
+        totals["guests that ran at the destination"] += world.destination.has_run
         if not self.program:
             return
         loads = sweep(memory, node.guest.host.areas()) if memory else []

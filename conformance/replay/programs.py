@@ -133,11 +133,37 @@ def compare_all(arguments, jobs):
         show(result, [("UNEXPECTED", result.differing), ("known", result.shown if arguments.show else [])])
         if result.differing:
             differing.append(result.name)
-    seconds = time.time() - begun
-    print(f"Linux {platform.release()}, {platform.machine()}, {time.strftime('%Y-%m-%d')}")
+    print(headline())
     print(*table.lines(total), "", *table.beside(total), sep="\n")
-    print(f"{total.totals['lines']:,} lines in {seconds:.0f} s, {len(differing)} scripts with something unexpected")
+    print(f"{total.totals['lines']:,} lines in {time.time() - begun:.0f} s, {len(differing)} scripts with something unexpected")
+    if getattr(arguments, "write", False):
+        write_page(total)
     return 3 if differing else 0, differing
+
+
+def headline():
+    user = "root" if os.geteuid() == 0 else "a user without privileges"
+    return f"Linux {platform.release()}, {platform.machine()}, {time.strftime('%Y-%m-%d')}, {user}"
+
+
+def asked_for(words):
+    """The options that say what was replayed, without those of this machine."""
+    kept, words = [], iter(words)
+    for word in words:
+        if word in ("--jobs", "--program"):
+            next(words)
+        elif word != "--write":
+            kept.append(word)
+    return " ".join(kept)
+
+
+def write_page(total):
+    """Puts the table into its part of docs/LINUX.md."""
+    page = TOP / "docs" / "LINUX.md"
+    begin, end = "<!-- measured -->\n", "<!-- end of measured -->\n"
+    head, _, rest = page.read_text().partition(begin)
+    text = "\n".join([f"`conformance/compare {asked_for(sys.argv[1:])}`, {headline()}:", "", *table.of_page(total), ""])
+    page.write_text(head + begin + text + end + rest.partition(end)[2])
 
 
 def differs(job, data):
