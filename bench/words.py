@@ -57,7 +57,9 @@ def texts(crates):
     for folder in [page.TOP / "crates" / crate for crate in crates] or [page.TOP / "crates"]:
         for suffix, mark in ((".rt", "//"), (".antt", "--")):
             for file in sorted(folder.rglob("*" + suffix)):
-                yield file, comments(file.read_text(), mark)
+                # (out/ is what a check has written)
+                if "out" not in file.relative_to(page.TOP).parts:
+                    yield file, comments(file.read_text(), mark)
 
 
 def instead(found):

@@ -11,26 +11,26 @@ use Rattle.mig_base.specs.declared.Area.{Area}
 use Rattle.mig_base.specs.Ranges.{in_range}
 use Rattle.mig_base.specs.Pages.{set_range}
 
--- the protection of each page of the areas
+-- the map from each page of the areas to its protection
 unfoldable pub pages_in : List Area → FinMap nat_cmp Prot
 pages_in [] = empty
 pages_in (area ∷ areas) = set_range (pages_in areas) area.first area.count area.prot
 
--- the protection of a page, if an area has it
+-- the protection of a page, if an area contains it
 unfoldable pub prot_in : List Area → ℕ → Option Prot
 prot_in [] page = None
 prot_in (area ∷ areas) page = if in_range area.first area.count page then Some area.prot else prot_in areas page
 
--- how many pages the areas have
+-- the number of pages of the areas
 abbrev pub page_sum : List Area → ℕ
 page_sum areas = sum_by (λ area. area.count) areas
 
--- an area has a page, and ends inside the address space
+-- an area is not empty, and ends inside the address space
 pub record IsArea (a : Area) : Type 0 where
   pub some : 0 < a.count
   pub bound : a.first + a.count ≤ HIGH_PAGE
 
--- the first lies before the second, and they are not one run
+-- the first area lies before the second, and they are not one run: if they touch, their protections differ
 pub record IsBefore (a b : Area) : Type 0 where
   pub apart : a.first + a.count ≤ b.first
   pub differ : a.first + a.count ≡ b.first → a.prot ≢ b.prot
@@ -40,25 +40,28 @@ abbrev pub AreRuns : List Area → Type 0
 AreRuns [] = Unit {0}
 AreRuns (a ∷ rest) = IsArea a × All (IsBefore a) rest × AreRuns rest
 
--- the areas are runs, with that many pages
+-- the areas are maximal runs, with this number of pages
 pub record AreCounted (areas : List Area) (mapped : ℕ) : Type 0 where
   pub runs : AreRuns areas
   pub count : mapped ≡ page_sum areas
 
--- where an area stands to a page
+-- the area begins at the page or below it
 abbrev pub BeginsBy : ℕ → Area → Type 0
 BeginsBy page area = area.first ≤ page
 
+-- the area begins behind the page
 abbrev pub BeginsAfter : ℕ → Area → Type 0
 BeginsAfter page area = page < area.first
 
+-- the area ends below the page without touching it: at least one page lies between them
 abbrev pub EndsBefore : ℕ → Area → Type 0
 EndsBefore page area = area.first + area.count < page
 
+-- the area contains the page, lies behind it, or ends right before it
 abbrev pub EndsFrom : ℕ → Area → Type 0
 EndsFrom page area = page ≤ area.first + area.count
 
--- and there is room for six areas more: two changes add no more
+-- the areas are counted, and the list has room for six more: two changes add no more
 pub record AreRoomy (areas : Vec Area) (mapped : ℕ) : Type 0 where
   pub counted : AreCounted areas.items mapped
   pub room : vec_len areas + 6 ≤ vec_capacity areas

@@ -7,7 +7,7 @@ use Rattle.mig_base.specs.Ranges.{in_range}
 abbrev pub HasOneProt : (ℕ → Option Prot) → ℕ → ℕ → Prot → Type 0
 HasOneProt prots first count prot = (page : ℕ) → first ≤ page → page < first + count → prots page ≡ Some prot
 
--- what each page has once the pages of one range went to another
+-- the protection of each page after the pages of one range moved to another
 abbrev pub moved : (ℕ → Option Prot) → ℕ → ℕ → ℕ → ℕ → Option Prot
 moved prots from to count page =
     if in_range to count page then prots (from + (page - to)) else (if in_range from count page then None else prots page)

@@ -1,4 +1,4 @@
-//! How many pages of a range are mapped.
+//! The number of mapped pages in a range.
 
 ghost use Rattle.std.specs.Prelude.{◌≡◌, ◌+◌, ◌≤◌, is_some};
 ghost use Rattle.mig_base.specs.Ranges.{count_below};
@@ -8,7 +8,7 @@ use crate::moves::clipped;
 use crate::search::{beginning_by, ending_before};
 use mig_base::{Area, HIGH_PAGE, PageNo};
 
-/// How many of the `count` pages from `first` on the areas have. Only those that the range meets are walked.
+/// The number of mapped pages among the `count` pages from `first` on. It visits only the areas that overlap or touch the range.
 pub(crate) fn mapped_between(areas: &[Area], first: PageNo, count: u32) -> u32
     requires runs { AreRuns areas.now }
     requires bound { first + count ≤ HIGH_PAGE }
@@ -20,7 +20,7 @@ pub(crate) fn mapped_between(areas: &[Area], first: PageNo, count: u32) -> u32
     pages_within(&reaching[..high], first, count)
 }
 
-/// How many of the `count` pages from `first` on the areas have. All are walked.
+/// The number of mapped pages among the `count` pages from `first` on. It visits all areas.
 fn pages_within(areas: &[Area], first: PageNo, count: u32) -> u32
     requires runs { AreRuns areas.now }
     requires bound { first + count ≤ HIGH_PAGE }

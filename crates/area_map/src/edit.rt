@@ -1,4 +1,4 @@
-//! Changes of the areas around a range, in place.
+//! Changing the areas around a range, in place.
 
 ghost use Rattle.std.specs.Prelude.{◌≡◌, ◌+◌, ◌<◌, ◌≤◌, ◌++◌, length, take, drop, OnOk, OnErr, IsOk, IsTrue, ◌↔◌, Some};
 ghost use Rattle.std.specs.Option.{option_to_list};
@@ -10,18 +10,18 @@ use crate::search::{beginning_by, ending_before};
 use mig_base::{Area, HIGH_PAGE, PageNo, Prot};
 use std::alloc::AllocError;
 
-/// What stays on one side of a range.
+/// The areas that stay on one side of a range.
 #[derive(Clone, Copy, Drop)]
 pub(crate) struct Side {
-    /// An index: below a range the areas before it stay whole, above a range those from it on.
+    /// An index: below a range the areas before this index stay whole, above a range those from it on.
     at: usize,
-    /// What stays of the area next to those, if some of it does.
+    /// The part of the next area that stays, if any.
     part: Option<Area>,
-    /// Where the range begins or ends, once it has taken in what goes on with its protection.
+    /// Where the range begins or ends, extended by the adjacent area if that has the same protection.
     page: PageNo,
 }
 
-/// Areas in place of those from index `low` up to `high`.
+/// The areas that replace those from index `low` up to `high`.
 #[derive(Clone, Copy, Drop)]
 pub(crate) struct Edit {
     low: usize,
@@ -31,7 +31,7 @@ pub(crate) struct Edit {
     right: Option<Area>,
 }
 
-/// How the areas change when each page of a range gets a protection, or is taken out where there is none.
+/// How the areas change when each page of a range gets the protection `prot`, or is unmapped if `prot` is `None`.
 pub(crate) fn plan(areas: &[Area], first: PageNo, count: u32, prot: Option<Prot>) -> Edit
     requires runs { AreRuns areas.now }
     requires some { 0 < count }
@@ -57,14 +57,14 @@ pub(crate) fn plan(areas: &[Area], first: PageNo, count: u32, prot: Option<Prot>
     }
 }
 
-/// Whether a range with the protection takes in an area that it meets at its border.
+/// Whether a range with this protection is joined with an area at its border.
 fn takes_in(prot: Option<Prot>, area: Area) -> bool
     ensures { IsTrue result ↔ (prot ≡ Some area.prot) }
 {
     prot == Some(area.prot)
 }
 
-/// What stays below a page where a range with the protection begins.
+/// The areas that stay below `page`, where a range with the protection begins.
 fn below(areas: &[Area], page: PageNo, prot: Option<Prot>) -> Side
     requires runs { AreRuns areas.now }
     requires bound { page ≤ HIGH_PAGE }
@@ -104,7 +104,7 @@ fn below(areas: &[Area], page: PageNo, prot: Option<Prot>) -> Side
     }
 }
 
-/// What stays above a page where a range with the protection ends.
+/// The areas that stay above `page`, where a range with the protection ends.
 fn above(areas: &[Area], page: PageNo, prot: Option<Prot>) -> Side
     requires runs { AreRuns areas.now }
     requires bound { page ≤ HIGH_PAGE }
@@ -146,7 +146,7 @@ fn above(areas: &[Area], page: PageNo, prot: Option<Prot>) -> Side
     }
 }
 
-/// How many pages are mapped after the edit, where `mapped` are before it.
+/// The number of mapped pages after the edit, if `mapped` pages are mapped before it.
 pub(crate) fn mapped_after(areas: &[Area], mapped: u32, edit: Edit) -> u32
     requires counted { AreCounted areas.now mapped }
     requires inside { IsInside areas.now edit }
@@ -157,7 +157,7 @@ pub(crate) fn mapped_after(areas: &[Area], mapped: u32, edit: Edit) -> u32
     mapped - replaced + pages_of(edit.left) + pages_of(edit.middle) + pages_of(edit.right)
 }
 
-/// How many pages the areas have.
+/// The number of pages of the areas.
 fn page_count(areas: &[Area]) -> u32
     requires { page_sum areas.now ≤ HIGH_PAGE }
     ensures { result ≡ page_sum areas.now }
@@ -165,7 +165,7 @@ fn page_count(areas: &[Area]) -> u32
     areas.iter().map(|area| area.count).sum()
 }
 
-/// How many pages an area has, if there is one.
+/// The number of pages of an area, or 0 for `None`.
 fn pages_of(area: Option<Area>) -> u32
     ensures { result ≡ page_sum (option_to_list area) }
 {
@@ -175,7 +175,7 @@ fn pages_of(area: Option<Area>) -> u32
     }
 }
 
-/// Makes the edit. It takes memory only where the areas become more, and want of memory changes nothing.
+/// Makes the edit. It takes memory only if the number of areas grows. If memory runs out, nothing changes.
 pub(crate) fn apply(areas: &mut Vec<Area>, edit: Edit) -> Result<(), AllocError>
     requires { IsInside areas.old.items edit }
     ensures ok { OnOk result (areas.new.items ≡ edited areas.old.items edit) }
@@ -193,7 +193,7 @@ pub(crate) fn apply(areas: &mut Vec<Area>, edit: Edit) -> Result<(), AllocError>
     Ok(())
 }
 
-/// Takes the areas from index `low` up to `high` out.
+/// Removes the areas from index `low` up to, but not including, `high`.
 fn remove_between(areas: &mut Vec<Area>, low: usize, high: usize)
     requires order { low ≤ high }
     requires within { high ≤ vec_len areas.old }
@@ -203,7 +203,7 @@ fn remove_between(areas: &mut Vec<Area>, low: usize, high: usize)
     areas.drain(low..high);
 }
 
-/// 1 where there is an area, and 0 where there is none.
+/// 1 if there is an area, else 0.
 fn number_of(area: Option<Area>) -> usize
     ensures value { result ≡ length (option_to_list area) }
     ensures few { result ≤ 1 }
@@ -211,7 +211,7 @@ fn number_of(area: Option<Area>) -> usize
     usize::from(area.is_some())
 }
 
-/// Puts an area in at an index, if there is one.
+/// Inserts an area at an index, if there is one.
 fn insert_at(areas: &mut Vec<Area>, at: usize, area: Option<Area>)
     requires within { at ≤ vec_len areas.old }
     requires room { vec_len areas.old + length (option_to_list area) ≤ vec_capacity areas.old }

@@ -6,7 +6,7 @@ ghost use Rattle.area_map.specs.Gaps.{IsFreePage, IsFreeRange};
 
 use mig_base::{Area, HIGH_PAGE, LOW_PAGE};
 
-/// The least page from `LOW_PAGE` on from which `count` pages are free.
+/// The lowest page, from `LOW_PAGE` on, from which `count` pages are free. `None` if there is no such page below `HIGH_PAGE`.
 pub(crate) fn free_page(areas: &[Area], count: u64) -> Option<u64>
     requires runs { AreRuns areas.now }
     requires some { 0 < count }

@@ -1,11 +1,11 @@
 //! Which pages of a host are mapped, and with which protection.
 //!
 //! [`AreaMap`] owns a finite map from pages to protections, kept as its maximal runs of one protection in order of their pages.
-//! A page is looked up by a binary search, how many are mapped is kept, and a change edits the runs around its range in place.
-//! [`RoomyAreas`] are those of a map with room for a move, which then takes no memory.
+//! A look-up is a binary search, the number of mapped pages is kept, and a change edits the runs around its range in place.
+//! [`RoomyAreas`] are the areas of a map with room for a move, which then takes no memory.
 //!
-//! It knows of no page's bytes, of no rule of mmap(2) and of no limit but the end of the address space: which range is
-//! mapped, and whether it may be, is for its callers to decide.
+//! The crate knows no bytes of a page, no rule of mmap(2), and no limit but the end of the address space: its callers decide
+//! which range is mapped, and whether it may be.
 #![tactic(auto)]
 
 mod count;
@@ -61,7 +61,7 @@ impl Model for AreaMap {
 }
 
 impl AreaMap {
-    /// No page is mapped.
+    /// A map in which no page is mapped. It takes no memory.
     pub fn new(alloc: Global) -> Self
         ensures { result ≡ map.empty }
     {
@@ -73,7 +73,7 @@ impl AreaMap {
     }
 
     /// Gives each of the `count` pages from `first` on the protection, whatever it had. The range ends at or below page 0x100000.
-    /// `NoMemory` where the areas become more and there is no memory for them: nothing has changed then.
+    /// `NoMemory` if the number of areas grows and there is no memory for that; it changes nothing.
     pub fn map(&mut self, first: PageNo, count: u32, prot: Prot) -> Result<(), NoMemory>
         requires { first + count ≤ HIGH_PAGE }
         ensures ok { OnOk result (self.new ≡ set_range self.old first count prot) }
@@ -82,8 +82,8 @@ impl AreaMap {
         self.put(first, count, Some(prot))
     }
 
-    /// Takes the `count` pages from `first` on out. The range ends at or below page 0x100000. `NoMemory` where that splits an area and
-    /// there is no memory for one more: nothing has changed then.
+    /// Unmaps the `count` pages from `first` on. The range ends at or below page 0x100000. `NoMemory` if that splits an area and there
+    /// is no memory for one more; it changes nothing.
     pub fn unmap(&mut self, first: PageNo, count: u32) -> Result<(), NoMemory>
         requires { first + count ≤ HIGH_PAGE }
         ensures ok { OnOk result (self.new ≡ remove_range self.old first count) }
@@ -99,14 +99,14 @@ impl AreaMap {
         prot_of(&self.areas, page)
     }
 
-    /// How many pages are mapped.
+    /// The number of mapped pages.
     pub fn mapped_pages(&self) -> u32
         ensures { result ≡ map.len self.now }
     {
         self.mapped
     }
 
-    /// How many of the `count` pages from `first` on are mapped. The range ends at or below page 0x100000.
+    /// The number of mapped pages among the `count` pages from `first` on. The range ends at or below page 0x100000.
     pub fn mapped_in(&self, first: PageNo, count: u32) -> u32
         requires { first + count ≤ HIGH_PAGE }
         ensures { result ≡ count_below (λ i. map.contains_key self.now (first + i)) count }
@@ -114,7 +114,7 @@ impl AreaMap {
         mapped_between(&self.areas, first, count)
     }
 
-    /// The least page-aligned address from [`LOW`] on where a range of `len` bytes is free, below the end of the address
+    /// The lowest page-aligned address, from [`LOW`] on, at which a range of `len` bytes is free and ends inside the address
     /// space. A range of no bytes is free at [`LOW`].
     pub fn gap(&self, len: u64) -> Option<Addr>
         ensures { result ≡ free_place (λ addr. map.contains_key self.now (addr / PAGE_SIZE)) len }
@@ -128,7 +128,7 @@ impl AreaMap {
         }
     }
 
-    /// The areas in order of their pages, each as long as it can be: touching ones differ in protection.
+    /// The areas in order of their pages, each as long as possible: areas that touch differ in protection.
     pub fn areas(&self) -> &[Area]
         ensures runs { AreRuns result.now }
         ensures pages { pages_in result.now ≡ self.now }
@@ -136,7 +136,7 @@ impl AreaMap {
         self.areas.as_slice()
     }
 
-    /// An equal map, of memory of its own.
+    /// An equal map, in memory of its own. `NoMemory` if the allocation fails.
     pub fn copy(&self) -> Result<Self, NoMemory>
         ensures { IfOk result (λ copy. copy ≡ self.now) }
     {
@@ -148,8 +148,8 @@ impl AreaMap {
         })
     }
 
-    /// The protection of all `count` pages from `first` on, if they are mapped and have one protection. A range of no pages
-    /// has none. The range ends at or below page 0x100000.
+    /// The protection of the `count` pages from `first` on, if all are mapped with the same one. A range of no pages has none. The
+    /// range ends at or below page 0x100000.
     pub fn one_prot(&self, first: PageNo, count: u32) -> Option<Prot>
         requires { first + count ≤ HIGH_PAGE }
         ensures some { IfSome result (HasOneProt (λ page. map.get self.now page) first count) }
@@ -162,8 +162,8 @@ impl AreaMap {
         one_prot_of(&self.areas, first, count)
     }
 
-    /// Moves the `count` pages from `from` on, with their protections, to `to`: what was mapped there is replaced, and where
-    /// they were nothing stays mapped. Both ranges end at or below page 0x100000, and lie apart. `NoMemory` leaves the map as it was.
+    /// Moves the `count` pages from `from` on, with their protections, to `to`. What was mapped there is replaced, and nothing stays
+    /// mapped in the old range. The ranges do not overlap, and both end at or below page 0x100000. `NoMemory` leaves the map as it was.
     pub fn move_range(&mut self, from: PageNo, to: PageNo, count: u32) -> Result<(), NoMemory>
         requires from_bound { from + count ≤ HIGH_PAGE }
         requires to_bound { to + count ≤ HIGH_PAGE }
@@ -179,14 +179,14 @@ impl AreaMap {
         Ok(())
     }
 
-    /// A law of every map: no page at or past `HIGH_PAGE` is mapped. The call does nothing.
+    /// The invariant of every map: no page at or past `HIGH_PAGE` is mapped. The call does nothing.
     pub fn ends_by_high_page(&self)
         ensures { (page : ℕ) → HIGH_PAGE ≤ page → map.get self.now page ≡ None }
     {
         let _ = &self.areas;
     }
 
-    /// Gives each page of the range the protection, or takes it out where there is none.
+    /// Gives each page of the range the protection, or unmaps it if `prot` is `None`. `NoMemory` leaves the map as it was.
     fn put(&mut self, first: PageNo, count: u32, prot: Option<Prot>) -> Result<(), NoMemory>
         requires { first + count ≤ HIGH_PAGE }
         ensures ok { OnOk result ((page : ℕ) → map.get self.new page ≡ (if in_range first count page then prot else map.get self.old page)) }

@@ -1,4 +1,4 @@
-//! A range of areas at another place.
+//! Mapping a range of areas at another place.
 
 ghost use Rattle.std.specs.Prelude.{◌≡◌, ℕ, ◌+◌, ◌-◌, ◌≤◌, OnOk, None, true, if◌then◌else◌, min, max};
 ghost use Rattle.std.specs.FinMap as map;
@@ -8,7 +8,8 @@ ghost use Rattle.area_map.specs.Areas.{AreRuns, prot_in};
 use crate::AreaMap;
 use mig_base::{Area, HIGH_PAGE, NoMemory, PageNo};
 
-/// Maps from `to` on what the areas map from `from` on, where nothing is mapped yet.
+/// Maps the `count` pages from `to` on, where nothing is mapped yet, as the areas map those from `from` on. `NoMemory` may leave some
+/// of them mapped.
 pub(crate) fn map_moved(
     moved: &mut AreaMap,
     areas: &[Area],
@@ -29,7 +30,7 @@ pub(crate) fn map_moved(
     Ok(())
 }
 
-/// The part of an area from page `low` up to page `high`.
+/// The part of an area from page `low` up to, but not including, page `high`. It may be empty.
 pub(crate) fn clipped(area: Area, low: PageNo, high: PageNo) -> Area
     requires area { area.first + area.count ≤ HIGH_PAGE }
     requires order { low ≤ high }

@@ -14,7 +14,7 @@ use std::alloc::Global;
 use std::marker::Model;
 use std::mem;
 
-/// How many areas two changes may add: three each.
+/// The largest number of areas that two changes add: three each.
 const ADDED_BY_TWO: usize = 6;
 
 /// The areas of an [`AreaMap`], taken out of it with room for a move.
@@ -44,7 +44,8 @@ impl Model for RoomyAreas {
 }
 
 impl AreaMap {
-    /// Takes the areas out, with room for a move; they are to be put back. `NoMemory` for that room, and then nothing has changed.
+    /// Takes the areas out of the map, with room for a move; the caller has to put them back. `NoMemory` if that room cannot be
+    /// allocated; it changes nothing.
     pub fn with_room(&mut self) -> Result<RoomyAreas, NoMemory>
         ensures ok { IfOk result (λ roomy. roomy ≡ self.old) }
         ensures err { OnErr result (self.new ≡ self.old) }
@@ -61,7 +62,7 @@ impl AreaMap {
 }
 
 impl RoomyAreas {
-    /// The areas as they are.
+    /// The map with these areas, unchanged.
     pub fn into_areas(self) -> AreaMap
         ensures { result ≡ self }
     {
@@ -72,7 +73,7 @@ impl RoomyAreas {
         }
     }
 
-    /// The areas once the `count` pages from `from` on are taken out, and then the `new_count` pages from `to` on have the protection,
+    /// The map after the `count` pages from `from` on are unmapped, and then the `new_count` pages from `to` on get the protection,
     /// whatever they had. It takes no memory.
     pub fn relocated(
         self,
@@ -101,7 +102,7 @@ impl RoomyAreas {
     }
 }
 
-/// Gives each page of a range the protection, or takes it out where there is none, in areas that have the room.
+/// Gives each page of a range the protection, or unmaps it if `prot` is `None`, in areas that have room for that.
 fn put_in_room(
     areas: &mut Vec<Area>,
     mapped: &mut u32,

@@ -1,4 +1,4 @@
-//! Where a page stands among sorted areas, by binary search.
+//! The place of a page among sorted areas, by binary search.
 
 ghost use Rattle.std.specs.Prelude.{◌≡◌, ◌+◌, ◌<◌, ◌≤◌, length, take, drop, IfSome, IfNone};
 ghost use Rattle.std.specs.List.{All};
@@ -7,7 +7,7 @@ ghost use Rattle.area_map.specs.Ranges.{HasOneProt};
 
 use mig_base::{Area, HIGH_PAGE, PageNo, Prot};
 
-/// How many areas begin at or below the page: those stand first.
+/// The number of areas that begin at or below the page. They are the first of the list.
 pub(crate) fn beginning_by(areas: &[Area], page: PageNo) -> usize
     requires { AreRuns areas.now }
     ensures within { result ≤ length areas.now }
@@ -17,7 +17,7 @@ pub(crate) fn beginning_by(areas: &[Area], page: PageNo) -> usize
     areas.partition_point(|area| area.first <= page)
 }
 
-/// How many areas end below the page: those stand first.
+/// The number of areas that end below the page without touching it. They are the first of the list.
 pub(crate) fn ending_before(areas: &[Area], page: PageNo) -> usize
     requires { AreRuns areas.now }
     ensures within { result ≤ length areas.now }
@@ -27,7 +27,7 @@ pub(crate) fn ending_before(areas: &[Area], page: PageNo) -> usize
     areas.partition_point(|area| area.count < page.saturating_sub(area.first))
 }
 
-/// The protection of the area that has the page, if there is one.
+/// The protection of the area that contains the page, if there is one.
 pub(crate) fn prot_of(areas: &[Area], page: PageNo) -> Option<Prot>
     requires { AreRuns areas.now }
     ensures { result ≡ prot_in areas.now page }
@@ -44,7 +44,7 @@ pub(crate) fn prot_of(areas: &[Area], page: PageNo) -> Option<Prot>
     }
 }
 
-/// The protection of all `count` pages from `first` on, if one area has them.
+/// The protection of the `count` pages from `first` on, if one area contains them all.
 pub(crate) fn one_prot_of(areas: &[Area], first: PageNo, count: u32) -> Option<Prot>
     requires runs { AreRuns areas.now }
     requires bound { first + count ≤ HIGH_PAGE }

@@ -10,8 +10,8 @@ use crate::search::{beginning_by, ending_before};
 use mig_base::{Area, HIGH_PAGE, PageNo};
 
 impl AreaMap {
-    /// The areas that the `count` pages from `first` on meet, in order of their pages, found by binary search. An area at either
-    /// end may begin before the range or reach past it, or only touch it.
+    /// The areas that overlap or touch the `count` pages from `first` on, in order of their pages, found by binary search. The first and
+    /// the last may extend past the range.
     pub fn areas_in(&self, first: PageNo, count: u32) -> &[Area]
         requires { first + count ≤ HIGH_PAGE }
         ensures runs { AreRuns result.now }
@@ -21,7 +21,7 @@ impl AreaMap {
     }
 }
 
-/// Those of the areas that a range meets.
+/// The areas that overlap or touch a range.
 fn areas_between(areas: &[Area], first: PageNo, count: u32) -> &[Area]
     requires runs { AreRuns areas.now }
     requires bound { first + count ≤ HIGH_PAGE }

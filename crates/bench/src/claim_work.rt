@@ -28,7 +28,7 @@ pub fn claim_all(claims: &Claims, seat: &mut ClaimSeat)
     }
 }
 
-/// How many of so many pages have an index.
+/// The number of pages, among the first `count`, that have an index.
 pub fn find_all(claims: &Claims, count: u32) -> u32 {
     let mut found = 0_u32;
     for page in 0..count {
@@ -39,7 +39,7 @@ pub fn find_all(claims: &Claims, count: u32) -> u32 {
     found
 }
 
-/// Words for so many bits, all of them set.
+/// Words for `count` bits, all of them set.
 pub fn words(alloc: Global, count: u32) -> Result<Vec<AtomicU64>, NoMemory> {
     let mut words = Vec::new(alloc);
     for _ in 0..count.div_ceil(u64::BITS) {

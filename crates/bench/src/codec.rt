@@ -20,7 +20,7 @@ fn frame(alloc: Global, index: u32) -> Result<Frame, Failed> {
     })
 }
 
-/// The frames of so many pages.
+/// The frames of this many pages.
 pub fn frames(alloc: Global, pages: u32) -> Result<Vec<Frame>, Failed> {
     let mut frames = Vec::new(alloc);
     for index in 0..pages {
@@ -52,7 +52,7 @@ fn feed(decoder: &mut Decoder, piece: &[u8]) -> Result<usize, Failed> {
     }
 }
 
-/// Feeds a stream in pieces of so many bytes, and gives the number of its frames.
+/// Feeds a stream in pieces of `piece` bytes, and returns the number of its frames.
 pub fn feed_all(decoder: &mut Decoder, stream: &[u8], piece: usize) -> Result<usize, Failed> {
     let mut count = 0_usize;
     for bytes in stream.chunks(piece.max(1)) {
@@ -61,7 +61,7 @@ pub fn feed_all(decoder: &mut Decoder, stream: &[u8], piece: usize) -> Result<us
     Ok(count)
 }
 
-/// Writes the frames over the stream and reads them, so many times.
+/// Writes the frames over the stream and reads them, `rounds` times.
 pub fn write_and_read(
     decoder: &mut Decoder,
     frames: &[Frame],
@@ -79,7 +79,7 @@ pub fn write_and_read(
     Ok(())
 }
 
-/// Reads the stream of so many frames, so many times.
+/// Reads the stream of `frames` frames, `rounds` times.
 pub fn read_again(
     decoder: &mut Decoder,
     stream: &[u8],

@@ -1,8 +1,9 @@
 //! Times the codec: frames of pages that are written with `page_stream` and read with `frame_decoder`. The words are one of:
 //!
-//! - `pages PIECE BATCH ROUNDS`: writes that many frames one behind the other and feeds them in pieces of so many bytes, so many
-//!   times; beside that it copies as many pages of 4096 bytes twice. Prints the nanoseconds a page of both.
-//! - `feed PIECE BATCH ROUNDS`: writes that many frames once, and feeds them so many times. Prints the bytes, and the picoseconds a byte.
+//! - `pages PIECE BATCH ROUNDS`: writes BATCH frames one behind the other and feeds them in pieces of PIECE bytes, ROUNDS times;
+//!   beside that it copies the same number of pages of 4096 bytes twice. Prints the nanoseconds a page of both.
+//! - `feed PIECE BATCH ROUNDS`: writes BATCH frames once, and feeds them ROUNDS times in pieces of PIECE bytes. Prints the bytes, and
+//!   the picoseconds a byte.
 
 use crate::failure::{call_failed, lacking};
 use crate::numbers::number;
@@ -72,7 +73,7 @@ fn measure_pages(rt: &HostRuntime, sizes: Sizes) -> io::Result<()> {
     println!(rt; "codec {codec}, copies {copies} ns a page")
 }
 
-/// The stream of so many frames.
+/// The stream of `batch` frames.
 fn stream_of(rt: &HostRuntime, batch: u32, stream: &mut Vec<u8>) -> io::Result<()> {
     let frames = codec::frames(rt.alloc(), batch).map_err(call_failed)?;
     codec::write_all(&frames, stream).map_err(call_failed)

@@ -3,7 +3,7 @@
 use mig_base::{NoMemory, PAGE_BYTES, PageBytes};
 use std::alloc::Global;
 
-/// So many pages, each with something on it.
+/// This many pages, each with something on it.
 pub fn filled(alloc: Global, pages: u32, byte: u8) -> Result<Vec<PageBytes>, NoMemory> {
     let mut filled = Vec::new(alloc);
     for _ in 0..pages {
@@ -19,7 +19,7 @@ pub fn copy(sources: &[PageBytes], targets: &mut [PageBytes]) {
     }
 }
 
-/// Copies each page to the page in its place, and from there to the targets, as many at a time as these are; so many times.
+/// Copies each page to the page at its index, and from there to the targets, one batch of them at a time; does so `rounds` times.
 pub fn copy_twice(
     sources: &[PageBytes],
     middles: &mut [PageBytes],

@@ -64,7 +64,7 @@ fn take(destination: &mut Destination, frame: Frame) -> Result<(), Failed> {
     }
 }
 
-/// So many pages from `LOW_PAGE` on, mapped and owed, and one processor, which waits for nothing.
+/// This many pages from `LOW_PAGE` on, mapped and owed, and one processor, which waits for nothing.
 fn package(alloc: Global, pages: u32) -> Result<Frame, Failed> {
     if pages > MAX_PAGES {
         return Err(Failed);
@@ -87,7 +87,7 @@ fn package(alloc: Global, pages: u32) -> Result<Frame, Failed> {
     })
 }
 
-/// Has a destination run, and be owed so many pages.
+/// Has a destination run, and be owed this many pages.
 pub fn start(alloc: Global, destination: &mut Destination, pages: u32) -> Result<(), Failed> {
     let package = package(alloc, pages)?;
     take(destination, Frame::Advise)?;
@@ -104,7 +104,7 @@ fn arrive(alloc: Global, destination: &mut Destination, page: PageNo) -> Result<
     take(destination, Frame::Page { page, bytes })
 }
 
-/// The copies of so many pages come.
+/// The copies of this many pages come.
 pub fn arrive_all(alloc: Global, destination: &mut Destination, pages: u32) -> Result<(), Failed> {
     for i in 0..pages {
         arrive(alloc, destination, LOW_PAGE.wrapping_add(i))?;
@@ -112,7 +112,7 @@ pub fn arrive_all(alloc: Global, destination: &mut Destination, pages: u32) -> R
     Ok(())
 }
 
-/// Installs so many copies.
+/// Installs this many copies.
 pub fn install_all(destination: &mut Destination, pages: u32) -> Result<(), Failed> {
     for _ in 0..pages {
         let Ok(Effect::Installed { .. }) = destination.install() else {
@@ -122,7 +122,7 @@ pub fn install_all(destination: &mut Destination, pages: u32) -> Result<(), Fail
     Ok(())
 }
 
-/// Reads so many messages of one call, until its processor has the reply.
+/// Reads the messages of one call, until its processor has the reply.
 fn read(destination: &mut Destination, messages: u8) -> Result<(), Failed> {
     for _ in 1..messages {
         let Ok(Effect::ReadEvent { .. }) = destination.read() else {
@@ -153,7 +153,7 @@ fn make(destination: &mut Destination, command: Command) -> Result<(), Failed> {
     }
 }
 
-/// The processor makes so many calls, each over one page, `APART` pages behind that of the last.
+/// Has the processor make `calls` calls, each over one page, `APART` pages behind that of the last.
 pub fn make_all(
     destination: &mut Destination,
     kind: Call,

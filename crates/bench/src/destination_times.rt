@@ -64,7 +64,7 @@ fn time_destination(rt: &HostRuntime, pages: u32) -> io::Result<(Duration, Durat
     }
 }
 
-/// How long so many map calls of a kind take on a new destination, over the last of its pages.
+/// The time of map calls of a kind on a new destination, over the last of its pages.
 fn time_calls_of(
     rt: &HostRuntime,
     destination: &mut Destination,
@@ -105,12 +105,12 @@ fn time_copies(rt: &HostRuntime, pages: u32) -> io::Result<Duration> {
     begun.elapsed(rt)
 }
 
-/// How many map calls are made over the last of so many pages.
+/// The number of map calls over the last of this many pages.
 fn calls_over(pages: u32) -> u32 {
     CALLS.min(pages / APART)
 }
 
-/// Prints what so many pages take.
+/// Prints the times for this many pages.
 fn measure_pages(rt: &HostRuntime, pages: u32) -> io::Result<()> {
     let (arrival, install) = time_destination(rt, pages)?;
     let copy = time_copies(rt, pages)?;
@@ -120,7 +120,7 @@ fn measure_pages(rt: &HostRuntime, pages: u32) -> io::Result<()> {
     println!(rt; "{pages} pages: arrival {arrival}, install {install}, copy {copy} ns a page")
 }
 
-/// Prints what map calls take while so many pages are owed.
+/// Prints the times of map calls while this many pages are owed.
 fn measure_calls(rt: &HostRuntime, pages: u32) -> io::Result<()> {
     let dontneed = time_calls(rt, pages, Call::DontNeed)?;
     let munmap = time_calls(rt, pages, Call::Unmap)?;

@@ -1,4 +1,4 @@
-//! What is told of a call that failed: no other reason is to be expected than want of memory.
+//! The error of a call that failed. The only reason to expect is that memory ran out.
 
 use mig_base::NoMemory;
 use mig_base::refusal::Refusal;

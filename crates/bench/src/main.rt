@@ -1,7 +1,7 @@
 //! Times parts of a migration, each beside a loop that copies as many pages. The first argument is a word for the part:
 //!
 //! - `source [PAGES ..]`: a source sends pages.
-//! - `destination [PAGES ..]`: pages come to a destination and are installed, and map calls are made over owed pages.
+//! - `destination [PAGES ..]`: a destination takes pages and installs them, and map calls are made over owed pages.
 //! - `world [PAGES ..]`, `world new-copies [PAGES ..]`: a whole migration, step by step and without a script.
 //! - `frames [pages|feed PIECE BATCH ROUNDS]`: frames of pages are written and read.
 //! - `rig [calls|seats|claims|post-copy NUMBER ..]`: calls, claims and workers in threads, over one lock.

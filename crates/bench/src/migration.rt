@@ -90,7 +90,7 @@ fn make_for(world: &mut World, work: Work, page: PageNo) -> Result<(), Refusal> 
     }
 }
 
-/// What is done for each of so many pages.
+/// Does the work for each of this many pages.
 pub fn make_all(world: &mut World, work: Work, pages: u32) -> Result<(), Refusal> {
     for index in 0..pages {
         make_for(world, work, LOW_PAGE.saturating_add(index))?;
@@ -98,7 +98,7 @@ pub fn make_all(world: &mut World, work: Work, pages: u32) -> Result<(), Refusal
     Ok(())
 }
 
-/// Maps so many pages, and stores something in each.
+/// Maps this many pages, and stores something in each.
 fn store_all(world: &mut World, pages: u32) -> Result<(), Refusal> {
     world.step(command(Command::Mmap {
         addr_len: u64::from(pages) * PAGE_SIZE,

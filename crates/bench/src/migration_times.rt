@@ -35,7 +35,7 @@ fn time_work(rt: &HostRuntime, work: Work, pages: u32) -> io::Result<Duration> {
     }
 }
 
-/// How long it takes to copy so many pages to others that are there.
+/// The time to copy this many pages to pages that exist already.
 fn time_copies(rt: &HostRuntime, pages: u32) -> io::Result<Duration> {
     let sources = copies::filled(rt.alloc(), pages, 1).map_err(lacking)?;
     let mut targets = copies::filled(rt.alloc(), pages, 2).map_err(lacking)?;
@@ -44,7 +44,7 @@ fn time_copies(rt: &HostRuntime, pages: u32) -> io::Result<Duration> {
     begun.elapsed(rt)
 }
 
-/// How long it takes to copy so many pages to new ones.
+/// The time to copy this many pages to new ones.
 fn time_new_copies(rt: &HostRuntime, pages: u32) -> io::Result<Duration> {
     let sources = copies::filled(rt.alloc(), pages, 1).map_err(lacking)?;
     let begun = Instant::now(rt)?;
@@ -52,7 +52,7 @@ fn time_new_copies(rt: &HostRuntime, pages: u32) -> io::Result<Duration> {
     begun.elapsed(rt)
 }
 
-/// Prints what so many pages take.
+/// Prints the times for this many pages.
 fn measure_work(rt: &HostRuntime, pages: u32) -> io::Result<()> {
     let precopy = nanoseconds(time_work(rt, Work::PreCopy, pages)?, pages);
     let store = nanoseconds(time_work(rt, Work::Store, pages)?, pages);
@@ -65,7 +65,7 @@ fn measure_work(rt: &HostRuntime, pages: u32) -> io::Result<()> {
     )
 }
 
-/// Prints what so many new copies take.
+/// Prints the times for this many new copies.
 fn measure_new_copies(rt: &HostRuntime, pages: u32) -> io::Result<()> {
     let new_copy = nanoseconds(time_new_copies(rt, pages)?, pages);
     println!(rt; "{pages} pages: new-copy {new_copy} ns a page")

@@ -19,7 +19,7 @@ pub fn small(word: &str) -> io::Result<u8> {
     }
 }
 
-/// Nanoseconds for each of so many.
+/// The nanoseconds for each of `count`.
 pub fn nanoseconds(time: Duration, count: u32) -> u128 {
     time.as_nanos() / u128::from(count.max(1))
 }

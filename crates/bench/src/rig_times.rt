@@ -1,9 +1,9 @@
 //! Times a rig, each beside what does the same without one. The first word says what:
 //!
-//! - `calls COUNT`: so many calls of one seat, beside as many commands by `World::step`.
-//! - `seats SEATS COUNT`: so many calls of each seat, in threads, beside those of one seat.
-//! - `claims PAGES`: claims of so many pages, beside a loop of `fetch_and`; and what makes, asks and closes them.
-//! - `post-copy PAGES`: so many owed pages sent by workers in threads, beside the same by `World::step`.
+//! - `calls COUNT`: COUNT calls of one seat, beside the same number of commands by `World::step`.
+//! - `seats SEATS COUNT`: COUNT calls of each of SEATS seats, in threads, beside those of one seat.
+//! - `claims PAGES`: claims of PAGES pages, beside a loop of `fetch_and`; and making, searching and closing them.
+//! - `post-copy PAGES`: PAGES owed pages sent by workers in threads, beside the same by `World::step`.
 //!
 //! Each prints nanoseconds, for a call or a page.
 ghost use Rattle.pusher.specs.Seats.{IsSeatOf};
@@ -31,14 +31,14 @@ impl<R: Threads + Wait + Clock + Print + Sync> Host for R {}
 /// The calls, seats and pages where there are no words.
 const FEW: u32 = 64;
 
-/// A rig of a world of so many processors, with memory mapped for each.
+/// A rig of a world of `cpus` processors, with memory mapped for each.
 fn mapped_rig(alloc: Global, cpus: u8) -> io::Result<Rig> {
     let mut world = World::new(alloc, cpus).map_err(refused)?;
     rig_work::map(&mut world, cpus).map_err(refused)?;
     rig_of(alloc, world)
 }
 
-/// A rig of a world whose destination runs and is owed so many pages.
+/// A rig of a world whose destination runs and is owed this many pages.
 fn owing_rig(alloc: Global, pages: u32) -> io::Result<Rig> {
     let mut world = World::new(alloc, 1).map_err(refused)?;
     migration::prepare(&mut world, Work::PostCopy, pages).map_err(refused)?;
@@ -52,7 +52,7 @@ fn rig_of(alloc: Global, world: World) -> io::Result<Rig> {
     }
 }
 
-/// How long so many commands take by `World::step`.
+/// The time of `count` commands by `World::step`.
 fn time_steps<R: Clock>(rt: &R, alloc: Global, count: u32) -> io::Result<Duration> {
     let mut world = World::new(alloc, 1).map_err(refused)?;
     time_steps_on(rt, &mut world, count)
@@ -65,7 +65,7 @@ fn time_steps_on<R: Clock>(rt: &R, world: &mut World, count: u32) -> io::Result<
     begun.elapsed(rt)
 }
 
-/// How long so many calls of one seat take.
+/// The time of `count` calls of one seat.
 fn time_calls<R: Wait + Clock>(rt: &R, alloc: Global, count: u32) -> io::Result<Duration> {
     let mut rig = mapped_rig(alloc, 1)?;
     match rig.seat(0) {
@@ -85,7 +85,7 @@ fn time_calls_of<R: Wait + Clock>(
     begun.elapsed(rt)
 }
 
-/// How long so many calls of each of so many seats take, in threads.
+/// The time of `count` calls of each of `cpus` seats, in threads.
 fn time_seats<R: Host>(rt: &R, alloc: Global, cpus: u8, count: u32) -> io::Result<Duration> {
     let mut rig = mapped_rig(alloc, cpus)?;
     match all_seats(alloc, &mut rig, cpus) {
@@ -118,7 +118,7 @@ fn time_calls_in_threads<R: Host>(
     Ok(time)
 }
 
-/// How long it takes to send so many owed pages, and install them, by `World::step`.
+/// The time to send this many owed pages, and install them, by `World::step`.
 fn time_owed_steps<R: Clock>(rt: &R, alloc: Global, pages: u32) -> io::Result<Duration> {
     let mut world = World::new(alloc, 1).map_err(refused)?;
     time_owed_steps_on(rt, &mut world, pages)
@@ -159,7 +159,7 @@ fn time_sending<R: Host>(
     }
 }
 
-/// How long claims of so many pages take: to make, to claim all, to find all pages, to close.
+/// The times of claims of `count` pages: to make them, to claim all, to find all pages, to close.
 fn time_claims<R: Clock>(rt: &R, alloc: Global, count: u32) -> io::Result<[Duration; 4]> {
     let pages = claim_work::pages(alloc, count).map_err(lacking)?;
     let begun = Instant::now(rt)?;
@@ -208,7 +208,7 @@ fn time_closing<R: Clock>(
     }
 }
 
-/// How long it takes to clear so many bits, one by one.
+/// The time to clear `count` bits, one by one.
 fn time_clearing<R: Clock>(rt: &R, alloc: Global, count: u32) -> io::Result<Duration> {
     let words = words(alloc, count).map_err(lacking)?;
     let begun = Instant::now(rt)?;

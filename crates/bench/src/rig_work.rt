@@ -17,7 +17,7 @@ use world::World;
 /// The pages over which the loads and stores of a processor are spread.
 const SPREAD: u64 = 8;
 
-/// Maps those pages for each of so many processors.
+/// Maps those pages for each of `cpus` processors.
 pub fn map(world: &mut World, cpus: u8) -> Result<(), Refusal> {
     world.step(Step::Issue {
         cpu: 0,
@@ -45,7 +45,7 @@ fn command(cpu: u8, number: u32) -> Command {
     }
 }
 
-/// So many commands by `World::step`.
+/// Makes `count` commands by `World::step`.
 pub fn make_steps(world: &mut World, count: u32) -> Result<(), Refusal> {
     for number in 0..count {
         world.step(Step::Issue {
@@ -56,7 +56,7 @@ pub fn make_steps(world: &mut World, count: u32) -> Result<(), Refusal> {
     Ok(())
 }
 
-/// So many calls of a seat.
+/// Makes `count` calls of a seat.
 pub fn make_calls<R: Wait>(
     rt: &R,
     rig: &Rig,
@@ -69,13 +69,13 @@ pub fn make_calls<R: Wait>(
     Ok(())
 }
 
-/// The seat after so many calls. It has fewer answers where one was refused.
+/// The seat after `count` calls. It has fewer answers if one was refused.
 fn after_calls<R: Wait>(rt: &R, rig: &Rig, mut seat: CpuSeat, count: u32) -> CpuSeat {
     let _ = make_calls(rt, rig, &mut seat, count);
     seat
 }
 
-/// So many calls of each seat, each in a thread of its own. How many were answered.
+/// Makes `count` calls of each seat, each seat in a thread of its own. Returns how many were answered.
 pub fn make_all_calls<R: Threads + Wait + Sync>(
     rt: &R,
     rig: &Rig,

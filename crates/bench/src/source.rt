@@ -17,7 +17,7 @@ fn command(source: &mut Source, command: Command) -> Result<Addr, Refusal> {
     })
 }
 
-/// Maps so many pages, and stores something in each.
+/// Maps this many pages, and stores something in each.
 fn store(source: &mut Source, pages: u32) -> Result<(), Refusal> {
     let first = command(
         source,
@@ -38,14 +38,14 @@ fn store(source: &mut Source, pages: u32) -> Result<(), Refusal> {
     Ok(())
 }
 
-/// Puts something on so many pages of a new source, of one processor, and begins a migration.
+/// Puts something on this many pages of a new source, of one processor, and begins a migration.
 pub fn start(source: &mut Source, pages: u32) -> Result<(), Refusal> {
     store(source, pages)?;
     source.start()?;
     Ok(())
 }
 
-/// Sends so many pages of the round.
+/// Sends this many pages of the round.
 pub fn send(source: &mut Source, pages: u32) -> Result<(), Refusal> {
     for _ in 0..pages {
         source.send_next()?;

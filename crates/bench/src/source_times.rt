@@ -54,7 +54,7 @@ fn time_copies(rt: &HostRuntime, pages: u32) -> io::Result<(Duration, u32)> {
     Ok((begun.elapsed(rt)?, count))
 }
 
-/// Prints what so many pages take.
+/// Prints the times for this many pages.
 fn measure_pages(rt: &HostRuntime, pages: u32) -> io::Result<()> {
     let (round, send) = time_source(rt, pages)?;
     let (copy, copied) = time_copies(rt, pages)?;

@@ -1,23 +1,32 @@
 //! The command line of `postmig`, and its exit statuses.
 //!
-//! `postmig run` reads a script from standard input and writes one line for each step to standard output, or with
-//! `--transcript` one for each command that took effect; `postmig check` reads such a transcript, and says whether it is that of
-//! one flat memory; `postmig frames` reads frames, and writes what a destination answers to each; `postmig threads` reads nothing,
-//! runs a migration in threads, and writes a report. `docs/SCRIPT.md` says what a script is, `docs/FORMATS.md` what a frame is, and
-//! `docs/THREADS.md` what a run in threads is. [`answer`] is what the program's `main` does; the exit statuses are
-//! `specs/Status.antt`. What a run or a check reads and writes is the crate `engine`; for frames it is the crate `frames`, and for
-//! threads the crate `threads`.
+//! `postmig run` reads a script from standard input and writes one line for each step to standard output, or with `--transcript` one for
+//! each command that took effect. `postmig check` reads such a transcript, and says whether it is that of one flat memory.
+//! `postmig frames` reads frames, and writes a destination's answer to each. `postmig threads` reads nothing, runs a migration in
+//! threads, and writes a report. `docs/SCRIPT.md` defines scripts, `docs/FORMATS.md` frames, and `docs/THREADS.md` a run in threads.
+//!
+//! [`answer`] is the body of the program's `main`; the exit statuses are those of `specs/Status.antt`. Reading and writing is done by
+//! `engine` for scripts and transcripts, by `frames` for frames, and by `threads` for a run in threads.
 #![tactic(auto)]
 
-ghost use Rattle.std.specs.Prelude.{◌≡◌, ◌≤◌, IfOk, IfErr, OnOk};
-ghost use Rattle.command_line.specs.Status.{answer_status, fault_status, frames_fault_status};
+ghost use Rattle.std.specs.Prelude.{◌≡◌, IfOk, IfErr};
+ghost use Rattle.command_line.specs.Status.{answer_status, fault_status};
 
+mod arguments;
+mod input;
+mod status;
+
+use crate::arguments::command_line;
+use crate::input::{Input, reason};
+use crate::status::{
+    ALL_DONE, BAD_COMMAND_OR_SCRIPT, NO_MEMORY, READ_OR_WRITE_FAULT, frames_status_of, status_of,
+};
+use clap::ArgMatches;
 use clap::error::ErrorKind;
-use clap::{Arg, ArgAction, ArgMatches, Command, value_parser};
 use engine::{Mode, RunFault, check_script, run_script};
-use frames::{FramesFault, run_frames};
-use std::alloc::{AllocError, Global};
+use frames::run_frames;
 use std::env::{Env, FillError};
+use std::fs::File;
 use std::process::ExitCode;
 use std::sync::Wait;
 use std::thread::Threads;
@@ -27,94 +36,8 @@ use threads::run_threads;
 /// What `--version` prints behind the program's name.
 const VERSION: &str = "0.1.0";
 
-/// The bytes of an argument that a message shows at most.
+/// The most bytes of an argument that a message shows.
 const LONGEST_SHOWN: usize = 4096;
-
-const ALL_DONE: u8 = 0;
-
-const BAD_COMMAND_OR_SCRIPT: u8 = 1;
-
-const READ_OR_WRITE_FAULT: u8 = 2;
-
-const NO_FLAT_RUN: u8 = 3;
-
-const NO_MEMORY: u8 = 4;
-
-/// `--cpus N`.
-fn cpus_argument<'a>(alloc: Global) -> Arg<'a> {
-    Arg::new(alloc, "cpus")
-        .long("cpus")
-        .value_name("N")
-        .help("How many processors the guest has")
-        .value_parser(value_parser!(u8).range(1..=16))
-        .default_value("2")
-}
-
-/// `postmig frames [--cpus N]`.
-fn frames_command<'a>(alloc: Global) -> Result<Command<'a>, AllocError> {
-    Command::new(alloc, "frames")
-        .about("Hands the frames on standard input to a destination")
-        .arg(cpus_argument(alloc))
-}
-
-/// `postmig threads [--cpus N] [--calls C] [--cut]`.
-fn threads_command<'a>(alloc: Global) -> Result<Command<'a>, AllocError> {
-    let calls = Arg::new(alloc, "calls")
-        .long("calls")
-        .value_name("C")
-        .help("How many stores each processor makes, and how many loads")
-        .value_parser(value_parser!(u16).range(1..=1000))
-        .default_value("8");
-    let cut = Arg::new(alloc, "cut")
-        .long("cut")
-        .help("Breaks the channel once, and resumes")
-        .action(ArgAction::SetTrue);
-    Command::new(alloc, "threads")
-        .about("Runs a migration with each processor in a thread of its own")
-        .arg(cpus_argument(alloc))?
-        .arg(calls)?
-        .arg(cut)
-}
-
-/// The command line: `postmig run [--cpus N] [--transcript]`, `postmig check`, `postmig frames [--cpus N]`,
-/// `postmig threads [--cpus N] [--calls C] [--cut]`, or `postmig --version`.
-fn command_line<'a>(alloc: Global) -> Result<Command<'a>, AllocError> {
-    let transcript = Arg::new(alloc, "transcript")
-        .long("transcript")
-        .help("Writes the commands that took effect, with their replies")
-        .action(ArgAction::SetTrue);
-    let run = Command::new(alloc, "run")
-        .about("Runs the script on standard input")
-        .arg(cpus_argument(alloc))?
-        .arg(transcript)?;
-    let check = Command::new(alloc, "check").about(
-        "Says whether the transcript on standard input is that of one flat memory",
-    );
-    // (the name in usage lines, whatever the file is called)
-    Command::new(alloc, "postmig")
-        .bin_name("postmig")?
-        .about("Runs scripts on a model of post-copy live migration")
-        .version(VERSION)
-        .subcommand_required(true)
-        .subcommand(run)?
-        .subcommand(check)?
-        .subcommand(frames_command(alloc)?)?
-        .subcommand(threads_command(alloc)?)
-}
-
-/// The exit status of a run or a check: whether all is well, or the fault that ended it.
-fn status_of(outcome: Result<bool, RunFault>) -> u8
-    ensures answer { IfOk outcome (λ answer. result ≡ answer_status answer) }
-    ensures fault { IfErr outcome (λ fault. result ≡ fault_status fault) }
-{
-    match outcome {
-        Ok(true) => ALL_DONE,
-        Ok(false) => NO_FLAT_RUN,
-        Err(RunFault::Line(_)) => BAD_COMMAND_OR_SCRIPT,
-        Err(RunFault::ReadFault | RunFault::WriteFault) => READ_OR_WRITE_FAULT,
-        Err(RunFault::NoMemory) => NO_MEMORY,
-    }
-}
 
 /// Says on standard error why a run or a check ended early, and gives its exit status.
 fn explain(rt: &HostRuntime, outcome: Result<bool, RunFault>) -> u8
@@ -127,40 +50,61 @@ fn explain(rt: &HostRuntime, outcome: Result<bool, RunFault>) -> u8
     status_of(outcome)
 }
 
-/// Runs the script on standard input.
-fn run(rt: &HostRuntime, cpus: u8, mode: Mode) -> u8
-    requires low { 1 ≤ cpus }
-    requires high { cpus ≤ 16 }
-{
-    let outcome = run_script(rt.alloc(), &mut rt.stdin(), &mut rt.stdout(), cpus, mode);
-    explain(rt, outcome.map(|()| true))
+/// Says on standard error why a file cannot be read.
+fn explain_file(rt: &HostRuntime, name: &str, error: &io::Error) -> io::Result<()> {
+    let reason = reason(rt.alloc(), error)?;
+    eprintln!(rt; "{}\n{name}: {reason}", RunFault::ReadFault)
 }
 
-/// Checks the transcript on standard input.
-fn check_input(rt: &HostRuntime) -> u8 {
-    let outcome = check_script(rt.alloc(), &mut rt.stdin(), &mut rt.stdout());
-    explain(rt, outcome)
-}
-
-/// The exit status of frames that were handed to a destination.
-fn frames_status_of(outcome: Result<(), FramesFault>) -> u8
-    ensures ok { OnOk outcome (result ≡ 0) }
-    ensures fault { IfErr outcome (λ fault. result ≡ frames_fault_status fault) }
-{
-    match outcome {
-        Ok(()) => ALL_DONE,
-        Err(FramesFault::Stream(_) | FramesFault::Truncated) => BAD_COMMAND_OR_SCRIPT,
-        Err(FramesFault::ReadFault | FramesFault::WriteFault) => READ_OR_WRITE_FAULT,
-        Err(FramesFault::NoMemory) => NO_MEMORY,
+/// Opens what a command reads: the FILE of its arguments, or standard input. Says on standard error why it cannot be opened.
+fn open(rt: &HostRuntime, matches: &ArgMatches) -> Option<Input> {
+    let Some(name) = matches.get_str("file") else {
+        return Some(Input::Standard(rt.stdin()));
+    };
+    match File::open(rt, name) {
+        Ok(file) => Some(Input::File(file)),
+        Err(error) => {
+            let _ = explain_file(rt, name, &error);
+            None
+        }
     }
 }
 
-/// Hands the frames on standard input to a destination. Says on standard error why they ended early.
-fn take_frames(rt: &HostRuntime, cpus: u8) -> u8
-    requires low { 1 ≤ cpus }
-    requires high { cpus ≤ 16 }
-{
-    let outcome = run_frames(rt.alloc(), &mut rt.stdin(), &mut rt.stdout(), cpus);
+/// Runs a script.
+fn run(rt: &HostRuntime, matches: &ArgMatches) -> u8 {
+    let Some(cpus @ 1..=16) = matches.get_one::<u8>("cpus") else {
+        return BAD_COMMAND_OR_SCRIPT;
+    };
+    let mode = if matches.get_flag("transcript") {
+        Mode::Transcript
+    } else {
+        Mode::Lines
+    };
+    let Some(mut input) = open(rt, matches) else {
+        return READ_OR_WRITE_FAULT;
+    };
+    let outcome = run_script(rt.alloc(), &mut input, &mut rt.stdout(), cpus, mode);
+    explain(rt, outcome.map(|()| true))
+}
+
+/// Checks a transcript.
+fn check_input(rt: &HostRuntime, matches: &ArgMatches) -> u8 {
+    let Some(mut input) = open(rt, matches) else {
+        return READ_OR_WRITE_FAULT;
+    };
+    let outcome = check_script(rt.alloc(), &mut input, &mut rt.stdout());
+    explain(rt, outcome)
+}
+
+/// Hands frames to a destination. Says on standard error why they ended early.
+fn take_frames(rt: &HostRuntime, matches: &ArgMatches) -> u8 {
+    let Some(cpus @ 1..=16) = matches.get_one::<u8>("cpus") else {
+        return BAD_COMMAND_OR_SCRIPT;
+    };
+    let Some(mut input) = open(rt, matches) else {
+        return READ_OR_WRITE_FAULT;
+    };
+    let outcome = run_frames(rt.alloc(), &mut input, &mut rt.stdout(), cpus);
     if let Err(fault) = outcome {
         let _ = eprintln!(rt; "{fault}");
     }
@@ -171,52 +115,32 @@ fn take_frames(rt: &HostRuntime, cpus: u8) -> u8
 fn run_in_threads<T: Threads + Wait + Sync>(
     rt: &HostRuntime,
     handle: &T,
-    cpus: u8,
-    calls: u16,
-    cut: bool,
-) -> u8
-    requires low { 1 ≤ cpus }
-    requires high { cpus ≤ 16 }
-{
+    matches: &ArgMatches,
+) -> u8 {
+    let Some(cpus @ 1..=16) = matches.get_one::<u8>("cpus") else {
+        return BAD_COMMAND_OR_SCRIPT;
+    };
+    let Some(calls) = matches.get_one::<u16>("calls") else {
+        return BAD_COMMAND_OR_SCRIPT;
+    };
+    let cut = matches.get_flag("cut");
     let outcome = run_threads(handle, rt.alloc(), &mut rt.stdout(), cpus, calls, cut);
     explain(rt, outcome)
 }
 
-/// Does what the command line asks for, and gives the exit status.
+/// Carries out the parsed command line, and returns the exit status.
 fn do_command<T: Threads + Wait + Sync>(rt: &HostRuntime, handle: &T, matches: &ArgMatches) -> u8 {
     match matches.subcommand() {
-        Some(("run", matches)) => {
-            let mode = if matches.get_flag("transcript") {
-                Mode::Transcript
-            } else {
-                Mode::Lines
-            };
-            match matches.get_one::<u8>("cpus") {
-                Some(cpus @ 1..=16) => run(rt, cpus, mode),
-                _ => BAD_COMMAND_OR_SCRIPT,
-            }
-        }
-        Some(("check", _)) => check_input(rt),
-        Some(("frames", matches)) => match matches.get_one::<u8>("cpus") {
-            Some(cpus @ 1..=16) => take_frames(rt, cpus),
-            _ => BAD_COMMAND_OR_SCRIPT,
-        },
-        Some(("threads", matches)) => {
-            let cut = matches.get_flag("cut");
-            match (
-                matches.get_one::<u8>("cpus"),
-                matches.get_one::<u16>("calls"),
-            ) {
-                (Some(cpus @ 1..=16), Some(calls)) => run_in_threads(rt, handle, cpus, calls, cut),
-                _ => BAD_COMMAND_OR_SCRIPT,
-            }
-        }
+        Some(("run", matches)) => run(rt, matches),
+        Some(("check", matches)) => check_input(rt, matches),
+        Some(("frames", matches)) => take_frames(rt, matches),
+        Some(("threads", matches)) => run_in_threads(rt, handle, matches),
         _ => BAD_COMMAND_OR_SCRIPT,
     }
 }
 
-/// Says on standard error which argument is not UTF-8: its number, and its bytes as far as they are text. One of more than 4,096 bytes is
-/// passed over.
+/// Says on standard error which argument is not UTF-8: its number, and its bytes with those that are not text replaced. An argument of
+/// more than 4,096 bytes is skipped.
 fn name_bad_argument(rt: &HostRuntime) -> io::Result<()> {
     let mut room = [0; LONGEST_SHOWN];
     for number in 1..usize::MAX {
@@ -233,7 +157,7 @@ fn name_bad_argument(rt: &HostRuntime) -> io::Result<()> {
     eprintln!(rt; "\nFor more information, try '--help'.")
 }
 
-/// Reads the command line, does what it asks for, and gives the exit status.
+/// Reads the command line, carries it out, and returns the exit status.
 fn dispatch<T: Threads + Wait + Sync>(rt: &HostRuntime, handle: &T) -> io::Result<u8> {
     let words: Vec<String> = match env::args(rt) {
         Ok(words) => words.collect(rt.alloc())?,
@@ -262,7 +186,7 @@ fn dispatch<T: Threads + Wait + Sync>(rt: &HostRuntime, handle: &T) -> io::Resul
     Ok(do_command(rt, handle, &matches))
 }
 
-/// Does what the command line asks for, and gives the exit status. An argument that is not UTF-8 is a fault of the command line.
+/// Reads the command line, carries it out, and returns the exit status. An argument that is not UTF-8 is a fault of the command line.
 /// `handle` starts the threads of `postmig threads`, and waits for them; a program passes its runtime as both.
 pub fn answer<T: Threads + Wait + Sync>(rt: &HostRuntime, handle: &T) -> ExitCode {
     match dispatch(rt, handle) {

@@ -16,7 +16,7 @@ use mig_base::phase::{DestPhase, Received};
 
 const HAS_NOT_RUN: Answer = Reports(Brief::Recv(Received::NotRun, NONE));
 
-/// A destination that has not run gives up what it has kept: page 0x10 is not in the way of a Package that owes it.
+/// A destination that has not run discards its kept copies: page 0x10 does not contradict a Package that owes it.
 static BEFORE_THE_RUN: [Step; 23] = [
     (Report, Ok(HAS_NOT_RUN)),
     (Take(1, Advise), TOOK),

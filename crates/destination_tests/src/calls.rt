@@ -39,7 +39,7 @@ pub enum Call {
     Act,
     Install,
     Pause,
-    /// How far it has come, as the source is told.
+    /// How far it has come, as a Recv reports it.
     Report,
     /// Its requests once more.
     Rerequest,
@@ -63,19 +63,19 @@ pub enum Answer {
     Replied(u8, Reply),
     /// The processor sleeps, and nothing was entered.
     Asleep(u8),
-    /// A map call goes on for so many messages, and was entered with this reply.
+    /// A map call waits for this number of messages, and was entered with this reply.
     InCall(u8, u8, Reply),
     /// A command whose entry does not fit its effect.
     Unfit(Tried),
     Told(Effect),
-    /// What was made of a fault, and the frame that is to be sent.
+    /// The effect of resolving a fault, and the frame to send.
     Acts(Effect, Option<Brief>),
     /// The frame that tells how far it has come.
     Reports(Brief),
     /// The first of the frames that ask anew.
     Sends((Option<Brief>, Option<Brief>, Option<Brief>)),
     Stands(DestPhase, bool, u32),
-    /// Copies installed, copies given up and faults read; copies that wait; and pages that are owed.
+    /// Copies installed, copies dropped and faults read; copies that wait; and pages that are owed.
     Counted([u64; 3], usize, u32),
     At(Option<PageNo>),
     Is(CpuState),
@@ -96,7 +96,7 @@ fn brief_of(frame: Option<Frame>) -> Option<Brief> {
     }
 }
 
-/// What a frame came to that was refused, and handed back as it was.
+/// The answer for a frame that was refused, and handed back as it was.
 fn not_taken(
     rt: &impl Abort,
     fault: TakeFault,
@@ -140,7 +140,7 @@ fn take_urgent(
     }
 }
 
-/// What a command came to.
+/// The answer for a command.
 fn tried(answer: Result<Tried, Refusal>) -> Result<Answer, Refusal> {
     answer.map(|tried| match (tried.effect, tried.entry) {
         (Effect::Asleep { cpu }, None) => Asleep(cpu),

@@ -85,7 +85,7 @@ fn areas_of(rt: &impl Abort, alloc: Global, range: Range) -> Result<AreaMap, NoM
     Ok(areas)
 }
 
-/// So many processors, of which the first waits for the command, and no other waits.
+/// `count` processors, of which the first waits for the command, and no other waits.
 fn waiting(alloc: Global, count: usize, command: Option<Command>) -> Result<Waiting, NoMemory> {
     let mut commands = vec![in alloc; None; count]?;
     if let Some(first) = commands.first_mut() {

@@ -58,7 +58,7 @@ fn looks(source: &Source) -> Answer {
     )
 }
 
-/// What a call that does what a table does not look at came to.
+/// The answer for a call whose result the tables do not look at.
 fn done<T: Drop>(answer: Result<T, Refusal>) -> Result<Answer, Refusal> {
     match answer {
         Ok(_) => Ok(Done),

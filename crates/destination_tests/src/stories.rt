@@ -173,7 +173,7 @@ static GONE: [Step; 14] = [
     (Counts, Ok(Counted([0, 1, 0], 0, 0))),
 ];
 
-/// The guest gives up an owed page, which is zeros from then on. Its copy comes late, and is given up.
+/// The guest discards an owed page, which is zeros from then on. Its copy comes late, and is dropped.
 static GIVEN_UP: [Step; 14] = [
     (Take(1, Advise), TOOK),
     (Take(1, Discard(NONE)), TOOK),
@@ -298,7 +298,7 @@ static LATE: [Step; 20] = [
     (Retry(1), Ok(Replied(1, Reply::Segv { mapped: false }))),
 ];
 
-/// A page moves over another that is owed, whose copy is given up. Two events of one call are read in turn.
+/// A page moves over another that is owed, whose copy is dropped. Two events of one call are read in turn.
 static REPLACED: [Step; 17] = [
     (Take(1, Advise), TOOK),
     (Take(1, Discard(NONE)), TOOK),

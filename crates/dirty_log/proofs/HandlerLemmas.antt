@@ -1,4 +1,4 @@
--- What the reading of a message makes of a log.
+-- How reading a message changes a log.
 use Rattle.std.proofs.Common.{◌≡◌, refl}
 use Rattle.std.specs.Ordering.{nat_cmp}
 use Rattle.std.specs.FinSet.{FinSet}

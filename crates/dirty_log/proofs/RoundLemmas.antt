@@ -14,7 +14,7 @@ use Rattle.mig_model.specs.Log.{unchanged}
 use Rattle.dirty_log.specs.Rounds.{HasComeTo}
 use Rattle.dirty_log.proofs.PageLemmas.{member_kept}
 
--- nothing below where it has come to, and nothing from there up to the page that is found
+-- no page below the start of the search, and none from there up to the page that is found
 pub none_before : (test : ℕ → Bool) (from found page : ℕ) → ((q : ℕ) → q < from → test q ≡ false) → ((q : ℕ) → from ≤ q → q < found → test q ≡ false) → page < found → test page ≡ false
 none_before test from found page low before l = ⊎_elim (low page) (λ (m : from ≤ page). before page m l) (cases_lt page from)
 

@@ -33,6 +33,7 @@ use Rattle.dirty_log.specs.Answers.{send_refusal}
 use Rattle.dirty_log.specs.Sending.{frame_sent}
 use Rattle.dirty_log.specs.Spaces.{is_sendable}
 use Rattle.dirty_log.specs.declared.sent.Sent.{Sent}
+use Rattle.mig_model.proofs.SetSizes.{only_where}
 
 -- A call that is not refused
 
@@ -98,9 +99,6 @@ zero_shown space page sent sound accepted is = zeros_sent (contents space.host.b
 
 -- a present page of a space that is lent
 
-mapped_where : (there mapped : Bool) → (there ≡ true → mapped ≡ true) → mapped ≡ false → there ≡ false
-mapped_where there mapped h none = grind (arith, nat_tests)
-
 not_low : (page : ℕ) → (page < LOW_PAGE → ⊥) → LOW_PAGE ≤ page
 not_low page h = grind (arith, nat_tests, h)
 
@@ -110,7 +108,7 @@ not_high page h = grind (arith, nat_tests, h)
 pub page_of_present : (space : Space) (page : ℕ) → IsLent space → IsSoundSpace space → is_present space page ≡ true → IsPage page
 page_of_present space page lent sound here =
     let not_mapped = λ (none : contains_key space.host.areas page ≡ false).
-    false≢true (sym (mapped_where (is_present space page) (contains_key space.host.areas page) (has_areas space.host page sound.host) none) ∙ here) in
+    false≢true (sym (only_where (is_present space page) (contains_key space.host.areas page) (has_areas space.host page sound.host) none) ∙ here) in
     (not_low page (λ low. not_mapped (lent.low page low)), not_high page (λ high. not_mapped (ap is_some (sound.host.bound page high))))
   where
     has_areas : (host : Host) (page : ℕ) → IsSound host → contains_key host.bytes page ≡ true → contains_key host.areas page ≡ true

@@ -28,11 +28,12 @@ use Rattle.uffd_ioctl.specs.declared.fault.IoctlFault.{IoctlFault}
 use Rattle.uffd_ioctl.specs.declared.fault.IoctlFault.TheVariants as fault
 use Rattle.uffd_ioctl.proofs.RegisterLemmas.{nothing_where, sound_low}
 use Rattle.guest.specs.Lent.{IsLent}
-use Rattle.guest.proofs.SpaceLemmas.{below_high, five_none, from_low, none_unread, ok_no_err, protected_past, right_range, some_no_none}
+use Rattle.guest.proofs.SpaceLemmas.{below_high, five_none, from_low, ok_no_err, protected_past, right_range, some_no_none}
 use Rattle.dirty_log.specs.Spaces.{is_sendable}
 use Rattle.mig_model.proofs.SourceRounds.{present_mapped}
 use Rattle.mig_model.proofs.FrameFaults.{no_fewer}
 use Rattle.mig_model.proofs.PageCalls.{every_one}
+use Rattle.uffd_ioctl.proofs.InstallLemmas.{quiet_tested}
 
 -- Pages of a space
 
@@ -55,7 +56,7 @@ protect_accepted space first count bits start len can few start_is len_is =
     let first_is : start / 4096 ≡ first = omega (arith, start_is) in
     let count_is : len / 4096 ≡ count = omega (arith, len_is) in
     five_none (not space.object.enabled) (ltb 2 bits) (is_bad_range start len) (ltb 0 (changing space.object)) _ Einval Einval Einval Eagain Enoent
-    (not_from_true space.object.enabled can.lent.enabled) (no_fewer bits 2 few) (rw (start_is, len_is) (right_range first count can.low can.some can.high)) (none_unread (changing space.object) can.quiet)
+    (not_from_true space.object.enabled can.lent.enabled) (no_fewer bits 2 few) (rw (start_is, len_is) (right_range first count can.low can.some can.high)) (quiet_tested (changing space.object) can.quiet)
     (rw (first_is, count_is) (not_from_true _ can.watched))
 
 pub not_refused : {A : Type 0} (error : Option Errno) (answer : A) (result : Result A Errno) (errno : Errno) → error ≡ None → result ≡ answered_by error answer → result ≡ Err errno → ⊥

@@ -1,4 +1,4 @@
--- How a proof tells logs apart, for models that contain them.
+-- The code of logs: proofs about models that contain a log compare logs by it.
 use Rattle.std.specs.Prelude.{List, refl}
 use Rattle.std.specs.Ordering.{nat_cmp}
 use Rattle.std.specs.FinSet as set

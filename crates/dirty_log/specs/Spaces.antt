@@ -12,7 +12,7 @@ use Rattle.mig_model.specs.Source.{Source, first_source}
 abbrev pub is_sendable : Space → ℕ → Bool
 is_sendable space page = is_present space page && contains space.object.protect page
 
--- a source that has this log, this space and these processors, and has done nothing
+-- a source with this log, this space and these processors, which has done nothing
 abbrev pub source_of : Log → Space → Cpus → Source
 source_of log space cpus = record (first_source 0 0 0) { log = log; guest = record { space = space; cpus = cpus } }
 

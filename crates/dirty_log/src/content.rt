@@ -1,4 +1,4 @@
-//! Bytes of pages.
+//! The bytes of pages.
 
 ghost use Rattle.std.specs.Prelude.{◌≡◌, ℕ, ◌+◌, ◌<◌, ◌≤◌, ◌==◌, length, true, IfOk};
 ghost use Rattle.std.specs.List.{All, list_all};
@@ -11,14 +11,14 @@ use mig_base::{NoMemory, PAGE_BYTES, PageBytes, PageNo};
 use std::alloc::Global;
 use uffd_ioctl::Space;
 
-/// Whether all bytes are zeros.
+/// Whether all bytes are zero.
 pub fn are_zeros(bytes: &[u8]) -> bool
     ensures { result ≡ list_all (λ byte. byte == 0) bytes.now }
 {
     bytes.iter().all(|byte| *byte == 0)
 }
 
-/// Pages of zeros, so many, whose bytes are to be read.
+/// `count` pages of zeros, into which bytes can be read. `NoMemory` if they cannot be allocated.
 pub fn blank_pages(alloc: Global, count: u32) -> Result<Vec<PageBytes>, NoMemory>
     ensures { IfOk result (λ pages. length pages.items ≡ count) }
 {
@@ -40,12 +40,12 @@ pub fn bytes_at(space: &Space, page: PageNo) -> &[u8; PAGE_BYTES]
     }
 }
 
-/// A law of every slice of that type. The call does nothing.
+/// A fact about every slice of bytes: each is below 256. The call does nothing.
 pub fn are_bytes(bytes: &[u8])
     ensures { All (λ byte. byte < 256) bytes.now }
 {}
 
-/// Copies the bytes of neighbouring present pages, from the first on.
+/// Copies the bytes of consecutive present pages, from page `first` on.
 pub fn read_pages(space: &Space, first: PageNo, into: &mut Vec<PageBytes>)
     requires inside { first + length into.old.items ≤ HIGH_PAGE }
     requires present { (i : ℕ) → i < length into.old.items → is_present space.now (first + i) ≡ true }

@@ -1,5 +1,5 @@
-//! What holds of a log and its space over all calls, as a law: a function that does nothing, whose contract is the law. The
-//! calls stand in it as what the machine makes, which their contracts say that they make.
+//! What holds for a log and its space across all calls, as a law: a function that does nothing and whose contract is the law. Calls
+//! appear in it as functions of the machine; the contract of each call equates the two.
 
 ghost use Rattle.std.specs.Prelude.{◌≡◌, ℕ, true, false, Some, None};
 ghost use Rattle.std.specs.FinSet.{contains};
@@ -16,7 +16,7 @@ ghost use Rattle.dirty_log.specs.Answers.{send_refusal};
 ghost use Rattle.dirty_log.specs.Spaces.{AreProtected};
 
 /// A clean page that no unread event has changed is protected, and so it is present and registered for write-protect faults. This holds
-/// of an empty log; each call of a log keeps it, and so does each load, store and map call of a processor.
+/// for an empty log; each call of a log keeps it, and so does each load, store and map call of a processor.
 pub fn clean_pages_are_protected()
     ensures present { (log : Log) (space : Space) (page : ℕ) → IsSoundSpace space → AreProtected log space → contains log.clean page ≡ true → is_unread space.object.events page ≡ false → is_present space page ≡ true }
     ensures registered { (log : Log) (space : Space) (page : ℕ) → IsSoundSpace space → AreProtected log space → contains log.clean page ≡ true → is_unread space.object.events page ≡ false → contains space.object.protect page ≡ true }

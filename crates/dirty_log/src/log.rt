@@ -1,4 +1,4 @@
-//! The type that callers see: what a source knows of its pages.
+//! The type that callers see: what a source knows about its pages.
 
 ghost use Rattle.std.specs.Prelude.{◌≡◌, [], length, IfOk};
 ghost use Rattle.mig_model.specs.Bounds.{ArePages};
@@ -14,17 +14,17 @@ use std::alloc::Global;
 use std::collections::VecDeque;
 use std::marker::Model;
 
-/// What a source knows of its pages, and the faults that its handler holds.
+/// What a source knows about its pages, and the faults that its handler holds.
 ///
-/// The calls ask to be lent always the same [`uffd_ioctl::Space`], enabled with the three events at least, in which no page below 0x10000 is
-/// mapped, and which from the first such call on is changed, these calls aside, by loads, stores and map calls alone. A call that is refused changes neither the log, nor
-/// the space, nor the processors. `NoMemory` comes after every other refusal, and the same call may succeed later.
+/// Always lend its calls the same [`uffd_ioctl::Space`], enabled for at least the three events, with no page below 0x10000 mapped. From
+/// the first such call on, only these calls and loads, stores and map calls may change that space. A call that is refused changes
+/// neither the log, nor the space, nor the processors. `NoMemory` comes after every other refusal, and the same call may succeed later.
 #[derive(Drop)]
 pub struct DirtyLog {
     alloc: Global,
     clean: PageSet,
     todo: PageSet,
-    /// No page of `todo` lies below: the next one is looked for from here on.
+    /// No page of `todo` lies below this one: the search for the next begins here.
     from: PageNo,
     sent: PageSet,
     held: VecDeque<Fault>,
@@ -60,7 +60,7 @@ impl DirtyLog {
         }
     }
 
-    /// The pages whose newest copy under way is right, as far as the source knows.
+    /// The pages whose newest copy sent is still right, as far as the source knows.
     pub fn clean(&self) -> &PageSet
         ensures { result.now ≡ self.now.clean }
     {
@@ -81,15 +81,15 @@ impl DirtyLog {
         &self.sent
     }
 
-    /// How many faults were read and not resolved yet.
+    /// The number of faults that were read and not resolved yet.
     pub fn held(&self) -> usize
         ensures { result ≡ length self.now.held }
     {
         self.held.len()
     }
 
-    /// The pages that were sent in this epoch and are not clean now, as a set of its own: a destination has to discard its copies. Each of
-    /// them may be mapped.
+    /// The pages that were sent in this epoch and are not clean now, as a new set: the destination has to discard its copies of them. Each
+    /// lies where a page may be mapped. `NoMemory` if the set cannot be allocated.
     pub fn discarded(&self) -> Result<PageSet, NoMemory>
         ensures discarded { IfOk result (λ pages. pages ≡ machine.less self.now.sent self.now.clean) }
         ensures pages { IfOk result (λ pages. ArePages pages) }
@@ -99,7 +99,7 @@ impl DirtyLog {
         Ok(pages)
     }
 
-    /// A new epoch begins, in which nothing was sent. Held faults stay. It takes no memory.
+    /// Begins a new epoch, in which nothing was sent. Held faults stay. It takes no memory.
     pub fn forget(&mut self)
         ensures { self.new ≡ machine.forgotten self.old }
     {
@@ -109,7 +109,7 @@ impl DirtyLog {
         self.sent = PageSet::new(self.alloc);
     }
 
-    /// Gives up the held faults: whoever sleeps on their pages is taken over by the destination. It takes no memory.
+    /// Drops the held faults: the destination takes over the processors that sleep on their pages. It takes no memory.
     pub fn drop_held(&mut self)
         ensures { self.new ≡ record self.old { held = [] } }
     {

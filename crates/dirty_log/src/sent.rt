@@ -1,4 +1,4 @@
-//! What is sent of a page.
+//! What is sent for a page.
 
 ghost use Rattle.std.specs.Prelude.{◌≡◌, true};
 ghost use Rattle.mig_base.specs.Bytes.{contents};
@@ -11,18 +11,18 @@ use crate::content::{are_bytes, are_zeros, bytes_at};
 use mig_base::{PAGE_BYTES, PageNo};
 use uffd_ioctl::Space;
 
-/// What is sent of a page. The bytes stay where they are, and are borrowed until they are written: what goes on a wire are those of this
-/// page, at this time.
+/// What is sent for a page. The bytes are not copied but stay borrowed until they are written, so the wire gets the bytes that this page
+/// has now.
 #[derive(Clone, Copy)]
 pub enum Sent<'a> {
-    /// Its bytes.
+    /// The bytes of the page.
     Page(&'a [u8; PAGE_BYTES]),
-    /// That they are all zero.
+    /// Only that all its bytes are zero.
     Zero,
 }
 
 impl<'a> Sent<'a> {
-    /// What is sent of a present page.
+    /// What is sent for a present page.
     pub fn read(space: &'a Space, page: PageNo) -> Self
         requires { is_present space.now page ≡ true }
         ensures sent { frame_sent page result ≡ page_frame page (contents space.now.host.bytes page) }

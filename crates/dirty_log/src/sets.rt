@@ -1,4 +1,4 @@
-//! What pages a set loses.
+//! Removing pages from a set.
 
 ghost use Rattle.std.specs.Prelude.{◌≡◌, ◌+◌, ◌/◌, not};
 ghost use Rattle.std.specs.FinSet as set;
@@ -7,7 +7,7 @@ ghost use Rattle.mig_model.specs.Log.{less, unchanged};
 
 use mig_base::{Addr, HIGH_PAGE, Message, PAGE_SIZE, PageSet};
 
-/// Takes the pages of another set out, run by run.
+/// Removes the pages of another set, run by run.
 pub fn subtract(pages: &mut PageSet, other: &PageSet)
     ensures { pages.new ≡ less pages.old other.now }
 {
@@ -20,7 +20,7 @@ pub fn subtract(pages: &mut PageSet, other: &PageSet)
     }
 }
 
-/// Takes the pages out that an event changed.
+/// Removes the pages that an event changed.
 pub fn remove_changed(pages: &mut PageSet, event: Message)
     ensures { pages.new ≡ unchanged pages.old event }
 {
@@ -36,7 +36,7 @@ pub fn remove_changed(pages: &mut PageSet, event: Message)
     }
 }
 
-/// Takes the pages of `len` bytes from an address on out, which may go past the address space.
+/// Removes the pages from that of address `start` up to, but not including, that of `start + len`, which may lie past the address space.
 fn remove_span(pages: &mut PageSet, start: Addr, len: u64)
     ensures { pages.new ≡ set.retain pages.old (λ page. not (in_bytes start (start + len) page)) }
 {
@@ -47,7 +47,7 @@ fn remove_span(pages: &mut PageSet, start: Addr, len: u64)
     pages.remove_range(first as u32, (end - first) as u32);
 }
 
-/// The page of the address behind `len` bytes, whether or not that is an address.
+/// The page of `start + len`, also if that lies past the greatest address.
 fn end_page(start: Addr, len: u64) -> u64
     ensures { result ≡ (start + len) / 4096 }
 {

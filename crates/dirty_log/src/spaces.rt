@@ -1,4 +1,4 @@
-//! The calls that a log makes of the space that it is lent.
+//! The calls that a log makes on the space that it is lent.
 
 ghost use Rattle.std.specs.Prelude.{◌≡◌, ◌+◌, ◌<◌, ◌≤◌, ◌⊎◌, ◌&&◌, true, false, OnOk, OnErr};
 ghost use Rattle.std.specs.FinSet.{contains};
@@ -19,10 +19,10 @@ use mig_base::refusal::Refusal;
 use mig_base::{HIGH, HIGH_PAGE, LOW, NoMemory, PAGE_SIZE, PageNo, page_address};
 use uffd_ioctl::{IoctlFault, Space};
 
-/// The word of flags of UFFDIO_REGISTER for both modes.
+/// The mode bits of UFFDIO_REGISTER for both modes.
 const BOTH_MODES: u64 = (1 << REGISTER_MISSING_BIT) | (1 << REGISTER_WP_BIT);
 
-/// Registers every mapped page for missing faults and for write-protect faults, by the areas of the space.
+/// Registers every mapped page for missing faults and for write-protect faults, area by area. `NoMemory` changes nothing.
 pub fn register_mapped(space: &mut Space) -> Result<(), NoMemory>
     requires { IsLent space.old }
     ensures ok { OnOk result (space.new ≡ all_registered space.old) }
@@ -31,7 +31,7 @@ pub fn register_mapped(space: &mut Space) -> Result<(), NoMemory>
     space.is_in_order();
     match space.register(LOW, HIGH - LOW, BOTH_MODES) {
         Ok(()) => Ok(()),
-        // EINVAL says that no page is mapped: there is nothing to register.
+        // EINVAL means that no page is mapped: there is nothing to register.
         Err(IoctlFault::Errno(_)) => Ok(()),
         Err(IoctlFault::NoMemory) => Err(NoMemory),
     }
@@ -73,7 +73,7 @@ pub fn protect(space: &mut Space, first: PageNo, count: u32)
     };
 }
 
-/// Clears the protection of a page.
+/// Ends the protection of a page, which is protected.
 pub fn unprotect(space: &mut Space, page: PageNo)
     requires lent { IsLent space.old }
     requires quiet { object.changing space.old.object ≡ 0 }
@@ -86,7 +86,7 @@ pub fn unprotect(space: &mut Space, page: PageNo)
     };
 }
 
-/// What is to be made of a fault, by what its page is now.
+/// How a fault has to be resolved, according to the present state of its page.
 pub fn act_of(space: &Space, fault: &Fault) -> Act
     ensures low { (result ≡ Act.Forgot) ⊎ (fault.now.page < HIGH_PAGE) }
     ensures act { act_is result ≡ source_act_by (is_forgotten space.now fault.now.page) (is_present space.now fault.now.page) (contains space.now.protected fault.now.page && fault.now.wp) }

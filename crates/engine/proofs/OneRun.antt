@@ -9,7 +9,7 @@ use Rattle.engine.specs.declared.line_runner.Mode.{Mode}
 use Rattle.engine.specs.Script.{printed, MakesAny, Runs}
 use Rattle.engine.specs.WorldState.{WorldState, Answered, epoch_in}
 
--- a step has one outcome, want of memory aside
+-- a step has one outcome, unless memory runs out
 one_answer : (old : WorldState) (step : Step) (a b : Outcome) (s t : WorldState) → Answered old step a s → Answered old step b t → (a ≡ b) × (s ≡ t)
 one_answer old step a b s t p q = elim p.1 [
   | inl x ↦ elim q.1 [

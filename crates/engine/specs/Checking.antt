@@ -1,4 +1,4 @@
--- What is written for a transcript that is checked.
+-- The output of a check of a transcript.
 use Rattle.std.specs.Prelude.{◌≡◌, ℕ, ◌<◌, Bool, true, false, List, [], ◌∷◌, ◌++◌, length, codes, Option}
 use Rattle.std.specs.Fmt.{decimal}
 use Rattle.std.specs.Io.KnownBytes.{Appends}
@@ -15,7 +15,7 @@ use Rattle.engine.specs.declared.fault.RunFault.TheVariants as faults
 use Rattle.grammar.specs.Lines.{Reads}
 use Rattle.engine.specs.Script.{StopsBy}
 
--- the entries of lines
+-- the entries of a list of lines
 abbrev pub entries_of : List Line → List Entry
 entries_of [] = []
 entries_of (Skipped ∷ lines) = entries_of lines
@@ -26,15 +26,15 @@ entries_of (Enter entry ∷ lines) = entry ∷ entries_of lines
 abbrev pub IsTranscript : List ℕ → List Entry → Type 0
 IsTranscript input entries = (lines : List Line) × Reads language.Transcript input lines [] × (entries ≡ entries_of lines)
 
--- ok, and how many entries there are
+-- the line of a flat run: ok, and the number of entries
 abbrev pub ok_line : ℕ → List ℕ
 ok_line count = codes "ok " ++ decimal count ++ 10 ∷ []
 
--- wrong, the index of an entry, counted from 0, and the reply that one flat memory gives there
+-- the line of any other: wrong, the index of an entry, counted from 0, and the reply that one flat memory gives there
 abbrev pub wrong_line : ℕ → Reply → List ℕ
 wrong_line index expected = codes "wrong " ++ decimal index ++ codes " expected " ++ reply_text expected ++ 10 ∷ []
 
--- whether the entries are a flat run, and the line that says so
+-- whether the entries are a flat run, and the line that says so; otherwise the line names the first wrong entry
 abbrev pub IsVerdict : List Entry → Bool → List ℕ → Type 0
 IsVerdict entries true text = IsFlatRun entries × (text ≡ ok_line (length entries))
 IsVerdict entries false text = (index : ℕ) × (expected : Reply) × FirstWrong entries index expected × (text ≡ wrong_line index expected)
@@ -47,7 +47,7 @@ pub record Checks (input : List ℕ) (answer : Bool) (before after : Option (Lis
   pub verdict : IsVerdict entries answer text
   pub appends : Appends before after text
 
--- the input is a transcript, and a part of its verdict is missing in what was written
+-- the input is a transcript, and a part of its verdict was not written
 pub record ChecksUnwritten (input : List ℕ) (before after : Option (List ℕ)) : Type 0 where
   pub entries : List Entry
   pub answer : Bool
@@ -58,11 +58,11 @@ pub record ChecksUnwritten (input : List ℕ) (before after : Option (List ℕ))
   pub missing : 0 < length more
   pub appends : Appends before after written
 
--- nothing is written for the lines
+-- lines of a transcript have no output of their own
 abbrev pub Silent : List Line → List ℕ → Type 0
 Silent lines text = text ≡ []
 
--- how a check ends with a fault: before its verdict nothing is written
+-- a check ends with a fault: nothing is written before its verdict
 abbrev pub CheckStops : List ℕ → Option (List ℕ) → RunFault → Option (List ℕ) → Option (List ℕ) → Type 0
 CheckStops input unread (faults.Line n) before after = StopsBy language.Transcript Silent input unread (faults.Line n) before after
 CheckStops input unread faults.ReadFault before after = StopsBy language.Transcript Silent input unread faults.ReadFault before after

@@ -1,4 +1,4 @@
--- What the parts of the engine do, told of the bytes of one piece.
+-- The parts of the engine, and their effect for the bytes of one piece.
 use Rattle.std.specs.Prelude.{◌≡◌, ℕ, ◌+◌, ◌<◌, ◌⊎◌, Bool, true, false, List, [], ◌∷◌, ◌++◌, length, Option, IfSome, ⊤, refl}
 use Rattle.std.proofs.Common.{inl, inr}
 use Rattle.std.specs.Coded.{Coded, code_by, coded×, coded⊎, coded_ℕ, coded_bool, coded_list}
@@ -22,46 +22,56 @@ use Rattle.engine.specs.WorldState.{WorldState, coded_state}
 
 -- Work: a world that is run, or the entries that are kept
 
+-- the work that the lines do: on a world, or on a list of entries
 pub data Work : Type 0 where
-  -- orders are carried out on a world, and printed as the mode says
+  -- orders are carried out on a world, and their output is that of the mode
   Running : (mode : Mode) → (state : WorldState) → Work
   -- entries are kept
   Keeping : (entries : List Entry) → Work
 
+-- a mode as a bool, for its code
 abbrev pub mode_test : Mode → Bool
 mode_test Lines = false
 mode_test Transcript = true
 
+-- the mode of a bool
 abbrev pub tested_mode : Bool → Mode
 tested_mode false = Lines
 tested_mode true = Transcript
 
+-- no mode is lost
 abbrev pub tested_mode-mode_test : (mode : Mode) → tested_mode (mode_test mode) ≡ mode
 tested_mode-mode_test Lines = refl
 tested_mode-mode_test Transcript = refl
 
+-- the code of a mode
 abbrev pub coded_mode : Coded Mode
 coded_mode = code_by Bool coded_bool mode_test tested_mode tested_mode-mode_test
 
+-- the parts of the work: a mode and a world, or entries
 abbrev pub WorkParts : Type 0
 WorkParts = (Mode × WorldState) ⊎ List Entry
 
+-- work as its parts
 abbrev pub work_parts : Work → WorkParts
 work_parts (Running mode state) = inl (mode, state)
 work_parts (Keeping entries) = inr entries
 
+-- the work of the parts
 abbrev pub parts_work : WorkParts → Work
 parts_work (inl parts) = Running parts.0 parts.1
 parts_work (inr entries) = Keeping entries
 
+-- no work is lost: the work of its parts is the work itself
 abbrev pub parts_work-work_parts : (work : Work) → parts_work (work_parts work) ≡ work
 parts_work-work_parts (Running mode state) = refl
 parts_work-work_parts (Keeping entries) = refl
 
+-- the code of the work
 abbrev pub coded_work : Coded Work
 coded_work = code_by WorkParts (coded⊎ (coded× coded_mode coded_state) (coded_list entry.the_row.coded)) work_parts parts_work parts_work-work_parts
 
--- the work of a job
+-- bridges a job of the code to its work
 abbrev pub work_of : Job → Work
 work_of (Run world mode) = Running mode world
 work_of (Keep entries) = Keeping entries.items
@@ -80,7 +90,7 @@ kept_entries (Keeping entries) = entries
 abbrev pub nothing_kept : Work
 nothing_kept = Keeping []
 
--- what a line makes of the work, and its output
+-- a line's effect on the work, and its output
 abbrev pub Does : Work → Line → Work → List ℕ → Type 0
 Does old Skipped new text = (new ≡ old) × (text ≡ [])
 Does (Running mode old) (Do order) new text = (state : WorldState) × (new ≡ Running mode state) × Obeys mode old order state text
@@ -88,12 +98,12 @@ Does (Running mode old) (Enter entry) new text = ⊥
 Does (Keeping entries) (Do order) new text = ⊥
 Does (Keeping entries) (Enter entry) new text = (new ≡ Keeping (entries ++ entry ∷ [])) × (text ≡ [])
 
--- what lines make of the work, and their output
+-- the effect of lines on the work, one after the other, and their output
 abbrev pub Works : Work → List Line → Work → List ℕ → Type 0
 Works old [] new text = (new ≡ old) × (text ≡ [])
 Works old (line ∷ lines) new text = (mid : Work) × (out : List ℕ) × (more : List ℕ) × Does old line mid out × (text ≡ out ++ more) × Works mid lines new more
 
--- the output that lines have, from this work on
+-- the output of lines that begin with this work
 abbrev pub Outputs : Work → List Line → List ℕ → Type 0
 Outputs start lines text = (end : Work) × Works start lines end text
 
@@ -102,16 +112,18 @@ pub record Gathered : Type 0 where
   pub work : Work
   pub output : List ℕ
 
+-- the code of these
 abbrev pub coded_gathered : Coded Gathered
 coded_gathered = code_by (Work × List ℕ) (coded× coded_work (coded_list coded_ℕ)) (λ g. (g.work, g.output)) (λ p. record { work = p.0; output = p.1 }) (λ _. refl)
 
--- work, the output that is not written yet, the bytes of the line that has no end yet, and how many lines came before it
+-- work, the output that is not written yet, the bytes of the line that has no end yet, and the number of lines before it
 pub record Place : Type 0 where
   pub work : Work
   pub output : List ℕ
   pub line : List ℕ
   pub number : ℕ
 
+-- the code of a place
 abbrev pub coded_place : Coded Place
 coded_place =
     code_by (Work × (List ℕ × (List ℕ × ℕ))) (coded× coded_work (coded× (coded_list coded_ℕ) (coded× (coded_list coded_ℕ) coded_ℕ)))
@@ -121,7 +133,7 @@ coded_place =
 abbrev pub start_of : Work → Place
 start_of work = record { work = work; output = []; line = []; number = 0 }
 
--- the bytes are these lines, each with its line feed, and then rest
+-- the bytes are these lines, each with its line feed, and then the rest
 abbrev pub ReadsEnded : Language → List ℕ → List Line → List ℕ → Type 0
 ReadsEnded language bytes [] rest = bytes ≡ rest
 ReadsEnded language bytes (line ∷ lines) rest = (mid : List ℕ) × EndedLine language bytes line mid × ReadsEnded language mid lines rest
@@ -134,11 +146,11 @@ pub record Takes (old : Gathered) (line : Line) (new : Gathered) : Type 0 where
   pub does : Does old.work line new.work out
   pub gathers : new.output ≡ old.output ++ out
 
--- the same, where the line is that of the text
+-- the text spells a line, which was done, and its output gathered
 abbrev pub Made : Gathered → List ℕ → Gathered → Type 0
 Made old text new = (line : Line) × Spells (language_of old.work) text line × Takes old line new
 
--- the line of this number and text was not done to its end
+-- the line with this number and text ended with a fault: it is not a line of the language, or memory ran out
 abbrev pub MakeFault : Language → ℕ → List ℕ → RunFault → Type 0
 MakeFault language number text (faults.Line n) = (n ≡ number) × ((line : Line) → Spells language text line → ⊥)
 MakeFault language number text faults.ReadFault = ⊥
@@ -147,7 +159,7 @@ MakeFault language number text faults.NoMemory = ⊤
 
 -- Pieces
 
--- these bytes lead from one place to the other, and this is their output
+-- these bytes lead from one place to the other, with this output
 pub record Advances (old : Place) (bytes : List ℕ) (new : Place) (text : List ℕ) : Type 0 where
   pub lines : List Line
   pub reads : ReadsEnded (language_of old.work) (old.line ++ bytes) lines new.line
@@ -160,7 +172,7 @@ pub record Fed (old : Place) (bytes : List ℕ) (new : Place) : Type 0 where
   pub advances : Advances old bytes new text
   pub gathers : new.output ≡ old.output ++ text
 
--- a line is wrong, whatever comes after these bytes; text is the output of those before
+-- line `n` is wrong, whatever comes after these bytes; `text` is the output of the lines before it
 pub record FaultAt (old : Place) (bytes : List ℕ) (n : ℕ) (text : List ℕ) : Type 0 where
   pub lines : List Line
   pub rest : List ℕ
@@ -170,7 +182,7 @@ pub record FaultAt (old : Place) (bytes : List ℕ) (n : ℕ) (text : List ℕ) 
   pub wrong : (more : List ℕ) → BeginsWrong (language_of old.work) (rest ++ more)
   pub works : Works old.work lines end text
 
--- some lines were done, and this is a front of their output
+-- some lines were done, and `text` is the first part of their output; `more` is the rest
 pub record FaultWithin (old : Place) (bytes text more : List ℕ) : Type 0 where
   pub lines : List Line
   pub rest : List ℕ
@@ -178,7 +190,7 @@ pub record FaultWithin (old : Place) (bytes text more : List ℕ) : Type 0 where
   pub reads : ReadsEnded (language_of old.work) (old.line ++ bytes) lines rest
   pub works : Works old.work lines end (text ++ more)
 
--- a fault among these bytes; text is the output of the lines before it
+-- a fault among these bytes; `text` is the output of the lines before it
 abbrev pub Faults : Place → List ℕ → RunFault → List ℕ → Type 0
 Faults old bytes (faults.Line n) text = FaultAt old bytes n text
 Faults old bytes faults.ReadFault text = ⊥
@@ -193,7 +205,7 @@ pub record FedUntil (old : Place) (bytes : List ℕ) (fault : RunFault) (output 
 
 -- Pieces with their output written
 
--- a front of the bytes went out, and some are missing
+-- the first of the bytes were written, and some were not
 abbrev pub Front : List ℕ → Option (List ℕ) → Option (List ℕ) → Type 0
 Front bytes before after = (written : List ℕ) × (more : List ℕ) × (bytes ≡ written ++ more) × (0 < length more) × Appends before after written
 
@@ -203,7 +215,7 @@ pub record Passes (old : Place) (bytes : List ℕ) (new : Place) (before after :
   pub advances : Advances old bytes new text
   pub appends : Appends before after text
 
--- a fault among these bytes: all output before it was written, or a front where writing failed
+-- a fault among these bytes: all output before it was written, or its first part if writing failed
 abbrev pub Halts : Place → List ℕ → RunFault → Option (List ℕ) → Option (List ℕ) → Type 0
 Halts old bytes (faults.Line n) before after = (text : List ℕ) × FaultAt old bytes n text × Appends before after text
 Halts old bytes faults.ReadFault before after = ⊥
@@ -212,7 +224,7 @@ Halts old bytes faults.NoMemory before after = (text : List ℕ) × FaultWithin 
 
 -- The last line, which lacks its line feed
 
--- the open line, or nothing, was done, and what comes after its front rest is left
+-- the open line was done, or nothing; `rest` is left of it, and `more` of its output was not written
 pub record Closes (old : Place) (end : Work) (rest written more : List ℕ) (before after : Option (List ℕ)) : Type 0 where
   pub lines : List Line
   pub reads : Reads (language_of old.work) old.line lines rest

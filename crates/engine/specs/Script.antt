@@ -1,4 +1,4 @@
--- What a run of a script writes, and how reading ends.
+-- The output of a run of a script, and how reading ends.
 use Rattle.std.specs.Prelude.{◌≡◌, ℕ, ◌+◌, ◌<◌, List, [], ◌∷◌, ◌++◌, length, drop, Option, Some, None, IfSome}
 use Rattle.std.specs.Io.KnownBytes.{Appends}
 use Rattle.mig_base.specs.declared.command.Entry.{Entry}
@@ -20,39 +20,39 @@ use Rattle.engine.specs.WorldState.{WorldState, Answered, Promised, epoch_in, pr
 
 -- Runs of a script
 
--- the lines of entries
+-- the lines of a list of entries
 abbrev pub entry_lines : List Entry → List ℕ
 entry_lines [] = []
 entry_lines (entry ∷ entries) = entry_line entry ++ entry_lines entries
 
--- the entries that a transcript has gained
+-- the entries by which a transcript has grown
 abbrev pub gained : WorldState → WorldState → List Entry
 gained old new = drop (length old.transcript) new.transcript
 
--- what is printed for a step: the line of its outcome, or those of the entries that it makes
+-- the output of a step: the line of its outcome, or those of the entries that it makes
 abbrev pub printed : Mode → WorldState → Outcome → WorldState → List ℕ
 printed Lines old outcome new = outcome_line outcome
 printed Transcript old outcome new = entry_lines (gained old new)
 
--- what is printed where progress is to be told
+-- the output of an order for progress
 abbrev pub told : Mode → WorldState → List ℕ
 told Lines state = progress_line (progress_in state)
 told Transcript state = []
 
--- what a step makes of a world, and what is printed of it
+-- a step's effect on a world, and its output
 abbrev pub Makes : Mode → WorldState → Step → WorldState → List ℕ → Type 0
 Makes mode old step new text = (outcome : Outcome) × Answered old step outcome new × (text ≡ printed mode old outcome new)
 
--- the same of what an order makes: its step, or none
+-- the same for the step of an order; an order for progress has none, and changes nothing
 abbrev pub MakesAny : Mode → WorldState → Option Step → WorldState → List ℕ → Type 0
 MakesAny mode old (Some step) new text = Makes mode old step new text
 MakesAny mode old None new text = (new ≡ old) × (text ≡ told mode old)
 
--- what an order makes of a world, and what is printed of it
+-- an order's effect on a world, and its output
 abbrev pub Obeys : Mode → WorldState → Order → WorldState → List ℕ → Type 0
 Obeys mode old order new text = MakesAny mode old (step_of order (epoch_in old)) new text
 
--- from one state these lines lead to the other, and this is printed
+-- these lines lead from one state to the other, with this output
 abbrev pub Runs : Mode → WorldState → List Line → WorldState → List ℕ → Type 0
 Runs mode old [] new text = (new ≡ old) × (text ≡ [])
 Runs mode old (Skipped ∷ lines) new text = Runs mode old lines new text
@@ -60,11 +60,11 @@ Runs mode old (Do order ∷ lines) new text = (mid : WorldState) × (out : List 
     × Obeys mode old order mid out × (text ≡ out ++ more) × Runs mode mid lines new more
 Runs mode old (Enter entry ∷ lines) new text = ⊥
 
--- the lines are run from this state, this is printed, and the last state is as promised
+-- the lines are run from this state, with this output, and the promises hold for the last state
 abbrev pub Prints : Mode → WorldState → List Line → List ℕ → Type 0
 Prints mode start lines text = (end : WorldState) × Runs mode start lines end text × Promised end
 
--- How reading ends. Texts says which output lines have
+-- How reading ends. `Texts` relates lines to their output
 
 -- the whole input was read, and all its output written
 pub record Finishes (language : Language) (Texts : List Line → List ℕ → Type 0) (input : List ℕ) (before after : Option (List ℕ)) : Type 0 where
@@ -74,7 +74,7 @@ pub record Finishes (language : Language) (Texts : List Line → List ℕ → Ty
   pub prints : Texts lines text
   pub appends : Appends before after text
 
--- the output of the lines before the n-th was written; the n-th is no line of the language
+-- the output of the lines before line `n` was written; line `n` is not a line of the language
 pub record StopsAt (language : Language) (Texts : List Line → List ℕ → Type 0) (input : List ℕ) (n : ℕ) (before after : Option (List ℕ)) : Type 0 where
   pub lines : List Line
   pub rest : List ℕ
@@ -85,7 +85,7 @@ pub record StopsAt (language : Language) (Texts : List Line → List ℕ → Typ
   pub prints : Texts lines text
   pub appends : Appends before after text
 
--- of what was read, these lines were taken and held is left; a front of their output was written
+-- of the bytes that were read, these lines were done and `held` is left; their output was written but for `more`
 pub record StopsWithin (language : Language) (Texts : List Line → List ℕ → Type 0) (input : List ℕ) (unread : Option (List ℕ)) (held more : List ℕ) (before after : Option (List ℕ)) : Type 0 where
   pub lines : List Line
   pub rest : List ℕ
@@ -95,20 +95,20 @@ pub record StopsWithin (language : Language) (Texts : List Line → List ℕ →
   pub prints : Texts lines (written ++ more)
   pub appends : Appends before after written
 
--- how reading ends with a fault
+-- reading ends with a fault
 abbrev pub StopsBy : Language → (List Line → List ℕ → Type 0) → List ℕ → Option (List ℕ) → RunFault → Option (List ℕ) → Option (List ℕ) → Type 0
 StopsBy language Texts input unread (faults.Line n) before after = StopsAt language Texts input n before after
--- each line that was read to its line feed was taken, and all output written
+-- each line that was read to its line feed was done, and all output written
 StopsBy language Texts input unread faults.ReadFault before after = (held : List ℕ) × HasNoFeed held × StopsWithin language Texts input unread held [] before after
--- a part of the output is missing
+-- a part of the output was not written
 StopsBy language Texts input unread faults.WriteFault before after = (held : List ℕ) × (more : List ℕ) × (0 < length more) × StopsWithin language Texts input unread held more before after
 -- all output of the lines before was written
 StopsBy language Texts input unread faults.NoMemory before after = (held : List ℕ) × StopsWithin language Texts input unread held [] before after
 
--- what a run of a script writes in each mode, where it comes to the end
+-- a run of a script reads the whole input; its output in each mode
 abbrev pub Writes : Mode → WorldState → List ℕ → Option (List ℕ) → Option (List ℕ) → Type 0
 Writes mode start input before after = Finishes language.Script (Prints mode start) input before after
 
--- what it wrote in each mode, where it ends with a fault
+-- a run of a script ends with a fault; what it wrote in each mode
 abbrev pub Stops : Mode → WorldState → List ℕ → Option (List ℕ) → RunFault → Option (List ℕ) → Option (List ℕ) → Type 0
 Stops mode start input unread fault before after = StopsBy language.Script (Prints mode start) input unread fault before after

@@ -1,4 +1,4 @@
--- The world that a script drives: its words are named here alone.
+-- The world that a script drives. No other file of the crate's specs names the definitions of `world`.
 use Rattle.std.specs.Prelude.{◌≢◌, ℕ, Err}
 use Rattle.std.specs.Coded.{Coded}
 use Rattle.mig_base.specs.declared.refusal.Refusal.TheVariants.{NoMemory}
@@ -11,18 +11,19 @@ use Rattle.world.specs.Headline.{Headline}
 use Rattle.grammar.specs.Printed.{Outcome}
 use Rattle.grammar.specs.declared.progress.Progress.{Progress}
 
--- what is seen of the world
+-- the world as its callers see it
 abbrev pub WorldState : Type 0
 WorldState = World
 
+-- the code of a world
 abbrev pub coded_state : Coded WorldState
 coded_state = coded_world
 
--- a world of so many processors in which nothing has happened
+-- a world of `cpus` processors in which nothing has happened
 abbrev pub first_state : ℕ → WorldState
 first_state cpus = first_world cpus
 
--- the step was made, or refused for another reason than memory
+-- the step was made, or refused for another reason than lack of memory
 abbrev pub Answered : WorldState → Step → Outcome → WorldState → Type 0
 Answered old step outcome new = (outcome ≢ Err NoMemory) × Happens old step outcome new
 
@@ -43,7 +44,7 @@ progress_in state =
       faults = (counts_of state).faults;
     }
 
--- what is promised of every world: its transcript is the run of one flat memory, and once the migration is complete the destination alone
+-- the promises for every world: its transcript is the run of one flat memory, and once the migration is complete, the destination alone
 -- holds that memory
 abbrev pub Promised : WorldState → Type 0
 Promised state = Headline state

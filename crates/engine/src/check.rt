@@ -1,4 +1,4 @@
-//! Whether the transcript that a reader gives is that of one flat memory.
+//! Checking a transcript against one flat memory.
 
 ghost use Rattle.std.specs.Prelude.{◌≡◌, [], IfOk, IfErr, IfSome, string_bytes};
 ghost use Rattle.engine.specs.declared.fault.RunFault.TheVariants.{NoMemory};
@@ -15,10 +15,11 @@ use report::{CheckFault, ReplyText};
 use std::alloc::Global;
 use std::io::{Read, Write};
 
-/// Reads a whole transcript, and writes whether it is that of one flat memory: `ok N`, where it has N entries, and true; or
-/// `wrong I expected REPLY`, where the entry at index I is the first with another reply than the flat memory's, and false.
+/// Reads a whole transcript, and writes whether it is that of one flat memory. If so, it writes `ok N` for N entries and returns true. If
+/// not, it writes `wrong I expected REPLY` and returns false: the entry at index I, counted from 0, is the first whose reply is not
+/// REPLY, the flat memory's.
 ///
-/// Nothing is written before the whole input was read. At most 4,294,967,295 reads are made; a transcript that needs more ends
+/// Nothing is written before the whole input is read. At most 4,294,967,295 reads are made; a transcript that needs more ends
 /// with a read fault. An interrupted read or write is a fault.
 pub fn check_script<R: Read, W: Write>(
     alloc: Global,
@@ -35,7 +36,7 @@ pub fn check_script<R: Read, W: Write>(
     answer_of(alloc, reader, writer, &mut script, &mut verdict)
 }
 
-/// Reads the entries of a whole transcript, and writes the verdict on them, whose text is left behind.
+/// Reads the entries of a whole transcript, and writes the verdict on them, whose text stays in `verdict`.
 fn answer_of<R: Read, W: Write>(
     alloc: Global,
     reader: &mut R,
@@ -56,7 +57,7 @@ fn answer_of<R: Read, W: Write>(
     Ok(answer)
 }
 
-/// Whether entries are a flat run. Behind the text goes the line that says so.
+/// Whether entries are a flat run. Appends the line of the verdict to the text.
 fn judge(alloc: Global, entries: &[Entry], text: &mut String) -> Result<bool, RunFault>
     requires { string_bytes text.old ≡ [] }
     ensures ok { IfOk result (λ answer. IsVerdict entries.now answer (string_bytes text.new)) }

@@ -1,4 +1,4 @@
-//! Laws about what scripts and transcripts mean. The functions do nothing: their contracts are the laws.
+//! Laws of the meaning of scripts and transcripts. The functions do nothing: their contracts are the laws.
 
 ghost use Rattle.std.specs.Prelude.{◌≡◌, ℕ, List};
 ghost use Rattle.mig_base.specs.Flat.{IsFlatRun};
@@ -13,8 +13,8 @@ pub fn one_output()
     ensures { (mode : Mode) (start : WorldState) (lines : List Line) (s t : WorldState) (a b : List ℕ) → Runs mode start lines s a → Runs mode start lines t b → (s ≡ t) × (a ≡ b) }
 {}
 
-/// What is printed as a transcript is the whole transcript of the world, from its first entry to its last, and that is a run
-/// of one flat memory.
+/// The output of a run in mode Transcript is the whole transcript of the world, from its first entry to its last, and that is a run of
+/// one flat memory.
 pub fn transcript_of_a_run()
     ensures text { (cpus : ℕ) (lines : List Line) (end : WorldState) (text : List ℕ) → Runs Transcript (first_state cpus) lines end text → text ≡ entry_lines end.transcript }
     ensures flat { (cpus : ℕ) (lines : List Line) (end : WorldState) (text : List ℕ) → Runs Transcript (first_state cpus) lines end text → IsFlatRun end.transcript }

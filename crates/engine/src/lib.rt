@@ -1,10 +1,11 @@
 //! Runs scripts of a migration on a world, and checks transcripts against one flat memory.
 //!
-//! [`run_script`] reads a script and writes one line for each order, or one for each command that took effect, as its [`Mode`]
-//! says; [`check_script`] reads such a transcript, and says whether it is that of one flat memory. Both read and write in pieces.
-//! A [`RunFault`] says what ended a run early. [`progress`] says how far a world's migration has come. [`ScriptReader`] finds the lines in what is read, and [`LineRunner`] does each.
-//! What a run writes is `specs/Script.antt`, with what is promised of the world in which it ends, what a check writes
-//! `specs/Checking.antt`, and [`laws`] says that there is no other output. `docs/SCRIPT.md` says what a script is.
+//! [`run_script`] reads a script and writes one line for each order, or one for each command that took effect, as its [`Mode`] says.
+//! [`check_script`] reads such a transcript, and says whether it is that of one flat memory. Both read and write in pieces.
+//! A [`RunFault`] says what ended a run early. [`progress`] says how far a world's migration has come. [`ScriptReader`] finds the lines in
+//! the bytes that are read, and [`LineRunner`] does each. `specs/Script.antt` defines the output of a run, with the promises for the
+//! world in which it ends, and `specs/Checking.antt` that of a check; [`laws`] says that there is no other output.
+//! `docs/SCRIPT.md` says what a script is.
 //!
 //! The crate names no file, no command line and no exit status: readers and writers are its callers'.
 #![tactic(auto)]

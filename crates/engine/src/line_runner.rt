@@ -1,4 +1,4 @@
-//! Doing one line: an order of a script is carried out on a world, and an entry of a transcript is kept.
+//! Doing one line: carrying out an order of a script on a world, or keeping an entry of a transcript.
 
 ghost use Rattle.std.specs.Prelude.{◌≡◌, ◌<◌, ◌≤◌, ◌++◌, [], OnOk, OnErr, IfErr, IfOk, string_bytes};
 ghost use Rattle.std.specs.Io.KnownBytes.{Appends};
@@ -30,7 +30,7 @@ pub enum Mode {
     Transcript,
 }
 
-/// What is done with the lines.
+/// What the lines are for.
 #[derive(Drop)]
 pub enum Job {
     /// Their orders are carried out on a world, and printed as the mode says.
@@ -39,7 +39,7 @@ pub enum Job {
     Keep { entries: Vec<Entry> },
 }
 
-/// Writes all of the bytes. A write that takes none is a fault.
+/// Writes all of the bytes. `WriteFault` comes if a write fails or takes no byte; the first of the bytes may be written then.
 pub fn write_out<W: Write>(writer: &mut W, bytes: &[u8]) -> Result<(), RunFault>
     ensures ok { OnOk result (Appends (W.contents writer.old) (W.contents writer.new) bytes.now) }
     ensures fault { IfErr result (λ fault. fault ≡ WriteFault) }
@@ -55,7 +55,7 @@ pub fn write_out<W: Write>(writer: &mut W, bytes: &[u8]) -> Result<(), RunFault>
     Ok(())
 }
 
-/// Prints the lines of entries behind a text.
+/// Appends the lines of entries to a text.
 fn print_entries(text: &mut String, entries: &[Entry]) -> Result<(), NoMemory>
     ensures { OnOk result (string_bytes text.new ≡ string_bytes text.old ++ entry_lines entries.now) }
 {
@@ -65,7 +65,7 @@ fn print_entries(text: &mut String, entries: &[Entry]) -> Result<(), NoMemory>
     Ok(())
 }
 
-/// Makes a step, and puts what the mode prints of it in the place of a text.
+/// Makes a step, and replaces a text by the mode's output for it.
 fn make_step(world: &mut World, mode: Mode, step: Step, text: &mut String) -> Result<(), RunFault>
     ensures ok { OnOk result (Makes mode world.old step world.new (string_bytes text.new)) }
     ensures fault { IfErr result (λ fault. fault ≡ OutOfMemory) }
@@ -83,8 +83,8 @@ fn make_step(world: &mut World, mode: Mode, step: Step, text: &mut String) -> Re
     Ok(())
 }
 
-/// How far the migration of a world has come: its phase, the rounds begun, the pages sent, the pages still owed (`left`), the pages
-/// installed and dropped at the destination, and its page faults. It takes no memory.
+/// How far the migration of a world has come: its phase, the rounds made, the pages sent, the pages still owed (`left`), the copies
+/// installed and dropped at the destination, and the page faults of both nodes. It takes no memory.
 pub fn progress(world: &World) -> Progress
     ensures { result ≡ progress_in world.now }
 {
@@ -100,7 +100,7 @@ pub fn progress(world: &World) -> Progress
     }
 }
 
-/// Puts what the mode prints of the progress of a world in the place of a text.
+/// Replaces a text by the mode's output for the progress of a world.
 fn tell_progress(world: &World, mode: Mode, text: &mut String) -> Result<(), RunFault>
     ensures ok { OnOk result (string_bytes text.new ≡ told mode world.now) }
     ensures fault { IfErr result (λ fault. fault ≡ OutOfMemory) }
@@ -113,7 +113,7 @@ fn tell_progress(world: &World, mode: Mode, text: &mut String) -> Result<(), Run
     Ok(())
 }
 
-/// Carries out an order, and puts what the mode prints of it in the place of a text.
+/// Carries out an order, and replaces a text by the mode's output for it.
 fn carry_out(world: &mut World, mode: Mode, order: Order, text: &mut String) -> Result<(), RunFault>
     ensures ok { OnOk result (Obeys mode world.old order world.new (string_bytes text.new)) }
     ensures fault { IfErr result (λ fault. fault ≡ OutOfMemory) }
@@ -130,7 +130,7 @@ pub struct LineRunner {
     job: Job,
     /// The tokens of the last line, kept for their room.
     tokens: Vec<Token>,
-    /// What was printed last, kept for its room.
+    /// The text that was printed last, kept for its room.
     printed: String,
     /// The output that is not written yet.
     output: Vec<u8>,
@@ -145,7 +145,7 @@ impl Model for LineRunner {
 }
 
 impl LineRunner {
-    /// Does lines as the job says. There is no output yet.
+    /// A runner for the job, without output.
     fn new(alloc: Global, job: Job) -> LineRunner
         ensures work { result.work ≡ work_of job }
         ensures output { result.output ≡ [] }
@@ -158,7 +158,7 @@ impl LineRunner {
         }
     }
 
-    /// Carries out orders on a new world of so many processors.
+    /// A runner that carries out orders on a new world of `cpus` processors. `NoMemory` comes if the world cannot be made.
     pub fn on_world(alloc: Global, cpus: u8, mode: Mode) -> Result<LineRunner, RunFault>
         requires low { 1 ≤ cpus }
         requires high { cpus ≤ 16 }
@@ -171,7 +171,7 @@ impl LineRunner {
         Ok(LineRunner::new(alloc, Job::Run { world, mode }))
     }
 
-    /// Keeps entries, of which there are none yet.
+    /// A runner that keeps entries, with none yet.
     pub fn keeping(alloc: Global) -> LineRunner
         ensures work { result.work ≡ Keeping [] }
         ensures output { result.output ≡ [] }
@@ -190,7 +190,7 @@ impl LineRunner {
         }
     }
 
-    /// The entries that were kept, none where a world is run.
+    /// The entries that were kept; none if a world is run.
     pub fn entries(&self) -> &[Entry]
         ensures { result.now ≡ kept_entries self.now.work }
     {
@@ -200,7 +200,7 @@ impl LineRunner {
         }
     }
 
-    /// Carries out an order, and gathers what is printed of it.
+    /// Carries out an order, and gathers its output.
     fn obey(&mut self, order: Order) -> Result<(), RunFault>
         requires { language_of_work self.old.work ≡ AScript }
         ensures ok { OnOk result (Takes self.old (Do order) self.new) }
@@ -233,7 +233,7 @@ impl LineRunner {
         }
     }
 
-    /// Does the line of this number and text. At a fault nothing of it is in the output.
+    /// Does the line with this number and text. After a fault the output has nothing of it.
     pub fn run_line(&mut self, number: u64, text: &[u8]) -> Result<(), RunFault>
         ensures ok { OnOk result (Made self.old text.now self.new) }
         ensures fault { IfErr result (λ fault. MakeFault (language_of_work self.old.work) number text.now fault) }
@@ -247,7 +247,7 @@ impl LineRunner {
         }
     }
 
-    /// Writes the output that was gathered. At a fault a front of it was written.
+    /// Writes the gathered output. After a fault the first part of it was written.
     pub fn write_output<W: Write>(&mut self, writer: &mut W) -> Result<(), RunFault>
         ensures ok { OnOk result (Appends (W.contents writer.old) (W.contents writer.new) self.old.output) }
         ensures none { OnOk result (self.new ≡ record self.old { output = [] }) }

@@ -14,13 +14,13 @@ use std::io::{Read, Write};
 /// The most bytes that are read at once.
 const PIECE: usize = 16_384;
 
-/// Runs a script on a new world of `cpus` processors, 1 to 16, and writes what the mode says of each order. What `world` promises of every world
-/// holds of the one in which the run ends: its transcript is the run of one flat memory, and once the migration is complete the
-/// destination alone holds that memory.
+/// Runs a script on a new world of `cpus` processors, 1 to 16, and writes the mode's output for each order. The promises of `world` hold
+/// for the world in which the run ends: its transcript is the run of one flat memory, and once the migration is complete, the destination
+/// alone holds that memory.
 ///
-/// At most 4,294,967,295 reads are made; a script that needs more ends with a read fault. That is the bound of the loop: no clause counts
-/// reads. What the lines of one read cause is
-/// gathered, and is written before the next read and before any fault is answered. An interrupted read or write is a fault.
+/// At most 4,294,967,295 reads are made; a script that needs more ends with a read fault. This bounds the loop: no clause counts reads.
+/// The output of the lines of one read is gathered, and written before the next read and before any fault is returned. An interrupted
+/// read or write is a fault.
 pub fn run_script<R: Read, W: Write>(
     alloc: Global,
     reader: &mut R,

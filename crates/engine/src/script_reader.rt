@@ -1,4 +1,4 @@
-//! A script or a transcript that is being read: where its lines end, and their numbers.
+//! Reading a script or a transcript: where its lines end, and their numbers.
 
 ghost use Rattle.std.specs.Prelude.{◌≡◌, ◌+◌, ◌<◌, ◌≤◌, ◌^◌, ◌++◌, ℕ, List, [], ◌∷◌, length, OnOk, IfErr, IfSome, IfNone, vec_len};
 ghost use Rattle.std.specs.Str.Lines.{strip_carriage_return};
@@ -13,7 +13,7 @@ use std::alloc::Global;
 use std::io::Write;
 use std::marker::Model;
 
-/// The most bytes of a line, its line feed not counted.
+/// The most bytes of a line, without its line feed.
 const MAX_LINE: usize = 256;
 
 /// A line before its line feed, without a carriage return at its end.
@@ -26,7 +26,7 @@ fn without_return(raw: &[u8]) -> &[u8]
     }
 }
 
-/// What comes before the first line feed, and what comes after it.
+/// The bytes before the first line feed, and those after it.
 fn split_line(bytes: &[u8]) -> Option<(&[u8], &[u8])>
     ensures front { IfSome result (λ parts. HasNoFeed parts.0.now) }
     ensures whole { IfSome result (λ parts. bytes.now ≡ parts.0.now ++ 10 ∷ parts.1.now) }
@@ -42,7 +42,7 @@ pub struct ScriptReader {
     runner: LineRunner,
     /// The bytes of the line that has no end yet.
     line: Vec<u8>,
-    /// How many lines came before it.
+    /// The number of lines before it.
     number: u64,
 }
 
@@ -57,7 +57,7 @@ impl Model for ScriptReader {
 }
 
 impl ScriptReader {
-    /// The start, where nothing was read.
+    /// A reader that has read nothing.
     pub fn new(alloc: Global, runner: LineRunner) -> ScriptReader
         requires { runner.output ≡ [] }
         ensures { result ≡ start_of runner.work }
@@ -69,14 +69,14 @@ impl ScriptReader {
         }
     }
 
-    /// The entries that were kept, none where a world is run.
+    /// The entries that were kept; none if a world is run.
     pub fn entries(&self) -> &[Entry]
         ensures { result.now ≡ kept_entries self.now.work }
     {
         self.runner.entries()
     }
 
-    /// Takes bytes of the open line, among which no line feed is.
+    /// Takes bytes of the open line, none of which is a line feed.
     fn hold(&mut self, bytes: &[u8]) -> Result<(), RunFault>
         requires feed { HasNoFeed bytes.now }
         requires number { self.old.number + 1 < 2 ^ 64 }
@@ -90,7 +90,7 @@ impl ScriptReader {
         Ok(())
     }
 
-    /// Does a line that is whole, without a copy of its bytes.
+    /// Does a whole line, without copying its bytes.
     fn do_whole(&mut self, bytes: &[u8]) -> Result<(), RunFault>
         requires none { self.old.line ≡ [] }
         requires feed { HasNoFeed bytes.now }

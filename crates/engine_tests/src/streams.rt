@@ -12,7 +12,7 @@ const STREAM: &[u8] =
 const LINES: &[u8] =
     b"took advise\ntook zero 0x10000\nrefused OutOfPlace\ntook discard 1\ntook package owed 1\nrefused OutOfPlace\ntook zero 0x11000\nrefused InstallFirst\n";
 
-/// The bytes in front of the one that is no frame.
+/// The number of bytes in front of those that are not a frame.
 const FRAMES: usize = 165;
 
 const BAD_TAG: FramesFault = FramesFault::Stream(StreamFault::BadTag);

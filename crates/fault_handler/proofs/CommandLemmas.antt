@@ -1,4 +1,4 @@
--- What the machine makes of a command of the destination's guest.
+-- The machine's step for a command of the destination's guest.
 use Rattle.std.proofs.Common.{◌≡◌, ℕ, Bool, true, Option, Some, None, List, refl, sym, ap, ◌∙◌, inl, inr, unwrap_or, arith}
 use Rattle.mig_base.specs.Commands.{is_access}
 use Rattle.mig_base.specs.declared.command.Command.{Command}

@@ -1,4 +1,4 @@
--- What the machine's handler makes of a destination.
+-- The machine's steps of the destination's handler.
 use Rattle.std.proofs.Common.{◌≡◌, ℕ, ◌+◌, ◌-◌, ◌*◌, ◌^◌, min, Bool, true, false, Option, Some, None, List, [], ◌∷◌, refl, sym, ap, ◌∙◌, subst, unwrap_or, eqb, drop, ◌/◌, inl, inr, ◌⊎◌, arith}
 use Rattle.std.specs.Prelude.{Ok, Err, IsOk}
 use Rattle.std.specs.FinMap.{get}
@@ -194,7 +194,7 @@ missing_at node was fault addr same is at =
     subst (λ page. IsMissing was.guest.space was.owed page) (page_again fault.page addr (sym at))
     (zeroed_missing was.guest.space was.owed fault.page (ap (λ (n : Destination). destination_act n fault) same ∙ is))
 
--- what is told of a page that has become zeros
+-- the effect that reports a page of zeros: the page was owed nothing, and was missing
 pub zeroed_told : (node : Destination) (fault : Fault) (effect : Effect) (page : ℕ) → changing node.guest.space.object ≡ 0 → effect ≡ act_effect (destination_act node fault) (4096 * fault.page) → effect ≡ Effect.Zeroed (4096 * page) →
     (settled node page ≡ None) × (is_present node.guest.space page ≡ false)
 zeroed_told node fault effect page quiet is zeroed =

@@ -1,4 +1,4 @@
--- What the machine makes of a copy that has arrived.
+-- The machine's step for a copy that has arrived.
 use Rattle.std.proofs.Common.{◌≡◌, ℕ, ◌*◌, Bool, true, false, not, ◌||◌, Option, Some, None, List, [], ◌∷◌, refl, sym, ap, ◌∙◌, cond, eqb, drop, inl, inr, arith}
 use Rattle.std.specs.Prelude.{Ok, Err, IsOk}
 use Rattle.std.specs.Cmp.{nat_cmp_total, unsigned_tied}
@@ -74,7 +74,7 @@ install_done node new effect origin there first found told is =
 rest_is : (arrivals rest : List Copy) (copy : Copy) → arrivals ≡ copy ∷ rest → drop 1 arrivals ≡ rest
 rest_is arrivals rest copy is = ap (drop 1) is
 
--- a copy is given up
+-- a copy is dropped
 pub dropped_is : (node was : Destination) (origin count : ℕ) (arrivals : List Copy) (first : IsFirst node origin) → was ≡ node → arrivals ≡ drop 1 was.arrivals → count ≡ counted was.dropped 1 →
     record was { arrivals = arrivals; dropped = count } ≡ copy_dropped node first.rest
 dropped_is node was origin count arrivals first same left counting = rw (left, counting, same, rest_is node.arrivals first.rest first.copy first.is) refl

@@ -125,7 +125,7 @@ get-run_copies kept first (copy ∷ run) q =
 pub run_kept : (old new : FinMap nat_cmp (List ℕ)) (first : ℕ) (run : List (List ℕ)) → HasRun old new first (length run) run → new ≡ kept_with old (run_copies first run)
 run_kept old new first run bytes = same_pages _ _ (λ q. bytes q ∙ sym (get-run_copies old first run q))
 
--- Pages that are given up run by run
+-- Pages that are discarded run by run
 
 pub more_gone : (q at end next : ℕ) (other : Bool) (o : Option (List ℕ)) → at ≤ end → end ≤ next → (at ≤ q → q < end → other ≡ true) → (end ≤ q → q < next → other ≡ false) →
     cond (in_range at (end - at) q) None (cond (ltb q at && other) None o) ≡ cond (ltb q next && other) None o

@@ -1,27 +1,25 @@
 -- The pages of the source that a destination names may be mapped.
 use Rattle.std.proofs.lemmas.Bool.Decides.{nat_tests}
-use Rattle.std.proofs.Common.{◌≡◌, ℕ, ◌+◌, ◌-◌, ◌/◌, ◌≤◌, Bool, true, false, cond, eqb, ltb, Option, Some, None, List, [], ◌∷◌, ◌++◌, ◌⊎◌, ⊎_elim, inl, inr, if◌then◌else◌, refl, sym, ap, ◌∙◌, subst, arith}
+use Rattle.std.proofs.Common.{◌≡◌, ℕ, ◌+◌, ◌-◌, ◌≤◌, Bool, true, false, cond, eqb, Option, Some, None, List, [], ◌∷◌, ◌++◌, if◌then◌else◌, sym, ap, ◌∙◌, subst, arith}
 use Rattle.std.specs.Cmp.{nat_cmp_total}
 use Rattle.std.specs.Ordering.{nat_cmp}
 use Rattle.std.specs.FinMap as finmap
 use Rattle.std.specs.FinMap.{get, get-empty, get-remove}
 use Rattle.std.specs.FinSet.{FinSet, contains, len-empty}
-use Rattle.std.proofs.lemmas.Bool.{false≢true, false_from_ne_true}
+use Rattle.std.proofs.lemmas.Bool.{false_from_ne_true}
 use Rattle.std.proofs.lemmas.Option.{none-some}
-use Rattle.mig_base.specs.declared.TheConstants.{HIGH_PAGE, PAGE_SIZE}
+use Rattle.mig_base.specs.declared.TheConstants.{HIGH_PAGE}
 use Rattle.mig_base.specs.declared.message.Message.{Message}
-use Rattle.mig_base.specs.declared.message.Message.TheVariants.{Remap}
-use Rattle.mig_base.specs.Ranges.{in_range}
 use Rattle.mig_model.specs.Bounds.{AreFewPages, IsPage}
-use Rattle.mig_model.specs.Destination.{Destination, destination_act_by}
-use Rattle.mig_model.specs.Guest.{Act, is_changed_by}
+use Rattle.mig_model.specs.Destination.{destination_act_by}
+use Rattle.mig_model.specs.Guest.{Act}
 use Rattle.mig_model.specs.Log.{no_pages}
-use Rattle.mig_model.specs.Owed.{Owed, is_requested, origins, own_places, owed_after, owed_table_after, requesting, without_request}
+use Rattle.mig_model.specs.Owed.{Owed, is_requested, origins, own_places, owed_table_after, requesting, without_request}
 use Rattle.mig_model.proofs.Delivery.{pair-origins}
 use Rattle.mig_model.proofs.Facts.{no_page}
 use Rattle.mig_model.proofs.PackageTaken.{own_place}
 use Rattle.mig_model.proofs.SetSizes.{len-part}
-use Rattle.mig_model.proofs.SettledLemmas.{get-owed_table_after}
+use Rattle.mig_model.proofs.SettledLemmas.{get-owed_table_after, values-after}
 use Rattle.fault_handler.specs.Order.{HasPages}
 use Rattle.fault_handler.specs.Requests.{AreListed}
 
@@ -50,27 +48,12 @@ run_paged pairs owed requests is few asked = record {
 
 -- a message is read: what is owed then was owed before
 
-one_of : (moved gone : Bool) (there here : Option ℕ) (origin : ℕ) → (if moved then there else if gone then None else here) ≡ Some origin → (there ≡ Some origin) ⊎ (here ≡ Some origin)
-one_of true gone there here origin h = inl h
-one_of false true there here origin h = absurd (cc)
-one_of false false there here origin h = inr h
-
-kept_one : (gone : Bool) (here : Option ℕ) (origin : ℕ) → (if gone then None else here) ≡ Some origin → here ≡ Some origin
-kept_one true here origin h = absurd (cc)
-kept_one false here origin h = h
-
-owed_before : (message : Message) (owed : ℕ → Option ℕ) (page origin : ℕ) → owed_after message owed page ≡ Some origin → (q : ℕ) × (owed q ≡ Some origin)
-owed_before (Remap from to len) owed page origin h =
-    ⊎_elim (λ (is : owed (from / PAGE_SIZE + (page - to / PAGE_SIZE)) ≡ Some origin). (from / PAGE_SIZE + (page - to / PAGE_SIZE), is)) (λ (is : owed page ≡ Some origin). (page, is))
-    (one_of (in_range (to / PAGE_SIZE) (len / PAGE_SIZE) page) (in_range (from / PAGE_SIZE) (len / PAGE_SIZE) page) (owed (from / PAGE_SIZE + (page - to / PAGE_SIZE))) (owed page) origin h)
-owed_before message owed page origin h = (page, kept_one (is_changed_by message page) (owed page) origin h)
-
 pub read_paged : (message : Message) (owed now : Owed) (requests : List ℕ) → now ≡ owed_table_after message owed → HasPages owed requests → HasPages now requests
 read_paged message owed now requests is old = record {
   first = old.first;
   few = old.few;
   among = λ page origin h.
-      let was = owed_before message (get owed) page origin (sym (get-owed_table_after message owed page) ∙ ap (λ p. get p page) (sym is) ∙ h) in
+      let was = values-after message (get owed) page origin (sym (get-owed_table_after message owed page) ∙ ap (λ p. get p page) (sym is) ∙ h) in
       old.among was.0 origin was.1;
   listed = old.listed;
 }

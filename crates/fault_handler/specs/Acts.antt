@@ -1,8 +1,8 @@
--- What is made of a fault, as the code has it.
+-- The code's actions on a fault.
 use Rattle.mig_model.specs.Guest as machine
 use Rattle.fault_handler.specs.declared.act.Act.{Act}
 
--- the machine's word for it
+-- bridges an action of the code to the machine's
 abbrev pub act_is : Act → machine.Act
 act_is Act.Forgot = machine.Act.Forgot
 act_is Act.Woke = machine.Act.Woke

@@ -1,8 +1,8 @@
--- The bytes of a copy that has arrived, as the code has it.
+-- The bytes of a copy that has arrived, as the code keeps them.
 use Rattle.std.specs.Prelude.{ℕ, List, Option, Some, None}
 use Rattle.mig_base.specs.Bytes.{zero_page}
 
--- the bytes that came, or zeros where none did
+-- the bytes that came, or zeros for a Zero, with which none came
 abbrev pub bytes_of : Option (List ℕ) → List ℕ
 bytes_of (Some bytes) = bytes
 bytes_of None = zero_page

@@ -1,4 +1,4 @@
--- How a proof tells destinations apart, for models that contain them.
+-- Codes of destinations, by which a proof distinguishes the values of models that contain them.
 use Rattle.std.specs.Prelude.{ℕ, Bool, List, refl}
 use Rattle.std.specs.Ordering.{nat_cmp}
 use Rattle.std.specs.FinMap as finmap
@@ -20,20 +20,23 @@ coded_copy = code_by (ℕ × List ℕ) (coded× coded_ℕ (coded_list coded_ℕ)
 abbrev pub Progress : Type 0
 Progress = DestPhase × (Bool × (Bool × ℕ))
 
+-- the code of these
 abbrev pub coded_progress : Coded Progress
 coded_progress = coded× phase.the_row.coded (coded× coded_bool (coded× coded_bool coded_ℕ))
 
--- what it has got, and what it still has to get
+-- the copies that it keeps, the owed table, its requests, and the arrivals
 abbrev pub Pages : Type 0
 Pages = FinMap nat_cmp (List ℕ) × (Owed × (List ℕ × List Copy))
 
+-- the code of these
 abbrev pub coded_pages : Coded Pages
 coded_pages = coded× (finmap.code coded_ℕ (coded_list coded_ℕ)) (coded× (finmap.code coded_ℕ coded_ℕ) (coded× (coded_list coded_ℕ) (coded_list coded_copy)))
 
--- its counts
+-- its counts: urgent frames taken, copies installed, copies dropped, and page faults read
 abbrev pub Counts : Type 0
 Counts = ℕ × (ℕ × (ℕ × ℕ))
 
+-- the code of these
 abbrev pub coded_counts : Coded Counts
 coded_counts = coded× coded_ℕ (coded× coded_ℕ (coded× coded_ℕ coded_ℕ))
 

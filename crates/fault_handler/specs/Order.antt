@@ -1,4 +1,4 @@
--- What every destination keeps, whatever calls are made of it.
+-- The invariant of every destination, which each call keeps.
 use Rattle.std.specs.Prelude.{◌≡◌, ℕ, ◌+◌, ◌/◌, ◌≤◌, ◌⊎◌, Bool, true, false, Some, List, [], ◌∷◌}
 use Rattle.std.specs.FinMap.{get}
 use Rattle.std.specs.FinSet.{FinSet, contains}
@@ -16,7 +16,7 @@ use Rattle.mig_model.specs.Userfault.{Noted}
 use Rattle.guest.specs.Lent.{IsLent}
 use Rattle.fault_handler.specs.Requests.{AreListed}
 
--- whether the pages of an event lie in the address space; of a move, the ranges lie apart
+-- the pages of an event lie in the address space, and the two ranges of a move do not overlap
 abbrev pub LiesInside : Message → Type 0
 LiesInside (Remap from to len) =
     (from / PAGE_SIZE + len / PAGE_SIZE ≤ HIGH_PAGE) × (to / PAGE_SIZE + len / PAGE_SIZE ≤ HIGH_PAGE)
@@ -25,12 +25,13 @@ LiesInside (Remove start end) = (start / PAGE_SIZE ≤ end / PAGE_SIZE) × (end 
 LiesInside (Unmap start end) = (start / PAGE_SIZE ≤ end / PAGE_SIZE) × (end / PAGE_SIZE ≤ HIGH_PAGE)
 LiesInside (PageFault addr write wp tid) = Unit {0}
 
+-- the pages of each event of a list lie so
 abbrev pub AreInside : List Noted → Type 0
 AreInside [] = Unit {0}
 AreInside (noted ∷ events) = LiesInside noted.message × AreInside events
 
--- the space of a destination that runs: its object is enabled, no page is write-protected, events are of whole pages that lie in
--- the address space, and each page that is owed once the unread events are applied is registered for missing faults, and missing
+-- the space of a destination that runs: its object is enabled, no page is write-protected, events are of whole pages in the address
+-- space, and each page that is owed once the unread events are applied is registered for missing faults, and missing
 pub record IsReady (space : Space) (owed : Owed) : Type 0 where
   pub lent : IsLent space
   pub unprotected : (page : ℕ) → contains space.protected page ≡ false
@@ -40,12 +41,11 @@ pub record IsReady (space : Space) (owed : Owed) : Type 0 where
   pub faults : AreFaults space.object.faults
   pub pairs : (page origin : ℕ) → settled_by space.object.events (get owed) page ≡ Some origin → (contains space.object.missing page ≡ true) × (is_present space page ≡ false)
 
--- from the run on
+-- the space is so from the run on
 pub record IsInOrder (has_run : Bool) (space : Space) (owed : Owed) : Type 0 where
   pub ready : has_run ≡ true → IsReady space owed
 
--- the pages of the source that are owed are among those that the Package owed, which may all be mapped at once; and each that was asked
--- for may be mapped
+-- the owed pages of the source are among those that the Package owed, which may all be mapped at once; requested pages may be mapped
 pub record HasPages (owed : Owed) (requests : List ℕ) : Type 0 where
   pub first : FinSet nat_cmp
   pub few : AreFewPages first

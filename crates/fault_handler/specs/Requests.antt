@@ -3,7 +3,7 @@ use Rattle.std.specs.Prelude.{ℕ, ◌==◌, List, [], ◌∷◌}
 use Rattle.std.specs.List.{IsDistinct}
 use Rattle.mig_model.specs.Bounds.{IsPage}
 
--- each page stands once
+-- each page is in the list once
 abbrev pub StandOnce : List ℕ → Type 0
 StandOnce pages = IsDistinct (λ page other. page == other) pages
 

@@ -1,14 +1,14 @@
--- What a destination makes of a frame of the forward wire, and of the urgent wire.
+-- How a destination takes a frame of the forward wire.
 use Rattle.std.specs.Prelude.{Bool, true, false, List, []}
 use Rattle.mig_model.specs.Destination.{Destination, destination_answers}
 use Rattle.mig_model.specs.Wire.{Frame}
 
--- what is answered at once: of a Resume nothing, since a recovery makes what is sent then
+-- the frames that are sent back at once: none for a Resume, since a recovery sends what follows it
 abbrev pub answered_at_once : Destination → Frame → List Frame
 answered_at_once node Frame.Resume = []
 answered_at_once node frame = destination_answers node frame
 
--- whether taking a frame may want for memory: one that has the bytes of pages, or a Package
+-- whether taking a frame may need memory: the copies of pages do, and a Package
 abbrev pub takes_memory : Frame → Bool
 takes_memory (Frame.Page page bytes) = true
 takes_memory (Frame.Zero page) = true

@@ -1,4 +1,4 @@
-//! What the handler of a destination makes of a fault.
+//! How the handler of a destination resolves a fault.
 
 ghost use Rattle.std.specs.Prelude.{◌≡◌, ◌<◌, ◌⊎◌};
 ghost use Rattle.std.specs.FinMap.{get};
@@ -14,21 +14,21 @@ use mig_base::{Addr, HIGH_PAGE, PageNo, page_address};
 use owed_pages::Owed;
 use uffd_ioctl::Space;
 
-/// What is made of a fault.
+/// The action on a fault.
 #[derive(Clone, Copy)]
 pub enum Act {
     /// The page is no longer mapped, or no longer registered: its sleepers are woken.
     Forgot,
-    /// The page is there: its sleepers are woken.
+    /// The page is present: its sleepers are woken.
     Woke,
-    /// The page is owed from this page of the source, which is asked for: its sleepers sleep on.
+    /// The page is owed from this page of the source, which is requested: its sleepers sleep on.
     Requested(PageNo),
-    /// The missing page is made zeros.
+    /// The missing page becomes zeros, and its sleepers are woken.
     Zeroed,
 }
 
 impl Act {
-    /// What is to be made of a fault, by what its page is now. The page may lie past the address space.
+    /// The action on a fault, by the present state of its page. The page may lie past the address space.
     pub fn of(space: &Space, owed: &Owed, fault: &Fault) -> Self
         ensures low { (result ≡ Act.Forgot) ⊎ (fault.now.page < HIGH_PAGE) }
         ensures act { act_is result ≡ destination_act_by (is_forgotten space.now fault.now.page) (is_present space.now fault.now.page) (get owed.now fault.now.page) }
@@ -51,7 +51,7 @@ impl Act {
         }
     }
 
-    /// What is told of it, at the address of the page.
+    /// Its effect, where `addr` is the address of the page.
     pub fn told(self, addr: Addr) -> Effect
         ensures { result ≡ act_effect (act_is self) addr }
     {

@@ -1,4 +1,4 @@
-//! Copies that have arrived, and wait to be installed.
+//! Arrivals: copies that wait to be installed.
 
 ghost use Rattle.std.specs.Prelude.{◌≡◌};
 ghost use Rattle.mig_base.specs.Bytes.{zero_page};
@@ -8,7 +8,7 @@ use mig_base::{PageBytes, PageNo};
 use std::marker::Model;
 use std::mem::replace;
 
-/// What a copy has: the bytes that came, or none where all are zeros.
+/// The bytes of a copy, or `None` if all are zeros.
 pub type Content = Option<PageBytes>;
 
 /// A copy of a page of the source.
@@ -45,7 +45,7 @@ impl Arrival {
         self.page
     }
 
-    /// Moves the content out, and leaves zeros.
+    /// Moves the content out and leaves zeros.
     pub fn take(&mut self) -> Content
         ensures content { bytes_of result ≡ self.old.bytes }
         ensures left { self.new ≡ record self.old { bytes = zero_page } }
@@ -53,7 +53,7 @@ impl Arrival {
         replace(&mut self.content, None)
     }
 
-    /// Puts content back that was moved out.
+    /// Puts back content that was moved out.
     pub fn put_back(&mut self, content: Content)
         ensures { self.new ≡ record self.old { bytes = bytes_of content } }
     {

@@ -29,8 +29,8 @@ use vcpu::{Cpus, NewFault};
 
 /// The destination of a migration.
 ///
-/// A call that is refused changes nothing. Where several refusals apply the first is given, in the order of
-/// [`mig_base::refusal::Refusal`] or of [`mig_base::fault::TakeFault`]; `NoMemory` comes after all others, and the same call may
+/// A call that is refused changes nothing. If several refusals apply, the first counts, in the order of
+/// [`mig_base::refusal::Refusal`] or of [`mig_base::fault::TakeFault`]. `NoMemory` comes after all others, and the same call may
 /// succeed later.
 #[derive(Drop)]
 pub struct Destination {
@@ -67,8 +67,8 @@ impl Model for Destination {
 }
 
 impl Destination {
-    /// A destination of `cpus` idle processors, which knows of no migration, and on which nothing is mapped. `NoCpu` unless there are 1 to
-    /// 16 processors.
+    /// A destination of `cpus` idle processors, with no migration and nothing mapped. `NoCpu` comes unless there are 1 to 16 processors,
+    /// and then `NoMemory` if memory is refused.
     pub fn new(alloc: Global, cpus: u8) -> Result<Self, NewFault>
         ensures ok { IfOk result (λ destination. destination ≡ machine.first_destination cpus) }
         ensures no_cpu { (result ≡ Err NewFault.NoCpu) ↔ (is_count cpus ≡ false) }
@@ -94,28 +94,28 @@ impl Destination {
         })
     }
 
-    /// How far it is.
+    /// Its phase.
     pub fn phase(&self) -> DestPhase
         ensures { result ≡ self.now.phase }
     {
         self.phase
     }
 
-    /// Whether it runs the processors, or did before it noticed a break or ended.
+    /// Whether it has taken a Package: the processors run here from then on, also once it is paused or ended.
     pub fn has_run(&self) -> bool
         ensures { result ≡ self.now.has_run }
     {
         self.has_run
     }
 
-    /// The epoch of the last Advise or Resume that it took, 0 at first.
+    /// The epoch of the last Advise or Resume that it took, and 0 before the first.
     pub fn epoch(&self) -> u32
         ensures { result ≡ self.now.epoch }
     {
         self.epoch
     }
 
-    /// The pages that it still has to get, each with its page at the source.
+    /// The owed table: the pages that it still has to get, each with its page at the source.
     pub fn owed(&self) -> &Owed
         ensures owed { result.now ≡ self.now.owed }
         ensures few { AreFewPages (origins self.now.owed) }
@@ -123,7 +123,7 @@ impl Destination {
         &self.owed
     }
 
-    /// The pages of the source that it has asked for, each once, in the order in which they were first asked for.
+    /// The pages of the source that it has requested and not installed yet, each once, in the order of their requests.
     pub fn requests(&self) -> &[PageNo]
         ensures pages { result.now ≡ self.now.requests }
         ensures once { StandOnce self.now.requests }
@@ -146,28 +146,28 @@ impl Destination {
         &self.cpus
     }
 
-    /// How many copies wait to be installed.
+    /// The number of copies that wait to be installed.
     pub fn arrivals(&self) -> usize
         ensures { result ≡ length self.now.arrivals }
     {
         self.arrivals.len()
     }
 
-    /// How many copies were installed. The count stops at its greatest value.
+    /// The number of copies that were installed. It stops at its greatest value.
     pub fn installed(&self) -> u64
         ensures { result ≡ self.now.installed }
     {
         self.installed
     }
 
-    /// How many copies were given up, since no page was owed them. The count stops at its greatest value.
+    /// The number of copies that were dropped, since their pages were owed nowhere. It stops at its greatest value.
     pub fn dropped(&self) -> u64
         ensures { result ≡ self.now.dropped }
     {
         self.dropped
     }
 
-    /// How many messages of page faults were read. The count stops at its greatest value.
+    /// The number of page faults that were read. It stops at its greatest value.
     pub fn faults(&self) -> u64
         ensures { result ≡ self.now.faults }
     {

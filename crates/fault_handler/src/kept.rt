@@ -1,4 +1,4 @@
-//! The newest copies of pages, until the destination runs.
+//! The kept copies: the newest copy of each page, until the destination runs.
 
 ghost use Rattle.std.specs.Prelude.{◌≡◌, ℕ, ◌+◌, ◌==◌, ◌<◌, ◌≤◌, ◌&&◌, ◌||◌, false, true, not, None, IfOk, OnOk, OnErr, IfErr, length};
 ghost use Rattle.std.specs.FinMap as map;
@@ -20,12 +20,12 @@ use std::marker::Model;
 use std::mem;
 use uffd_ioctl::Space;
 
-/// The word of flags of UFFDIO_REGISTER for missing faults.
+/// The mode word of UFFDIO_REGISTER for missing faults.
 const MISSING_MODE: u64 = 1 << REGISTER_MISSING_BIT;
 
 /// The newest copy of each page that has come.
 ///
-/// Beside the table stands the set of its pages, so that runs of pages are found by whole words.
+/// The set of the table's pages is kept beside it, so that runs of pages are found by whole words.
 #[derive(Drop)]
 pub(crate) struct Kept {
     alloc: Global,
@@ -61,8 +61,8 @@ impl Kept {
         }
     }
 
-    /// Keeps the copy of a page, in place of an older one. Where memory is refused, which is never for a page that is kept, its
-    /// bytes come back and nothing is changed.
+    /// Keeps the copy of a page; it replaces an older one. If memory is refused, which never happens for a page that is kept, the bytes
+    /// are returned and nothing changes.
     pub fn keep(&mut self, page: PageNo, bytes: PageBytes) -> Result<(), PageBytes>
         requires { page < HIGH_PAGE }
         ensures ok { OnOk result (self.new ≡ map.insert self.old page bytes) }
@@ -84,7 +84,7 @@ impl Kept {
         }
     }
 
-    /// Keeps a page of zeros, in place of an older copy. On `NoMemory` nothing is changed.
+    /// Keeps a page of zeros; it replaces an older copy. `NoMemory` changes nothing.
     pub fn keep_zero(&mut self, page: PageNo) -> Result<(), NoMemory>
         requires { page < HIGH_PAGE }
         ensures ok { OnOk result (self.new ≡ map.insert self.old page zero_page) }
@@ -97,7 +97,7 @@ impl Kept {
         Ok(())
     }
 
-    /// Keeps the copies of neighbouring pages, in place of older ones: all of them, or where memory is refused none, and they come back.
+    /// Keeps the copies of neighbouring pages; they replace older ones. If memory is refused, none is kept, and they are returned.
     pub fn keep_run(&mut self, first: PageNo, run: Vec<PageBytes>) -> Result<(), Vec<PageBytes>>
         requires { first + length run.items ≤ HIGH_PAGE }
         ensures ok { OnOk result (self.new ≡ kept_with self.old (run_copies first run.items)) }
@@ -116,7 +116,7 @@ impl Kept {
         }
     }
 
-    /// Gives up the copies of these pages, run by run.
+    /// Discards the copies of these pages, run by run.
     pub fn discard(&mut self, pages: &PageSet)
         ensures { self.new ≡ map.retain_keys self.old (λ page. not (set.contains pages.now page)) }
     {
@@ -129,7 +129,7 @@ impl Kept {
         }
     }
 
-    /// Gives up the copies of the `count` pages from `first` on.
+    /// Discards the copies of the `count` pages from `first` on.
     fn drop_range(&mut self, first: PageNo, count: u32)
         requires { first + count ≤ HIGH_PAGE }
         ensures { self.new ≡ remove_range self.old first count }
@@ -138,16 +138,16 @@ impl Kept {
         self.set.remove_range(first, count);
     }
 
-    /// Whether what is kept does not go with a Package of these areas that owes these pages: an owed page is kept, or one that is owed or
-    /// kept is not mapped. It goes by runs of pages, and takes no memory.
+    /// Whether the kept copies contradict a Package of these areas and owed pages: an owed page is kept, or an owed or kept page is not
+    /// mapped. It walks runs of pages, and takes no memory.
     pub fn is_torn(&self, areas: &AreaMap, owed: &PageSet) -> bool
         ensures { result ≡ machine.is_torn self.now areas.now owed.now }
     {
         meet(owed, &self.set) || !are_mapped(areas, owed) || !are_mapped(areas, &self.set)
     }
 
-    /// A space of these areas with the pages that are kept, in which every mapped page is registered for missing faults. Nothing is kept
-    /// afterwards; on `NoMemory` nothing is changed.
+    /// Builds a space of these areas with the kept pages, in which every mapped page is registered for missing faults. Afterwards nothing
+    /// is kept. `NoMemory` changes nothing.
     pub fn assemble(&mut self, areas: AreaMap) -> Result<Space, NoMemory>
         requires { (page : ℕ) → map.get areas page ≡ None → map.get self.old page ≡ None }
         ensures ok { IfOk result (λ space. space ≡ assembled areas self.old) }
@@ -168,7 +168,7 @@ impl Kept {
     }
 }
 
-/// Takes the pages of a range out of a set that are not present in a table.
+/// Removes from a set the pages of a range that are not present in a table.
 fn remove_missing(kept: &mut PageSet, pages: &PageTable, first: PageNo, count: u32)
     requires { first + count ≤ HIGH_PAGE }
     ensures { (q : ℕ) → set.contains kept.new q ≡ (set.contains kept.old q && (not (in_range first count q) || map.contains_key pages.now.bytes q)) }
@@ -180,7 +180,7 @@ fn remove_missing(kept: &mut PageSet, pages: &PageTable, first: PageNo, count: u
     }
 }
 
-/// Whether a page is in both sets.
+/// Whether two sets have a page in common.
 fn meet(one: &PageSet, other: &PageSet) -> bool
     ensures { result ≡ not (set.len (set.retain one.now (λ page. set.contains other.now page)) == 0) }
 {

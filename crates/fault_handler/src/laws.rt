@@ -1,4 +1,4 @@
-//! What holds of all steps of a destination, as a law: a function that does nothing, whose contract is the law.
+//! A law of all steps of a destination: a function that does nothing, whose contract is the law.
 
 ghost use Rattle.std.specs.Prelude.{◌≡◌, ℕ, true};
 ghost use Rattle.mig_base.specs.declared.command.Command.{Command};
@@ -6,9 +6,9 @@ ghost use Rattle.mig_base.specs.declared.schedule.Step.{Step};
 ghost use Rattle.mig_model.specs.Migration.{World, answer};
 ghost use Rattle.fault_handler.specs.Steps.{in_world, world_of};
 
-/// A step of the destination reads nothing of a world but its destination: in any world it has the effect and leaves the destination that it
-/// has and leaves where nothing else is there, and what it sends comes behind what is there, or is lost while the link is down.
-/// Commands are the destination's once it has run.
+/// A step of the destination depends on the destination alone. In any world it has the effect, and leaves the destination, that it has in
+/// an otherwise empty world; what it sends comes behind the frames in flight, or is lost while the link is down. Commands are the
+/// destination's once it has run.
 pub fn a_step_of_the_destination()
     ensures read { (world : World) → answer world Step.DestRead ≡ in_world world (answer (world_of world.destination) Step.DestRead) }
     ensures act { (world : World) → answer world Step.DestAct ≡ in_world world (answer (world_of world.destination) Step.DestAct) }

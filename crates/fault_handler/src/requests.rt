@@ -9,7 +9,7 @@ use mig_base::{NoMemory, PageNo};
 use std::alloc::Global;
 use std::marker::Model;
 
-/// The pages of the source that were asked for and have not come yet, each once, in the order in which they were first asked for.
+/// The pages of the source that were requested and not installed yet, each once, in the order of their first requests.
 #[derive(Drop)]
 pub struct Requests {
     pages: IndexSet<PageNo>,
@@ -27,7 +27,7 @@ impl Model for Requests {
 }
 
 impl Requests {
-    /// No page was asked for. It takes no memory.
+    /// No requests. It takes no memory.
     pub fn new(alloc: Global) -> Self
         ensures { result ≡ [] }
     {
@@ -36,7 +36,7 @@ impl Requests {
         }
     }
 
-    /// The pages, in their order.
+    /// The pages, in order.
     pub fn as_slice(&self) -> &[PageNo]
         ensures pages { result.now ≡ self.now }
         ensures once { StandOnce self.now }
@@ -44,8 +44,7 @@ impl Requests {
         self.pages.as_slice()
     }
 
-    /// A page is asked for, and comes last unless it was asked for before; whether it is new. Out of memory changes nothing, and is for a
-    /// new page alone.
+    /// Appends a page unless it is in the list, and returns whether it is new. `NoMemory` comes for a new page alone, and changes nothing.
     pub fn add(&mut self, origin: PageNo) -> Result<bool, NoMemory>
         ensures new { IfOk result (λ is_new. is_new ≡ not (is_requested self.old origin)) }
         ensures ok { OnOk result (self.new ≡ requesting self.old origin) }
@@ -56,7 +55,7 @@ impl Requests {
         Ok(is_new)
     }
 
-    /// A page has come: it is asked for no longer, and the others keep their order. It takes no memory.
+    /// Removes a page, if it is in the list; the others keep their order. It takes no memory.
     pub fn end(&mut self, origin: PageNo)
         ensures { self.new ≡ without_request self.old origin }
     {

@@ -1,5 +1,5 @@
 -- The areas of mapped pages are in order, and areas in order are those of their pages.
-use Rattle.std.proofs.Common.{◌≡◌, ℕ, zero, suc, ◌+◌, ◌-◌, ◌<◌, ◌≤◌, ◌&&◌, ⊎_elim, Bool, true, false, cond, not, ltb, Option, Some, None, is_some, unwrap_or, List, [], ◌∷◌, ◌++◌, map, refl, sym, ap, ◌∙◌, subst, arith}
+use Rattle.std.proofs.Common.{◌≡◌, ℕ, zero, suc, ◌+◌, ◌-◌, ◌<◌, ◌≤◌, ◌&&◌, ⊎_elim, Bool, true, false, cond, not, ltb, Option, Some, None, is_some, List, [], ◌∷◌, ◌++◌, map, refl, sym, ap, ◌∙◌, subst, arith}
 use Rattle.std.specs.List.{All}
 use Rattle.std.specs.Ordering.{nat_cmp}
 use Rattle.std.specs.FinMap.{FinMap, get, contains_key}
@@ -9,7 +9,6 @@ use Rattle.area_map.specs.Areas.{AreRuns, IsBefore, pages_in, prot_in}
 use Rattle.area_map.proofs.ViewLemmas.{get-pages_in}
 use Rattle.mig_base.specs.declared.Area.{Area}
 use Rattle.mig_base.specs.declared.Prot.{Prot}
-use Rattle.mig_base.specs.declared.Prot.TheVariants.{NoAccess}
 use Rattle.mig_base.specs.declared.TheConstants.{LOW_PAGE, HIGH_PAGE}
 use Rattle.mig_base.specs.Ranges.{in_range}
 use Rattle.mig_base.specs.Sets.{pages_where}
@@ -26,6 +25,7 @@ use Rattle.frame_texts.specs.Texts.{AreMappedBelow, list_below, area_at, areas_o
 use Rattle.frame_texts.proofs.RunsAndAreas.{same_prot_tells, prot_in-areas_of}
 use Rattle.frame_decoder.specs.Reading.{area_next}
 use Rattle.frame_decoder.proofs.FieldLemmas.{AllFrom}
+use Rattle.frame_texts.proofs.AreasInOrder.{mapped as mapped_some}
 
 -- an area that may follow
 pub record AreaFits (state : ℕ × Option Prot) (area : Area) : Type 0 where
@@ -71,10 +71,6 @@ map_back areas below = same_pages (pages_in (areas_of areas)) areas (λ q. get-p
 
 abbrev alike : FinMap nat_cmp Prot → ℕ → ℕ → Bool
 alike areas first page = same_prot (get areas first) (get areas page)
-
-mapped_some : (o : Option Prot) → is_some o ≡ true → o ≡ Some (unwrap_or o NoAccess)
-mapped_some (Some prot) h = refl
-mapped_some None h = absurd cc
 
 -- the pages of the area that begins at a page
 in_area : (areas : FinMap nat_cmp Prot) (first q : ℕ) → in_range first (area_at areas first).count q ≡ true → (q < HIGH_PAGE) × (get areas first ≡ get areas q)

@@ -25,7 +25,7 @@ use Rattle.frame_decoder.specs.declared.fault.StreamFault.TheVariants as faults
 use Rattle.frame_decoder.specs.Reading.{◌>>=◌, Fails, many_from, run_at, run_next, set_of, set_from, area_at, area_next, map_from}
 use Rattle.frame_decoder.proofs.Loop.{Reads, begins, goes_on, ends, is_done}
 
--- what is made of the items at the end
+-- a fault stays one, however the items are used at the end
 then_fails : {A B : Type 0} (e : StreamFault) (read : Result A StreamFault) (f : A → Result B StreamFault) → Fails e read → Fails e (read >>= f)
 then_fails faults.NoMemory read f h = tt
 then_fails faults.BadTag read f h = rw h refl

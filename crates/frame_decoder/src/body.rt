@@ -53,7 +53,7 @@ fn read_package(
     ))
 }
 
-/// Whether that many pages may be sent as one run.
+/// Whether `count` pages may be sent as one run.
 fn is_page_run(version: Version, first: PageNo, count: usize) -> bool
     ensures { result ≡ is_page_run version first count }
 {
@@ -86,7 +86,7 @@ fn read_recv(alloc: Global, version: Version, bytes: &[u8]) -> Result<(Frame, &[
     Ok((Frame::Recv { state, owed }, rest))
 }
 
-/// The frame at the front of a body, and the bytes after it.
+/// The frame at the front of a body, and the bytes behind it.
 #[tactic(auto, unfolding(crate::specs::Reading::payload_at))]
 fn read_payload(
     alloc: Global,
@@ -120,7 +120,7 @@ fn read_payload(
     }
 }
 
-/// The frame that a body spells: all of its bytes.
+/// The frame that a body spells with all of its bytes. `BadField` comes if bytes are left.
 #[tactic(auto, unfolding(crate::specs::Reading::body_at))]
 pub(crate) fn read_body(
     alloc: Global,

@@ -33,7 +33,7 @@ fn read_store(bytes: &[u8]) -> Result<(Option<Command>, &[u8]), StreamFault>
     Ok((Some(Command::Store { addr, width, value }), rest))
 }
 
-/// Nothing, a load or a store. One that would be a bad access is a fault.
+/// Nothing, a load or a store. A bad access is a fault.
 #[tactic(auto, unfolding(crate::specs::Reading::command_at))]
 fn read_command(bytes: &[u8]) -> Result<(Option<Command>, &[u8]), StreamFault>
     ensures { Gives (λ x. (x.0, x.1.now)) result (command_at bytes.now) }
@@ -64,7 +64,7 @@ fn read_count_commands(
     Ok((items, rest))
 }
 
-/// A count of one byte, from 1 to `MAX_CPUS`, and what each processor waits for.
+/// The number of processors in one byte, 1 to `MAX_CPUS`, and what each of them waits for.
 #[tactic(auto, unfolding(crate::specs::Reading::commands_at))]
 pub(crate) fn read_commands(
     alloc: Global,

@@ -1,4 +1,4 @@
-//! Frames out of the pieces of a stream.
+//! Reading frames from the pieces of a stream.
 
 ghost use Rattle.std.specs.Prelude.{◌≡◌, ◌+◌, ◌*◌, ◌<◌, ◌++◌, ◌≤◌, [], length, drop, take, Option, IfOk, OnOk, OnErr};
 ghost use Rattle.mig_base.specs.declared.TheConstants.{MAX_CPUS, MAX_PAGES};
@@ -15,10 +15,10 @@ use page_stream::Frame;
 use std::alloc::Global;
 use std::marker::Model;
 
-/// The length of the frame of a page.
+/// The length of the text of a Page, in bytes.
 const PAGE_FRAME_LEN: usize = HEADER_LEN + 4 + PAGE_BYTES;
 
-/// What is left to be held of bytes from which frames were taken: nothing behind a fault.
+/// The bytes to hold once frames were taken from the front: those behind the frames, and none if a fault stands there.
 fn left_of<'a>(taken: &Taken, bytes: &'a [u8]) -> &'a [u8]
     requires { taken.now.read ≤ length bytes.now }
     ensures { result.now ≡ left_of taken.now.read taken.now.fault bytes.now }
@@ -29,7 +29,7 @@ fn left_of<'a>(taken: &Taken, bytes: &'a [u8]) -> &'a [u8]
     }
 }
 
-/// Reads a piece in its place, where nothing is held, and holds what is left of it, with room for the frame of a page.
+/// Reads a piece in place if nothing is held, and holds the rest of it, with room for the text of a Page.
 fn read_in_place(
     alloc: Global,
     fixed: Option<Version>,
@@ -41,14 +41,14 @@ fn read_in_place(
     ensures err { OnErr result (held.new.items ≡ held.old.items) }
 {
     let taken = take_frames(alloc, fixed, piece)?;
-    // Its room lies behind the frames, which are not the last of the heap then: else glibc gives the memory of the frames of a long
-    // piece back to the kernel each time that they are dropped.
+    // Its room lies behind the frames, so that they are not the last of the heap: otherwise glibc returns the memory of a long piece's
+    // frames to the kernel each time that they are dropped.
     held.try_reserve(PAGE_FRAME_LEN)?;
     held.extend_from_slice(left_of(&taken, piece))?;
     Ok(taken)
 }
 
-/// Holds the bytes of a piece that are missing, and answers the others.
+/// Holds the missing bytes from the front of a piece, and returns the rest of the piece.
 fn fill<'a>(
     fixed: Option<Version>,
     held: &mut Vec<u8>,
@@ -67,7 +67,7 @@ fn fill<'a>(
     Ok(rest)
 }
 
-/// Holds the bytes of a piece that the header misses, and then those that its frame misses, and answers the others.
+/// Holds the bytes that the header lacks, then those that its frame lacks, from the front of a piece, and returns the rest of the piece.
 fn fill_frame<'a>(
     fixed: Option<Version>,
     held: &mut Vec<u8>,
@@ -81,7 +81,7 @@ fn fill_frame<'a>(
     fill(fixed, held, rest)
 }
 
-/// Holds what is left of a piece in place of the bytes that are held.
+/// Replaces the held bytes by the rest of a piece.
 fn hold(held: &mut Vec<u8>, left: &[u8]) -> Result<(), NoMemory>
     ensures ok { OnOk result (held.new.items ≡ left.now) }
     ensures err { OnErr result (held.new.items ≡ held.old.items) }
@@ -92,7 +92,7 @@ fn hold(held: &mut Vec<u8>, left: &[u8]) -> Result<(), NoMemory>
     Ok(())
 }
 
-/// Reads what is left of a piece in its place, where a frame is held, and holds what is left then.
+/// Reads the rest of a piece in place behind a frame that is held whole, and holds what is left then.
 fn read_behind(
     alloc: Global,
     version: Version,
@@ -110,7 +110,7 @@ fn read_behind(
     Ok(taken)
 }
 
-/// Reads the frame that is held in part, filled up from a piece, and then what is left of the piece. Where that fails, bytes of the
+/// Fills the frame that is held in part up from a piece, reads it, and then reads the rest of the piece. If that fails, bytes of the
 /// piece may be held.
 fn read_filled(
     alloc: Global,
@@ -144,7 +144,7 @@ fn read_filled(
     })
 }
 
-/// Reads what is held and a piece behind it, and holds what is left.
+/// Reads the held bytes and a piece behind them, and holds what is left. `NoMemory` leaves the held bytes as they were.
 fn read_joined(
     alloc: Global,
     fixed: Option<Version>,
@@ -163,7 +163,7 @@ fn read_joined(
     read
 }
 
-/// Takes the first bytes away.
+/// Drops the first `count` bytes.
 fn drop_front(held: &mut Vec<u8>, count: usize)
     requires { count ≤ length held.old.items }
     ensures { held.new.items ≡ drop count held.old.items }
@@ -173,7 +173,7 @@ fn drop_front(held: &mut Vec<u8>, count: usize)
     held.truncate(left);
 }
 
-/// Reads what is held and a piece, and holds what is left.
+/// Reads the held bytes and a piece, and holds what is left. `NoMemory` leaves the held bytes as they were.
 fn read_piece(
     alloc: Global,
     fixed: Option<Version>,
@@ -192,7 +192,7 @@ fn read_piece(
     read_joined(alloc, fixed, held, piece)
 }
 
-/// Holds a piece that completes neither the header nor the frame.
+/// Holds a piece that completes neither the header nor the frame. `NoMemory` leaves the held bytes as they were.
 fn wait_for_more(fixed: Option<Version>, held: &mut Vec<u8>, piece: &[u8]) -> Result<(), NoMemory>
     requires part { IsPart fixed held.old.items }
     requires less { length piece.now < lacks fixed held.old.items }
@@ -204,10 +204,10 @@ fn wait_for_more(fixed: Option<Version>, held: &mut Vec<u8>, piece: &[u8]) -> Re
     Ok(())
 }
 
-/// Reads frames out of the pieces of a stream, all of the version that the first of them has.
+/// Reads frames from the pieces of a stream, all of the version of the first frame.
 ///
-/// It holds less than one frame. That is filled up from the next piece, and the rest of a piece is read in its place: the bytes of its
-/// whole frames are not copied but into the frames.
+/// It holds less than one frame. The next piece completes that frame, and the rest of the piece is read in place: the bytes of its whole
+/// frames are copied only into the frames.
 #[derive(Drop)]
 pub struct Decoder {
     alloc: Global,
@@ -227,7 +227,7 @@ impl Model for Decoder {
 }
 
 impl Decoder {
-    /// Nothing has been read. It takes no memory.
+    /// A decoder that has read nothing. It takes no memory.
     pub fn new(alloc: Global) -> Self
         ensures { result ≡ fresh }
     {
@@ -239,10 +239,10 @@ impl Decoder {
         }
     }
 
-    /// Takes the next piece, which may be empty, and answers the frames that are whole now, each with its epoch.
+    /// Takes the next piece, which may be empty, and returns the frames that are whole now, each with its epoch.
     ///
-    /// A fault is answered at once where the piece completes no frame before it; else by the next call, and by every later one until
-    /// [`reset`](Decoder::reset). `NoMemory` takes nothing of the piece, which may be fed again.
+    /// A fault is returned at once if the piece completes no frame before it, and by the next call otherwise; then by every later call
+    /// until [`reset`](Decoder::reset). `NoMemory` comes if an allocation fails: it takes nothing of the piece, which may be fed again.
     pub fn feed(&mut self, piece: &[u8]) -> Result<Vec<(u32, Frame)>, StreamFault>
         ensures fed { Fed self.old piece.now (answer_of result) self.new }
         ensures bounded { length self.new.bytes < 12 + (9 + 17 * MAX_PAGES + 18 * MAX_CPUS) }
@@ -271,7 +271,7 @@ impl Decoder {
         answer(frames, fault)
     }
 
-    /// How many bytes are missing of a header, and once that is there of its frame; 0 after a fault. It takes no memory.
+    /// The number of bytes that a header still lacks, or once it is there its frame; 0 after a fault. It takes no memory.
     pub fn missing(&self) -> usize
         ensures { result ≡ missing self.now }
     {
@@ -281,7 +281,7 @@ impl Decoder {
         }
     }
 
-    /// Forgets all bytes, the fault and the version. It takes no memory.
+    /// Drops the held bytes, the fault and the version. It takes no memory.
     pub fn reset(&mut self)
         ensures { self.new ≡ fresh }
     {
@@ -290,7 +290,7 @@ impl Decoder {
         self.version = None;
     }
 
-    /// A decoder that answers as this one from here on, with memory of its own. `NoMemory` comes only where that was refused.
+    /// A decoder that returns what this one returns from here on, with memory of its own. `NoMemory` comes only if that memory is refused.
     pub fn copy(&self) -> Result<Self, NoMemory>
         ensures { IfOk result (λ decoder. decoder ≡ self.now) }
     {
@@ -303,7 +303,7 @@ impl Decoder {
     }
 }
 
-/// The frames, or where there are none the fault.
+/// The frames if there are any or there is no fault, and otherwise the fault.
 fn answer(
     frames: Vec<(u32, Frame)>,
     fault: Option<StreamFault>,

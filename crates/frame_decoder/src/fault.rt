@@ -1,4 +1,4 @@
-//! Why a stream is not one of frames.
+//! Why a stream cannot be read.
 
 ghost use Rattle.std.specs.Prelude.{◌≡◌};
 ghost use Rattle.frame_decoder.specs.declared.fault.StreamFault.TheVariants.{NoMemory};
@@ -7,19 +7,19 @@ use mig_base::NoMemory as OutOfMemory;
 use std::alloc::{AllocError, AllocFailed};
 use thiserror::Error;
 
-/// Why a decoder answers no frames.
+/// Why a decoder returns no frames.
 #[derive(Clone, Copy, Debug, PartialEq, Eq, Drop, Error)]
 pub enum StreamFault {
-    /// A version or tag that is not known, or another version than that of the first frame.
+    /// A version or tag that is not known, or another version than that of the first frame; or the version does not have the tag.
     #[error("unknown version or tag")]
     BadTag,
-    /// A length that no body of such a frame has.
+    /// A length that no body of such a frame has in that version.
     #[error("bad length of a frame")]
     BadLength,
-    /// Another field that no frame has in its place.
+    /// Any other field with a value that no frame has there.
     #[error("bad field in a frame")]
     BadField,
-    /// A growth was refused: the stream is not at fault, and the same call may succeed later.
+    /// An allocation failed: the stream is not at fault, and the same call may succeed later.
     #[error("no memory")]
     NoMemory,
 }

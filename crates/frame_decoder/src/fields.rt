@@ -1,4 +1,4 @@
-//! Reading single fields: each reader answers the field and the bytes after it.
+//! Reading single fields: each reader returns the field and the bytes behind it, or `BadField`.
 
 ghost use Rattle.std.specs.Int.{w32, w64};
 ghost use Rattle.frame_decoder.specs.Reading.{Gives, byte_at, number_at, page_at, content_at, prot_at, state_at};
@@ -53,7 +53,7 @@ pub(crate) fn read_page(bytes: &[u8]) -> Result<(PageNo, &[u8]), StreamFault>
     Ok((page, rest))
 }
 
-/// The bytes of a page.
+/// The 4096 bytes of a page, copied.
 #[tactic(auto, unfolding(crate::specs::Reading::content_at))]
 pub(crate) fn read_content(alloc: Global, bytes: &[u8]) -> Result<(PageBytes, &[u8]), StreamFault>
     ensures { Gives (λ x. (x.0, x.1.now)) result (content_at bytes.now) }

@@ -8,20 +8,20 @@ use crate::fault::StreamFault;
 use crate::tag::Tag;
 use crate::version::Version;
 
-/// The bytes of a header.
+/// The length of a header in bytes.
 pub(crate) const HEADER_LEN: usize = 12;
 
-/// What the header of a frame says.
+/// The fields of a header.
 #[derive(Clone, Copy)]
 pub(crate) struct Header {
     pub version: Version,
     pub tag: Tag,
     pub epoch: u32,
-    /// The bytes of the body.
+    /// The length of the body in bytes.
     pub len: u32,
 }
 
-/// The header in the first 12 bytes, of the fixed version where one is fixed. It takes no memory.
+/// The header in the first 12 bytes, of the fixed version if one is fixed, or its first fault. It takes no memory.
 #[tactic(auto, unfolding(crate::specs::Headers::header_at))]
 pub(crate) fn read_header(fixed: Option<Version>, bytes: &[u8]) -> Result<Header, StreamFault>
     requires { 12 ≤ length bytes.now }

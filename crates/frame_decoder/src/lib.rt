@@ -1,13 +1,12 @@
-//! Reading frames out of the bytes of a stream.
+//! Reading frames from the bytes of a stream.
 //!
-//! A [`Decoder`] takes a stream in pieces of any length and answers its frames as soon as each is whole. It reads both versions of the
+//! A [`Decoder`] takes a stream in pieces of any length and returns each frame as soon as it is whole. It reads both versions of the
 //! texts; the first frame fixes the [`Version`], and a header of the other version is then a fault. A [`StreamFault`] is found exactly
-//! where it first stands: in a header as soon as its 12 bytes are there, in a body once that is whole. Writing frames is for
-//! `page_stream`.
+//! where it first stands: in a header as soon as its 12 bytes are there, in a body once it is whole. `page_stream` writes frames.
 //!
-//! The text of a frame is that of `frame_texts`, `specs/Texts.antt`. Here `specs/Versions.antt` says which frames each version has and
-//! how long their bodies may be, `specs/Headers.antt` what a header is, `specs/Streams.antt` what frames and which fault a stream of
-//! bytes has, and `specs/Feeding.antt` what a decoder does with a piece. [`laws`] has what holds of every cutting of a stream.
+//! The text of a frame is defined in `frame_texts`, `specs/Texts.antt`. Here `specs/Versions.antt` defines the frames of each version and
+//! the lengths of their bodies, `specs/Headers.antt` a header, `specs/Streams.antt` the frames and the fault of a stream of bytes, and
+//! `specs/Feeding.antt` the effect of a piece on a decoder. [`laws`] has the laws of every cutting of a stream.
 #![tactic(auto)]
 
 mod body;

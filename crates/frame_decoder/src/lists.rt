@@ -1,4 +1,4 @@
-//! Reading sets of pages, mapped pages, and the bytes of neighbouring pages: a count, and then as many items.
+//! Reading sets of pages, mapped pages, and the bytes of neighbouring pages: a count, and then that number of items.
 
 ghost use Rattle.std.specs.Prelude.{◌≡◌, ◌+◌, ◌≤◌, IfOk};
 ghost use Rattle.mig_base.specs.declared.TheConstants.{HIGH_PAGE};
@@ -12,7 +12,7 @@ use area_map::AreaMap;
 use mig_base::{Area, HIGH_PAGE, LOW_PAGE, PageBytes, PageNo, PageSet, Prot, Run};
 use std::alloc::Global;
 
-/// The bytes of that many pages.
+/// The bytes of `count` pages.
 fn read_count_contents(
     alloc: Global,
     count: u32,
@@ -30,7 +30,7 @@ fn read_count_contents(
     Ok((items, rest))
 }
 
-/// A count, and the bytes of as many pages.
+/// A count in 4 bytes, and the bytes of that number of pages.
 #[tactic(auto, unfolding(crate::specs::Reading::contents_at))]
 pub(crate) fn read_contents(
     alloc: Global,
@@ -43,7 +43,7 @@ pub(crate) fn read_contents(
     Ok((items, rest))
 }
 
-/// Whether there are pages, none before `low`, and all inside the address space.
+/// Whether a run has at least one page, begins at `low` or later, and ends inside the address space.
 pub(crate) fn is_run(low: PageNo, first: PageNo, count: u32) -> bool
     ensures { result ≡ is_run low first count }
 {
@@ -64,7 +64,7 @@ fn read_run(low: PageNo, bytes: &[u8]) -> Result<(Run, &[u8]), StreamFault>
     Ok((Run { first, count }, rest))
 }
 
-/// The pages of that many runs, which ascend and do not touch.
+/// The pages of `count` runs, which ascend and do not touch.
 fn read_runs(alloc: Global, count: u32, bytes: &[u8]) -> Result<(PageSet, &[u8]), StreamFault>
     ensures { Gives (λ x. (x.0, x.1.now)) result (set_from count bytes.now) }
 {
@@ -81,7 +81,7 @@ fn read_runs(alloc: Global, count: u32, bytes: &[u8]) -> Result<(PageSet, &[u8])
     Ok((pages, rest))
 }
 
-/// A set of pages.
+/// A set of pages: a count in 4 bytes, and that number of runs.
 #[tactic(auto, unfolding(crate::specs::Reading::pages_at))]
 pub(crate) fn read_pages(alloc: Global, bytes: &[u8]) -> Result<(PageSet, &[u8]), StreamFault>
     ensures { Gives (λ x. (x.0, x.1.now)) result (pages_at bytes.now) }
@@ -91,7 +91,7 @@ pub(crate) fn read_pages(alloc: Global, bytes: &[u8]) -> Result<(PageSet, &[u8])
     Ok((pages, rest))
 }
 
-/// A set of no more pages than may be mapped.
+/// A set of no more pages than the version maps.
 #[tactic(auto, unfolding(crate::specs::Reading::few_pages_at))]
 pub(crate) fn read_few_pages(
     alloc: Global,
@@ -142,7 +142,7 @@ fn read_area(low: PageNo, last: Option<Prot>, bytes: &[u8]) -> Result<(Area, &[u
     Ok((area, rest))
 }
 
-/// The pages of that many areas, which ascend; those that touch differ in protection.
+/// The pages of `count` areas, which ascend; those that touch differ in protection.
 fn read_count_areas(
     alloc: Global,
     count: u32,
@@ -164,7 +164,7 @@ fn read_count_areas(
     Ok((areas, rest))
 }
 
-/// The mapped pages, no more than may be.
+/// The mapped pages, no more than the version maps: a count in 4 bytes, and that number of areas.
 #[tactic(auto, unfolding(crate::specs::Reading::areas_at))]
 pub(crate) fn read_areas(
     alloc: Global,

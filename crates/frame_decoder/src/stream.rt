@@ -23,14 +23,14 @@ use std::alloc::Global;
 pub(crate) enum Next {
     /// Less than a frame, and no fault so far.
     Part,
-    /// A frame, and how many bytes it takes.
+    /// A frame, and the length of its text in bytes.
     Whole {
         version: Version,
         epoch: u32,
         frame: Frame,
         len: usize,
     },
-    /// No frame.
+    /// Bytes that begin no frame.
     Fault(StreamFault),
 }
 
@@ -63,17 +63,17 @@ fn next_frame(alloc: Global, fixed: Option<Version>, bytes: &[u8]) -> Result<Nex
     }
 }
 
-/// What stands at the front, in the fixed version where one is fixed.
+/// What stands at the front, in the fixed version if one is fixed.
 pub(crate) fn front(alloc: Global, fixed: Option<Version>, bytes: &[u8]) -> Result<Next, NoMemory>
     ensures { IfOk result (λ next. Stands fixed bytes.now (next_of next)) }
 {
     next_frame(alloc, fixed, bytes)
 }
 
-/// Reads the text of one frame, of either version: the epoch and the frame, or `None` where the bytes are not exactly one text. A
-/// [`Decoder`](crate::Decoder) tells which fault they have.
+/// Reads the text of one frame, of either version: the epoch and the frame, or `None` if the bytes are not exactly one text. A
+/// [`Decoder`](crate::Decoder) says which fault they have.
 ///
-/// The bytes are read in their place. `NoMemory` is for the frame.
+/// The bytes are read in place. `NoMemory` comes if the frame's memory is refused.
 pub fn read_text(alloc: Global, bytes: &[u8]) -> Result<Option<(u32, Frame)>, NoMemory>
     ensures read { IfOk result (λ read. IfSome read (λ sent. (version : Version) × IsTextOf version bytes.now (sent_of sent))) }
     ensures whole { (version : Version) (sent : Sent) → IsTextOf version bytes.now sent → IfOk result (λ read. option_map sent_of read ≡ Some sent) }
@@ -89,8 +89,8 @@ pub fn read_text(alloc: Global, bytes: &[u8]) -> Result<Option<(u32, Frame)>, No
     }
 }
 
-/// How many bytes the text has that stands at the front of a stream, as its header says; of bytes that begin with no text, nothing is
-/// told. It takes no memory.
+/// The length in bytes of the text at the front of a stream, as its header says. If the bytes begin with no text, the result means
+/// nothing. It takes no memory.
 pub fn front_len(bytes: &[u8]) -> usize
     ensures { (version : Version) (sent : Sent) (rest : List ℕ) → IsSent version sent → bytes.now ≡ text (version_of version) sent.epoch sent.frame ++ rest → result ≡ text_len sent.frame }
 {
@@ -103,7 +103,7 @@ pub fn front_len(bytes: &[u8]) -> usize
     }
 }
 
-/// How many bytes are missing of a header, then of its frame. It takes no memory.
+/// The number of bytes that a header still lacks, or once it is there its frame; 0 where a fault stands. It takes no memory.
 #[tactic(auto, unfolding(crate::specs::Streams::lacks))]
 pub(crate) fn lacking(fixed: Option<Version>, bytes: &[u8]) -> usize
     ensures { result ≡ lacks fixed bytes.now }
@@ -121,15 +121,15 @@ pub(crate) fn lacking(fixed: Option<Version>, bytes: &[u8]) -> usize
 #[derive(Drop)]
 pub(crate) struct Taken {
     pub frames: Vec<(u32, Frame)>,
-    /// How many bytes they take.
+    /// The number of bytes that they take.
     pub read: usize,
-    /// The fault that stands behind them, if there is one.
+    /// The fault that stands behind them, if any.
     pub fault: Option<StreamFault>,
     /// The version that is fixed then.
     pub version: Option<Version>,
 }
 
-/// Reads frames up to a fault or a rest that is less than a frame.
+/// Reads whole frames up to a fault, or to a rest that is less than a frame.
 pub(crate) fn take_frames(
     alloc: Global,
     fixed: Option<Version>,

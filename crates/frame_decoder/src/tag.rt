@@ -6,7 +6,7 @@ ghost use Rattle.frame_decoder.specs.Versions.{tag_from, allows};
 use crate::version::Version;
 use mig_base::{HIGH_PAGE, LOW_PAGE, MAX_CPUS, MAX_RUN, PAGE_SIZE};
 
-/// Which frame a text is of.
+/// The kind of a frame, the second byte of its header.
 #[derive(Clone, Copy)]
 pub(crate) enum Tag {
     Advise,
@@ -23,7 +23,7 @@ pub(crate) enum Tag {
 }
 
 impl Tag {
-    /// The tag with this code, of those that the version has.
+    /// The tag with this code; `None` if the version has none.
     pub(crate) fn from_code(version: Version, code: u8) -> Option<Tag>
         ensures { result ≡ tag_from version code }
     {
@@ -43,7 +43,7 @@ impl Tag {
         }
     }
 
-    /// Whether the body of such a frame may have that many bytes.
+    /// Whether a body of such a frame may have `len` bytes.
     pub(crate) fn allows_len(self, version: Version, len: u32) -> bool
         ensures { result ≡ allows version self len }
     {

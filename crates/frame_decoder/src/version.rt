@@ -6,20 +6,20 @@ ghost use Rattle.frame_decoder.specs.Versions as versions;
 
 use mig_base::MAX_PAGES;
 
-/// How many pages may be mapped in version 1.
+/// The number of pages that may be mapped in version 1.
 pub const FIRST_MAX_PAGES: u32 = 16_384;
 
-/// The versions of the texts of frames. Both are read, and the second is the one that is written.
+/// The versions of the texts of frames. Both are read; the second is written.
 #[derive(Clone, Copy, Debug, PartialEq, Eq)]
 pub enum Version {
-    /// Up to [`FIRST_MAX_PAGES`] pages are mapped, and there are no runs of pages.
+    /// Up to [`FIRST_MAX_PAGES`] pages are mapped, and there is no frame Run.
     One,
     /// Up to [`MAX_PAGES`] pages are mapped.
     Two,
 }
 
 impl Version {
-    /// How many pages may be mapped.
+    /// The number of pages that may be mapped.
     pub(crate) fn max_pages(self) -> u32
         ensures { result ≡ versions.max_pages self }
     {
@@ -29,7 +29,7 @@ impl Version {
         }
     }
 
-    /// Whether it has runs of pages.
+    /// Whether it has the frame Run.
     pub(crate) fn has_runs(self) -> bool
         ensures { result ≡ versions.has_runs self }
     {
@@ -39,7 +39,7 @@ impl Version {
         }
     }
 
-    /// The version that a header has by its first byte: one that is known, and the fixed one where one is fixed.
+    /// The version with this code, the first byte of a header; `None` if it is not known, or not the fixed one.
     pub(crate) fn from_code(fixed: Option<Version>, code: u8) -> Option<Version>
         ensures { result ≡ versions.version_from fixed code }
     {

@@ -39,7 +39,7 @@ area_behind areas first next later begins =
       λ at. differs (omega arith),
     )
 
-mapped : (o : Option Prot) → is_some o ≡ true → o ≡ Some (unwrap_or o NoAccess)
+pub mapped : (o : Option Prot) → is_some o ≡ true → o ≡ Some (unwrap_or o NoAccess)
 mapped (Some prot) h = refl
 mapped None h = none_absurd h
 

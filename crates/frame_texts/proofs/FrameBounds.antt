@@ -98,7 +98,7 @@ pub page_good : (source : Source) (page : ℕ) → IsSound (space_of source).hos
 page_good source page sound mapping bytes h = grind (arith, nat_tests, present_page, length-contents, contents_bytes)
 
 -- the frame of a run of them
-length-run_of : (source : Source) (first number : ℕ) → length (run_of source first number) ≡ number
+pub length-run_of : (source : Source) (first number : ℕ) → length (run_of source first number) ≡ number
 length-run_of source first zero = refl
 length-run_of source first (suc number) = ap suc (length-run_of source (1 + first) number)
 

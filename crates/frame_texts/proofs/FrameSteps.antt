@@ -146,7 +146,7 @@ record IsSendable (world : World) (first number : ℕ) : Type 0 where
   few : number ≤ 64
   present : (q : ℕ) → in_range first number q ≡ true → is_present (space_of world.source) q ≡ true
 
-most_bound : (count : ℕ) → run_bound count ≤ 64
+pub most_bound : (count : ℕ) → run_bound count ≤ 64
 most_bound count = grind (arith, nat_tests)
 
 run_sendable : (world : World) (first number bound : ℕ) → IsSoundWorld world → least_of world.source.log.todo ≡ Some first → number ≡ run_length world.source.log.todo first bound → 0 < bound → bound ≤ 64 → is_precopy world.source.phase ≡ true →

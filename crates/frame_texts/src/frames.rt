@@ -1,5 +1,5 @@
-//! What holds of the texts of frames, which are their bytes on the wires of a migration. Each law is a function with an empty
-//! body, whose contract is the law.
+//! Laws of the texts of frames, which are their bytes on the wires of a migration. Each law is a function with an empty body, whose
+//! contract is the law.
 
 ghost use Rattle.std.specs.Prelude.{◌≡◌, ◌≢◌, ℕ, ◌+◌, ◌-◌, ◌*◌, ◌^◌, ◌<◌, ◌≤◌, true, length, Option, Some, None, List, [], ◌∷◌, ◌++◌};
 ghost use Rattle.std.specs.Ordering.{nat_cmp};
@@ -29,8 +29,8 @@ ghost use Rattle.frame_texts.specs.Texts.Version.{One, Two};
 ghost use Rattle.mig_model.specs.Wire.{Frame};
 ghost use Rattle.mig_model.specs.Wire.Frame.{Advise, Zero, Run, Discard, Package, End, Request, Recv, Done};
 
-/// The bytes that complete a frame on the machine's wires are as many as its text has, where each page that it carries is whole. So it
-/// is for every frame in flight, on all three wires, after every list of steps.
+/// A text has the length in bytes that the machine counts for its frame, if each page that the frame carries has its 4096 bytes. This
+/// holds for every frame in flight, on all three wires, after every list of steps.
 pub fn the_length_of_a_text()
     ensures text { (version : Version) (epoch : ℕ) (frame : Frame) → has_frame version frame ≡ true → HasWholePages frame → length (text version epoch frame) ≡ text_len frame }
     ensures forward { (world : World) → IsReached world → AreCounted world.forward.frames }
@@ -38,10 +38,10 @@ pub fn the_length_of_a_text()
     ensures urgent { (world : World) → IsReached world → AreCounted world.urgent.frames }
 {}
 
-/// Every frame in flight has a text, on each of the three wires: its pages may be mapped, its counts and its epoch have 32 bits, its bytes
-/// are those of a page, and of a Package the pages are no more than may be mapped, and the commands are loads and stores that can be
-/// made, one for each processor. A guest has as many processors as a new world may have. Each can be read back from its
-/// text, whose length has 32 bits, and no memory answers such a load or store by BadAccess.
+/// Every frame in flight is well formed, on each of the three wires, if the guest has a number of processors that a new world may have.
+/// Its pages may be mapped, its counts and its epoch fit 32 bits, and its pages have their bytes. A Package has no more pages than may
+/// be mapped, and for each processor at most a load or store that can be made. A well-formed frame can be read back from its text,
+/// the length of which fits 32 bits, and no memory answers such a load or store with BadAccess.
 pub fn frames_have_texts()
     ensures in_flight { (world : World) → IsReached world → IsCpuCount (length world.source.guest.cpus) → HasGoodFrames world }
     ensures encodable { (epoch : ℕ) (frame : Frame) → epoch < 2 ^ 32 → IsFrame frame → IsEncodable Two epoch frame }
@@ -49,8 +49,8 @@ pub fn frames_have_texts()
     ensures accesses { (memory : Memory) (command : Command) → IsRightAccess command → reply_of memory command ≢ BadAccess }
 {}
 
-/// A set of pages is written as its maximal runs: they have the pages of the set, and no other list of runs has them that ascends, with
-/// no run empty and none touching the next.
+/// A set of pages is written as its maximal runs. They cover exactly the pages of the set, ascend, none is empty, and none touches the
+/// next. No other list of runs does all this.
 pub fn the_runs_of_a_set()
     ensures pages { (set : FinSet nat_cmp) (page : ℕ) → AreBelow set → in_runs (runs_of set) page ≡ contains set page }
     ensures ordered { (set : FinSet nat_cmp) → AreRunsFrom 0 (runs_of set) }
@@ -74,8 +74,8 @@ pub fn one_text()
     ensures rest { (v w : Version) (d e : ℕ) (f g : Frame) (s r : List ℕ) → IsEncodable v d f → IsEncodable w e g → text v d f ++ s ≡ text w e g ++ r → s ≡ r }
 {}
 
-/// How long bodies get where no more pages, and no more processors, are in a frame than may be: a set has no more runs than pages, and
-/// mapped pages are no more areas. In a Discard every second page of the address space begins a run at most.
+/// The longest bodies, in bytes, of frames with no more pages and processors than they may have. A set has at most one run for each of
+/// its pages, and a map at most one area. A Discard has at most one run for every second page of the address space.
 pub fn the_greatest_lengths()
     ensures discard { (pages : FinSet nat_cmp) → ((page : ℕ) → contains pages page ≡ true → LOW_PAGE ≤ page) → body_len (Discard pages) ≤ 4 + 4 * (HIGH_PAGE - LOW_PAGE) }
     ensures package { (areas : FinMap nat_cmp Prot) (owed : FinSet nat_cmp) (commands : List (Option Command)) → AreMappedBelow areas → AreBelow owed → map.len areas ≤ MAX_PAGES → len owed ≤ MAX_PAGES → length commands ≤ MAX_CPUS →

@@ -1,11 +1,10 @@
-//! The texts of frames: the bytes that the frames of a migration are on its wires, and the laws that a codec rests on. There is no
-//! code here to run.
+//! The texts of frames: the bytes of a migration's frames on its wires, and the laws that a codec rests on. No code here runs.
 //!
-//! The machine of `mig_model` carries frames, and counts how many bytes complete one (its `specs/Lengths.antt`). Here
-//! `specs/Texts.antt` says which bytes these are, and which frames can be read back from them, and `specs/Flight.antt` what holds of the
-//! frames in flight: each has a text, as long as the machine counts.
+//! The machine of `mig_model` carries frames, and counts the bytes that complete one (its `specs/Lengths.antt`). Here
+//! `specs/Texts.antt` defines these bytes and the frames that can be read back from them, and `specs/Flight.antt` states properties of
+//! the frames in flight: each has a text, and the text has the length that the machine counts.
 //!
-//! [`frames`] has what is proved of them.
+//! [`frames`] has the laws.
 #![tactic(auto)]
 
 pub mod frames;

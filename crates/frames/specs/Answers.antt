@@ -1,4 +1,4 @@
--- What a destination answers to frames that are handed to it in turn.
+-- The answers of a destination to frames that are handed to it in turn.
 use Rattle.std.specs.Prelude.{ℕ, List, [], ◌∷◌, ◌++◌, codes, Some, None, Ok}
 use Rattle.mig_base.specs.declared.fault.TakeFault.{TakeFault}
 use Rattle.mig_base.specs.declared.fault.TakeFault.TheVariants as fault
@@ -8,7 +8,7 @@ use Rattle.mig_model.specs.Migration.{frame_effect}
 use Rattle.mig_model.specs.Wire.{Sent}
 use Rattle.grammar.specs.Printed.{outcome_line}
 
--- the name of the reason for which a frame is not taken
+-- the name of a reason for which a frame is refused
 abbrev pub take_fault_name : TakeFault → List ℕ
 take_fault_name fault.OutOfPlace = codes "OutOfPlace"
 take_fault_name fault.StaleEpoch = codes "StaleEpoch"
@@ -17,24 +17,24 @@ take_fault_name fault.InstallFirst = codes "InstallFirst"
 take_fault_name fault.UrgentFirst = codes "UrgentFirst"
 take_fault_name fault.NoMemory = codes "NoMemory"
 
--- the line of a frame that is not taken
+-- the line of a frame that is refused
 abbrev pub refusal_line : TakeFault → List ℕ
 refusal_line reason = codes "refused " ++ take_fault_name reason ++ 10 ∷ []
 
--- the line of the answer: what was taken, as a step of a script prints it, or why the frame is not taken
+-- the line of the answer: what was taken, as a step of a script prints it, or why the frame is refused
 abbrev pub answer_line : Destination → Sent → List ℕ
 answer_line node sent = elim (take_fault node sent.epoch sent.frame) [ None ↦ outcome_line (Ok (frame_effect sent.frame)) | Some reason ↦ refusal_line reason ]
 
--- the destination then: a frame that it does not take changes nothing
+-- the destination after a frame: one that it refuses changes nothing
 abbrev pub after : Destination → Sent → Destination
 after node sent = elim (take_fault node sent.epoch sent.frame) [ None ↦ destination_took node sent.epoch sent.frame | Some reason ↦ node ]
 
--- the destination behind frames
+-- the destination after frames, taken or refused in turn
 abbrev pub behind : Destination → List Sent → Destination
 behind node [] = node
 behind node (sent ∷ frames) = behind (after node sent) frames
 
--- the lines of its answers, one for each frame
+-- the lines of its answers to frames, one for each
 abbrev pub answer_lines : Destination → List Sent → List ℕ
 answer_lines node [] = []
 answer_lines node (sent ∷ frames) = answer_line node sent ++ answer_lines (after node sent) frames

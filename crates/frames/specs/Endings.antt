@@ -1,4 +1,4 @@
--- What is written for a stream of frames, and how reading ends.
+-- The output for a stream of frames, and how reading ends.
 use Rattle.std.specs.Prelude.{◌≡◌, ℕ, ◌<◌, List, [], ◌++◌, length, Option, Some, None, IfSome}
 use Rattle.std.specs.Io.KnownBytes.{Appends}
 use Rattle.mig_model.specs.Destination.{Destination}
@@ -10,14 +10,14 @@ use Rattle.frames.specs.declared.fault.FramesFault.{FramesFault}
 use Rattle.frames.specs.declared.fault.FramesFault.TheVariants as faults
 use Rattle.frames.specs.Answers.{answer_lines}
 
--- the stream is frames, and then these bytes of one that is not whole, or a fault; the lines of the answers to all frames were written
+-- the stream is frames, and behind them `held`, the bytes of one that is not whole, or a fault; the answers to all frames were written
 pub record IsAnswered (start : Destination) (stream held : List ℕ) (fault : Option StreamFault) (before after : Option (List ℕ)) : Type 0 where
   pub frames : List Sent
   pub version : Option Version
   pub splits : Splits None stream frames held fault version
   pub appends : Appends before after (answer_lines start frames)
 
--- the stream begins with frames, and of the lines of the answers to them a front was written; `more` is missing
+-- the stream begins with frames, and the lines of the answers to them were written but for `more`
 pub record IsAnsweredInPart (start : Destination) (stream more : List ℕ) (before after : Option (List ℕ)) : Type 0 where
   pub front : List ℕ
   pub rest : List ℕ
@@ -29,16 +29,16 @@ pub record IsAnsweredInPart (start : Destination) (stream more : List ℕ) (befo
   pub lines : answer_lines start frames ≡ written ++ more
   pub appends : Appends before after written
 
--- how reading ends with a fault
+-- reading ends with a fault
 abbrev pub Stops : Destination → (input : List ℕ) → (unread : Option (List ℕ)) → FramesFault → (before after : Option (List ℕ)) → Type 0
--- it stands behind the frames
+-- the fault stands behind the frames
 Stops start input unread (faults.Stream fault) before after = IsAnswered start input [] (Some fault) before after
--- a part of a frame stands behind them
+-- less than a frame stands behind the frames
 Stops start input unread faults.Truncated before after = (held : List ℕ) × (0 < length held) × IsAnswered start input held None before after
--- all that was read was answered
+-- all frames that were read were answered
 Stops start input unread faults.ReadFault before after = (read : List ℕ) × (held : List ℕ) × (fault : Option StreamFault)
     × IfSome unread (λ bytes. input ≡ read ++ bytes) × IsAnswered start read held fault before after
--- a part of the lines is missing
+-- a part of the lines was not written
 Stops start input unread faults.WriteFault before after = (more : List ℕ) × (0 < length more) × IsAnsweredInPart start input more before after
 -- each line was written in full
 Stops start input unread faults.NoMemory before after = IsAnsweredInPart start input [] before after

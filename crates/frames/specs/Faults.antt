@@ -1,9 +1,10 @@
--- What ends a stream where its decoder answers a fault.
+-- Faults of the decoder, as faults of a stream of frames.
 use Rattle.frame_decoder.specs.declared.fault.StreamFault.{StreamFault}
 use Rattle.frame_decoder.specs.declared.fault.StreamFault.TheVariants as stream
 use Rattle.frames.specs.declared.fault.FramesFault.{FramesFault}
 use Rattle.frames.specs.declared.fault.FramesFault.TheVariants as faults
 
+-- the fault that ends the stream when its decoder returns one: lack of memory is not a fault of the stream
 abbrev pub fault_of : StreamFault → FramesFault
 fault_of stream.NoMemory = faults.NoMemory
 fault_of stream.BadTag = faults.Stream stream.BadTag

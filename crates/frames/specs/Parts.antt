@@ -1,4 +1,4 @@
--- What the parts do with the bytes of one piece.
+-- The parts of the reader, and their effect for the bytes of one piece.
 use Rattle.std.specs.Prelude.{◌≡◌, ℕ, ◌<◌, ◌^◌, List, [], ◌++◌, length, sum_by, Option, None, Ok}
 use Rattle.std.specs.List.{AllByRecursion}
 use Rattle.std.specs.Io.KnownBytes.{Appends}
@@ -15,26 +15,26 @@ use Rattle.frames.specs.declared.fault.FramesFault.TheVariants as faults
 use Rattle.frames.specs.declared.reader.FrameReader.{FrameReader}
 use Rattle.frames.specs.Answers.{answer_lines, behind}
 
--- each frame may be handed to a destination
+-- each frame is well formed, so it may be handed to a destination
 abbrev pub AreFrames : List Sent → Type 0
 AreFrames frames = AllByRecursion (λ sent. IsFrame sent.frame) frames
 
--- how many bytes their texts have
+-- the length of the frames' texts in bytes
 abbrev pub texts_len : List Sent → ℕ
 texts_len frames = sum_by (λ sent. text_len sent.frame) frames
 
--- the lines of the first of these frames were gathered
+-- the lines of some of these frames, from the first on, were gathered
 pub record TakesSome (node : Destination) (frames : List Sent) (old new : List ℕ) : Type 0 where
   pub taken : List Sent
   pub others : List Sent
   pub parts : frames ≡ taken ++ others
   pub gathers : new ≡ old ++ answer_lines node taken
 
--- so many bytes are held, where there was no fault, and fewer than 2^32
+-- the count is that of the bytes that the decoder holds, fewer than 2^32, unless there is a fault
 abbrev pub IsCounted : Held → ℕ → Type 0
 IsCounted decoder held = decoder.fault ≡ None → (held ≡ length decoder.bytes) × (length decoder.bytes < 2 ^ 32)
 
--- the piece was answered by frames, and these were handed to the destination
+-- the decoder returned these frames for the piece, and they were handed to the destination
 pub record Passed (old : FrameReader) (piece : List ℕ) (frames : List Sent) (new : FrameReader) : Type 0 where
   pub fed : Fed old.decoder piece (Ok frames) new.decoder
   pub node : new.taker.destination ≡ behind old.taker.destination frames
@@ -51,7 +51,7 @@ pub record Passes (old : FrameReader) (piece : List ℕ) (new : FrameReader) (be
   pub passed : Passed old piece frames new
   pub appends : Appends before after (answer_lines old.taker.destination frames)
 
--- what is held and the piece begin with these frames
+-- the held bytes and the piece behind them begin with these frames
 pub record BeginsWith (old : Held) (piece : List ℕ) (frames : List Sent) : Type 0 where
   pub front : List ℕ
   pub rest : List ℕ
@@ -60,7 +60,7 @@ pub record BeginsWith (old : Held) (piece : List ℕ) (frames : List Sent) : Typ
   pub spells : Spells old.version front frames version
   pub faultless : old.fault ≡ None
 
--- the decoder answered the fault
+-- the decoder returned the fault
 abbrev pub AnswersFault : Held → List ℕ → StreamFault → Type 0
 AnswersFault old piece fault = (new : Held) × FedFault old piece fault new
 
@@ -70,7 +70,7 @@ pub record GathersSome (old : FrameReader) (piece output : List ℕ) : Type 0 wh
   pub begins : BeginsWith old.decoder piece frames
   pub gathers : output ≡ old.taker.output.items ++ answer_lines old.taker.destination frames
 
--- a fault, and what was gathered before it
+-- a fault, and the lines that were gathered before it
 abbrev pub FedUntil : FrameReader → (piece : List ℕ) → FramesFault → (output : List ℕ) → Type 0
 FedUntil old piece (faults.Stream fault) output = AnswersFault old.decoder piece fault × (output ≡ old.taker.output.items)
 FedUntil old piece faults.Truncated output = ⊥
@@ -78,7 +78,7 @@ FedUntil old piece faults.ReadFault output = ⊥
 FedUntil old piece faults.WriteFault output = ⊥
 FedUntil old piece faults.NoMemory output = GathersSome old piece output
 
--- a front of the lines of some frames was written; `more` is missing
+-- the lines of some frames were written but for `more`
 pub record WritesSome (old : FrameReader) (piece more : List ℕ) (before after : Option (List ℕ)) : Type 0 where
   pub frames : List Sent
   pub written : List ℕ
@@ -86,7 +86,7 @@ pub record WritesSome (old : FrameReader) (piece more : List ℕ) (before after 
   pub lines : answer_lines old.taker.destination frames ≡ written ++ more
   pub appends : Appends before after written
 
--- a fault, and what was written before it
+-- a fault, and the lines that were written before it
 abbrev pub Halts : FrameReader → (piece : List ℕ) → FramesFault → (before after : Option (List ℕ)) → Type 0
 Halts old piece (faults.Stream fault) before after = AnswersFault old.decoder piece fault × Appends before after []
 Halts old piece faults.Truncated before after = ⊥
@@ -96,11 +96,11 @@ Halts old piece faults.NoMemory before after = WritesSome old piece [] before af
 
 -- The end of the stream
 
--- the last piece, which is empty, was answered and its lines written; nothing is held then
+-- the last piece, which is empty, was taken and its lines written; then nothing is held
 abbrev pub EndsWhole : FrameReader → FrameReader → (before after : Option (List ℕ)) → Type 0
 EndsWhole old new before after = Passes old [] new before after × (new.decoder.fault ≡ None → new.decoder.bytes ≡ [])
 
--- the same, and a part of a frame is held; or a fault
+-- the stream ends with a fault: the decoder's, or that less than a frame is held
 abbrev pub EndsBy : FrameReader → FramesFault → FrameReader → (before after : Option (List ℕ)) → Type 0
 EndsBy old (faults.Stream fault) new before after = Halts old [] (faults.Stream fault) before after
 EndsBy old faults.Truncated new before after = Passes old [] new before after × (new.decoder.fault ≡ None → 0 < length new.decoder.bytes)

@@ -1,4 +1,4 @@
-//! How a stream ends that is not frames alone, or is not read or written to its end.
+//! Faults that end a stream of frames early.
 
 ghost use Rattle.std.specs.Prelude.{◌≡◌};
 ghost use Rattle.frames.specs.declared.fault.FramesFault.TheVariants.{NoMemory as OutOfMemory};
@@ -12,7 +12,7 @@ use thiserror::Error;
 /// Why a stream of frames was not taken to its end.
 #[derive(Clone, Copy, Debug, PartialEq, Eq, Error)]
 pub enum FramesFault {
-    /// What stands behind the frames is not a frame. The lines of all frames before it were written.
+    /// The bytes behind the frames are not a frame. The lines of all frames before them were written.
     #[error("stream fault {0:?}")]
     Stream(StreamFault),
     /// The input ends inside a frame. The lines of all frames before it were written.
@@ -21,10 +21,10 @@ pub enum FramesFault {
     /// A read failed, or more than 4,294,967,295 were needed. The lines of all frames read were written.
     #[error("read fault")]
     ReadFault,
-    /// A write failed, or took no byte. A front of the lines of the frames read was written.
+    /// A write failed, or took no byte. The first part of the lines of the frames read was written.
     #[error("write fault")]
     WriteFault,
-    /// A growth was refused. The lines of some frames from the first on were written, each in full.
+    /// An allocation failed. The lines of some frames from the first on were written, each in full.
     #[error("no memory")]
     NoMemory,
 }

@@ -11,7 +11,7 @@ use mig_base::fault::TakeFault;
 use mig_base::{NoMemory, page_address};
 use page_stream::Frame;
 
-/// What is told of a frame that a destination takes.
+/// The effect of a destination's taking a frame.
 pub(crate) fn effect_of(frame: &Frame) -> Effect
     requires { IsFrame (frame_of frame.now) }
     ensures { result ≡ frame_effect (frame_of frame.now) }
@@ -43,7 +43,7 @@ pub(crate) fn effect_of(frame: &Frame) -> Effect
     }
 }
 
-/// The name of the reason for which a frame is not taken.
+/// The name of a reason for which a frame is refused.
 fn name_of(fault: TakeFault) -> &'static str
     ensures { result.now ≡ take_fault_name fault }
 {
@@ -57,7 +57,8 @@ fn name_of(fault: TakeFault) -> &'static str
     }
 }
 
-/// Prints the line of a frame that is not taken, with its line feed, behind a text. Out of memory is not printed.
+/// Appends the line of a frame that is refused, with its line feed, to a text. `NoMemory` comes if the line has no room, and for a frame
+/// that was refused for lack of memory, which has no line.
 pub(crate) fn print_refusal(text: &mut String, fault: TakeFault) -> Result<(), NoMemory>
     ensures line { OnOk result (string_bytes text.new ≡ string_bytes text.old ++ refusal_line fault) }
     ensures printed { OnOk result (fault ≢ TakeFault.NoMemory) }

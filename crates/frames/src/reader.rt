@@ -1,4 +1,4 @@
-//! A stream of frames that is being read: which frames it has, and how many bytes of the next one came.
+//! Reading a stream of frames.
 
 ghost use Rattle.std.specs.Prelude.{◌≡◌, ◌<◌, ◌≤◌, ◌+◌, ◌^◌, [], None, length, OnOk, IfErr, IfOk};
 ghost use Rattle.mig_model.specs.Destination.{first_destination};
@@ -14,7 +14,7 @@ use page_stream::Frame;
 use std::alloc::Global;
 use std::io::Write;
 
-/// How many bytes the texts of frames have.
+/// The length of the frames' texts in bytes.
 fn len_of(frames: &[(u32, Frame)]) -> u64
     requires { texts_len (sents frames.now) < 2 ^ 64 }
     ensures { result ≡ texts_len (sents frames.now) }
@@ -30,13 +30,13 @@ fn len_of(frames: &[(u32, Frame)]) -> u64
 #[derive(Drop)]
 pub(crate) struct FrameReader {
     decoder: Decoder,
-    /// How many bytes the decoder holds of a frame that is not whole.
+    /// The number of bytes that the decoder holds of a frame that is not whole.
     held: u64,
     taker: FrameTaker,
 }
 
 impl FrameReader {
-    /// The start, where nothing was read.
+    /// A reader that has read nothing.
     pub(crate) fn new(alloc: Global, cpus: u8) -> Result<FrameReader, FramesFault>
         requires low { 1 ≤ cpus }
         requires high { cpus ≤ 16 }
@@ -87,14 +87,14 @@ impl FrameReader {
         fed
     }
 
-    /// Ends the stream: a fault that stands behind its last frame, or a part of a frame.
+    /// Ends the stream. Returns the fault that stands behind its last frame, or `Truncated` if less than a frame does.
     pub(crate) fn finish<W: Write>(&mut self, writer: &mut W) -> Result<(), FramesFault>
         requires counted { IsCounted self.old.decoder self.old.held }
         requires clean { self.old.taker.output.items ≡ [] }
         ensures ok { OnOk result (EndsWhole self.old self.new (W.contents writer.old) (W.contents writer.new)) }
         ensures fault { IfErr result (λ fault. EndsBy self.old fault self.new (W.contents writer.old) (W.contents writer.new)) }
     {
-        // A feed that answers frames keeps the fault behind them for the next.
+        // A feed that returns frames keeps the fault behind them for the next.
         self.run_piece(writer, &[])?;
         if self.held > 0 {
             return Err(FramesFault::Truncated);

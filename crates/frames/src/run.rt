@@ -15,12 +15,12 @@ use std::io::{Read, Write};
 const PIECE: usize = 16_384;
 
 /// Hands each frame of a stream to a new destination of `cpus` processors, 1 to 16, and writes a line for each: what the destination
-/// took, or `refused` and why it did not. A frame that is refused changes nothing, and reading goes on behind it. What the destination
-/// answers is dropped.
+/// took, or `refused` and why. A frame that is refused changes nothing, and reading goes on behind it. Frames that the destination sends
+/// back are dropped.
 ///
-/// At most 4,294,967,295 reads are made; a stream that needs more ends with a read fault. That is the bound of the loop: no clause
-/// counts reads. The lines of the frames that one read completes are gathered, and are written before the next read and before any
-/// fault is answered. An interrupted read or write is a fault.
+/// At most 4,294,967,295 reads are made; a stream that needs more ends with a read fault. This bounds the loop: no clause counts reads.
+/// The lines of the frames that one read completes are gathered, and written before the next read and before any fault is returned. An
+/// interrupted read or write is a fault.
 pub fn run_frames<R: Read, W: Write>(
     alloc: Global,
     reader: &mut R,

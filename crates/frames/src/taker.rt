@@ -21,7 +21,7 @@ use page_stream::Frame;
 use std::alloc::Global;
 use std::io::Write;
 
-/// Hands a frame to a destination, and puts the line of the answer in place of a text.
+/// Hands a frame to a destination, and replaces a text by the line of the answer.
 fn answer(
     destination: &mut Destination,
     epoch: u32,
@@ -51,7 +51,7 @@ pub(crate) struct FrameTaker {
 }
 
 impl FrameTaker {
-    /// A new destination of so many processors. There are no lines yet.
+    /// A new destination of `cpus` processors, without lines. `NoMemory` comes if it cannot be made.
     pub(crate) fn new(alloc: Global, cpus: u8) -> Result<FrameTaker, FramesFault>
         requires low { 1 ≤ cpus }
         requires high { cpus ≤ 16 }
@@ -81,7 +81,7 @@ impl FrameTaker {
         Ok(())
     }
 
-    /// Hands over frames in turn, and gathers the lines of the answers. Out of memory leaves the lines of the frames before.
+    /// Hands over frames in turn, and gathers the lines of the answers. `NoMemory` leaves the lines of the frames before it.
     pub(crate) fn take_all(&mut self, frames: Vec<(u32, Frame)>) -> Result<(), NoMemory>
         requires { AreFrames (sents frames.items) }
         ensures destination { OnOk result (self.new.destination ≡ behind self.old.destination (sents frames.items)) }
@@ -94,7 +94,7 @@ impl FrameTaker {
         Ok(())
     }
 
-    /// Writes the lines that were gathered. At a fault a front of them was written.
+    /// Writes the gathered lines. After a fault the first part of them was written.
     pub(crate) fn write_output<W: Write>(&mut self, writer: &mut W) -> Result<(), FramesFault>
         ensures ok { OnOk result (Appends (W.contents writer.old) (W.contents writer.new) self.old.output.items) }
         ensures clean { OnOk result (self.new.output.items ≡ []) }

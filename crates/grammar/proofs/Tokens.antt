@@ -39,7 +39,7 @@ tokens_more text tokens rest word behind token so_far first is = record {
   are = tokens_push tokens so_far.front token word so_far.are is;
 }
 
--- a word that is no token
+-- a word that is not a token
 pub tokens_wrong : (text : List ℕ) (tokens : List Token) (rest word behind : List ℕ) → ReadsTokens text tokens rest → FirstWord rest word behind → ((token : Token) → IsToken token word → ⊥)
     → (others : List Token) → AreTokens others (words_of text) → ⊥
 tokens_wrong text tokens rest word behind so_far first none others are =

@@ -1,8 +1,9 @@
--- The kinds of words: those of commands, of the other steps, and of replies.
+-- The keywords by kind: those of commands, of the other steps, and of replies.
 use Rattle.std.specs.Prelude.{Bool, true, false}
 use Rattle.grammar.specs.declared.keyword.Keyword.{Keyword}
 use Rattle.grammar.specs.declared.keyword.Keyword.TheVariants as key
 
+-- the keywords of commands
 abbrev pub is_of_command : Keyword → Bool
 is_of_command key.Cpu = true
 is_of_command key.Load = true
@@ -19,6 +20,7 @@ is_of_command key.NoReplace = true
 is_of_command key.MayMove = true
 is_of_command _ = false
 
+-- the keywords of the other steps, and progress
 abbrev pub is_of_step : Keyword → Bool
 is_of_step key.Retry = true
 is_of_step key.Start = true
@@ -46,6 +48,7 @@ is_of_step key.Resume = true
 is_of_step key.Progress = true
 is_of_step _ = false
 
+-- the keywords of replies, and the arrow before them
 abbrev pub is_of_reply : Keyword → Bool
 is_of_reply key.Gives = true
 is_of_reply key.Value = true

@@ -1,4 +1,4 @@
--- The steps that orders make.
+-- The steps of orders.
 use Rattle.std.specs.Prelude.{ℕ, true, false, Option, Some, None}
 use Rattle.mig_base.specs.declared.schedule.Step.{Step}
 use Rattle.mig_base.specs.declared.schedule.Step.TheVariants as step
@@ -6,15 +6,16 @@ use Rattle.mig_base.specs.declared.schedule.Ticket.{Ticket}
 use Rattle.grammar.specs.declared.order.Order.{Order}
 use Rattle.grammar.specs.declared.order.Order.TheVariants.{Make, Push, Progress}
 
--- the epoch that is written, or else the present one
+-- the epoch that is written, or the present one if none is
 abbrev pub epoch_or : Option ℕ → ℕ → ℕ
 epoch_or (Some epoch) present = epoch
 epoch_or None present = present
 
+-- the ticket of a push: the epoch for which it was decided, and the page
 abbrev pub ticket : ℕ → ℕ → Ticket
 ticket epoch page = record { epoch = epoch; page = page }
 
--- the step that an order makes in a world with this epoch
+-- the step that an order makes in a world with this epoch; an order for progress makes none
 abbrev pub step_of : Order → ℕ → Option Step
 step_of (Make made) present = Some made
 step_of (Push false page epoch) present = Some (step.Push (ticket (epoch_or epoch present) page))

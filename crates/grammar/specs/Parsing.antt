@@ -21,8 +21,8 @@ use Rattle.grammar.specs.declared.keyword.Keyword.TheVariants as key
 use Rattle.grammar.specs.declared.token.Token.{Token}
 use Rattle.grammar.specs.declared.token.Token.TheVariants.{Key, Number}
 
--- what follows from the value, if there is one
 infixl 10 ◌>>=◌
+-- reading goes on with the value, if there is one
 abbrev pub ◌>>=◌ : {A B : Type 0} → Option A → (A → Option B) → Option B
 (Some x) >>= f = f x
 None >>= f = None
@@ -42,7 +42,7 @@ prot_from key.Read = Some Read
 prot_from key.ReadWrite = Some ReadWrite
 prot_from _ = None
 
--- the place that the last words of mmap stand for
+-- the place of a new mapping that the last words of mmap stand for
 unfoldable pub place_from : List Token → Option Place
 place_from [] = Some Anywhere
 place_from (Key key.Fixed ∷ Number addr ∷ []) = Some (Fixed addr)
@@ -98,40 +98,45 @@ epoch_from [] = Some None
 epoch_from (Number epoch ∷ []) = below (2 ^ 32) epoch >>= λ e. Some (Some e)
 epoch_from _ = None
 
--- how many bytes are to be moved
+-- the number of bytes to move; the greatest if none is written
 unfoldable pub bytes_from : List Token → Option ℕ
 bytes_from [] = Some (2 ^ 64 - 1)
 bytes_from (Number bytes ∷ []) = Some bytes
 bytes_from _ = None
 
--- the length of a run
+-- the number of pages of a run, 1 to `MAX_RUN`
 abbrev pub count_from : ℕ → Option ℕ
 count_from n = small n >>= λ count. if nat_lt 0 count && not (nat_lt MAX_RUN count) then Some count else None
 
--- what stands behind each first word
+-- Orders, by the tokens behind their first word
 
+-- behind cpu: a processor and its command
 unfoldable pub issue_from : List Token → Option Order
 issue_from (Number cpu ∷ command) = small cpu >>= λ k. command_from command >>= λ c. Some (Make (step.Issue k c))
 issue_from _ = None
 
+-- behind retry: a processor
 unfoldable pub retry_from : List Token → Option Order
 retry_from (Number cpu ∷ []) = small cpu >>= λ k. Some (Make (step.Retry k))
 retry_from _ = None
 
+-- behind sendrun: a number of pages
 unfoldable pub run_from : List Token → Option Order
 run_from (Number n ∷ []) = count_from n >>= λ count. Some (Make (step.SendRun count))
 run_from _ = None
 
+-- behind notice: a side of the channel
 unfoldable pub notice_from : List Token → Option Order
 notice_from (Key key.Source ∷ []) = Some (Make (step.Notice side.Source))
 notice_from (Key key.Dest ∷ []) = Some (Make (step.Notice side.Destination))
 notice_from _ = None
 
+-- behind push and upush: the address of a page, and an epoch, which may be left out
 unfoldable pub push_from : Bool → List Token → Option Order
 push_from urgent (Number addr ∷ epoch) = page_from addr >>= λ p. epoch_from epoch >>= λ e. Some (Push urgent p e)
 push_from urgent _ = None
 
--- the order that a word stands for where no other follows
+-- the order that a word stands for if no other follows
 unfoldable pub word_from : Keyword → Option Order
 word_from key.Start = Some (Make step.Start)
 word_from key.Round = Some (Make step.Round)
@@ -149,7 +154,7 @@ word_from key.Resume = Some (Make step.Resume)
 word_from key.Progress = Some Progress
 word_from _ = None
 
--- the order of a word alone
+-- the same; no order if another word follows
 unfoldable pub alone_from : Keyword → List Token → Option Order
 alone_from word [] = word_from word
 alone_from word _ = None
@@ -199,7 +204,7 @@ abbrev pub is_arrow : Token → Bool
 is_arrow (Key key.Gives) = true
 is_arrow _ = false
 
--- what comes before the first =>, and what comes after it
+-- the tokens before the first =>, and those after it
 abbrev pub at_arrow : List Token → Option (List Token × List Token)
 at_arrow [] = None
 at_arrow (token ∷ tokens) = if is_arrow token then Some ([], tokens) else at_arrow tokens >>= λ parts. Some (token ∷ parts.0, parts.1)

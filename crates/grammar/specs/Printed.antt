@@ -1,4 +1,4 @@
--- What is printed for the outcome of a step, and for a report of progress.
+-- The lines that are printed for the outcome of a step and for a report of progress.
 use Rattle.std.specs.Prelude.{ℕ, Bool, false, true, List, [], ◌∷◌, ◌++◌, codes, Result, Ok, Err}
 use Rattle.std.specs.Fmt.{decimal}
 use Rattle.report.specs.Texts.{hexadecimal, reply_text}
@@ -16,7 +16,7 @@ use Rattle.mig_base.specs.declared.phase.WorldPhase.{WorldPhase}
 use Rattle.mig_base.specs.declared.phase.WorldPhase.TheVariants as phase
 use Rattle.grammar.specs.declared.progress.Progress.{Progress}
 
--- what a world answers to a step
+-- the outcome of a step: its effect, or why it is refused
 abbrev pub Outcome : Type 0
 Outcome = Result Effect Refusal
 
@@ -52,17 +52,18 @@ event_text (Remap from to len) = codes "remap " ++ hexadecimal from ++ codes " "
 event_text (Remove start end) = codes "remove " ++ hexadecimal start ++ codes " " ++ hexadecimal end
 event_text (Unmap start end) = codes "unmap " ++ hexadecimal start ++ codes " " ++ hexadecimal end
 
--- how far a destination had come
+-- how far a destination has come
 abbrev pub state_text : Received → List ℕ
 state_text received.NotRun = codes "notrun"
 state_text received.Running = codes "running"
 state_text received.Ended = codes "ended"
 
+-- the name of a side of the channel
 abbrev pub side_text : Side → List ℕ
 side_text side.Source = codes "source"
 side_text side.Destination = codes "dest"
 
--- what a step did
+-- the text of an effect
 abbrev pub effect_text : Effect → List ℕ
 effect_text (effect.Answered cpu reply) = codes "cpu " ++ decimal cpu ++ codes " " ++ reply_text reply
 effect_text (effect.Asleep cpu) = codes "cpu " ++ decimal cpu ++ codes " asleep"
@@ -101,12 +102,12 @@ effect_text effect.Broken = codes "broken"
 effect_text (effect.Noticed at) = codes "paused " ++ side_text at
 effect_text (effect.Resumed epoch) = codes "resumed epoch " ++ decimal epoch
 
--- the line without its line feed
+-- the line of an outcome, without its line feed
 abbrev pub outcome_text : Outcome → List ℕ
 outcome_text (Ok done) = effect_text done
 outcome_text (Err reason) = codes "refused " ++ refusal_name reason
 
--- the line that is written for an outcome
+-- the line of an outcome
 unfoldable pub outcome_line : Outcome → List ℕ
 outcome_line outcome = outcome_text outcome ++ 10 ∷ []
 
@@ -118,18 +119,20 @@ phase_text phase.Switching = codes "switching"
 phase_text phase.Postcopy = codes "postcopy"
 phase_text phase.Complete = codes "complete"
 
+-- the source's part of a report: the rounds made, the pages sent, and the pages left
 unfoldable pub sent_text : ℕ → ℕ → ℕ → List ℕ
 sent_text rounds sent left = codes "rounds " ++ decimal rounds ++ codes " sent " ++ decimal sent ++ codes " left " ++ decimal left
 
+-- the other part of a report: the copies installed, the copies dropped, and the page faults read
 unfoldable pub handled_text : ℕ → ℕ → ℕ → List ℕ
 handled_text installed dropped faults = codes "installed " ++ decimal installed ++ codes " dropped " ++ decimal dropped ++ codes " faults " ++ decimal faults
 
--- a report of progress
+-- a report of progress, without its line feed
 abbrev pub progress_text : Progress → List ℕ
 progress_text progress =
     codes "progress phase " ++ phase_text progress.phase ++ codes " " ++ sent_text progress.rounds progress.sent progress.left
     ++ codes " " ++ handled_text progress.installed progress.dropped progress.faults
 
--- the line that is written for it
+-- the line of a report of progress
 unfoldable pub progress_line : Progress → List ℕ
 progress_line progress = progress_text progress ++ 10 ∷ []

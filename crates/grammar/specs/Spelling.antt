@@ -1,4 +1,4 @@
--- How a line of a script or of a transcript is spelled.
+-- The spelling of a line of a script or of a transcript.
 use Rattle.std.specs.Prelude.{◌≡◌, ℕ, ◌<◌, ◌≤◌, ◌-◌, ◌*◌, ◌^◌, ◌⊎◌, List, [], ◌∷◌, ◌++◌, Some, slice_get, true, false, Bool, Option, None}
 use Rattle.mig_base.specs.declared.command.Command.{Command}
 use Rattle.mig_base.specs.declared.command.Command.TheVariants.{Load, Store, Mmap, Munmap, Mremap, DontNeed}
@@ -60,7 +60,7 @@ CommandForm (Mremap addr old_len new_len may_move fixed) tokens
     = tokens ≡ Key key.Mremap ∷ Number addr ∷ Number old_len ∷ Number new_len ∷ (may_move_form may_move ++ fixed_form fixed)
 CommandForm (DontNeed addr len) tokens = tokens ≡ Key key.DontNeed ∷ Number addr ∷ Number len ∷ []
 
--- the tokens for a number of bytes, which may be left out where it is the greatest
+-- the tokens for a number of bytes, which may be left out if it is the greatest
 abbrev pub BytesForm : ℕ → List Token → Type 0
 BytesForm bytes tokens = (tokens ≡ Number bytes ∷ []) ⊎ ((tokens ≡ []) × (bytes ≡ 2 ^ 64 - 1))
 
@@ -73,7 +73,7 @@ abbrev pub side_key : Side → Keyword
 side_key side.Source = key.Source
 side_key side.Destination = key.Dest
 
--- the tokens of a step. A push is spelled as an order of its own
+-- the tokens of a step, but not of a push, which is an order of its own
 abbrev pub StepForm : Step → List Token → Type 0
 StepForm (step.Issue cpu command) tokens = (cpu < 256) × (more : List Token) × (tokens ≡ Key key.Cpu ∷ Number cpu ∷ more) × CommandForm command more
 StepForm (step.Retry cpu) tokens = (cpu < 256) × (tokens ≡ Key key.Retry ∷ Number cpu ∷ [])
@@ -98,7 +98,7 @@ StepForm step.Break tokens = tokens ≡ Key key.Break ∷ []
 StepForm (step.Notice at) tokens = tokens ≡ Key key.Notice ∷ Key (side_key at) ∷ []
 StepForm step.Resume tokens = tokens ≡ Key key.Resume ∷ []
 
--- the word for a push, on the urgent wire or on the other
+-- the word for a push, by whether it goes on the urgent wire
 abbrev pub push_key : Bool → Keyword
 push_key false = key.Push
 push_key true = key.PushUrgent
@@ -108,6 +108,7 @@ abbrev pub epoch_form : Option ℕ → List Token
 epoch_form None = []
 epoch_form (Some epoch) = Number epoch ∷ []
 
+-- an epoch that is written fits 32 bits
 abbrev pub FitsEpoch : Option ℕ → Type 0
 FitsEpoch None = Unit {0}
 FitsEpoch (Some epoch) = epoch < 2 ^ 32
@@ -142,7 +143,7 @@ reply_form (Refused errno) = Key key.Refused ∷ Key (errno_key errno) ∷ []
 abbrev pub EntryForm : Entry → List Token → Type 0
 EntryForm entry tokens = (entry.cpu < 256) × (command : List Token) × (tokens ≡ Number entry.cpu ∷ (command ++ Key key.Gives ∷ reply_form entry.reply)) × CommandForm entry.command command
 
--- no word, or a first word that begins with #
+-- a line with nothing to do: it has no word, or its first word begins with #
 abbrev pub IsNothing : List (List ℕ) → Type 0
 IsNothing [] = Unit {0}
 IsNothing (word ∷ words) = slice_get word 0 ≡ Some 35
@@ -155,7 +156,7 @@ SpellsOrder words order = (tokens : List Token) × AreTokens tokens words × Ord
 abbrev pub SpellsEntry : List (List ℕ) → Entry → Type 0
 SpellsEntry words entry = (tokens : List Token) × AreTokens tokens words × EntryForm entry tokens
 
--- the text of a line, without its ending, spells this in the language
+-- the text of a line, without its line feed, spells this in the language
 abbrev pub Spells : Language → List ℕ → Line → Type 0
 Spells language text Skipped = IsNothing (words_of text)
 Spells Script text (Do order) = SpellsOrder (words_of text) order

@@ -1,4 +1,4 @@
--- What `print` puts behind the first words of an effect's text.
+-- What `print` writes behind the first words of an effect's text.
 use Rattle.std.specs.Prelude.{ℕ, false, List, [], ◌++◌, codes}
 use Rattle.std.specs.Fmt.{decimal, digits}
 use Rattle.report.specs.Texts.{hexadecimal, reply_text}
@@ -6,7 +6,7 @@ use Rattle.grammar.specs.Printed.{fault_text, event_text, state_text, side_text}
 use Rattle.grammar.specs.declared.print.Tail.{Tail}
 use Rattle.grammar.specs.declared.print.Tail.TheVariants as tail
 
--- the text of a tail; where it begins with an address, the 0x is one of the words before it
+-- the text of a tail; if it begins with an address, the 0x belongs to the words before it
 abbrev pub tail_text : Tail → List ℕ
 tail_text tail.Nothing = []
 tail_text (tail.Number n) = decimal n

@@ -1,4 +1,4 @@
--- The words of a line, and what each stands for.
+-- The words of a line, and the tokens for which they stand.
 use Rattle.std.specs.Prelude.{◌≡◌, ◌≢◌, ℕ, ◌<◌, ◌≤◌, ◌^◌, ◌⊎◌, List, [], ◌∷◌, length, filter, nat_lt, ◌==◌, codes}
 use Rattle.std.specs.List.{slice_split, AllByRecursion}
 use Rattle.std.specs.Str.Parse.{AllDigits, digits_value}
@@ -83,7 +83,7 @@ keyword_text key.Efault = codes "EFAULT"
 keyword_text key.Eexist = codes "EEXIST"
 keyword_text key.Einval = codes "EINVAL"
 
--- the word stands for the token
+-- the word stands for the token: it is the keyword as it is written, or a number of this value
 abbrev pub IsToken : Token → List ℕ → Type 0
 IsToken (Key keyword) word = word ≡ keyword_text keyword
 IsToken (Number n) word = IsNumber word n

@@ -1,4 +1,4 @@
-//! The words that a line may have besides numbers.
+//! Keywords: the words that a line may have besides numbers.
 
 ghost use Rattle.std.specs.Prelude.{◌≡◌, IfSome, IfNone, true};
 ghost use Rattle.grammar.specs.declared.keyword.Keyword.{Keyword as KeywordOf};
@@ -13,7 +13,7 @@ pub enum Keyword {
     Store,
     Mmap,
     Munmap,
-    /// A protection, as the two that follow.
+    /// A protection, like the next two.
     NoAccess,
     Read,
     ReadWrite,
@@ -42,7 +42,7 @@ pub enum Keyword {
     End,
     Break,
     Notice,
-    /// A side of the channel, as the next.
+    /// A side of the channel, like the next.
     Source,
     Dest,
     Resume,
@@ -68,7 +68,7 @@ pub enum Keyword {
 }
 
 impl Keyword {
-    /// The keyword that is written so.
+    /// The keyword that is written as this word.
     pub fn from_text(word: &[u8]) -> Option<Keyword>
         ensures found { IfSome result (λ keyword. word.now ≡ keyword_text keyword) }
         ensures none { IfNone result ((keyword : KeywordOf) → word.now ≡ keyword_text keyword → ⊥) }
@@ -106,7 +106,7 @@ fn of_command(word: &[u8]) -> Option<Keyword>
     }
 }
 
-/// A word of the other steps.
+/// A word of the other steps, or `progress`.
 fn of_step(word: &[u8]) -> Option<Keyword>
     ensures found { IfSome result (λ keyword. word.now ≡ keyword_text keyword) }
     ensures none { IfNone result ((keyword : KeywordOf) → is_of_step keyword ≡ true → word.now ≡ keyword_text keyword → ⊥) }
@@ -140,7 +140,7 @@ fn of_step(word: &[u8]) -> Option<Keyword>
     }
 }
 
-/// A word of replies.
+/// A word of replies, or the arrow before them.
 fn of_reply(word: &[u8]) -> Option<Keyword>
     ensures found { IfSome result (λ keyword. word.now ≡ keyword_text keyword) }
     ensures none { IfNone result ((keyword : KeywordOf) → is_of_reply keyword ≡ true → word.now ≡ keyword_text keyword → ⊥) }

@@ -1,14 +1,14 @@
-//! The two languages of lines: what a line of a script or of a transcript says, and how what comes of it is printed.
+//! The two languages of lines: reading a line of a script or of a transcript, and printing outcomes.
 //!
 //! [`parse::parse`] reads the text of a line as a [`Line`]: an [`Order`] of a script, an entry of a transcript, or nothing.
-//! [`Language`] says which of the two languages the line is in. An order is a step of a migration, the push of a page, or
-//! that progress is to be told; [`Order::step`] is the step that it makes. [`token`] splits a text into words, each a [`Keyword`]
-//! or a number. [`print_line`] prints the line of a step's outcome, [`print_progress`] that of a [`Progress`].
-//! `specs/Spelling.antt` says how a line is spelled, `specs/Lines.antt` where lines end, `specs/Printed.antt` what is printed, and
-//! [`laws`] that no text has two meanings.
+//! [`Language`] says which of the two languages the line is in. An order is a step of a migration, the push of a page, or a report of
+//! progress; [`Order::step`] is the step that it makes. [`token`] splits a text into words, each a [`Keyword`] or a number.
+//! [`print_line`] prints the line of a step's outcome, [`print_progress`] that of a [`Progress`].
+//! `specs/Spelling.antt` defines how a line is spelled, `specs/Lines.antt` where lines end, and `specs/Printed.antt` what is printed.
+//! [`laws`] says that no text has two meanings.
 //!
-//! The crate owns no state. It runs nothing and reads and writes nothing: texts are slices of the caller's, and what is printed
-//! goes behind a `String` of the caller's.
+//! The crate owns no state. It runs nothing, and reads and writes nothing: texts are slices of the caller's, and printed lines are
+//! appended to a `String` of the caller's.
 #![tactic(auto)]
 
 pub mod keyword;

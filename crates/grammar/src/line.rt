@@ -1,12 +1,12 @@
-//! What a line says.
+//! Lines and their languages.
 
 use crate::order::Order;
 use mig_base::Entry;
 
-/// In which language lines are written.
+/// The language in which lines are written.
 #[derive(Clone, Copy, Debug, PartialEq, Eq)]
 pub enum Language {
-    /// Orders to a world.
+    /// Orders for a world.
     Script,
     /// Commands that took effect, with their replies.
     Transcript,
@@ -15,9 +15,9 @@ pub enum Language {
 /// What a line says.
 #[derive(Clone, Copy, Debug, PartialEq, Eq)]
 pub enum Line {
-    /// Nothing: it is empty, or a comment.
+    /// Nothing: the line is empty, or a comment.
     Skipped,
-    /// A world is to do something.
+    /// An order for a world.
     Do(Order),
     /// A command took effect.
     Enter(Entry),

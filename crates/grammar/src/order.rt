@@ -1,4 +1,4 @@
-//! What a line of a script asks of a world.
+//! Orders, the lines of a script.
 
 ghost use Rattle.std.specs.Prelude.{◌≡◌};
 ghost use Rattle.grammar.specs.Orders.{step_of};
@@ -9,20 +9,20 @@ use mig_base::schedule::{Step, Ticket};
 /// What a line of a script asks of a world.
 #[derive(Clone, Copy, Debug, PartialEq, Eq)]
 pub enum Order {
-    /// A step is to be made. No line spells a push so.
+    /// A step. No line spells a push as a step.
     Make(Step),
-    /// An owed page is to be sent, on the urgent wire or on the other. Without an epoch the world's present one is meant.
+    /// The push of an owed page, on the urgent wire or on the other. Without an epoch it means the world's present one.
     Push {
         urgent: bool,
         page: PageNo,
         epoch: Option<u32>,
     },
-    /// It is to be told how far the migration has come.
+    /// A report of how far the migration has come.
     Progress,
 }
 
 impl Order {
-    /// The step that is to be made in a world with this epoch. None where progress is to be told.
+    /// The step that it makes in a world with this epoch, and `None` for a report of progress.
     pub fn step(self, present: u32) -> Option<Step>
         ensures { result ≡ step_of self present }
     {

@@ -1,4 +1,4 @@
-//! What a line asks for.
+//! Reading a line.
 
 ghost use Rattle.std.specs.Prelude.{◌↔◌, IsTrue, IfOk, IfSome, IfNone};
 ghost use Rattle.grammar.specs.declared.line.Line.{Line as LineOf};
@@ -11,7 +11,7 @@ use crate::parse_order::order_in;
 use crate::token::{Token, skip_spaces};
 use mig_base::NoMemory;
 
-/// Whether there is nothing to do: no word, or a comment.
+/// Whether a line has nothing to do: no word, or a comment.
 fn is_nothing(text: &[u8]) -> bool
     ensures { IsTrue result ↔ IsNothing (words_of text.now) }
 {
@@ -21,8 +21,8 @@ fn is_nothing(text: &[u8]) -> bool
     }
 }
 
-/// What the text of a line, without its ending, asks for in a language: `None` if it is no line of it. The tokens are
-/// replaced, and serve only to keep their room from line to line.
+/// Reads the text of a line, without its line feed, in a language: `None` if it is not a line of it. The tokens are replaced; they only
+/// keep their room from line to line. `NoMemory` comes if room for tokens is refused.
 pub fn parse(
     language: Language,
     tokens: &mut Vec<Token>,

@@ -1,5 +1,5 @@
-//! The command that the words of a line stand for, without its processor. `specs/Parsing.antt` has it again, and
-//! `specs/Spelling.antt` says from the command what its words are. They are inlined as those of `parse_order` are.
+//! Reading the command of a line, without its processor. `specs/Parsing.antt` repeats these functions, and `specs/Spelling.antt` defines
+//! the words of a command. They are inlined like those of `parse_order`.
 
 ghost use Rattle.std.specs.Prelude.{◌≡◌};
 ghost use Rattle.grammar.specs.Parsing.{prot_from, place_from, target_from, access_from, mmap_from, mremap_from, map_call_from, command_from};

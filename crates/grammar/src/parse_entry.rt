@@ -1,4 +1,4 @@
-//! What a line of a transcript says: an entry, which is a processor, its command, `=>` and the reply.
+//! Reading a line of a transcript: an entry, which is a processor, its command, `=>` and the reply.
 
 ghost use Rattle.std.specs.Prelude.{◌≡◌, None, Some, IfOk, IfSome, IfNone};
 ghost use Rattle.mig_base.specs.declared.command.Entry.{Entry as EntryOf};
@@ -60,7 +60,7 @@ fn is_arrow(token: Token) -> bool
     }
 }
 
-/// What comes before the first `=>`, and what comes after it.
+/// The tokens before the first `=>`, and those after it.
 fn split_reply(tokens: &[Token]) -> Option<(&[Token], &[Token])>
     ensures found { IfSome result (λ parts. at_arrow tokens.now ≡ Some (parts.0.now, parts.1.now)) }
     ensures none { IfNone result (at_arrow tokens.now ≡ None) }
@@ -93,7 +93,7 @@ fn entry_of(tokens: &[Token]) -> Option<Entry>
     }
 }
 
-/// The entry that the words of a text spell. The tokens are replaced.
+/// The entry that the words of a text spell, if any. The tokens are replaced. `NoMemory` comes if room for tokens is refused.
 pub fn entry_in(tokens: &mut Vec<Token>, text: &[u8]) -> Result<Option<Entry>, NoMemory>
     ensures found { IfOk result (λ found. IfSome found (λ entry. SpellsEntry (words_of text.now) entry)) }
     ensures none { IfOk result (λ found. IfNone found ((entry : EntryOf) → SpellsEntry (words_of text.now) entry → ⊥)) }

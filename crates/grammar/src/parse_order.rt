@@ -1,10 +1,10 @@
-//! What a line of a script asks for.
+//! Reading a line of a script.
 //!
-//! Each word is a [`Keyword`] or a number, so a line is a list of [`Token`]s. The first word says what is asked for, and each kind
-//! has a function over the tokens behind it. They stand again in `specs/Parsing.antt`, and `specs/Spelling.antt` says from the
-//! order what its tokens are; `proofs/Orders.antt` has one case for each kind in both directions.
+//! Each word is a [`Keyword`] or a number, so a line is a list of [`Token`]s. The first word is the kind of the order, and each kind
+//! has a function over the tokens behind it. `specs/Parsing.antt` repeats these functions, and `specs/Spelling.antt` defines the tokens
+//! of an order; `proofs/Orders.antt` has one case for each kind in both directions.
 //!
-//! An order has many words, and each call would copy it, so those that make one of tokens are inlined.
+//! An order is several machine words wide, and each call would copy it, so the functions that build one are inlined.
 
 ghost use Rattle.std.specs.Prelude.{◌≡◌, IfOk, IfSome, IfNone};
 ghost use Rattle.grammar.specs.declared.order.Order.{Order as OrderOf};
@@ -44,7 +44,7 @@ fn epoch_of(tokens: &[Token]) -> Option<Option<u32>>
     }
 }
 
-/// How many bytes are to be moved: as many as there are where no number is written.
+/// The number of bytes to move: the greatest if no number is written.
 #[tactic(auto, unfolding(crate::specs::Parsing::bytes_from))]
 fn bytes_of(tokens: &[Token]) -> Option<u64>
     ensures { result ≡ bytes_from tokens.now }
@@ -130,7 +130,7 @@ fn push_of(urgent: bool, tokens: &[Token]) -> Option<Order>
     }
 }
 
-/// The order that a word stands for where no other follows.
+/// The order that a word stands for if no other follows.
 #[tactic(auto, unfolding(crate::specs::Parsing::word_from))]
 fn word_of(word: Keyword) -> Option<Order>
     ensures { result ≡ word_from word }
@@ -154,7 +154,7 @@ fn word_of(word: Keyword) -> Option<Order>
     }
 }
 
-/// The order of a word alone.
+/// The same; `None` if another word follows.
 #[tactic(auto, unfolding(crate::specs::Parsing::alone_from))]
 fn alone(word: Keyword, behind: &[Token]) -> Option<Order>
     ensures { result ≡ alone_from word behind.now }
@@ -203,7 +203,7 @@ fn order_of(tokens: &[Token]) -> Option<Order>
     }
 }
 
-/// The order that the words of a text spell. The tokens are replaced.
+/// The order that the words of a text spell, if any. The tokens are replaced. `NoMemory` comes if room for tokens is refused.
 pub fn order_in(tokens: &mut Vec<Token>, text: &[u8]) -> Result<Option<Order>, NoMemory>
     ensures found { IfOk result (λ found. IfSome found (λ order. SpellsOrder (words_of text.now) order)) }
     ensures none { IfOk result (λ found. IfNone found ((order : OrderOf) → SpellsOrder (words_of text.now) order → ⊥)) }

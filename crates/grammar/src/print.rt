@@ -1,4 +1,4 @@
-//! How the outcome of a step is printed.
+//! Printing the outcome of a step.
 
 ghost use Rattle.std.specs.Prelude.{◌≡◌, ◌++◌, ◌∷◌, [], Ok, OnOk, OnErr, Some, string_bytes};
 ghost use Rattle.mig_base.specs.declared.command.Reply.TheVariants as reply;
@@ -15,7 +15,7 @@ use report::ReplyText;
 use std::alloc::AllocError;
 use std::fmt;
 
-/// The room that is made for a line, in bytes: more than any has.
+/// The room that is reserved for a line, in bytes: no line is longer.
 const LINE: usize = 128;
 
 /// The name of a refusal.
@@ -53,7 +53,7 @@ fn kind_of(wp: bool) -> &'static str
     }
 }
 
-/// How far a destination had come.
+/// How far a destination has come.
 fn state_of(received: Received) -> &'static str
     ensures { result.now ≡ state_text received }
 {
@@ -94,7 +94,7 @@ impl fmt::Display for EventText {
     }
 }
 
-/// What the text of an effect has behind its first words. Where that begins with an address, its `0x` is one of these.
+/// What follows the first words of an effect's text. If it begins with an address, its `0x` belongs to those words.
 #[derive(Clone, Copy)]
 enum Tail {
     Nothing,
@@ -148,7 +148,7 @@ enum Tail {
     Side(Side),
 }
 
-/// The first words of the text of an effect, and what is behind them.
+/// The first words of an effect's text, and what follows them.
 fn parts_of(effect: &Effect) -> (&'static str, Tail)
     ensures { effect_text effect.now ≡ result.0.now ++ tail_text result.1 }
 {
@@ -195,7 +195,7 @@ fn parts_of(effect: &Effect) -> (&'static str, Tail)
     }
 }
 
-/// The text behind the first words of an effect's.
+/// The text that follows the first words.
 #[derive(Clone, Copy)]
 struct TailText(Tail);
 
@@ -247,15 +247,15 @@ fn write_value(text: &mut String, cpu: u8, value: u64) -> Result<(), AllocError>
     write!(text, "cpu {cpu} value 0x{value:x}\n")
 }
 
-/// Writes the line of a command that is done.
+/// Writes the line of a command whose reply is `done`.
 fn write_done(text: &mut String, cpu: u8) -> Result<(), AllocError>
     ensures { OnOk result (string_bytes text.new ≡ string_bytes text.old ++ outcome_text (Ok (effect.Answered cpu reply.Done)) ++ 10 ∷ []) }
 {
     write!(text, "cpu {cpu} done\n")
 }
 
-/// Writes the line of an outcome behind a text. The answers that nearly all commands have are written at once: part by part is slower.
-/// It is made where it is called, so that an outcome is not copied once more.
+/// Appends the line of an outcome to a text. The replies of nearly all commands are written in one go: part by part is slower. It is
+/// inlined, so that an outcome is not copied once more.
 #[inline(always)]
 #[tactic(auto, unfolding(crate::specs::Printed::outcome_line))]
 fn write_line(text: &mut String, outcome: &Result<Effect, Refusal>) -> Result<(), AllocError>
@@ -286,7 +286,7 @@ fn write_line(text: &mut String, outcome: &Result<Effect, Refusal>) -> Result<()
     }
 }
 
-/// Prints the line of an outcome, with its line feed, behind a text. Out of memory leaves the text as it was.
+/// Appends the line of an outcome, with its line feed, to a text. `NoMemory` leaves the text as it was.
 pub fn print_line(text: &mut String, outcome: &Result<Effect, Refusal>) -> Result<(), NoMemory>
     ensures ok { OnOk result (string_bytes text.new ≡ string_bytes text.old ++ outcome_line outcome.now) }
     ensures err { OnErr result (string_bytes text.new ≡ string_bytes text.old) }

@@ -1,4 +1,4 @@
-//! How far a migration has come, as it is told.
+//! Reports of how far a migration has come.
 
 ghost use Rattle.std.specs.Prelude.{◌≡◌, ◌++◌, OnOk, OnErr, Some, string_bytes};
 ghost use Rattle.grammar.specs.Printed.{phase_text, sent_text, handled_text, progress_text, progress_line};
@@ -6,7 +6,7 @@ ghost use Rattle.grammar.specs.Printed.{phase_text, sent_text, handled_text, pro
 use mig_base::{NoMemory, WorldPhase};
 use std::fmt;
 
-/// The room that is made for a line, in bytes: more than any has.
+/// The room that is reserved for a line, in bytes: no line is longer.
 const LINE: usize = 192;
 
 /// How far a migration has come.
@@ -21,7 +21,7 @@ pub struct Progress {
     pub left: u32,
     /// Copies that the destination has installed.
     pub installed: u64,
-    /// Copies that it has given up.
+    /// Copies that it has dropped.
     pub dropped: u64,
     /// Page faults that the handler of either node has read.
     pub faults: u64,
@@ -40,7 +40,7 @@ fn name_of(phase: WorldPhase) -> &'static str
     }
 }
 
-/// What the source has done, and what is left.
+/// The source's part of a report: rounds, pages sent, and pages left.
 #[derive(Clone, Copy)]
 struct SentText {
     rounds: u32,
@@ -60,7 +60,7 @@ impl fmt::Display for SentText {
     }
 }
 
-/// What has become of copies and of faults.
+/// The other part of a report: copies installed, copies dropped, and page faults.
 #[derive(Clone, Copy)]
 struct HandledText {
     installed: u64,
@@ -99,7 +99,7 @@ impl fmt::Display for Progress {
     }
 }
 
-/// Prints the line of a report, with its line feed, behind a text. Out of memory leaves the text as it was.
+/// Appends the line of a report, with its line feed, to a text. `NoMemory` leaves the text as it was.
 #[tactic(auto, unfolding(crate::specs::Printed::progress_line))]
 pub fn print_progress(text: &mut String, progress: Progress) -> Result<(), NoMemory>
     ensures ok { OnOk result (string_bytes text.new ≡ string_bytes text.old ++ progress_line progress) }

@@ -1,4 +1,4 @@
-//! The words of a line, and what each stands for.
+//! The words of a line, and the tokens for which they stand.
 
 ghost use Rattle.std.specs.Prelude.{◌≡◌, ◌≢◌, ◌+◌, ◌<◌, ◌≤◌, ◌^◌, ◌++◌, ℕ, List, [], ◌∷◌, Some, length, slice_get, IsTrue, ◌↔◌, IfOk, IfSome, IfNone};
 ghost use Rattle.std.specs.Bool.{OnTrue, OnFalse};
@@ -11,7 +11,7 @@ use crate::keyword::Keyword;
 use memchr::memchr;
 use mig_base::NoMemory;
 
-/// What a word of a line stands for.
+/// A token: what a word of a line stands for.
 #[derive(Clone, Copy, Debug, PartialEq, Eq)]
 pub enum Token {
     Key(Keyword),
@@ -57,7 +57,7 @@ fn token_of(word: &[u8]) -> Option<Token>
     }
 }
 
-/// The text from its first byte on that is no space.
+/// The text without leading spaces.
 pub fn skip_spaces(text: &[u8]) -> &[u8]
     ensures words { words_of result.now ≡ words_of text.now }
     ensures front { slice_get result.now 0 ≢ Some 32 }
@@ -70,7 +70,7 @@ pub fn skip_spaces(text: &[u8]) -> &[u8]
     rest
 }
 
-/// The first word of a text, and what comes after it.
+/// The first word of a text, and what comes after it; `None` if there is no word.
 pub fn next_word(text: &[u8]) -> Option<(&[u8], &[u8])>
     ensures found { IfSome result (λ parts. FirstWord text.now parts.0.now parts.1.now) }
     ensures none { IfNone result (words_of text.now ≡ []) }
@@ -85,7 +85,8 @@ pub fn next_word(text: &[u8]) -> Option<(&[u8], &[u8])>
     }
 }
 
-/// Puts what the words of a text stand for in the place of these tokens. False if a word stands for none.
+/// Replaces the tokens by those of the words of a text. Stops with false at a word that stands for none, and with `NoMemory` if room is
+/// refused; the tokens before it stay.
 pub fn read_tokens(tokens: &mut Vec<Token>, text: &[u8]) -> Result<bool, NoMemory>
     ensures found { IfOk result (λ found. OnTrue found (AreTokens tokens.new.items (words_of text.now))) }
     ensures none { IfOk result (λ found. OnFalse found ((tokens : List TokenOf) → AreTokens tokens (words_of text.now) → ⊥)) }

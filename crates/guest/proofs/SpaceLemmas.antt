@@ -22,6 +22,7 @@ use Rattle.uffd_ioctl.specs.declared.fault.CopyFault.{CopyFault}
 use Rattle.guest.specs.Lent.{IsLent}
 use Rattle.mig_model.proofs.SourceRounds.{present_mapped}
 use Rattle.mig_model.proofs.PageCalls.{every_one, same_prot_self, same_bool_self}
+use Rattle.uffd_ioctl.proofs.InstallLemmas.{quiet_tested}
 
 -- Pages of a space
 
@@ -44,9 +45,6 @@ right_range first count low some high =
 
 pub five_none : {A : Type 0} (a b c d e : Bool) (v w x y z : A) → a ≡ false → b ≡ false → c ≡ false → d ≡ false → e ≡ false → first_holding ((a, v) ∷ (b, w) ∷ (c, x) ∷ (d, y) ∷ (e, z) ∷ []) ≡ None
 five_none a b c d e v w x y z h k l m n = rw (h, k, l, m, n) refl
-
-pub none_unread : (count : ℕ) → count ≡ 0 → ltb 0 count ≡ false
-none_unread count h = rw h refl
 
 pub ok_no_err : {A E : Type 0} {a : A} {e : E} → Ok a ≡ Err e → ⊥
 ok_no_err h = cc
@@ -94,7 +92,7 @@ zero_accepted space page start can start_is =
     let mapped = not-false (contains_key space.host.areas page) (or_parts (not (contains_key space.host.areas page)) (not (is_registered space.object page)) can.watched).0 in
     let high = below_high space page can.sound mapped in
     five_none (not space.object.enabled) false (is_bad_range start 4096) (ltb 0 (changing space.object)) _ Einval Einval Einval Eagain Enoent
-    (not_from_true space.object.enabled can.lent.enabled) refl (rw start_is (right_range page 1 (from_low space page can.lent mapped) (omega arith) (omega (arith, high)))) (none_unread (changing space.object) can.quiet)
+    (not_from_true space.object.enabled can.lent.enabled) refl (rw start_is (right_range page 1 (from_low space page can.lent mapped) (omega arith) (omega (arith, high)))) (quiet_tested (changing space.object) can.quiet)
     (rw page_is (not_from_true _ (one_area space page can.watched)))
 
 one_missing : (space : Space) (page start : ℕ) → CanInstall space page → start ≡ 4096 * page → missing_run space (start / 4096) 1 ≡ 1

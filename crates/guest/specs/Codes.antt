@@ -1,4 +1,4 @@
--- How a proof tells guests apart, and faults that are held, for models that contain them.
+-- Codes of guests and of held faults: proofs about models that contain them compare them by these.
 use Rattle.std.specs.Prelude.{ℕ, Bool, List, refl}
 use Rattle.std.specs.Coded.{Coded, code_by, coded×, coded_ℕ, coded_bool, coded_list}
 use Rattle.mig_base.specs.declared.cpu_state.CpuState.{CpuState}
@@ -12,6 +12,6 @@ abbrev pub coded_guest : Coded Guest
 coded_guest =
     code_by (Space × List CpuState) (coded× coded_space (coded_list cpu_state.the_row.coded)) (λ guest. (guest.space, guest.cpus)) (λ p. record { space = p.0; cpus = p.1 }) (λ _. refl)
 
--- the code of a fault that is held
+-- the code of a held fault
 abbrev pub coded_fault : Coded Fault
 coded_fault = code_by (ℕ × Bool) (coded× coded_ℕ coded_bool) (λ fault. (fault.page, fault.wp)) (λ p. record { page = p.0; wp = p.1 }) (λ _. refl)

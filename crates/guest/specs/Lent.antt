@@ -5,7 +5,7 @@ use Rattle.mig_base.specs.declared.TheConstants.{LOW_PAGE}
 use Rattle.mig_model.specs.Space.{Space}
 use Rattle.mig_model.specs.Ioctls.{has_events}
 
--- what a node asks of its space: the object is enabled, for the three events at least, and nothing is mapped below the lowest address
+-- the space may be lent: its object is enabled, for the three events at least, and nothing is mapped below the lowest address
 pub record IsLent (space : Space) : Type 0 where
   pub enabled : space.object.enabled ≡ true
   pub events : has_events space.object ≡ true

@@ -1,4 +1,4 @@
-//! The two calls: a command that begins, and one that is tried again.
+//! The two calls for commands: one begins a command, the other tries it again.
 
 ghost use Rattle.std.specs.Prelude.{◌≡◌, None, option_to_list, unwrap_or, IfOk, IfErr, OnOk, OnErr};
 ghost use Rattle.mig_base.specs.Commands.{is_access};
@@ -14,8 +14,8 @@ use mig_base::refusal::Refusal;
 use uffd_ioctl::Space;
 use vcpu::Cpus;
 
-/// A processor makes a command; `runs` says whether this node runs the processors. `NoCpu` where there is no such processor, `Busy`
-/// unless it is idle, `Phase` unless the node runs the processors, and then `NoMemory`. A refusal changes nothing.
+/// Has a processor make a command; `runs` says whether this node runs the processors. `NoCpu` if there is no such processor, `Busy`
+/// unless it is idle, `Phase` unless the node runs the processors, and last `NoMemory`. A refusal changes nothing.
 #[inline(always)]
 pub fn issue(
     space: &mut Space,
@@ -41,9 +41,9 @@ pub fn issue(
     Ok(took.begin(cpus, cpu, command))
 }
 
-/// A processor that was woken tries its load or store again; `runs` says whether this node runs the processors. `NoCpu` where there is
-/// no such processor, `NotAsleep` where it is idle or in a call, `NotWoken` where it still sleeps, `Phase` unless the node runs the
-/// processors, and then `NoMemory`. A refusal changes nothing.
+/// Has a processor that was woken try its load or store again; `runs` says whether this node runs the processors. `NoCpu` if there is
+/// no such processor, `NotAsleep` if it is idle or in a map call, `NotWoken` if it still sleeps, `Phase` unless the node runs the
+/// processors, and last `NoMemory`. A refusal changes nothing.
 #[inline(always)]
 pub fn retry(space: &mut Space, cpus: &mut Cpus, cpu: u8, runs: bool) -> Result<Tried, Refusal>
     ensures accepted { OnOk result (retry_refusal cpus.old cpu runs ≡ None) }

@@ -1,11 +1,11 @@
-//! A page fault that a handler has read, and not resolved yet.
+//! A page fault that a handler has read and not resolved yet.
 
 ghost use Rattle.std.specs.Prelude.{◌≡◌, ◌*◌};
 
 use mig_base::{Addr, PAGE_SIZE};
 use std::marker::Model;
 
-/// A page fault: its page, and whether it is a write-protect one.
+/// A page fault: its page, and whether it is a write-protect fault.
 #[derive(Drop)]
 pub struct Fault {
     addr: Addr,
@@ -27,21 +27,21 @@ impl Model for Fault {
 impl Fault {
     ghost use Rattle.std.specs.Prelude.{◌/◌};
 
-    /// A fault of the page of an address.
+    /// A fault on the page of an address: a write-protect fault if `wp`, else a missing fault.
     pub fn new(addr: Addr, wp: bool) -> Self
         ensures { result ≡ record { page = addr / 4096; wp = wp } }
     {
         Fault { addr, wp }
     }
 
-    /// The number of its page, which may lie past the address space.
+    /// The page number, which may lie past the address space.
     pub fn page(&self) -> u64
         ensures { result ≡ self.now.page }
     {
         self.addr / PAGE_SIZE
     }
 
-    /// The address of its page.
+    /// The address at which its page begins.
     pub fn addr(&self) -> Addr
         ensures { result ≡ 4096 * self.now.page }
     {

@@ -1,5 +1,5 @@
-//! What holds of a space over all calls, as a law: a function that does nothing, whose contract is the law. The calls stand in it as
-//! what the machine makes, which their contracts say that they make.
+//! What holds for a space across all calls, as a law: a function that does nothing and whose contract is the law. Calls appear in it
+//! as functions of the machine; the contract of each call equates the two.
 
 ghost use Rattle.std.specs.Prelude.{◌≡◌, ℕ, true, false, List};
 ghost use Rattle.mig_base.specs.Commands.{is_access};
@@ -11,9 +11,9 @@ ghost use Rattle.mig_model.specs.Ioctls.{has_events, installed, protected_in};
 ghost use Rattle.mig_model.specs.Source.{Source, all_registered, source_acted, space_of};
 ghost use Rattle.guest.specs.Lent.{IsLent};
 
-/// A space that may be lent stays one: its object stays enabled for the events, and no page below the lowest address is mapped, after
-/// each call of a handler and after each load, store and map call of a processor. A space in which nothing is mapped may be lent once
-/// its object is enabled for the events.
+/// A space that may be lent stays so across each call of a handler and each load, store and map call of a processor: its object stays
+/// enabled for the events, and no page below the lowest address is mapped. A space in which nothing is mapped may be lent once its
+/// object is enabled for the events.
 pub fn a_lent_space_stays_lent()
     ensures new { (features : ℕ) → has_events (enabled_with fresh_object features) ≡ true → IsLent (record fresh_space { object = enabled_with fresh_object features }) }
     ensures register_new { (space : Space) → IsLent space → IsLent (all_registered space) }

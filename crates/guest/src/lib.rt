@@ -1,19 +1,19 @@
-//! What a node makes of its guest: of a command, of a message of the userfault object, and of a page that is missing.
+//! The guest of a node: its commands, the messages of its userfault object, and its missing pages.
 //!
 //! [`issue`] has a processor make a command, and [`retry`] has a processor that was woken try its load or store again. The command is
-//! made in the address space, and the processor is idle, sleeps, or is in a call then, as userfaultfd(2) has it. [`read`] reads the next
-//! message, and wakes those whose pages are gone; [`make_zeros`] and [`install`] make a page present. Both nodes of a migration call
-//! them: the address space and the processors are lent, and belong to the node, which also says whether it is the one that runs them.
+//! made in the address space; the processor is then idle, asleep, or in a map call, as userfaultfd(2) describes. [`read`] reads the
+//! next message, and wakes those whose pages are gone; [`make_zeros`] and [`install`] make a page present. Both nodes of a migration
+//! call these functions: a node lends its address space and its processors, and says whether it is the node that runs them.
 //!
-//! The crate owns nothing but the form of a [`Fault`] that a node holds, and deliberately knows no log, no wire and no transcript: what
-//! took effect is answered, and whoever keeps the transcript enters it. It resolves no fault, and wakes nobody whose page is made
+//! The crate owns nothing but the type [`Fault`], a fault that a node holds. It deliberately knows no log, no wire and no transcript:
+//! it returns what took effect, and whoever keeps the transcript enters it. It resolves no fault, and wakes nobody when it makes a page
 //! present.
 //!
-//! Contracts see the two as the machine's guest (`mig_model`, `specs/Guest.antt`), a command as its `tried`, and a message as its
-//! `read_guest`, or a refusal that changes nothing; `specs/Answers.antt` says when each command is refused, and `specs/Lent.antt` what
-//! is asked of the space. The modules follow: `commands` (commands that begin or are tried again), `tried` (what they answer), `took`
-//! (what a command comes to, and the processor then), `messages` (messages that are read), `pages` (pages that are made present),
-//! `fault` (a fault that is held), and `laws` (what holds over all calls).
+//! Contracts see the space and the processors as the machine's guest (`mig_model`, `specs/Guest.antt`), a command as its `tried`, and
+//! a message as its `read_guest`, or else a refusal that changes nothing; `specs/Answers.antt` says when each command is refused, and
+//! `specs/Lent.antt` what the calls require of the space. The modules follow: `commands` (commands that begin or are tried again),
+//! `tried` (their result), `took` (the outcome of a command, and the processor then), `messages` (reading messages), `pages` (making
+//! pages present), `fault` (a held fault), and `laws` (what holds across all calls).
 #![tactic(auto)]
 
 mod commands;

@@ -13,9 +13,9 @@ use mig_base::effect::Effect;
 use uffd_ioctl::Space;
 use vcpu::Cpus;
 
-/// Reads the next message of the guest's userfault object, and answers it with what is told of it; none where no message waits. Those
-/// that sleep on pages that are gone, or have moved away, are woken, and with the last message of its call the processor is handed its
-/// reply. It takes no memory.
+/// Reads the next message of the guest's userfault object, and returns it with the effect of the step; `None` if there is no message.
+/// It wakes the processors that sleep on pages that are gone or have moved away. With the last message of its map call the calling
+/// processor is handed its reply. It takes no memory.
 ///
 /// The space is one that a node lends: its userfault object is enabled for the three events, and no page below 0x10000 is mapped.
 pub fn read(space: &mut Space, cpus: &mut Cpus) -> Option<(Message, Effect)>
@@ -36,7 +36,7 @@ pub fn read(space: &mut Space, cpus: &mut Cpus) -> Option<(Message, Effect)>
     Some((message, effect))
 }
 
-/// An event of a processor was read.
+/// Counts an event as read for the processor that caused it, wakes those whose pages are gone, and returns the effect.
 fn read_event(cpus: &mut Cpus, event: Message, cpu: u8) -> Effect
     requires { fault_count event ≡ 0 }
     ensures effect { result ≡ event_effect event cpu (handed_over (processor_at cpus.old cpu)) }
@@ -50,7 +50,7 @@ fn read_event(cpus: &mut Cpus, event: Message, cpu: u8) -> Effect
     }
 }
 
-/// Wakes those that sleep on pages that are gone, or have moved away.
+/// Wakes the processors that sleep on pages that are gone or have moved away.
 fn wake_left(cpus: &mut Cpus, event: Message)
     requires { fault_count event ≡ 0 }
     ensures { cpus.new ≡ all_woken (is_left_by event) cpus.old }

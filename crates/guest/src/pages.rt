@@ -1,4 +1,4 @@
-//! Pages that a handler makes present.
+//! Making pages present, for a handler.
 
 ghost use Rattle.std.specs.Prelude.{◌≡◌, false, OnOk, OnErr, IfErr};
 ghost use Rattle.mig_model.specs.Userfault as object;
@@ -9,7 +9,7 @@ ghost use Rattle.guest.specs.Lent.{IsLent};
 use mig_base::{NoMemory, PAGE_SIZE, PageBytes, PageNo, page_address};
 use uffd_ioctl::Space;
 
-/// Makes a missing page present, with zeros. Out of memory changes nothing.
+/// Makes a missing page present, with zeros. `NoMemory` changes nothing.
 ///
 /// The space is one that a node lends, as for [`crate::read`]. No event of it is unread, and the page is registered.
 pub fn make_zeros(space: &mut Space, page: PageNo) -> Result<(), NoMemory>
@@ -27,8 +27,8 @@ pub fn make_zeros(space: &mut Space, page: PageNo) -> Result<(), NoMemory>
     }
 }
 
-/// Makes a missing page present, with these bytes, which are not copied. On an error, which is want of memory, they come back, and
-/// nothing is changed.
+/// Makes a missing page present, with these bytes, which are not copied. The only error is that memory runs out; it returns the bytes
+/// and changes nothing.
 ///
 /// The space is one that a node lends, as for [`crate::read`]. No event of it is unread, and the page is registered.
 pub fn install(space: &mut Space, page: PageNo, bytes: PageBytes) -> Result<(), PageBytes>

@@ -1,4 +1,4 @@
-//! What a command comes to.
+//! The outcome of a command.
 
 ghost use Rattle.std.specs.Prelude.{◌≡◌, ◌<◌, set, length, option_to_list, IfOk, OnOk, OnErr};
 ghost use Rattle.mig_base.specs.Commands.{is_access};
@@ -15,19 +15,19 @@ use mig_base::{Access, Command, Entry, NoMemory, Reply};
 use uffd_ioctl::Space;
 use vcpu::Cpus;
 
-/// What a command comes to.
+/// The outcome of a command in the space.
 #[derive(Clone, Copy)]
 pub enum Took {
-    /// It is answered.
+    /// The command is answered.
     Answer(Reply),
-    /// The processor sleeps on its page.
+    /// The processor has to sleep on the page of the command.
     Sleep,
-    /// The map call goes on until that many messages have been read.
+    /// The map call goes on until `left` messages have been read.
     Call { reply: Reply, left: u8 },
 }
 
 impl Took {
-    /// Makes a command in the space. Out of memory changes nothing.
+    /// Makes a command in the space. `NoMemory` changes nothing.
     pub fn of(space: &mut Space, cpu: u8, command: Command) -> Result<Self, NoMemory>
         ensures took { IfOk result (λ took. took_of took ≡ took_in space.old command) }
         ensures outcome { IfOk result (λ took. IsOutcome command took) }
@@ -47,8 +47,9 @@ impl Took {
         }
     }
 
-    /// The processor, which is idle, then does what the command came to.
-    // What it answers is large, and is not to be copied on its way to the transcript.
+    // Inlined, because the result is large and should not be copied on its way to the transcript.
+    /// Puts the processor, which is idle, into the state of this outcome: it stays idle, sleeps, or is in a map call. Returns the effect
+    /// and the entry for the transcript.
     #[inline(always)]
     pub fn begin(self, cpus: &mut Cpus, cpu: u8, command: Command) -> Tried
         requires cpu { cpu < length cpus.old }

@@ -1,13 +1,13 @@
-//! What a call answers.
+//! The result of a command.
 
 use mig_base::Entry;
 use mig_base::effect::Effect;
 
-/// What a command came to.
+/// The result of a command that was begun or tried again.
 #[derive(Clone, Copy, Debug, PartialEq, Eq)]
 pub struct Tried {
-    /// As it is told.
+    /// The effect of the step.
     pub effect: Effect,
-    /// The entry that it makes in the transcript, none where its processor sleeps. A map call that goes on makes its entry at once.
+    /// Its entry in the transcript, `None` if the processor sleeps. A map call that goes on has its entry at once.
     pub entry: Option<Entry>,
 }

@@ -20,7 +20,7 @@ enum Call {
     /// At a node that does not run the processors.
     IssueAway(u8, Command),
     RetryAway(u8),
-    /// Registers the mapped pages of so many bytes in both modes.
+    /// Registers the mapped pages of this many bytes from an address on in both modes.
     Register(Addr, u64),
     /// Makes a missing page zeros, and wakes its sleepers.
     MakeZeros(Addr),
@@ -58,7 +58,7 @@ enum Answer {
 
 use Answer::{Answered, Asleep, Done, Event, Fault, InCall, Is, Unfit};
 
-/// What a command came to.
+/// The outcome of a command.
 fn told(tried: Tried) -> Answer {
     match (tried.effect, tried.entry) {
         (Effect::Asleep { cpu }, None) => Asleep(cpu),

@@ -37,7 +37,7 @@ impl Model for Host {
 }
 
 impl Host {
-    /// A host on which nothing is mapped.
+    /// A host on which nothing is mapped. It takes no memory.
     pub fn new(alloc: Global) -> Self
         ensures { result ≡ bare_host }
     {
@@ -46,7 +46,7 @@ impl Host {
         }
     }
 
-    /// A host of these areas and present pages. Each present page is mapped, and none is protected.
+    /// A host with these areas and present pages. Each present page has to be mapped, and none write-protected. It takes no memory.
     pub fn assemble(alloc: Global, areas: AreaMap, pages: PageTable) -> Self
         requires mapped { (page : ℕ) → map.get areas page ≡ None → map.get pages.bytes page ≡ None }
         requires open { pages.protected ≡ set.empty }
@@ -58,7 +58,7 @@ impl Host {
         Host { space }
     }
 
-    /// The present pages.
+    /// The set of the present pages. `NoMemory` if it cannot be allocated.
     pub fn present(&self) -> Result<PageSet, NoMemory>
         ensures { IfOk result (λ pages. (q : ℕ) → set.contains pages q ≡ map.contains_key self.now.bytes q) }
     {
@@ -72,14 +72,14 @@ impl Host {
         self.space.page(page)
     }
 
-    /// The mapped pages again, with their protections.
+    /// A copy of the mapped pages, with their protections. `NoMemory` if it cannot be allocated.
     pub fn areas(&self) -> Result<AreaMap, NoMemory>
         ensures { IfOk result (λ areas. areas ≡ self.now.areas) }
     {
         self.space.areas()
     }
 
-    /// Makes a command, and answers as one flat memory does. Want of memory changes nothing.
+    /// Makes a command, and returns the reply of one flat memory. `NoMemory` changes nothing.
     pub fn perform(&mut self, command: Command) -> Result<Reply, NoMemory>
         ensures reply { IfOk result (λ reply. reply ≡ reply_of (memory self.old) command) }
         ensures memory { OnOk result (memory self.new ≡ after (memory self.old) command) }

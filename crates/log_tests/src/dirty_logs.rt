@@ -25,7 +25,7 @@ enum Call {
     Plan,
     Send(PageNo),
     SendNext,
-    /// The least page of the round, and at most so many behind it without a gap.
+    /// A run from the lowest page of the round on, of at most this many pages.
     SendRun(u32),
     Read,
     Act,
@@ -393,7 +393,7 @@ fn the_next_page_is_the_least(rt: HostRuntime) -> Result<(), Fail> {
     play(&rt, rt.alloc(), &OUT_OF_TURN)
 }
 
-/// Faults that are held are given up at a switch.
+/// Held faults are dropped at a switch.
 const GIVEN_UP: [(Call, Result<Answer, Refusal>); 7] = [
     (
         Call::Issue(

@@ -9,19 +9,19 @@ use Rattle.mig_base.specs.declared.TheConstants.{PAGE_SIZE}
 unfoldable pub zero_page : List ℕ
 zero_page = replicate PAGE_SIZE 0
 
--- the bytes of a page, none where it is not present
+-- the bytes of a page, or none if it is not present
 abbrev pub page_at : FinMap nat_cmp (List ℕ) → ℕ → List ℕ
 page_at pages page = unwrap_or (get pages page) []
 
--- the bytes of a page, zeros where it is not present
+-- the bytes of a page, or zeros if it is not present
 abbrev pub contents : FinMap nat_cmp (List ℕ) → ℕ → List ℕ
 contents pages page = unwrap_or (get pages page) zero_page
 
--- the bytes of a page after others were written from a place on
+-- the bytes of a page after others were written over it from an offset on
 unfoldable pub overwrite : List ℕ → ℕ → List ℕ → List ℕ
 overwrite held offset bytes = take offset held ++ (bytes ++ drop (offset + length bytes) held)
 
--- the number of a list of bytes, the lowest first
+-- the number that bytes spell, the lowest first
 abbrev pub little_endian : List ℕ → ℕ
 little_endian [] = 0
 little_endian (byte ∷ bytes) = byte + 256 * little_endian bytes

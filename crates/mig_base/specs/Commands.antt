@@ -18,7 +18,7 @@ abbrev pub is_store : Command → Bool
 is_store (Store addr width value) = true
 is_store _ = false
 
--- the page that a load or store touches: an access that is aligned lies in one. 0 for a map call
+-- the page that a load or store touches: an aligned access lies in one page. 0 for a map call
 abbrev pub page_of : Command → ℕ
 page_of (Load addr width) = addr / PAGE_SIZE
 page_of (Store addr width value) = addr / PAGE_SIZE

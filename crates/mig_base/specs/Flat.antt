@@ -1,4 +1,4 @@
--- One flat memory: what the commands of the processors answer, and what they do to it. The map calls are those of mmap(2),
+-- One flat memory: what it answers to the commands of the processors, and what they do to it. The map calls are those of mmap(2),
 -- munmap(2), mremap(2) and madvise(2) for anonymous private mappings; where several errors apply, the order is this project's.
 -- Sums of addresses and lengths are whole numbers, which never wrap.
 use Rattle.std.specs.Prelude.{◌≡◌, ℕ, zero, suc, ◌+◌, ◌-◌, ◌*◌, ◌/◌, ◌%◌, ◌^◌, ◌==◌, ◌&&◌, ◌||◌, Bool, true, false, not, nat_lt, nat_le, if◌then◌else◌, Option, Some, None, is_some, List, [], ◌∷◌, ◌++◌}
@@ -53,7 +53,7 @@ clear memory start len = λ addr. if in_range start len addr then None else memo
 abbrev pub is_width : ℕ → Bool
 is_width width = width == 1 || width == 2 || width == 4 || width == 8
 
--- whether an access of that width may stand at the address: it then lies in one page
+-- whether an access of that width, in bytes, is aligned at the address: it then lies in one page
 abbrev pub is_aligned : ℕ → ℕ → Bool
 is_aligned addr width = is_width width && addr % width == 0
 
@@ -84,13 +84,13 @@ abbrev pub written : Option Cell → ℕ → Option Cell
 written None byte = None
 written (Some cell) byte = Some (record cell { byte = byte })
 
--- the memory with the `width` bytes of a number in place of what stood there
+-- the memory with the `width` bytes of a number stored from an address on, as far as they are mapped
 abbrev pub write : Memory → ℕ → ℕ → ℕ → Memory
 write memory addr width value =
     λ at. if in_range addr width at then written (memory at) (value / 256 ^ (at - addr) % 256) else memory at
 
--- the answer of an access whose form is right, from the cell at its first address: an access to a page that is not mapped,
--- or that its protection forbids, is a segmentation fault (mmap(2), ERRORS, SIGSEGV; SEGV_MAPERR and SEGV_ACCERR of sigaction(2))
+-- the answer to an access of the right form, by the cell at its first address: an access to a page that is not mapped, or whose
+-- protection forbids it, is a segmentation fault (mmap(2), ERRORS, SIGSEGV; SEGV_MAPERR and SEGV_ACCERR of sigaction(2))
 abbrev pub access_reply : Option Cell → (Prot → Bool) → Reply → Reply
 access_reply None allows answer = Segv false
 access_reply (Some cell) allows answer = if allows cell.prot then answer else Segv true
@@ -101,7 +101,7 @@ access_reply (Some cell) allows answer = if allows cell.prot then answer else Se
 abbrev pub first_refusal : List (Bool × Errno) → Reply → Reply
 first_refusal refusals answer = first_by (λ errno. Refused errno) refusals answer
 
--- at the place, if there is one
+-- the reply for a place: ENOMEM if there is none
 abbrev pub at_place : Option ℕ → Reply
 at_place None = Refused Enomem
 at_place (Some start) = At start
@@ -126,14 +126,14 @@ is_all_mapped memory start len = none_below (λ i. not (is_mapped memory (start 
 abbrev pub exceeds_limit : Memory → Bool
 exceeds_limit memory = nat_lt (PAGE_SIZE * MAX_PAGES) (mapped_count memory)
 
--- what refuses a place that is asked for, of a rounded length: it is no multiple of the page size (mmap(2), MAP_FIXED), it is
+-- why a place that is asked for is refused, with a rounded length: it is not a multiple of the page size (mmap(2), MAP_FIXED), it is
 -- longer than the address space, it begins below the least address that may be mapped (mmap(2), DESCRIPTION, of
 -- /proc/sys/vm/mmap_min_addr; the kernel answers EPERM), or it ends past the address space
 abbrev pub place_refusals : ℕ → ℕ → List (Bool × Errno)
 place_refusals addr size =
     (not (is_page_start addr), Einval) ∷ (nat_lt (HIGH - LOW) size, Enomem) ∷ (nat_lt addr LOW, Eperm) ∷ (nat_lt HIGH (addr + size), Enomem) ∷ []
 
--- mmap(2), ERRORS: EINVAL for a length of 0, ENOMEM where the range has no room or the limit of pages would be passed; EEXIST
+-- mmap(2), ERRORS: EINVAL for a length of 0, ENOMEM if the range has no room or the limit of pages would be exceeded; EEXIST
 -- for MAP_FIXED_NOREPLACE over a mapping
 abbrev pub mmap_reply : Memory → ℕ → Prot → Place → Reply
 mmap_reply memory len prot Anywhere =
@@ -153,16 +153,16 @@ abbrev pub munmap_reply : ℕ → ℕ → Reply
 munmap_reply addr len =
     first_refusal ((not (is_page_start addr), Einval) ∷ (len == 0, Einval) ∷ (nat_lt HIGH (addr + rounded len), Einval) ∷ []) Done
 
--- madvise(2), MADV_DONTNEED and ERRORS: EINVAL for an address that is no multiple of the page size, and for a range that ends past
--- the last address, whose length is negative for the kernel; a length of 0 is done at once. ENOMEM where part of the range is not
--- mapped: the part that is mapped is made zeros all the same
+-- madvise(2), MADV_DONTNEED and ERRORS: EINVAL for an address that is not a multiple of the page size, and for a range that ends past
+-- the last address, whose length is negative for the kernel; a length of 0 is done at once. ENOMEM if part of the range is not
+-- mapped: the part that is mapped becomes zeros all the same
 abbrev pub dontneed_reply : Memory → ℕ → ℕ → Reply
 dontneed_reply memory addr len =
     if not (is_page_start addr) then Refused Einval
     else if len == 0 then Done
     else first_refusal ((nat_le (2 ^ 64) (addr + rounded len), Einval) ∷ (not (is_all_mapped memory addr (rounded len)), Enomem) ∷ []) Done
 
--- mremap. Sizes are rounded
+-- mremap(2). Sizes are in bytes, rounded up to whole pages
 
 -- whether two cells are mapped with one protection
 abbrev pub same_prot : Option Cell → Option Cell → Bool
@@ -178,8 +178,8 @@ has_one_prot memory start len = none_below (λ i. not (same_prot (memory start) 
 abbrev pub grown : Option Cell → Option Cell
 grown o = written o 0
 
--- the memory once mremap has put the range at its new place: the target and the whole old range are taken out, what stood in the
--- old range stands in the new one as far as both go, and what is longer reads as zeros
+-- the memory once mremap has put the range at its new place: the target and the whole old range are removed, the cells of the old range
+-- are in the new one as far as both go, and the rest of the new one reads as zeros
 abbrev pub moved : Memory → ℕ → ℕ → ℕ → ℕ → Memory
 moved memory old old_size new new_size =
     λ addr. if in_range new new_size addr then (if nat_lt (addr - new) old_size then memory (old + (addr - new)) else grown (memory old))
@@ -190,7 +190,7 @@ moved memory old old_size new new_size =
 abbrev pub overlaps : ℕ → ℕ → ℕ → ℕ → Bool
 overlaps start size other other_size = nat_lt start (other + other_size) && nat_lt other (start + size)
 
--- whether a fixed target is wrong: without MREMAP_MAYMOVE, no multiple of the page size, not inside the address space, or over
+-- whether a fixed target is wrong: without MREMAP_MAYMOVE, not a multiple of the page size, not inside the address space, or over
 -- the old range: mremap(2), MREMAP_FIXED and ERRORS
 abbrev pub is_bad_target : ℕ → ℕ → ℕ → Bool → Option ℕ → Bool
 is_bad_target addr old_size new_size may_move None = false
@@ -201,14 +201,14 @@ is_bad_target addr old_size new_size may_move (Some target) =
 abbrev pub can_grow : Memory → ℕ → ℕ → ℕ → Bool
 can_grow memory addr old_size new_size = is_unmapped memory (addr + old_size) (new_size - old_size) && nat_le (addr + new_size) HIGH
 
--- where the range goes when no target is fixed: it stays where it has room, else it moves if it may and there is a place
+-- where the range goes if no target is fixed: it stays where it is if it has room there, else it moves if it may and there is a place
 abbrev pub mremap_place : Memory → ℕ → ℕ → ℕ → Bool → Reply
 mremap_place memory addr old_size new_size may_move =
     if nat_le new_size old_size || can_grow memory addr old_size new_size then At addr
     else if may_move then at_place (free_place (is_mapped memory) new_size)
     else Refused Enomem
 
--- where the range goes, unless more pages would be mapped than may be
+-- where the range goes; ENOMEM if more pages would be mapped than may be
 abbrev pub mremap_target : Memory → ℕ → ℕ → ℕ → Bool → Option ℕ → Reply
 mremap_target memory addr old_size new_size may_move None =
     if nat_lt (PAGE_SIZE * MAX_PAGES) (mapped_count memory - old_size + new_size) then Refused Enomem
@@ -216,8 +216,8 @@ mremap_target memory addr old_size new_size may_move None =
 mremap_target memory addr old_size new_size may_move (Some target) =
     if exceeds_limit (moved memory addr old_size target new_size) then Refused Enomem else At target
 
--- mremap(2), ERRORS: EINVAL for wrong arguments, EFAULT where the old range is not all mapped or spans mappings of several
--- protections, ENOMEM where it cannot grow. An old size of 0 asks for a shared mapping, and there is none
+-- mremap(2), ERRORS: EINVAL for wrong arguments, EFAULT if the old range is not all mapped or spans mappings of several
+-- protections, ENOMEM if it cannot grow. An old size of 0 asks for a shared mapping, and there is none
 abbrev pub mremap_reply : Memory → ℕ → ℕ → ℕ → Bool → Option ℕ → Reply
 mremap_reply memory addr old_len new_len may_move fixed =
     first_refusal
@@ -242,8 +242,8 @@ reply_of memory (DontNeed addr len) = dontneed_reply memory addr len
 abbrev pub zeroed : Memory → ℕ → ℕ → Memory
 zeroed memory start len = λ addr. if in_range start len addr then written (memory addr) 0 else memory addr
 
--- the memory after a command that is answered so: new pages are zeros, unmapped ones are gone, and madvise(2) changes what it
--- reaches of a range that is not all mapped
+-- the memory after a command with this reply: new pages are zeros, unmapped ones are gone, and madvise(2) changes the mapped part of a
+-- range even if it answers ENOMEM
 abbrev pub changed : Memory → Command → Reply → Memory
 changed memory (Store addr width value) Done = write memory addr width value
 changed memory (Mmap len prot place) (At start) = fill memory start (rounded len) (zeros_with prot)
@@ -259,7 +259,7 @@ after memory command = changed memory command (reply_of memory command)
 
 -- Runs
 
--- whether each reply is what the memory answers when the commands are made in turn
+-- each reply is what the memory answers when the commands are made in turn
 abbrev pub IsRunFrom : Memory → List Entry → Type 0
 IsRunFrom memory [] = Unit {0}
 IsRunFrom memory (entry ∷ entries) = (entry.reply ≡ reply_of memory entry.command) × IsRunFrom (after memory entry.command) entries

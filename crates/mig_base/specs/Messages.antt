@@ -8,7 +8,7 @@ use Rattle.mig_base.specs.declared.message.Message.TheVariants.{PageFault, Remap
 abbrev pub fault_flags : Bool → Bool → ℕ
 fault_flags write wp = (if write then 1 else 0) + (if wp then 2 else 0)
 
--- an event: its number in the first byte, seven zeros, and three numbers of 8 bytes each, the lowest byte first
+-- an event: its number in the first byte, seven zeros, and three numbers of 8 bytes each, the lowest byte of each first
 abbrev pub event_bytes : ℕ → ℕ → ℕ → ℕ → List ℕ
 event_bytes event first second third =
     (event ∷ 0 ∷ 0 ∷ 0 ∷ 0 ∷ 0 ∷ 0 ∷ 0 ∷ []) ++ (low_bytes first 8 ++ (low_bytes second 8 ++ low_bytes third 8))

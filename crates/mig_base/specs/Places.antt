@@ -1,4 +1,4 @@
--- Lists of places, each for a leaf of 1024 pages.
+-- Lists of places, each empty or with a leaf for 1024 pages.
 use Rattle.std.specs.Prelude.{ℕ, ◌/◌, Bool, true, false, List, Option, Some, None, slice_index_or}
 use Rattle.mig_base.specs.declared.chunk.TheConstants.{CHUNK}
 

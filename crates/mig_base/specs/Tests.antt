@@ -16,11 +16,11 @@ is_empty (x ∷ xs) = false
 abbrev pub is_every : (ℕ → Bool) → ℕ → ℕ → Bool
 is_every test first count = none_below (λ i. not (test (first + i))) count
 
--- what is made of the first choice whose test holds, else the rest
+-- `make` of the first choice whose test holds, else the rest
 abbrev pub first_by : {A : Type 0} → {B : Type 0} → (A → B) → List (Bool × A) → B → B
 first_by make [] rest = rest
 first_by make (choice ∷ choices) rest = if choice.0 then make choice.1 else first_by make choices rest
 
--- the first choice whose test holds
+-- the first choice whose test holds, if any
 abbrev pub first_holding : {A : Type 0} → List (Bool × A) → Option A
 first_holding choices = first_by (λ choice. Some choice) choices None

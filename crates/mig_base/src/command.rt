@@ -22,15 +22,15 @@ pub enum Errno {
 /// Where a new mapping goes.
 #[derive(Clone, Copy, Debug, PartialEq, Eq)]
 pub enum Place {
-    /// At the least place that is free.
+    /// At the least address where it fits.
     Anywhere,
-    /// At this address, in place of what is mapped there: MAP_FIXED of mmap(2).
+    /// At this address, replacing what is mapped there: MAP_FIXED of mmap(2).
     Fixed(Addr),
-    /// At this address, where nothing may be mapped: MAP_FIXED_NOREPLACE of mmap(2).
+    /// At this address, if nothing is mapped there: MAP_FIXED_NOREPLACE of mmap(2).
     NoReplace(Addr),
 }
 
-/// What a processor asks of its address space. Lengths and sizes are bytes, and are rounded up to whole pages.
+/// What a processor asks of its address space. Addresses, lengths and widths are in bytes; lengths are rounded up to whole pages.
 #[derive(Clone, Copy, Debug, PartialEq, Eq)]
 pub enum Command {
     /// Reads the little-endian number of `width` bytes.
@@ -50,12 +50,12 @@ pub enum Command {
         prot: Prot,
         place: Place,
     },
-    /// Takes the pages of a range away, as munmap(2).
+    /// Unmaps the pages of a range, as munmap(2) does.
     Munmap {
         addr: Addr,
         len: u64,
     },
-    /// Grows, shrinks or moves a range, as mremap(2): `may_move` is MREMAP_MAYMOVE, and a `fixed` target is that of
+    /// Grows, shrinks or moves a range, as mremap(2) does: `may_move` is MREMAP_MAYMOVE, and a `fixed` target is that of
     /// MREMAP_FIXED.
     Mremap {
         addr: Addr,
@@ -64,7 +64,7 @@ pub enum Command {
         may_move: bool,
         fixed: Option<Addr>,
     },
-    /// Makes the pages of a range zeros again, as MADV_DONTNEED of madvise(2).
+    /// Makes the pages of a range zeros again, as MADV_DONTNEED of madvise(2) does.
     DontNeed {
         addr: Addr,
         len: u64,
@@ -99,24 +99,25 @@ impl Command {
     }
 }
 
-/// What a command answers.
+/// The reply to a command.
 #[derive(Clone, Copy, Debug, PartialEq, Eq)]
 pub enum Reply {
     /// The number that a load read.
     Value(u64),
     /// A store or a map call was made.
     Done,
-    /// A mapping stands there.
+    /// A mapping was made or resized, and begins at this address.
     At(Addr),
-    /// An access to a page that is not mapped, or whose protection forbids it: SIGSEGV.
+    /// An access to a page that is not mapped, or whose protection forbids it: SIGSEGV. `mapped` says whether the page is mapped.
     Segv { mapped: bool },
-    /// An access whose form is wrong: another width than 1, 2, 4 or 8, no multiple of it, or a value that does not fit.
+    /// An access whose form is wrong: its width is not 1, 2, 4 or 8 bytes, its address is not a multiple of the width, or its value does
+    /// not fit.
     BadAccess,
     /// A map call failed.
     Refused(Errno),
 }
 
-/// What a load or store comes to in an address space that a userfault object watches.
+/// How a load or store ends in an address space that a userfault object watches.
 #[derive(Clone, Copy, Debug, PartialEq, Eq)]
 pub enum Access {
     /// It is answered.
@@ -135,14 +136,14 @@ pub struct Entry {
     pub reply: Reply,
 }
 
-/// Whether an access of that width may stand at the address: the width is 1, 2, 4 or 8 bytes, and the address a multiple of it.
+/// Whether an access of that width is aligned at the address: the width is 1, 2, 4 or 8 bytes, and the address is a multiple of it.
 pub fn is_aligned(addr: Addr, width: u8) -> bool
     ensures { result ≡ is_access addr width }
 {
     matches!(width, 1 | 2 | 4 | 8) && addr % u64::from(width) == 0
 }
 
-/// Whether a number has room in `width` bytes, of which there are 1, 2, 4 or 8.
+/// Whether a number fits in `width` bytes, which are 1, 2, 4 or 8.
 pub fn fits(value: u64, width: u8) -> bool
     ensures { is_width width ≡ true → result ≡ nat_lt value (256 ^ width) }
 {

@@ -1,7 +1,7 @@
 //! What a migration counts.
 
-/// The counts of a world. Rounds begin at the number that the world was made with; no break and no resumption resets a count. Those of
-/// 64 bits stop at their greatest value.
+/// The counts of a world. `rounds` begins at the number with which the world was made. No break and no resumption resets a count. Counts
+/// of 64 bits stop at their greatest value.
 #[derive(Clone, Copy, Debug, PartialEq, Eq)]
 pub struct Counts {
     /// Rounds of pre-copy made.
@@ -10,8 +10,8 @@ pub struct Counts {
     pub sent: u64,
     /// Copies that the destination has installed.
     pub installed: u64,
-    /// Copies that it has given up.
+    /// Copies that the destination has dropped.
     pub dropped: u64,
-    /// Page faults that the handler of either node has read.
+    /// Page faults that the handlers of both nodes have read.
     pub faults: u64,
 }

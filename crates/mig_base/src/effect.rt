@@ -1,10 +1,10 @@
-//! What an accepted step of a migration did, as it is told.
+//! What an accepted step of a migration did, as its caller sees it.
 
 use crate::phase::Received;
 use crate::schedule::Side;
 use crate::{Addr, Message, Reply};
 
-/// What an accepted step did. Addresses are those of pages.
+/// What an accepted step did. Each address is the first of a page, in bytes.
 #[derive(Clone, Copy, Debug, PartialEq, Eq)]
 pub enum Effect {
     /// The command of a processor was answered.
@@ -16,7 +16,7 @@ pub enum Effect {
     Asleep {
         cpu: u8,
     },
-    /// A processor is in a map call until that many messages have been read.
+    /// A processor is in a map call until `messages` messages have been read.
     InCall {
         cpu: u8,
         messages: u8,
@@ -25,7 +25,7 @@ pub enum Effect {
     Started {
         epoch: u32,
     },
-    /// A round has begun, with that many pages to be sent.
+    /// A round has begun, with `todo` pages to be sent.
     RoundMade {
         round: u32,
         todo: u32,
@@ -38,7 +38,7 @@ pub enum Effect {
     SentZero {
         addr: Addr,
     },
-    /// That many neighbouring pages were sent, the first of them at the address.
+    /// `pages` neighbouring pages were sent, the first of them at the address.
     SentRun {
         addr: Addr,
         pages: u32,
@@ -66,7 +66,7 @@ pub enum Effect {
     Zeroed {
         addr: Addr,
     },
-    /// The sleepers of a page were woken: it is there.
+    /// The sleepers of a page were woken: it is present.
     Woke {
         addr: Addr,
     },
@@ -74,17 +74,17 @@ pub enum Effect {
     Forgot {
         addr: Addr,
     },
-    /// A page of the source was asked for: the one that is owed at the address.
+    /// The page of the source at `origin` was requested: it is owed at `addr`.
     Requested {
         origin: Addr,
         addr: Addr,
     },
-    /// The source has stopped: how many pages it told the destination to discard, and how many it owes.
+    /// The source has stopped its processors. It has the destination discard `discard` pages, and owes `owed` pages.
     Switched {
         discard: u32,
         owed: u32,
     },
-    /// That many bytes were moved, and completed no frame.
+    /// `bytes` bytes were moved, and completed no frame.
     Moved {
         bytes: u64,
     },
@@ -98,16 +98,16 @@ pub enum Effect {
     TookZero {
         addr: Addr,
     },
-    /// The destination has the bytes of that many neighbouring pages, the first of them at the address.
+    /// The destination has the bytes of `pages` neighbouring pages, the first of them at the address.
     TookRun {
         addr: Addr,
         pages: u32,
     },
-    /// The destination has dropped its copies of that many pages.
+    /// The destination has dropped its copies of `pages` pages.
     TookDiscard {
         pages: u32,
     },
-    /// The destination runs the processors, and is owed that many pages.
+    /// The destination runs the processors, and is owed `owed` pages.
     TookPackage {
         owed: u32,
     },
@@ -115,31 +115,31 @@ pub enum Effect {
     TookEnd,
     /// The destination goes on after a break.
     TookResume,
-    /// The source knows that a page is asked for.
+    /// The source knows that a page is requested.
     TookRequest {
         addr: Addr,
     },
-    /// The source knows how far the destination has come, and that it needs that many pages.
+    /// The source knows how far the destination has come, and that it needs `pages` pages.
     TookRecv {
         state: Received,
         pages: u32,
     },
-    /// The source knows that the destination has everything, and has given up its memory.
+    /// The source knows that the destination has everything, and has released its memory.
     TookDone,
     /// A copy was installed at the address, from the page of the source that was owed there.
     Installed {
         addr: Addr,
         origin: Addr,
     },
-    /// A copy of a page of the source was given up: it is owed nowhere.
+    /// A copy of a page of the source was dropped: it is owed nowhere.
     Dropped {
         origin: Addr,
     },
-    /// The source has taken a request for the page at the address.
+    /// The source has dequeued a request for the page at the address.
     Asked {
         addr: Addr,
     },
-    /// The destination is told that nothing more is sent.
+    /// The source has sent End: nothing more is sent.
     EndSent,
     /// The channel is broken.
     Broken,

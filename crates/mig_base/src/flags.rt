@@ -1,10 +1,10 @@
-//! The numbers of the calls of a userfault object, as in `linux/userfaultfd.h`. A constant whose name ends in `_BIT` is the
-//! place of a bit, for which [`has_bit`] tests; the others are whole words.
+//! The numbers in the calls of a userfault object, as in `linux/userfaultfd.h`. A constant whose name ends in `_BIT` is the
+//! place of a bit, which [`has_bit`] tests; the others are whole words.
 
 ghost use Rattle.std.specs.Prelude.{◌≡◌, ◌<◌};
 ghost use Rattle.mig_base.specs.Bits.{is_one};
 
-/// UFFD_API, which a handshake asks for.
+/// UFFD_API, for which a handshake asks.
 pub const API: u64 = 0xaa;
 
 /// UFFD_FEATURE_PAGEFAULT_FLAG_WP: faults of write-protected pages.
@@ -19,7 +19,7 @@ pub const EVENT_REMOVE_BIT: u32 = 3;
 /// UFFD_FEATURE_EVENT_UNMAP: a message for a range that is no longer mapped.
 pub const EVENT_UNMAP_BIT: u32 = 6;
 
-/// UFFD_FEATURE_THREAD_ID: the message of a page fault tells the thread.
+/// UFFD_FEATURE_THREAD_ID: the message of a page fault names the thread.
 pub const THREAD_ID_BIT: u32 = 8;
 
 /// The features of the three events.
@@ -42,7 +42,7 @@ pub const INSTALL_DONTWAKE_BIT: u32 = 0;
 /// UFFDIO_COPY_MODE_WP: the pages are write-protected as they are put.
 pub const COPY_WP_BIT: u32 = 1;
 
-/// UFFDIO_WRITEPROTECT_MODE_WP: the pages are write-protected. Without it, they are no longer.
+/// UFFDIO_WRITEPROTECT_MODE_WP: the pages become write-protected. Without it their write protection is cleared.
 pub const WRITEPROTECT_WP_BIT: u32 = 0;
 
 /// UFFDIO_WRITEPROTECT_MODE_DONTWAKE.

@@ -1,4 +1,4 @@
-// Laws of the flat memory.
+// Laws of the flat memory: each is a function with an empty body, whose contract is the law.
 ghost use Rattle.std.specs.Prelude.{◌≡◌, ℕ, ◌<◌, ◌≤◌, ◌⊎◌, List, None};
 ghost use Rattle.mig_base.specs.Flat.{memory_of, mapped_count};
 ghost use Rattle.mig_base.specs.declared.command.Entry.{Entry};

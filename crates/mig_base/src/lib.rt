@@ -1,11 +1,11 @@
-//! The words of a migration that every crate shares.
+//! The types that every crate of the migration shares.
 //!
 //! Addresses, pages and protections; the commands of processors and the replies to them; the steps of a world and their
-//! outcomes, in [`schedule`], [`effect`], [`refusal`], [`fault`], [`phase`], [`cpu_state`] and [`counts`]; [`Message`], what a
-//! userfault object tells, [`Wake`], whom it wakes, and [`flags`], the numbers of its calls; [`PageSet`], a set of pages, and
-//! [`PageBytes`], the bytes of one.
-//! What the commands do to one flat memory is a definition, `specs/Flat.antt`, after mmap(2), munmap(2), mremap(2) and
-//! madvise(2): this crate executes no command.
+//! outcomes, in [`schedule`], [`effect`], [`refusal`], [`fault`], [`phase`], [`cpu_state`] and [`counts`]; [`Message`], which a
+//! userfault object reports, [`Wake`], the processors that its calls wake, and [`flags`], the numbers of these calls; [`PageSet`], a set
+//! of pages, and [`PageBytes`], the bytes of one page.
+//! The definition `specs/Flat.antt` says what the commands do to one flat memory, after mmap(2), munmap(2), mremap(2) and
+//! madvise(2). This crate executes no command.
 #![tactic(auto)]
 
 ghost use Rattle.std.specs.Prelude.{◌≡◌, ◌*◌};
@@ -46,16 +46,16 @@ pub type Addr = u64;
 /// A page by its number: its first address divided by [`PAGE_SIZE`]. Pages lie below [`HIGH_PAGE`].
 pub type PageNo = u32;
 
-/// The bytes of a page.
+/// The size of a page, in bytes.
 pub const PAGE_SIZE: u64 = 4096;
 
-/// The same as the length of an array.
+/// The same as a `usize`, for the length of an array.
 pub const PAGE_BYTES: usize = 4096;
 
 /// The lowest address that may be mapped.
 pub const LOW: u64 = 0x10000;
 
-/// The end of what may be mapped.
+/// The end of the address space: no address from here on may be mapped.
 pub const HIGH: u64 = 0x1_0000_0000;
 
 /// The page at [`LOW`].
@@ -64,13 +64,13 @@ pub const LOW_PAGE: u32 = 0x10;
 /// The page at [`HIGH`].
 pub const HIGH_PAGE: u32 = 0x10_0000;
 
-/// How many pages may be mapped.
+/// The greatest number of pages that may be mapped.
 pub const MAX_PAGES: u32 = 262_144;
 
-/// How many processors a guest may have.
+/// The greatest number of processors of a guest.
 pub const MAX_CPUS: u8 = 16;
 
-/// How many pages may be sent in one run.
+/// The greatest number of pages that are sent in one run.
 pub const MAX_RUN: u8 = 64;
 
 /// What a mapping permits, as `prot` of mmap(2).
@@ -85,7 +85,7 @@ pub enum Prot {
 }
 
 impl Prot {
-    /// Whether it permits loads.
+    /// Whether the protection permits loads.
     pub fn allows_load(self) -> bool
         ensures { result ≡ flat.allows_load self }
     {
@@ -95,7 +95,7 @@ impl Prot {
         }
     }
 
-    /// Whether it permits stores.
+    /// Whether the protection permits stores.
     pub fn allows_store(self) -> bool
         ensures { result ≡ flat.allows_store self }
     {
@@ -106,7 +106,7 @@ impl Prot {
     }
 }
 
-/// The first address of a page.
+/// The first address of a page, in bytes.
 pub fn page_address(page: PageNo) -> Addr
     ensures { result ≡ PAGE_SIZE * page }
 {
@@ -130,7 +130,7 @@ pub struct Run {
     pub count: u32,
 }
 
-/// A growth was refused.
+/// An allocation failed.
 #[derive(Clone, Copy, Debug, PartialEq, Eq, Error)]
 #[error("no memory")]
 pub struct NoMemory;

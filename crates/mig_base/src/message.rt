@@ -6,8 +6,8 @@ ghost use Rattle.mig_base.specs.Messages.{message_bytes, event_bytes, fault_flag
 use crate::Addr;
 use byteorder::{ByteOrder, LittleEndian};
 
-/// What a userfault object tells its reader, as `uffd_msg` of userfaultfd(2). Addresses and lengths are bytes, and multiples of
-/// the page size.
+/// A message that a reader of a userfault object gets, as `uffd_msg` of userfaultfd(2). Addresses and lengths are in bytes, and multiples
+/// of the page size.
 #[derive(Clone, Copy, Debug, PartialEq, Eq)]
 pub enum Message {
     /// UFFD_EVENT_PAGEFAULT: a processor sleeps on the page at the address.

@@ -9,9 +9,9 @@ use crate::{NoMemory, PAGE_BYTES};
 use std::alloc::Global;
 use std::marker::Model;
 
-/// The bytes of a page.
+/// The 4096 bytes of a page.
 ///
-/// They stand in a vector, which has them by one copy. A box of an array would be filled with zeros before, or have them by way of the
+/// They are in a vector, into which they are copied once. A box of an array would be filled with zeros first, or be filled by way of the
 /// stack.
 #[derive(Drop)]
 pub struct PageBytes {
@@ -30,7 +30,7 @@ impl Model for PageBytes {
 }
 
 impl PageBytes {
-    /// A page of zeros. `NoMemory` is for its room.
+    /// A page of zeros. `NoMemory` comes if it cannot be allocated.
     pub fn zeros(alloc: Global) -> Result<Self, NoMemory>
         ensures { IfOk result (λ page. page ≡ zero_page) }
     {
@@ -39,7 +39,7 @@ impl PageBytes {
         Ok(PageBytes { bytes })
     }
 
-    /// A copy of the bytes of a page. `NoMemory` is for its room.
+    /// A copy of the bytes of a page. `NoMemory` comes if it cannot be allocated.
     pub fn copy_of(alloc: Global, bytes: &[u8; PAGE_BYTES]) -> Result<Self, NoMemory>
         ensures { IfOk result (λ page. page ≡ bytes.now) }
     {
@@ -58,14 +58,14 @@ impl PageBytes {
         }
     }
 
-    /// Copies the bytes of another page over these. It takes no memory.
+    /// Copies the bytes of another page over these. It allocates no memory.
     pub fn copy_from(&mut self, bytes: &[u8; PAGE_BYTES])
         ensures { self.new ≡ bytes.now }
     {
         self.bytes.copy_from_slice(bytes);
     }
 
-    /// Writes bytes over those from the offset on, which counts in bytes. It takes no memory and touches only the bytes written.
+    /// Writes bytes over those from the offset on, which is in bytes. It allocates no memory, and touches only the bytes written.
     pub fn write(&mut self, offset: usize, bytes: &[u8])
         requires { offset + length bytes.now ≤ PAGE_SIZE }
         ensures { self.new ≡ overwrite self.old offset bytes.now }
@@ -73,7 +73,7 @@ impl PageBytes {
         write_over(&mut self.bytes, offset, bytes);
     }
 
-    /// A law of every page: its bytes are as many as a page has, each below 256. The call does nothing.
+    /// A law of every page: it has 4096 bytes, each below 256. The call does nothing.
     pub fn are_whole(&self)
         ensures size { length self.now ≡ PAGE_SIZE }
         ensures bytes { All (λ byte. byte < 256) self.now }
@@ -82,7 +82,7 @@ impl PageBytes {
     }
 }
 
-/// Writes bytes over those that stand from the offset on.
+/// Writes bytes over those from the offset on, which is in bytes.
 fn write_over(held: &mut [u8], offset: usize, bytes: &[u8])
     requires { offset + length bytes.now ≤ length held.old }
     ensures { held.new ≡ overwrite held.old offset bytes.now }
@@ -90,7 +90,7 @@ fn write_over(held: &mut [u8], offset: usize, bytes: &[u8])
     held[offset..offset + bytes.len()].copy_from_slice(bytes);
 }
 
-/// A law of every slice of that type. The call does nothing.
+/// A law of every slice of bytes: each is below 256. The call does nothing.
 fn are_bytes(bytes: &[u8])
     ensures { All (λ byte. byte < 256) bytes.now }
 {}

@@ -12,7 +12,7 @@ pub enum SourcePhase {
     Stopped,
     /// The source has noticed that the channel is broken, and has not taken a Recv since.
     Paused,
-    /// The migration is complete, and the source has given up its memory.
+    /// The migration is complete, and the source has released its memory.
     Released,
 }
 
@@ -27,7 +27,7 @@ pub enum DestPhase {
     Discarding,
     /// It runs the processors.
     Running,
-    /// It has noticed that the channel is broken, and has not taken a Resume since. Where it has run the processors they go on.
+    /// It has noticed that the channel is broken, and has not taken a Resume since. If it has run the processors, they go on.
     Paused,
     /// It runs the processors, and nothing more comes.
     Ended,
@@ -40,7 +40,7 @@ pub enum Received {
     NotRun,
     /// It has run the processors, and may still be owed pages.
     Running,
-    /// It was told that nothing more is sent.
+    /// It has taken End, so nothing more is sent.
     Ended,
 }
 
@@ -49,7 +49,7 @@ pub enum Received {
 pub enum WorldPhase {
     /// No migration was started.
     Idle,
-    /// The source runs the processors, and the destination is told of its memory.
+    /// The source runs the processors, and sends its memory in rounds.
     Precopy,
     /// The source has stopped and the destination does not run yet.
     Switching,

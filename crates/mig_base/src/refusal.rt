@@ -1,15 +1,15 @@
 //! Why a step of a migration is refused.
 
-/// Why a step is refused. Where several reasons apply the first of this list is given, with `UrgentFirst` behind `InstallFirst`. A
-/// refused step changes nothing. Only want of memory comes before these two, where a Deliver reads the frame that it completes, and
-/// behind all others.
+/// Why a step is refused. A refused step changes nothing. If several reasons apply, the first of this list is given, and `NoMemory` comes
+/// last. One exception: a Deliver needs memory to read the frame that it completes, so it may answer `NoMemory` before `InstallFirst` and
+/// `UrgentFirst`.
 #[derive(Clone, Copy, Debug, PartialEq, Eq)]
 pub enum Refusal {
     /// The guest has no such processor.
     NoCpu = 1,
-    /// The processor makes a command already.
+    /// The processor has a command under way already.
     Busy = 2,
-    /// The processor waits for no page.
+    /// The processor has no load or store to retry.
     NotAsleep = 3,
     /// The processor still sleeps.
     NotWoken = 4,
@@ -21,13 +21,13 @@ pub enum Refusal {
     NotBroken = 7,
     /// The ticket is of another epoch.
     StaleEpoch = 8,
-    /// There is nothing to take.
+    /// There is no frame, page, message, fault, copy or request for the step to take.
     NothingThere = 9,
     /// An event of the address space is unread.
     Changing = 10,
-    /// A copy that has arrived is to be installed first.
+    /// A copy that has arrived has to be installed first.
     InstallFirst = 11,
-    /// Frames of the urgent wire are to be taken first.
+    /// Frames of the urgent wire have to be taken first.
     UrgentFirst = 17,
     /// The source does not have the page.
     PageNotSendable = 12,
@@ -37,6 +37,6 @@ pub enum Refusal {
     PagesLeft = 14,
     /// A count is at its greatest value.
     CountUsed = 15,
-    /// Out of memory: a growth was refused.
+    /// Out of memory: an allocation failed.
     NoMemory = 16,
 }

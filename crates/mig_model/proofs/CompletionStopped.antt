@@ -103,7 +103,7 @@ pushed-next node epoch frame in_place = grind (arith, nat_tests, one_more, none_
 urgent_took-next : (node : Destination) (frame : Frame) → IsNext node (urgent_took node frame)
 urgent_took-next node frame = grind (arith, nat_tests, one_more)
 
--- a copy that is installed or given up waits no longer, and no message is read by it
+-- a copy that is installed or dropped waits no longer, and Install reads no message
 record IsInstalled (old new : Destination) (rest : List Copy) : Type 0 where
   arrivals : new.arrivals ≡ rest
   object : new.guest.space.object ≡ old.guest.space.object

@@ -100,7 +100,7 @@ goes_on : (to : DestPhase) (ran : Bool) (epoch : ℕ) (keeps : FinMap nat_cmp (L
     ((page : ℕ) (bytes : List ℕ) → get keeps page ≡ Some bytes → length bytes ≡ 4096) → Wires new.source new.destination new.forward.frames new.back.frames new.urgent.frames → IsSoundWorld new
 goes_on to ran epoch keeps frames rest world kept advised phase at kept_none kept_whole on_wires = grind (arith, nat_tests, AreOf-sending, fits-none, fits-more)
 
--- it has not run: what it kept is given up
+-- it has not run: what it kept is dropped
 resume_waiting : (epoch : ℕ) (rest : List Sent) (world : World) →
     let old : World = at_state SourcePhase.Paused DestPhase.Paused false true (record { epoch = epoch; frame = Resume } ∷ rest) world in
     IsSoundWorld old → IsSoundWorld (delivered old old.forward.frames)

@@ -123,7 +123,7 @@ nothing_owed owed h page = ap (λ m. get m page) h ∙ get-empty nat_cmp page
 empty-after : (message : Message) (owed : FinMap nat_cmp ℕ) → owed ≡ finmap.empty → owed_table_after message owed ≡ finmap.empty
 empty-after message owed h = grind (arith, nat_tests, same_pages, get-owed_table_after, nothing_owed)
 
--- an event is read: the settled relation is as it was, and the owed table is what the event makes of it
+-- an event is read: the settled relation is as it was, and the event is applied to the owed table
 event_read : (message : Message) (cpu : ℕ) (events : List Noted) (world : World) (processors : List CpuState) (faults : ℕ) →
     IsSoundWorld (at_queues [] (record { message = message; cpu = cpu } ∷ events) world) → world.destination.has_run ≡ true →
     IsSoundWorld (record world { destination = handled world.destination (record (at_queues [] events world).destination.guest { cpus = processors }) world.destination.held (owed_table_after message world.destination.owed) world.destination.requests world.destination.arrivals world.destination.installed world.destination.dropped faults })

@@ -30,7 +30,7 @@ count_range first count rest =
     ∙ ap (λ n. 0 + (count + n)) (count_below-constant (λ i. in_range first count (first + (count + i))) false rest (λ i l. in_range-false_above first count (first + (count + i)) (omega arith)))
     ∙ omega arith
 
--- the numbers of a range below the bound are as many as it has
+-- below the bound lie exactly the `count` numbers of the range
 count_inside : (first count bound : ℕ) → first + count ≤ bound → count_below (in_range first count) bound ≡ count
 count_inside first count bound h = ap (count_below (in_range first count)) (omega (arith, h)) ∙ count_range first count (bound - (first + count))
 

@@ -15,8 +15,8 @@ use Rattle.mig_model.specs.Promises.{is_recv}
 use Rattle.mig_model.proofs.StepCases.{MakesWorld, made-next, made-ok}
 use Rattle.mig_model.proofs.UrgentSteps.{urgent-next}
 
--- what tells that the source has switched in an epoch, and is not to be told again what the destination needs: its epoch, whether it
--- has switched, its phase, and whether the link is up
+-- what holds behind a push in an epoch: a later epoch has begun, or the source has switched in that epoch, and is not paused while the
+-- link is up, so that it takes no Recv
 abbrev HasPushed : ℕ → ℕ → Bool → SourcePhase → Bool → Type 0
 HasPushed pushed epoch switched phase up = (pushed < epoch) ⊎ ((epoch ≡ pushed) × (switched ≡ true) × (up ≡ true → is_source_paused phase ≡ false))
 

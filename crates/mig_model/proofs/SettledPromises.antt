@@ -132,7 +132,7 @@ settled_answer world _ kept waits ran leaves page = assumption
 pub settled_else : (world : World) (step : Step) → IsSoundWorld world → AreAccesses world → world.destination.has_run ≡ true → leaves_settled step ≡ true → (page : ℕ) → settled (next world step).destination page ≡ settled world.destination page
 settled_else world step kept waits ran leaves page = made-next (SettledAs world page) world step refl (settled_answer world step kept waits ran leaves page)
 
--- A copy that is given up leaves the relation
+-- A copy that is dropped leaves the relation as it is
 
 dropped_by : (o : Option ℕ) (copy : Copy) (rest : List Copy) (world : World) (source page : ℕ) → install_effect o copy.page ≡ Effect.Dropped source → settled (install_by o world.destination copy rest) page ≡ settled world.destination page
 dropped_by o copy rest world source page same = grind (arith, nat_tests)

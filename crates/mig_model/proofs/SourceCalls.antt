@@ -144,7 +144,7 @@ moved_apart host addr old_len new_len target moved remapped other few fewer =
           (apart_of target (rounded new_len) addr (rounded old_len) at.apart)
     ]
 
--- A registered page of which nothing is told
+-- A registered page that no event names
 
 pub registered_below : (space : Space) (page : ℕ) → IsSoundSpace space → is_registered space.object page ≡ true → page < HIGH_PAGE
 registered_below space page sound registered = low_or (λ h. false≢true (sym (ap is_some (sound.host.bound page h)) ∙ sound.mapped page registered))
@@ -251,7 +251,7 @@ right_remap host object addr old_len new_len target may_move fixed sound is =
 pub right_messages : (host : Host) (object : Object) (command : Command) (reply : Reply) → IsSound host → reply ≡ reply_of (memory host) command → AllRight (call_messages object command reply)
 right_messages host object command reply sound is = grind (arith, nat_tests, mmap_inside, munmap_whole, right_remap, dontneed_done, dontneed_hole)
 
--- Nothing is told where nothing is registered
+-- A call queues no event where nothing is registered
 
 abbrev pub IsUnregistered : Object → Type 0
 IsUnregistered object = (page : ℕ) → is_registered object page ≡ false

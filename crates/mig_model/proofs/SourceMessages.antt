@@ -51,7 +51,7 @@ AllRight-append (message ∷ a) b one two = (one.0, AllRight-append a b one.1 tw
 pub told_right : (reason : Bool) (message : Message) → (reason ≡ true → IsRight message) → AllRight (told reason message)
 told_right reason message right = grind (arith, nat_tests)
 
--- A message is told where a page of its range was registered
+-- A message is queued if a page of its range was registered
 
 watched_by : (none : Bool) → (none ≡ true → ⊥) → not none ≡ true
 watched_by none never = grind arith
@@ -66,7 +66,7 @@ watched_page object first count page registered inside =
 pub in_bytes-pages : (start count page : ℕ) → in_bytes start (start + 4096 * count) page ≡ in_range (start / 4096) count page
 in_bytes-pages start count page = let n : (start + 4096 * count) / 4096 - start / 4096 ≡ count = omega arith in ap (λ k. in_range (start / 4096) k page) n
 
--- a registered page of which nothing is told lies outside of a range of which it would be told
+-- a registered page that no message names lies outside of each range that a message would name
 pub outside_told : (reason : Bool) (message : Message) (object : Object) (first count page : ℕ) → (in_range first count page ≡ true → is_changed_by message page ≡ true) → reason ≡ true → is_registered object page ≡ true →
     tells (told (reason && is_watched object first count) message) page ≡ false → in_range first count page ≡ false
 outside_told reason message object first count page covers reasoned registered h = grind (arith, nat_tests, watched_page)
@@ -85,7 +85,7 @@ lesser_is a b = grind (arith, nat_tests)
 below_end : (start count page end : ℕ) → page < HIGH_PAGE → start / 4096 ≤ page → page < start / 4096 + count → (end ≡ start + 4096 * count) ⊎ (end ≡ HIGH) → in_bytes start end page ≡ true
 below_end start count page end below low high h = grind (arith, nat_tests)
 
--- the same where the range is told to its end, or to the end of the address space
+-- the same where the message names the range to its end, or to the end of the address space
 pub dropped_outside : (object : Object) (start count page : ℕ) → page < HIGH_PAGE → is_registered object page ≡ true → tells (told (is_watched object (start / 4096) count) (Remove start (lesser (start + 4096 * count) HIGH))) page ≡ false →
     in_range (start / 4096) count page ≡ false
 dropped_outside object start count page below registered h =

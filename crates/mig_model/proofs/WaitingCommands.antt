@@ -160,7 +160,7 @@ waiting_command world (Step.Retry cpu) k command kept other h =
     made-next (WaitsIn k command) world (Step.Retry cpu) h (λ tries is woken may. tried_other world cpu tries k (λ e. false≢true (sym other ∙ eq-eqb cpu k e)) ∙ h)
 waiting_command world step k command kept other h = same_waits world step kept refl k ∙ h
 
--- Who comes to wait
+-- Who begins to wait
 
 sleeps_by : (took : Took) (tries command : Command) → outstanding (processor_after tries took) ≡ Some command → (tries ≡ command) × (took ≡ Sleep)
 sleeps_by took tries command h = grind (arith, nat_tests)
@@ -207,7 +207,7 @@ waits_arise world (Step.Retry cpu) k command kept =
     (λ (two : WaitsIn k command world). inl two) (tried_waits world cpu tries k command h))
 waits_arise world step k command kept = λ h. inl (sym (same_waits world step kept refl k) ∙ h)
 
--- What a try makes of its processor
+-- How a try changes its processor
 
 set_here : (processors : List CpuState) (i : ℕ) (new : CpuState) (command : Command) → outstanding (processor_at processors i) ≡ Some command → processor_at (set processors i new) i ≡ new
 set_here [] i new command h = absurd (none-some command h)

@@ -92,7 +92,7 @@ takes frame node epoch h = grind (arith, nat_tests, still)
 pub takes_urgent : (frame : Frame) (node : Destination) → TakesFrame node (urgent_took node frame)
 takes_urgent frame node = grind (arith, nat_tests, still)
 
--- a source that is told that nothing more is needed has no unread event
+-- a source that takes the last frame has no unread event
 takes_back : (frame : Frame) (node : Source) → (is_last frame ≡ true → (space_of node).object.events ≡ []) → Wakes node.guest (source_took node frame).guest
 takes_back frame node quiet = grind (arith, nat_tests, still)
 

@@ -1,5 +1,5 @@
--- Bounds that every world keeps, beside its invariant: with them each frame in flight has a text, and each call
--- of a userfault object that a node makes is one that the object accepts.
+-- Bounds that every world keeps, beside its invariant. They give each frame in flight a text, and have the userfault objects accept each
+-- call that a node makes.
 use Rattle.std.specs.Prelude.{◌≡◌, ℕ, ◌+◌, ◌*◌, ◌^◌, ◌<◌, ◌≤◌, Bool, true, false, Option, Some, None, List, [], ◌∷◌, length}
 use Rattle.std.specs.List.{All}
 use Rattle.std.specs.Ordering.{nat_cmp}
@@ -21,8 +21,8 @@ use Rattle.mig_model.specs.Migration.{World}
 
 -- The urgent wire
 
--- how many frames were put on the urgent wire in this epoch: none before the switch, and from then on, together with the pages that
--- remain, no more than the source has pages
+-- the number of frames put on the urgent wire in this epoch: 0 before the switch, and from then on until the source is released, together
+-- with the number of remaining pages, at most the number of present pages of the source
 pub record IsUrgentFew (from : SourcePhase) (switched : Bool) (count : ℕ) (space : Space) (remaining : FinSet nat_cmp) : Type 0 where
   pub before_switch : switched ≡ false → count ≡ 0
   pub few : switched ≡ true → is_released from ≡ false → count + len remaining ≤ len (present space)
@@ -37,17 +37,17 @@ AreUrgentFew world = IsUrgentFew world.source.phase world.source.switched world.
 abbrev pub IsPage : ℕ → Type 0
 IsPage page = (LOW_PAGE ≤ page) × (page < HIGH_PAGE)
 
--- pages that may all be mapped at once: each lies in the address space, and there are MAX_PAGES at most
+-- mapped pages within bounds: each lies in the address space, and there are MAX_PAGES at most
 pub record IsMapping (areas : FinMap nat_cmp Prot) : Type 0 where
   pub pages : (page : ℕ) → contains_key areas page ≡ true → IsPage page
   pub few : finmap.len areas ≤ MAX_PAGES
 
--- the same of the addresses of a flat memory
+-- the same of the mapped addresses of a flat memory
 pub record IsWithinBounds (memory : Memory) : Type 0 where
   pub addresses : (addr : ℕ) → is_mapped memory addr ≡ true → (LOW ≤ addr) × (addr < HIGH)
   pub few : mapped_count memory ≤ PAGE_SIZE * MAX_PAGES
 
--- so at both nodes, and in the flat memory of the transcript
+-- both nodes and the flat memory of the transcript are within these bounds
 pub record HasBoundedMemory (world : World) : Type 0 where
   pub source : IsMapping (space_of world.source).host.areas
   pub destination : IsMapping world.destination.guest.space.host.areas
@@ -59,31 +59,32 @@ pub record HasBoundedMemory (world : World) : Type 0 where
 abbrev pub ArePages : FinSet nat_cmp → Type 0
 ArePages pages = (page : ℕ) → contains pages page ≡ true → IsPage page
 
--- so, and they may all be mapped at once
+-- the same of a set that may be mapped as a whole: it has MAX_PAGES at most
 abbrev pub AreFewPages : FinSet nat_cmp → Type 0
 AreFewPages pages = ArePages pages × (len pages ≤ MAX_PAGES)
 
--- the bytes of a page
+-- the bytes of one page: PAGE_SIZE numbers below 256
 abbrev pub IsPageBytes : List ℕ → Type 0
 IsPageBytes bytes = (length bytes ≡ PAGE_SIZE) × All (λ byte. byte < 256) bytes
 
+-- each list is the bytes of one page: those of a Run
 abbrev pub ArePageBytes : List (List ℕ) → Type 0
 ArePageBytes [] = Unit {0}
 ArePageBytes (bytes ∷ pages) = IsPageBytes bytes × ArePageBytes pages
 
--- a load or store of the right form, at an address of 64 bits
+-- a load or store of the right form: aligned, and at an address of 64 bits; the value of a store fits its width
 abbrev pub IsRightAccess : Command → Type 0
 IsRightAccess (Load addr width) = (is_aligned addr width ≡ true) × (addr < 2 ^ 64)
 IsRightAccess (Store addr width value) = (is_aligned addr width ≡ true) × (value < 256 ^ width) × (addr < 2 ^ 64)
 IsRightAccess command = ⊥
 
--- so is each command that a processor still has to make
+-- each outstanding command is such a load or store
 abbrev pub AreRightAccesses : List (Option Command) → Type 0
 AreRightAccesses [] = Unit {0}
 AreRightAccesses (None ∷ commands) = AreRightAccesses commands
 AreRightAccesses (Some command ∷ commands) = IsRightAccess command × AreRightAccesses commands
 
--- as many as a guest may have processors
+-- a number of processors that a guest may have: 1 to MAX_CPUS
 abbrev pub IsCpuCount : ℕ → Type 0
 IsCpuCount count = (0 < count) × (count ≤ MAX_CPUS)
 

@@ -1,5 +1,5 @@
--- The guest at a node: its memory with the userfault object, and its processors. What a command, a message and a fault that is
--- resolved make of them.
+-- The guest at a node: its memory with the userfault object, and its processors; and how a command, a message that is read and a fault
+-- that is resolved change them.
 use Rattle.std.specs.Prelude.{ℕ, ◌+◌, ◌-◌, ◌/◌, ◌^◌, ◌==◌, ◌||◌, not, Bool, true, false, List, [], ◌∷◌, ◌++◌, set}
 use Rattle.std.specs.FinMap.{contains_key}
 use Rattle.mig_base.specs.declared.TheConstants.{PAGE_SIZE}
@@ -15,20 +15,21 @@ use Rattle.mig_model.specs.Space.{Space, access_of, accessed, called, queued_by}
 use Rattle.mig_model.specs.Ioctls.{installed}
 use Rattle.mig_model.specs.Cpus.{Cpus, Took, access_took, call_took, processor_at, processor_after, all_woken, message_less}
 
+-- the guest at one node: its address space, and the processors that run in it
 pub record Guest : Type 0 where
-  -- the address space, and what the object of it tells
+  -- the address space with its userfault object
   pub space : Space
-  -- what each processor does in it
+  -- the state of each processor
   pub cpus : Cpus
 
 -- Commands
 
--- what a command comes to; the first argument tells whether it is a load or store
+-- how a command ends; the first argument says whether it is a load or store
 abbrev pub took_by : Bool → Space → Command → Took
 took_by true space command = access_took (access_of space command)
 took_by false space command = call_took (reply_of (memory space.host) command) (queued_by space command)
 
--- the space after it
+-- the space after a command of a processor
 abbrev pub space_by : Bool → Space → ℕ → Command → Space
 space_by true space cpu command = accessed space cpu command
 space_by false space cpu command = called space cpu command
@@ -43,7 +44,7 @@ tried access guest cpu command =
 
 -- Messages
 
--- whether a page lies in the pages of an address range
+-- whether a page lies in the address range from `start` up to `end`, both in bytes and multiples of the page size
 abbrev pub in_bytes : ℕ → ℕ → ℕ → Bool
 in_bytes start end page = in_range (start / PAGE_SIZE) (end / PAGE_SIZE - start / PAGE_SIZE) page
 
@@ -59,8 +60,8 @@ abbrev pub is_left_by : Message → ℕ → Bool
 is_left_by (Remap from to len) page = in_bytes from (from + len) page
 is_left_by message page = is_changed_by message page
 
--- the guest once its handler has read a message of a processor: an event wakes those that sleep on its pages, and is one less for
--- the processor in its call
+-- the guest once its handler has read a message that processor `cpu` has caused. An event wakes those that sleep on pages that are gone
+-- or moved away, and its own processor waits for one message less
 abbrev pub read_guest : Guest → ℕ → Message → Guest
 read_guest guest cpu (PageFault addr write wp tid) = record guest { space = record guest.space { object = message_read guest.space.object } }
 read_guest guest cpu message =
@@ -71,7 +72,7 @@ read_guest guest cpu message =
 
 -- Faults
 
--- a fault that a handler has read: its page, and whether it is a write-protect one
+-- a fault that a handler has read: its page, and whether it is a write-protect fault
 pub record Fault : Type 0 where
   pub page : ℕ
   pub wp : Bool
@@ -86,33 +87,33 @@ abbrev pub rest_held : List Fault → List Fault
 rest_held [] = []
 rest_held (fault ∷ rest) = rest
 
--- a count of 64 bits once so many more are counted: it stops at its greatest value
+-- a count of 64 bits once `more` is added: it stops at its greatest value
 abbrev pub counted : ℕ → ℕ → ℕ
 counted count more = lesser (count + more) (2 ^ 64 - 1)
 
--- 1 for a page fault
+-- how many page faults a message reports: 1 or 0
 abbrev pub fault_count : Message → ℕ
 fault_count (PageFault addr write wp tid) = 1
 fault_count message = 0
 
--- what a handler makes of a fault
+-- how a handler resolves a fault
 pub data Act : Type 0 where
   -- the protection of the page is cleared
   Unprotected : Act
   -- the missing page becomes zeros
   Zeroed : Act
-  -- the page is there: its sleepers are woken
+  -- the page is present, and needs nothing: its sleepers are woken
   Woke : Act
-  -- the page is not mapped or not registered any more: its sleepers are woken
+  -- the page is no longer mapped or no longer registered: its sleepers are woken
   Forgot : Act
-  -- the page at the source from which it is owed is asked for
+  -- the page is owed: its origin is requested from the source
   Requested : (origin : ℕ) → Act
 
--- the guest once a fault is resolved, which leaves the space so, and wakes those that sleep on the page
+-- the guest once a fault is resolved: it has this space, and those that sleep on the page are woken
 abbrev pub resolved : Guest → ℕ → Space → Guest
 resolved guest page space = record { space = space; cpus = all_woken (λ q. q == page) guest.cpus }
 
--- the space with a page of zeros at a missing page: UFFDIO_ZEROPAGE
+-- the space once a missing page is zeros: UFFDIO_ZEROPAGE
 abbrev pub zero_installed : Space → ℕ → Space
 zero_installed space page = installed space page 1 (λ i. zero_page) false
 
@@ -120,6 +121,6 @@ zero_installed space page = installed space page 1 (λ i. zero_page) false
 abbrev pub is_forgotten : Space → ℕ → Bool
 is_forgotten space page = not (contains_key space.host.areas page) || not (is_registered space.object page)
 
--- whether it is present
+-- whether a page is present: it has bytes of its own
 abbrev pub is_present : Space → ℕ → Bool
 is_present space page = contains_key space.host.bytes page

@@ -1,4 +1,4 @@
--- One host: its mapped and its present pages, the flat memory that they mean, and what a command does to them.
+-- One host: its mapped and its present pages, the flat memory that they represent, and what a command does to them.
 use Rattle.std.specs.Prelude.{◌≡◌, ℕ, ◌/◌, ◌%◌, ◌≤◌, List, Some, None, slice_index, length, refl}
 use Rattle.std.specs.Option.{option_map}
 use Rattle.std.specs.Ordering.{nat_cmp}
@@ -23,17 +23,17 @@ pub record Host : Type 0 where
   pub areas : FinMap nat_cmp Prot
   pub bytes : FinMap nat_cmp (List ℕ)
 
--- the code of a host, from those of its maps
+-- how a proof tells two hosts apart, for models that contain them: by the codes of their maps
 abbrev pub coded_host : Coded Host
 coded_host =
     code_by (FinMap nat_cmp Prot × FinMap nat_cmp (List ℕ)) (coded× (map.code coded_ℕ coded_prot) (map.code coded_ℕ (coded_list coded_ℕ)))
     (λ h. (h.areas, h.bytes)) (λ p. record { areas = p.0; bytes = p.1 }) (λ _. refl)
 
--- no page is mapped
+-- a host on which no page is mapped
 abbrev pub bare_host : Host
 bare_host = record { areas = empty; bytes = empty }
 
--- the byte at an address of the pages: 0 where the page is not present
+-- the byte at an address: 0 if its page is not present
 abbrev pub byte_in : FinMap nat_cmp (List ℕ) → ℕ → ℕ
 byte_in bytes addr = slice_index (page_at bytes (addr / PAGE_SIZE)) (addr % PAGE_SIZE)
 
@@ -42,8 +42,8 @@ byte_in bytes addr = slice_index (page_at bytes (addr / PAGE_SIZE)) (addr % PAGE
 unfoldable pub memory : Host → Memory
 memory host = λ addr. option_map (λ prot. record { byte = byte_in host.bytes addr; prot = prot }) (get host.areas (addr / PAGE_SIZE))
 
--- the host once its pages have gone from one range to another, where they may be more or fewer: the pages by which it grows have
--- the protection of the first and are not present
+-- the host once `count` pages have moved to a range of `new_count` pages: pages by which the range grows have the protection of the first
+-- and are not present
 abbrev pub host_moved : Host → ℕ → ℕ → ℕ → ℕ → Host
 host_moved host from count to new_count =
     record { areas = moved_range host.areas from count to new_count (get host.areas from); bytes = moved_range host.bytes from count to new_count None }
@@ -52,8 +52,8 @@ host_moved host from count to new_count =
 abbrev pub host_dropped : Host → ℕ → ℕ → Host
 host_dropped host first count = record host { bytes = remove_range host.bytes first count }
 
--- the host after a command that is answered so. A store makes its page present; new pages, and those that madvise(2) has made
--- zeros, are not present
+-- the host after a command with this reply. A store makes its page present; new pages, and those that madvise(2) has made zeros, are not
+-- present
 abbrev pub host_changed : Host → Command → Reply → Host
 host_changed host (Store addr width value) Done =
     record host { bytes = insert host.bytes (addr / PAGE_SIZE) (overwrite (contents host.bytes (addr / PAGE_SIZE)) (addr % PAGE_SIZE) (low_bytes value width)) }
@@ -66,7 +66,7 @@ host_changed host (DontNeed addr len) Done = host_dropped host (addr / PAGE_SIZE
 host_changed host (DontNeed addr len) (Refused Enomem) = host_dropped host (addr / PAGE_SIZE) (pages_of len)
 host_changed host _ _ = host
 
--- the host after a command, which it answers as its memory does
+-- the host after a command, which has the reply of the flat memory
 abbrev pub host_after : Host → Command → Host
 host_after host command = host_changed host command (reply_of (memory host) command)
 

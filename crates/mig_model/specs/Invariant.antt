@@ -1,5 +1,5 @@
--- The induction: what every world keeps, clause by clause, so that each step keeps all of them. No promise needs to be read here; the
--- words of the promises stand in Promises.antt and Whereabouts.antt.
+-- The induction: what every world keeps, in clauses that each step keeps together. To believe the promises nobody has to read this file:
+-- their words are in Promises.antt and Whereabouts.antt.
 use Rattle.std.specs.Prelude.{◌≡◌, ◌≢◌, ℕ, ◌+◌, ◌/◌, ◌%◌, ◌<◌, ◌≤◌, ◌==◌, ◌&&◌, ◌||◌, ◌⊎◌, Bool, true, false, if◌then◌else◌, Option, Some, None, List, [], ◌∷◌, ◌++◌, length}
 use Rattle.std.specs.Option.{option_and_then}
 use Rattle.std.specs.Ordering.{nat_cmp}
@@ -41,13 +41,14 @@ IsRight (Remove start end) = (start % PAGE_SIZE ≡ 0) × (end % PAGE_SIZE ≡ 0
 IsRight (Unmap start end) = (start % PAGE_SIZE ≡ 0) × (end % PAGE_SIZE ≡ 0)
 IsRight (PageFault addr write wp tid) = ⊥
 
+-- each of these unread events is such an event
 abbrev pub AreRight : List Noted → Type 0
 AreRight [] = Unit {0}
 AreRight (noted ∷ events) = IsRight noted.message × AreRight events
 
 -- What is in flight
 
--- where a wire to the destination is in the order of its frames: Advise, copies, Discard, Package, copies, End
+-- the place of a wire to the destination in the order of its frames: Advise, copies, Discard, Package, copies, End
 pub data Flow : Type 0 where
   BeforeAdvise : Flow
   Copies : Flow
@@ -55,7 +56,7 @@ pub data Flow : Type 0 where
   Pushed : Flow
   AfterEnd : Flow
 
--- after one more frame, if it may come there
+-- the place after one more frame, if that frame may come there
 abbrev pub flow_next : Flow → Frame → Option Flow
 flow_next BeforeAdvise Advise = Some Copies
 flow_next Copies (Page page bytes) = Some Copies
@@ -68,7 +69,7 @@ flow_next Pushed (Zero page) = Some Pushed
 flow_next Pushed (End urgent) = Some AfterEnd
 flow_next flow frame = None
 
--- after the frames of a wire
+-- the place after the frames of a wire, if they come in this order
 abbrev pub flow_after : Flow → List Sent → Option Flow
 flow_after flow [] = Some flow
 flow_after flow (sent ∷ rest) = option_and_then (λ next. flow_after next rest) (flow_next flow sent.frame)
@@ -78,26 +79,28 @@ abbrev pub AreWhole : List Copy → Type 0
 AreWhole [] = Unit {0}
 AreWhole (copy ∷ copies) = (length copy.bytes ≡ PAGE_SIZE) × AreWhole copies
 
--- each frame was sent in the epoch
+-- each frame was sent in this epoch
 abbrev pub AreOf : ℕ → List Sent → Type 0
 AreOf epoch [] = Unit {0}
 AreOf epoch (sent ∷ rest) = (sent.epoch ≡ epoch) × AreOf epoch rest
 
+-- whether a frame is Done
 abbrev pub is_done : Frame → Bool
 is_done Done = true
 is_done frame = false
 
+-- whether frames are any number of requests with one Done behind them, as the last
 abbrev pub are_requests_and_done : List Sent → Bool
 are_requests_and_done [] = false
 are_requests_and_done (sent ∷ rest) = is_request sent.frame && are_requests_and_done rest || is_done sent.frame && is_empty rest
 
 -- What is in flight in each pair of phases, while the link is up
 
--- how far the wire gets, once Switch was made: End is the last frame on it, or was taken, if it was sent in this epoch
+-- the place at the end of the wire, once Switch was made: behind End if End was sent in this epoch
 abbrev pub flow_of : Source → Flow
 flow_of source = if source.end_epoch == source.epoch then AfterEnd else Pushed
 
--- while the destination runs and the source is stopped
+-- what holds of owed pages while the destination runs and the source is stopped
 pub record IsFlowing (source : Source) (destination : Destination) (forward urgent : List Sent) : Type 0 where
   -- each owed page is to be pushed, in flight on either wire, or arrived
   pub whereabouts : (page origin : ℕ) → get destination.owed page ≡ Some origin → (is_urgent_or_left source.remaining urgent origin || has_copy (copies_of forward) origin || has_copy destination.arrivals origin) ≡ true
@@ -135,7 +138,7 @@ PrecopyWires source destination forward back = elim destination.phase [
   | DestPhase.Ended ↦ ⊥
 ]
 
--- every pair of phases that occurs while the link is up, with what is in flight then
+-- every pair of phases that occurs while the link is up, and what is in flight then
 abbrev pub Wires : Source → Destination → (forward back urgent : List Sent) → Type 0
 Wires source destination forward back urgent = elim source.phase [
   | SourcePhase.Idle ↦ (destination.phase ≡ DestPhase.Idle) × (forward ≡ []) × (back ≡ [])
@@ -147,7 +150,7 @@ Wires source destination forward back urgent = elim source.phase [
 
 -- Phases
 
--- the phases that tell whether Switch was made
+-- how the phase of the source says whether Switch was made; Paused does not say it
 abbrev pub SwitchedAt : SourcePhase → Bool → Type 0
 SwitchedAt SourcePhase.Idle switched = switched ≡ false
 SwitchedAt SourcePhase.Precopy switched = switched ≡ false
@@ -155,7 +158,7 @@ SwitchedAt SourcePhase.Stopped switched = switched ≡ true
 SwitchedAt SourcePhase.Paused switched = Unit {0}
 SwitchedAt SourcePhase.Released switched = switched ≡ true
 
--- the phases that tell whether the destination has run and ended
+-- how the phase of the destination says whether it has run, and whether it has ended; Paused does not say it
 abbrev pub RanAt : DestPhase → Bool → Bool → Type 0
 RanAt DestPhase.Idle ran ended = ran ≡ false
 RanAt DestPhase.Advised ran ended = ran ≡ false
@@ -164,7 +167,7 @@ RanAt DestPhase.Running ran ended = (ran ≡ true) × (ended ≡ false)
 RanAt DestPhase.Paused ran ended = Unit {0}
 RanAt DestPhase.Ended ran ended = ended ≡ true
 
--- the epoch of a destination, while the link is up
+-- the epoch of a destination while the link is up: the source's, an earlier one while it is paused, and any while it is idle
 abbrev pub EpochAt : DestPhase → ℕ → ℕ → Type 0
 EpochAt DestPhase.Idle epoch source_epoch = Unit {0}
 EpochAt DestPhase.Advised epoch source_epoch = epoch ≡ source_epoch
@@ -194,7 +197,7 @@ pub record AreSoundSpaces (source destination : Space) : Type 0 where
   -- the queue of page faults holds page faults alone: an event that was read from it would change the owed table before its turn
   pub destination_faults : AreFaults destination.object.faults
 
--- the phases tell whether Switch was made, and whether the destination has run and ended
+-- the phases of both nodes agree with whether Switch was made, and whether the destination has run and ended
 pub record AreSoundPhases (from : SourcePhase) (switched : Bool) (to : DestPhase) (has_run ended : Bool) (events : List Noted) : Type 0 where
   pub source_phase : SwitchedAt from switched
   pub destination_phase : RanAt to has_run ended
@@ -212,7 +215,7 @@ pub record IsSoundLog (from : SourcePhase) (switched : Bool) (space : Space) (cl
   pub clean_protected : switched ≡ false → (page : ℕ) → contains clean page ≡ true → is_unread space.object.events page ≡ false → contains space.protected page ≡ true
   pub todo_sendable : switched ≡ false → (page : ℕ) → contains todo page ≡ true → is_unread space.object.events page ≡ false → (is_present space page ≡ true) × (contains space.object.protect page ≡ true)
 
--- what remains to be pushed, and whether End was sent: its last epoch is told
+-- what remains to be pushed, and whether End was sent: `end_epoch` is the epoch in which it was sent last
 pub record IsSoundPushing (from : SourcePhase) (switched up : Bool) (epoch end_epoch : ℕ) (space : Space) (remaining : FinSet nat_cmp) : Type 0 where
   -- before Switch nothing remains, and End was not sent
   pub before_switch : switched ≡ false → (remaining ≡ no_pages) × (end_epoch ≢ epoch ⊎ (from ≡ SourcePhase.Idle))
@@ -221,7 +224,7 @@ pub record IsSoundPushing (from : SourcePhase) (switched up : Bool) (epoch end_e
   -- what remains is present
   pub remaining_present : (page : ℕ) → contains remaining page ≡ true → is_present space page ≡ true
   pub ended_before : end_epoch ≤ epoch
-  -- after a resumption End was not sent again before the source knows what the destination needs
+  -- after a resumption End is not sent again before the source knows what the destination needs
   pub paused_fresh : up ≡ true → from ≡ SourcePhase.Paused → end_epoch ≢ epoch
   -- a released source holds nothing
   pub released_empty : from ≡ SourcePhase.Released → (space ≡ fresh_space) × (remaining ≡ no_pages)
@@ -235,7 +238,7 @@ pub record AreSoundCopies (to : DestPhase) (has_run : Bool) (kept : FinMap nat_c
 
 -- the pages that are owed, and the copies that have arrived for them
 pub record IsSoundOwing (bytes : FinMap nat_cmp (List ℕ)) (destination : Space) (has_run ended : Bool) (owed : Owed) (arrivals : List Copy) : Type 0 where
-  -- a destination that has not run owes nothing, and holds no event and no arrival
+  -- a destination that has not run is owed nothing, and has a fresh space and no arrival
   pub not_run : has_run ≡ false → (owed ≡ finmap.empty) × (destination ≡ fresh_space) × (arrivals ≡ [])
   -- no source page is owed to two pages, and each is present at the source
   pub one_to_one : (page other origin : ℕ) → get owed page ≡ Some origin → get owed other ≡ Some origin → page ≡ other
@@ -250,24 +253,25 @@ pub record IsSoundOwing (bytes : FinMap nat_cmp (List ℕ)) (destination : Space
 
 -- what is in flight
 pub record IsSoundFlight (source : Source) (destination : Destination) (forward back urgent : List Sent) (up : Bool) : Type 0 where
-  -- from the run of the destination on the copies in flight have the source's bytes
+  -- once the destination has run, the copies in flight have the source's bytes
   pub flight_faithful : destination.has_run ≡ true → AreFaithful (space_of source).host.bytes (copies_of forward)
-  -- while the link is down nothing is, and a migration has begun and is not complete
+  -- while the link is down nothing is in flight, and a migration has begun and is not complete
   pub down : up ≡ false → (forward ≡ []) × (back ≡ []) × (source.phase ≢ SourcePhase.Idle) × (source.phase ≢ SourcePhase.Released)
   pub wires : up ≡ true → Wires source destination forward back urgent
 
--- every frame in flight is of the source's epoch, and the destination's is no later
+-- every frame in flight is of the source's epoch, and the destination's epoch is not later
 pub record AreSoundEpochs (epoch : ℕ) (to : DestPhase) (dest_epoch : ℕ) (forward back : List Sent) (up : Bool) : Type 0 where
   pub forward_epoch : AreOf epoch forward
   pub back_epoch : AreOf epoch back
   pub not_ahead : dest_epoch ≤ epoch
   pub epoch_at : up ≡ true → EpochAt to dest_epoch epoch
 
--- fewer bytes of the first frame are with the decoder than its text has, and none where nothing is in flight
+-- the bytes of the first frame that have come do not complete it, and there are none where nothing is in flight
 abbrev pub HeldFits : List Sent → ℕ → Type 0
 HeldFits [] held = held ≡ 0
 HeldFits (sent ∷ rest) held = held < text_len sent.frame
 
+-- the same of the wire to the destination and the wire back
 pub record AreSoundWires (forward back : Wire) : Type 0 where
   pub forward_held : HeldFits forward.frames forward.held
   pub back_held : HeldFits back.frames back.held
@@ -279,11 +283,12 @@ abbrev pub are_copies : List Sent → Bool
 are_copies [] = true
 are_copies (sent ∷ rest) = is_copy sent.frame && are_copies rest
 
--- an End was sent in the source's epoch, and tells how many urgent frames it sent in it
+-- an End was sent in the source's epoch, and announces how many urgent frames were sent in that epoch
 abbrev pub IsTold : (epoch end_epoch count : ℕ) → Frame → Type 0
 IsTold epoch end_epoch count (End urgent) = (end_epoch ≡ epoch) × (urgent ≡ count)
 IsTold epoch end_epoch count frame = Unit {0}
 
+-- the same of each frame in flight to the destination
 abbrev pub AreTold : (epoch end_epoch count : ℕ) → List Sent → Type 0
 AreTold epoch end_epoch count [] = Unit {0}
 AreTold epoch end_epoch count (sent ∷ rest) = IsTold epoch end_epoch count sent.frame × AreTold epoch end_epoch count rest
@@ -298,7 +303,7 @@ pub record IsSoundUrgent (from : SourcePhase) (epoch end_epoch count : ℕ) (byt
   pub stopped : is_stopped from ≡ false → urgent.frames ≡ []
   pub down : up ≡ false → urgent.frames ≡ []
   pub ended : to ≡ DestPhase.Ended → urgent.frames ≡ []
-  -- what was sent was taken or is on the wire, and End tells it
+  -- each frame that was sent was taken or is on the wire, and End announces how many
   pub counted : up ≡ true → to ≢ DestPhase.Paused → count ≡ taken + length urgent.frames
   pub told : AreTold epoch end_epoch count forward
   -- an epoch begins with none sent, and a destination that has not run has taken none
@@ -306,6 +311,7 @@ pub record IsSoundUrgent (from : SourcePhase) (epoch end_epoch count : ℕ) (byt
   pub none_taken : has_run ≡ false → taken ≡ 0
   pub fits : HeldFits urgent.frames urgent.held
 
+-- the same of a world: the part of the invariant that is about its urgent wire
 abbrev pub AreSoundUrgent : World → Type 0
 AreSoundUrgent world =
     IsSoundUrgent world.source.phase world.source.epoch world.source.end_epoch world.source.urgent_sent (space_of world.source).host.bytes world.destination.phase world.destination.has_run

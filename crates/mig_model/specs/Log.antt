@@ -13,6 +13,7 @@ use Rattle.mig_model.specs.Guest.{Fault, held_after, rest_held, is_changed_by, i
 
 -- Sets of pages
 
+-- the empty set of pages
 abbrev pub no_pages : FinSet nat_cmp
 no_pages = finset.empty
 
@@ -34,8 +35,9 @@ least_of set = least_below (contains set) HIGH_PAGE
 
 -- The log
 
+-- what the source knows of its pages in an epoch: QEMU's dirty bitmap has a bit for each page that is not clean
 pub record Log : Type 0 where
-  -- pages whose newest copy under way is right, as far as the source knows
+  -- pages that were not written since they were sent, as far as the events that were read tell: their newest copy is right
   pub clean : FinSet nat_cmp
   -- pages that this round still has to send
   pub todo : FinSet nat_cmp
@@ -48,7 +50,7 @@ pub record Log : Type 0 where
 abbrev pub empty_log : Log
 empty_log = record { clean = no_pages; todo = no_pages; sent = no_pages; held = [] }
 
--- the log of an epoch in which nothing was sent
+-- the log as pre-copy begins again after a break: nothing was sent in the new epoch, and held faults stay
 abbrev pub forgotten : Log → Log
 forgotten log = record log { clean = no_pages; todo = no_pages; sent = no_pages }
 
@@ -56,11 +58,11 @@ forgotten log = record log { clean = no_pages; todo = no_pages; sent = no_pages 
 abbrev pub dirty : Space → Log → FinSet nat_cmp
 dirty space log = less (present space) log.clean
 
--- a page that is sent is clean
+-- a page is sent: it is clean, and leaves the round
 abbrev pub log_sent : Log → ℕ → Log
 log_sent log page = record log { todo = finset.remove log.todo page; clean = finset.insert log.clean page; sent = finset.insert log.sent page }
 
--- and so are pages that are sent in one run
+-- the same for neighbouring pages that are sent in one run
 abbrev pub log_run_sent : Log → ℕ → ℕ → Log
 log_run_sent log first count =
     record log { todo = without log.todo first count; clean = with_range log.clean first count; sent = with_range log.sent first count }
@@ -69,10 +71,10 @@ log_run_sent log first count =
 abbrev pub log_read : Log → Message → Log
 log_read log message = record log { clean = unchanged log.clean message; todo = unchanged log.todo message; held = held_after log.held message }
 
--- the first fault is resolved
+-- the first held fault is resolved, and no page becomes dirty by it
 abbrev pub log_resolved : Log → Log
 log_resolved log = record log { held = rest_held log.held }
 
--- a page may be written again
+-- a page is unprotected, since a store faulted on it: it is no longer clean, and the first held fault is resolved
 abbrev pub log_written : Log → ℕ → Log
 log_written log page = record log { clean = finset.remove log.clean page; held = rest_held log.held }

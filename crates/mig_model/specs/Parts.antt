@@ -1,5 +1,5 @@
--- Which parts of a world each step may change. Every other part stays as it was: no step of the source puts
--- anything at the destination but by the wire.
+-- Which parts of a world each step may change. Every other part stays as it was: a step of the source reaches the destination only by a
+-- wire.
 use Rattle.std.specs.Prelude.{◌≡◌, true, false, List, ◌++◌}
 use Rattle.mig_base.specs.declared.phase.DestPhase.{DestPhase}
 use Rattle.mig_base.specs.declared.phase.SourcePhase.{SourcePhase}
@@ -8,17 +8,17 @@ use Rattle.mig_base.specs.declared.schedule.Step.{Step}
 use Rattle.mig_model.specs.Wire.{Sent, Wire}
 use Rattle.mig_model.specs.Migration.{World}
 
--- something was put at the end of a wire, or nothing
+-- frames were put at the end of a wire, or none; the bytes of the first that have come stay
 pub record Grows (old new : Wire) : Type 0 where
   pub more : List Sent
   pub is : new ≡ record old { frames = old.frames ++ more }
 
--- frames were taken from the front of a wire, or none; bytes of the first may have gone to the decoder
+-- frames were taken from the front of a wire, or none; the number of bytes of the first that have come may change
 pub record Shrinks (old new : Wire) : Type 0 where
   pub taken : List Sent
   pub is : old.frames ≡ taken ++ new.frames
 
--- the guest, at the node that runs it, and the transcript
+-- only the guest at the node that runs it, and the transcript
 pub record GuestAlone (old new : World) : Type 0 where
   pub forward : new.forward ≡ old.forward
   pub back : new.back ≡ old.back
@@ -29,7 +29,7 @@ pub record GuestAlone (old new : World) : Type 0 where
   pub source_guest : new.source ≡ record old.source { guest = new.source.guest }
   pub destination_guest : new.destination ≡ record old.destination { guest = new.destination.guest }
 
--- the source, and the end of the wire to the destination
+-- only the source, and the end of the wire to the destination
 pub record SourceAlone (old new : World) : Type 0 where
   pub destination : new.destination ≡ old.destination
   pub forward : Grows old.forward new.forward
@@ -38,7 +38,7 @@ pub record SourceAlone (old new : World) : Type 0 where
   pub up : new.up ≡ old.up
   pub transcript : new.transcript ≡ old.transcript
 
--- the destination, and the end of the wire back
+-- only the destination, and the end of the wire back
 pub record DestinationAlone (old new : World) : Type 0 where
   pub source : new.source ≡ old.source
   pub forward : new.forward ≡ old.forward
@@ -47,7 +47,7 @@ pub record DestinationAlone (old new : World) : Type 0 where
   pub up : new.up ≡ old.up
   pub transcript : new.transcript ≡ old.transcript
 
--- the front of the wire to the destination, the destination, and the end of the wire back
+-- only the front of the wire to the destination, the destination, and the end of the wire back
 pub record Delivers (old new : World) : Type 0 where
   pub source : new.source ≡ old.source
   pub forward : Shrinks old.forward new.forward
@@ -56,7 +56,7 @@ pub record Delivers (old new : World) : Type 0 where
   pub up : new.up ≡ old.up
   pub transcript : new.transcript ≡ old.transcript
 
--- the front of the wire back, the source, and the end of the wire to the destination
+-- only the front of the wire back, the source, and the end of the wire to the destination
 pub record DeliversBack (old new : World) : Type 0 where
   pub destination : new.destination ≡ old.destination
   pub forward : Grows old.forward new.forward
@@ -65,7 +65,7 @@ pub record DeliversBack (old new : World) : Type 0 where
   pub up : new.up ≡ old.up
   pub transcript : new.transcript ≡ old.transcript
 
--- the source, and the end of the urgent wire
+-- only the source, and the end of the urgent wire
 pub record UrgentAlone (old new : World) : Type 0 where
   pub destination : new.destination ≡ old.destination
   pub forward : new.forward ≡ old.forward
@@ -74,7 +74,7 @@ pub record UrgentAlone (old new : World) : Type 0 where
   pub up : new.up ≡ old.up
   pub transcript : new.transcript ≡ old.transcript
 
--- the front of the urgent wire, and the destination
+-- only the front of the urgent wire, and the destination
 pub record DeliversUrgent (old new : World) : Type 0 where
   pub source : new.source ≡ old.source
   pub forward : new.forward ≡ old.forward
@@ -83,22 +83,23 @@ pub record DeliversUrgent (old new : World) : Type 0 where
   pub up : new.up ≡ old.up
   pub transcript : new.transcript ≡ old.transcript
 
--- all wires, and the link
+-- only the wires and the link
 pub record WiresAlone (old new : World) : Type 0 where
   pub source : new.source ≡ old.source
   pub destination : new.destination ≡ old.destination
   pub transcript : new.transcript ≡ old.transcript
 
--- the phase of one side
+-- only the phase of the source
 pub record SourcePhaseAlone (old new : World) : Type 0 where
   pub phase : SourcePhase
   pub is : new ≡ record old { source = record old.source { phase = phase } }
 
+-- only the phase of the destination
 pub record DestinationPhaseAlone (old new : World) : Type 0 where
   pub phase : DestPhase
   pub is : new ≡ record old { destination = record old.destination { phase = phase } }
 
--- the link, the source's epoch with its count of urgent frames, and the end of the wire to the destination
+-- only the link, the source's epoch with its count of urgent frames, and the end of the wire to the destination
 pub record LinkAlone (old new : World) : Type 0 where
   pub source : new.source ≡ record old.source { epoch = new.source.epoch; urgent_sent = new.source.urgent_sent }
   pub destination : new.destination ≡ old.destination
@@ -107,7 +108,7 @@ pub record LinkAlone (old new : World) : Type 0 where
   pub urgent : new.urgent ≡ old.urgent
   pub transcript : new.transcript ≡ old.transcript
 
--- the parts that a step may change
+-- a step from one world to another changes only the parts that it may
 abbrev pub ChangesParts : World → Step → World → Type 0
 ChangesParts old (Step.Issue cpu command) new = GuestAlone old new
 ChangesParts old (Step.Retry cpu) new = GuestAlone old new

@@ -1,4 +1,4 @@
--- The replies of map calls: a call has made its entry, and gives its processor the reply once its last message is read.
+-- The replies of map calls: a call is entered when it is made, and its processor gets the reply when its last message is read.
 use Rattle.std.specs.Prelude.{◌≡◌, ℕ, ◌==◌, if◌then◌else◌, Option, Some, None, Ok, List, [], ◌∷◌}
 use Rattle.mig_base.specs.declared.command.Entry.{Entry}
 use Rattle.mig_base.specs.declared.command.Reply.{Reply}
@@ -13,7 +13,7 @@ abbrev pub last_reply : List Entry → ℕ → Option Reply
 last_reply [] k = None
 last_reply (entry ∷ entries) k = elim (last_reply entries k) [ Some reply ↦ Some reply | None ↦ if entry.cpu == k then Some entry.reply else None ]
 
--- the reply that a processor in a call will get
+-- the reply that a processor in a map call will get
 abbrev pub call_reply : CpuState → Option Reply
 call_reply (CpuState.InCall reply left) = Some reply
 call_reply processor = None

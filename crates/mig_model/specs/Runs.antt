@@ -1,11 +1,11 @@
--- Runs that may be short of memory: a step that needs some and gets none answers NoMemory, and changes nothing.
+-- Runs that may be short of memory: a step that needs memory and gets none answers NoMemory, and changes nothing.
 use Rattle.std.specs.Prelude.{◌≡◌, ◌⊎◌, ◌&&◌, not, Bool, true, false, if◌then◌else◌, Result, Ok, Err, List, [], ◌∷◌}
 use Rattle.mig_base.specs.declared.effect.Effect.{Effect}
 use Rattle.mig_base.specs.declared.refusal.Refusal.{Refusal}
 use Rattle.mig_base.specs.declared.schedule.Step.{Step}
 use Rattle.mig_model.specs.Migration.{World, next, outcome}
 
--- what a step answers
+-- the effect of a step, or why it is refused
 abbrev pub Outcome : Type 0
 Outcome = Result Effect Refusal
 
@@ -22,29 +22,30 @@ comes_later (Step.Deliver n) Refusal.InstallFirst = true
 comes_later (Step.Deliver n) Refusal.UrgentFirst = true
 comes_later step refusal = false
 
--- a delivery that completes no frame moves bytes alone, and needs none
+-- whether a step is a delivery: one that completes no frame moves bytes alone, and needs no memory
 abbrev pub is_delivery : Step → Bool
 is_delivery (Step.Deliver n) = true
 is_delivery (Step.DeliverBack n) = true
 is_delivery (Step.DeliverUrgent n) = true
 is_delivery step = false
 
+-- whether an effect is that of a delivery that completes no frame
 abbrev pub is_move : Effect → Bool
 is_move (Effect.Moved n) = true
 is_move effect = false
 
--- whether a step may answer NoMemory where memory enough would give this answer
+-- whether a step may answer NoMemory where it would give this answer with enough memory
 abbrev pub may_lack : Step → Outcome → Bool
 may_lack step (Ok effect) = needs_memory step && not (is_delivery step && is_move effect)
 may_lack step (Err refusal) = comes_later step refusal
 
--- whether a step may answer so and leave the new world
+-- a step has this result and leads to this world: those of the machine, or NoMemory and the old world where the step may lack memory
 abbrev pub Happens : World → Step → Outcome → World → Type 0
 Happens old step result new =
     ((result ≡ outcome old step) × (new ≡ next old step))
     ⊎ ((result ≡ Err Refusal.NoMemory) × (may_lack step (outcome old step) ≡ true) × (new ≡ old))
 
--- the same for steps in turn
+-- the same for steps in turn, with the result of each
 abbrev pub IsRun : World → List Step → List Outcome → World → Type 0
 IsRun old [] [] new = new ≡ old
 IsRun old (step ∷ steps) (result ∷ results) new = (mid : World) × Happens old step result mid × IsRun mid steps results new
@@ -56,17 +57,18 @@ abbrev pub is_lacking : Outcome → Bool
 is_lacking (Err Refusal.NoMemory) = true
 is_lacking result = false
 
--- the steps of a run that did not answer so, and what they answered
+-- the steps of a run that did not answer NoMemory
 abbrev pub steps_made : List Step → List Outcome → List Step
 steps_made [] results = []
 steps_made (step ∷ steps) [] = []
 steps_made (step ∷ steps) (result ∷ results) = if is_lacking result then steps_made steps results else step ∷ steps_made steps results
 
+-- the results of a run other than NoMemory
 abbrev pub results_of : List Outcome → List Outcome
 results_of [] = []
 results_of (result ∷ results) = if is_lacking result then results_of results else result ∷ results_of results
 
--- what steps made in turn answer where memory is never short
+-- what steps made in turn answer if memory is never short
 abbrev pub outcomes : World → List Step → List Outcome
 outcomes world [] = []
 outcomes world (step ∷ steps) = outcome world step ∷ outcomes (next world step) steps

@@ -47,8 +47,8 @@ is_made (Value number) = true
 is_made Done = true
 is_made _ = false
 
--- what an access comes to: one that is wrong or not permitted is answered as the flat memory answers it; one of a missing page
--- that is registered for that, or a store to a protected page that is registered for that, is a page fault; any other is answered
+-- how a load or store ends. One that is wrong or not permitted is answered as the flat memory answers it. One of a missing page that is
+-- registered for missing faults, or a store to a write-protected page that is registered for that, is a page fault. Any other is answered
 abbrev pub access_of : Space → Command → Access
 access_of space command =
     if not (is_made (reply_of (memory space.host) command)) then Answered (reply_of (memory space.host) command)
@@ -56,24 +56,25 @@ access_of space command =
     else if is_store command && contains space.object.protect (page_of command) && contains space.protected (page_of command) then Protected
     else Answered (reply_of (memory space.host) command)
 
--- the space after it: an access that is answered is made, and a page fault is queued
+-- the space after such an access of a processor: one that is answered is made, and else its page fault is queued: UFFD_EVENT_PAGEFAULT
 abbrev pub accessed_by : Access → Space → ℕ → Command → Space
 accessed_by (Answered reply) space cpu command = record space { host = host_after space.host command }
 accessed_by Missing space cpu command = record space { object = fault_queued space.object (PAGE_SIZE * page_of command) (is_store command) false cpu }
 accessed_by Protected space cpu command = record space { object = fault_queued space.object (PAGE_SIZE * page_of command) true true cpu }
 
+-- the space after a load or store of a processor
 abbrev pub accessed : Space → ℕ → Command → Space
 accessed space cpu command = accessed_by (access_of space command) space cpu command
 
 -- Map calls
 
--- a message, if there is reason for it
+-- one message if the test holds, else none
 abbrev pub told : Bool → Message → List Message
 told true message = message ∷ []
 told false message = []
 
--- what mremap tells: that a target was replaced, that a tail was cut, and that a range was moved, each only where a page of it was
--- registered
+-- the events of mremap(2): UNMAP of a replaced target, UNMAP of a tail that was cut off, and REMAP of the range that moved, each only if
+-- a page of it was registered
 abbrev pub remap_messages : Object → ℕ → ℕ → ℕ → ℕ → List Message
 remap_messages object addr count target new_count =
     let from = addr / PAGE_SIZE in
@@ -82,8 +83,8 @@ remap_messages object addr count target new_count =
     ++ told (nat_lt new_count count && is_watched object (from + new_count) (count - new_count)) (Unmap (addr + PAGE_SIZE * new_count) (addr + PAGE_SIZE * count))
     ++ told (not (to == from) && is_watched object from (lesser count new_count)) (Remap addr target (PAGE_SIZE * lesser count new_count))
 
--- the events of a map call that is answered so, with the object as it was before: userfaultfd(2), UFFD_EVENT_UNMAP,
--- UFFD_EVENT_REMOVE and UFFD_EVENT_REMAP. A range ends at the end of the address space at the latest
+-- the events of a map call with this reply, by the object as it was before: userfaultfd(2), UFFD_EVENT_UNMAP, UFFD_EVENT_REMOVE and
+-- UFFD_EVENT_REMAP. A range ends at the end of the address space at the latest
 abbrev pub call_messages : Object → Command → Reply → List Message
 call_messages object (Mmap len prot place) (At start) = told (is_watched object (start / PAGE_SIZE) (pages_of len)) (Unmap start (start + rounded len))
 call_messages object (Munmap addr len) Done = told (is_watched object (addr / PAGE_SIZE) (pages_of len)) (Unmap addr (addr + rounded len))
@@ -92,8 +93,8 @@ call_messages object (DontNeed addr len) Done = told (is_watched object (addr / 
 call_messages object (DontNeed addr len) (Refused Enomem) = told (is_watched object (addr / PAGE_SIZE) (pages_of len)) (Remove addr (lesser (addr + rounded len) HIGH))
 call_messages object _ _ = []
 
--- the registered pages after it. A page keeps its mode when it moves, the pages by which a range grows have that of its last page,
--- and madvise(2) leaves the modes as they are
+-- the registered pages after a map call. A page keeps its mode when it moves, the pages by which a range grows have that of its last
+-- page, and madvise(2) leaves the modes as they are
 abbrev pub modes_after : Object → Command → Reply → Object
 modes_after object (Mmap len prot place) (At start) = unregistered object (start / PAGE_SIZE) (pages_of len)
 modes_after object (Munmap addr len) Done = unregistered object (addr / PAGE_SIZE) (pages_of len)
@@ -101,7 +102,7 @@ modes_after object (Mremap addr old_len new_len may_move fixed) (At target) =
     moved_modes object (addr / PAGE_SIZE) (pages_of old_len) (target / PAGE_SIZE) (pages_of new_len) (mode_at object (addr / PAGE_SIZE + (pages_of old_len - 1)))
 modes_after object _ _ = object
 
--- the protected pages after it: a page keeps its protection when it moves, and a page that is not present has none
+-- the write-protected pages after a map call: a page keeps its protection when it moves, and a page that is not present has none
 abbrev pub protected_after : FinSet nat_cmp → Command → Reply → FinSet nat_cmp
 protected_after pages (Mmap len prot place) (At start) = without pages (start / PAGE_SIZE) (pages_of len)
 protected_after pages (Munmap addr len) Done = without pages (addr / PAGE_SIZE) (pages_of len)
@@ -110,13 +111,13 @@ protected_after pages (DontNeed addr len) Done = without pages (addr / PAGE_SIZE
 protected_after pages (DontNeed addr len) (Refused Enomem) = without pages (addr / PAGE_SIZE) (pages_of len)
 protected_after pages _ _ = pages
 
--- the object once all the messages wait, in their order
+-- the object once all the messages of a processor are queued, in their order
 abbrev pub all_queued : Object → List Message → ℕ → Object
 all_queued object [] cpu = object
 all_queued object (message ∷ messages) cpu = all_queued (event_queued object message cpu) messages cpu
 
--- the space after a map call, which it answers as its flat memory does; the processor stays in its call until as many messages
--- are read as the call has queued
+-- the space after a map call of a processor with this reply: the call is made, and its events are queued. The processor stays in the
+-- call until all of them are read
 abbrev pub called_with : Space → ℕ → Command → Reply → Space
 called_with space cpu command reply =
     record {
@@ -125,9 +126,10 @@ called_with space cpu command reply =
       object = all_queued (modes_after space.object command reply) (call_messages space.object command reply) cpu;
     }
 
+-- the space after a map call of a processor, which has the reply of the flat memory
 abbrev pub called : Space → ℕ → Command → Space
 called space cpu command = called_with space cpu command (reply_of (memory space.host) command)
 
--- how many messages it queues
+-- how many messages a map call queues
 abbrev pub queued_by : Space → Command → ℕ
 queued_by space command = length (call_messages space.object command (reply_of (memory space.host) command))

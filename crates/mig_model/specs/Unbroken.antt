@@ -1,4 +1,4 @@
--- What is kept between a Switch and the run of the destination where the channel does not break.
+-- What the destination keeps from a Switch until it runs, if the channel does not break.
 use Rattle.std.specs.Prelude.{◌≡◌, ℕ, true, List, [], ◌∷◌}
 use Rattle.std.specs.FinMap.{get, contains_key}
 use Rattle.std.specs.FinSet.{contains}

@@ -16,14 +16,14 @@ pub record Noted : Type 0 where
 
 -- the modes in which a page may be registered: ioctl_userfaultfd(2), UFFDIO_REGISTER
 pub record Mode : Type 0 where
-  -- a touch of the page where it is missing is a fault
+  -- a load or store of the page is a fault while it is missing: UFFDIO_REGISTER_MODE_MISSING
   pub missing : Bool
-  -- a store to the page where it is write-protected is a fault
+  -- a store to the page is a fault while it is write-protected: UFFDIO_REGISTER_MODE_WP
   pub protect : Bool
 
--- the object
+-- a userfault object
 pub record Object : Type 0 where
-  -- whether the handshake was made, and the features that were asked for in it: UFFDIO_API
+  -- whether the handshake UFFDIO_API was made, and the features that it asked for, as a word of bits
   pub enabled : Bool
   pub features : ℕ
   -- the pages registered in each mode
@@ -72,7 +72,7 @@ registered_where object test mode =
 abbrev pub unregistered : Object → ℕ → ℕ → Object
 unregistered object first count = record object { missing = without object.missing first count; protect = without object.protect first count }
 
--- the object once a range of pages has gone to a new place, where it may be longer or shorter: a page keeps its mode when it moves,
+-- the object once a range of pages has moved to a new place, where it may be longer or shorter: a page keeps its mode when it moves,
 -- and the pages by which the range grows have the mode given
 abbrev pub moved_modes : Object → ℕ → ℕ → ℕ → ℕ → Mode → Object
 moved_modes object from count to new_count growth =
@@ -83,30 +83,30 @@ moved_modes object from count to new_count growth =
 
 -- Messages: userfaultfd(2), Reading from the userfaultfd structure
 
--- whether a message is a page fault of this kind at the address
+-- whether a message is a page fault of this kind at the address: `kind` is true for a write-protect fault
 abbrev pub is_fault_at : Message → ℕ → Bool → Bool
 is_fault_at (PageFault addr write wp tid) other kind = addr == other && (wp && kind || not wp && not kind)
 is_fault_at (Remap from to len) other kind = false
 is_fault_at (Remove start end) other kind = false
 is_fault_at (Unmap start end) other kind = false
 
--- whether a page fault of this kind at the address waits
+-- whether a page fault of this kind at the address is unread
 abbrev pub waits_fault : List Noted → ℕ → Bool → Bool
 waits_fault [] addr kind = false
 waits_fault (noted ∷ rest) addr kind = is_fault_at noted.message addr kind || waits_fault rest addr kind
 
--- the thread that a page fault of a processor tells: its number plus 1 if UFFD_FEATURE_THREAD_ID, bit 8, was asked for, else 0
+-- the thread that a page fault of a processor names: its number plus 1 if UFFD_FEATURE_THREAD_ID, bit 8, was asked for, else 0
 abbrev pub thread_id : Object → ℕ → ℕ
 thread_id object cpu = if is_one object.features 8 then cpu + 1 else 0
 
--- the object once a processor sleeps on a page. There is at most one unread fault of each kind for a page: the kernel has one for each
--- thread that sleeps
+-- the object once a processor sleeps on a page. There is at most one unread fault of each kind for a page, while the kernel has one for
+-- each thread that sleeps
 abbrev pub fault_queued : Object → ℕ → Bool → Bool → ℕ → Object
 fault_queued object addr write wp cpu =
     if waits_fault object.faults addr wp then object
     else record object { faults = object.faults ++ record { message = PageFault addr write wp (thread_id object cpu); cpu = cpu } ∷ [] }
 
--- the object once an event waits as well
+-- the object once an event is queued behind the others
 abbrev pub event_queued : Object → Message → ℕ → Object
 event_queued object message cpu = record object { events = object.events ++ record { message = message; cpu = cpu } ∷ [] }
 
@@ -115,7 +115,7 @@ abbrev pub first_noted : List Noted → Option Noted
 first_noted [] = None
 first_noted (noted ∷ rest) = Some noted
 
--- the queue behind it
+-- the queue behind its first message
 abbrev pub rest_noted : List Noted → List Noted
 rest_noted [] = []
 rest_noted (noted ∷ rest) = rest
@@ -125,17 +125,19 @@ abbrev pub next_of : List Noted → List Noted → Option Noted
 next_of [] events = first_noted events
 next_of (fault ∷ faults) events = Some fault
 
+-- the message that read(2) returns next, if any
 abbrev pub next_message : Object → Option Noted
 next_message object = next_of object.faults object.events
 
--- the object once it is read
+-- the object once its next message is read, by its queue of page faults
 abbrev pub read_by : List Noted → Object → Object
 read_by [] object = record object { events = rest_noted object.events }
 read_by (fault ∷ faults) object = record object { faults = faults }
 
+-- the object once read(2) has returned its next message
 abbrev pub message_read : Object → Object
 message_read object = read_by object.faults object
 
--- how many events are unread: while there are any, the address space is changing
+-- how many events are unread. While there are any the address space is changing: the kernel's mmap_changing
 abbrev pub changing : Object → ℕ
 changing object = length object.events

@@ -1,4 +1,4 @@
--- What a world tells of itself, and which worlds there are at first.
+-- What the getters of a world return, and which worlds a migration begins with.
 use Rattle.std.specs.Prelude.{ℕ, ◌==◌, ◌||◌, nat_lt, Bool, true, false, if◌then◌else◌, Result, Ok, Err}
 use Rattle.std.specs.FinMap.{len}
 use Rattle.mig_base.specs.declared.TheConstants.{MAX_CPUS}
@@ -11,7 +11,7 @@ use Rattle.mig_model.specs.Cpus.{processor_at}
 use Rattle.mig_model.specs.Guest.{counted}
 use Rattle.mig_model.specs.Migration.{World, first_world_with, guest_of, has_no_cpu}
 
--- a new world of so many processors, at least one and at most MAX_CPUS, whose counts stand at the numbers given
+-- a new world of `cpus` processors, refused as NoCpu unless there are 1 to MAX_CPUS; its epoch and its number of rounds are those given
 abbrev pub new_world_with : ℕ → ℕ → ℕ → Result World Refusal
 new_world_with cpus epoch rounds = if cpus == 0 || nat_lt MAX_CPUS cpus then Err Refusal.NoCpu else Ok (first_world_with cpus epoch rounds)
 
@@ -24,6 +24,7 @@ phase_by phase true false = WorldPhase.Switching
 phase_by SourcePhase.Idle false false = WorldPhase.Idle
 phase_by phase false false = WorldPhase.Precopy
 
+-- the same of a world
 abbrev pub phase_of : World → WorldPhase
 phase_of world = phase_by world.source.phase world.source.switched world.destination.has_run
 
@@ -32,7 +33,7 @@ phase_of world = phase_by world.source.phase world.source.switched world.destina
 abbrev pub owed_left : World → ℕ
 owed_left world = if world.destination.has_run then len world.destination.owed else world.source.packaged
 
--- what has been counted
+-- the counts of both nodes; the faults are those of the source and of the destination together
 abbrev pub counts_of : World → Counts
 counts_of world =
     record {
@@ -43,6 +44,6 @@ counts_of world =
       faults = counted world.source.faults world.destination.faults;
     }
 
--- what a processor does, where the guest runs; while it runs nowhere, as at the switch
+-- the state of a processor, at the node where the guest runs; while no node runs it, that which the source left. Refused as NoCpu
 abbrev pub cpu_state : World → ℕ → Result CpuState Refusal
 cpu_state world k = if has_no_cpu world k then Err Refusal.NoCpu else Ok (processor_at (guest_of world).cpus k)

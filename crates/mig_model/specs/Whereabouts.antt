@@ -1,4 +1,4 @@
--- Where the guest's memory is: what the guest sees, and the copies that are kept, in flight and still to be pushed. The promises are made in
+-- Where the guest's memory is: what the guest sees, and which copies are kept, in flight or still to be pushed. The promises are made in
 -- these words.
 use Rattle.std.specs.Prelude.{◌≡◌, ◌≢◌, ℕ, ◌==◌, ◌&&◌, ◌||◌, Bool, true, false, if◌then◌else◌, Option, Some, None, List, [], ◌∷◌, ◌++◌}
 use Rattle.std.specs.Option.{option_and_then}
@@ -33,6 +33,7 @@ abbrev pub current_by : Bool → Host → Host → (ℕ → Option ℕ) → Host
 current_by false here there owed = there
 current_by true here there owed = seen_host here there owed
 
+-- the host that the guest sees in a world: its memory is the flat memory of the transcript, as the law `every_schedule` says
 abbrev pub current_host : World → Host
 current_host world = current_by world.destination.has_run world.destination.guest.space.host world.source.guest.space.host (settled world.destination)
 
@@ -45,7 +46,7 @@ is_unread (noted ∷ events) page = is_changed_by noted.message page || is_unrea
 
 -- What the frames in flight carry
 
--- the copies that frames carry
+-- the copies that frames in flight carry, in their order
 abbrev pub copies_of : List Sent → List Copy
 copies_of [] = []
 copies_of (sent ∷ rest) = copies_in sent.frame ++ copies_of rest
@@ -55,7 +56,7 @@ abbrev pub has_copy : List Copy → ℕ → Bool
 has_copy [] page = false
 has_copy (copy ∷ copies) page = copy.page == page || has_copy copies page
 
--- each copy has the bytes that the page has
+-- the page of each copy is present in this map, with the bytes of the copy
 abbrev pub AreFaithful : FinMap nat_cmp (List ℕ) → List Copy → Type 0
 AreFaithful bytes [] = Unit {0}
 AreFaithful bytes (copy ∷ copies) = (get bytes copy.page ≡ Some copy.bytes) × AreFaithful bytes copies
@@ -65,7 +66,7 @@ abbrev pub is_package : Frame → Bool
 is_package (Package areas owed commands) = true
 is_package frame = false
 
--- what is kept once the frames before the Package are taken
+-- what the destination keeps once the frames before the Package are taken, or all frames if there is no Package
 abbrev pub kept_by : FinMap nat_cmp (List ℕ) → List Sent → FinMap nat_cmp (List ℕ)
 kept_by kept [] = kept
 kept_by kept (sent ∷ rest) = if is_package sent.frame then kept else kept_by (kept_after kept sent.frame) rest
@@ -75,16 +76,17 @@ abbrev pub behind : List Sent → List Sent
 behind [] = []
 behind (sent ∷ rest) = if is_package sent.frame then rest else behind rest
 
--- the Package
+-- the Package in flight, if any
 abbrev pub package_in : List Sent → Option Frame
 package_in [] = None
 package_in (sent ∷ rest) = if is_package sent.frame then Some sent.frame else package_in rest
 
+-- whether a frame is a Request
 abbrev pub is_request : Frame → Bool
 is_request (Request page) = true
 is_request frame = false
 
--- requests alone, and requests with Done behind them
+-- whether frames are requests alone
 abbrev pub are_requests : List Sent → Bool
 are_requests [] = true
 are_requests (sent ∷ rest) = is_request sent.frame && are_requests rest
@@ -95,32 +97,34 @@ is_urgent_or_left remaining urgent page = contains remaining page || has_copy (c
 
 -- Copies and owed pages, phase by phase, while the link is up
 
+-- what holds of copies while the source makes rounds of pre-copy and the link is up
 pub record IsPrecopying (source : Source) (kept : FinMap nat_cmp (List ℕ)) (forward : List Sent) : Type 0 where
   -- the newest copy of a clean page is right, unless an unread event has changed the page
   pub clean_copy : (page : ℕ) → contains source.log.clean page ≡ true → is_unread (space_of source).object.events page ≡ false → get (kept_by kept forward) page ≡ get (space_of source).host.bytes page
   -- each page that has a copy was sent in this epoch
   pub copies_sent : (page : ℕ) → contains_key (kept_by kept forward) page ≡ true → contains source.log.sent page ≡ true
 
+-- what holds of copies while a Package is in flight; `owed` has the pages that it owes
 pub record IsSwitching (source : Source) (kept : FinMap nat_cmp (List ℕ)) (forward urgent : List Sent) : Type 0 where
   pub owed : FinSet nat_cmp
-  -- the Package tells the source's state
+  -- the Package has the source's mapped pages and the outstanding commands of its processors
   pub plan : package_in forward ≡ Some (Package (space_of source).host.areas owed (commands_of source.guest.cpus))
   pub owed_present : (page : ℕ) → contains owed page ≡ true → is_present (space_of source) page ≡ true
-  -- when it is taken the kept table is what it does not owe
+  -- when it is taken, exactly the source's present pages that it does not owe are kept, with their bytes
   pub kept_rest : (page : ℕ) → get (kept_by kept forward) page ≡ (if contains owed page then None else get (space_of source).host.bytes page)
   -- what it owes is still to be pushed, on the urgent wire, or behind it
   pub whereabouts : (page : ℕ) → contains owed page ≡ true → (is_urgent_or_left source.remaining urgent page || has_copy (copies_of (behind forward)) page) ≡ true
   pub faithful : AreFaithful (space_of source).host.bytes (copies_of (behind forward))
 
--- the first frame of a wire back is a Recv of this state, whose pages are those that the destination still needs at least, all of
--- them present at the source; requests come behind it
+-- the first frame of a wire back is a Recv of this state. It lists at least the pages that the destination still needs, and all of them
+-- are present at the source; requests come behind it
 pub record IsReceiving (source : Source) (destination : Destination) (state : Received) (back : List Sent) : Type 0 where
   pub owed : FinSet nat_cmp
   pub epoch : ℕ
   pub rest : List Sent
   pub first : back ≡ record { epoch = epoch; frame = Recv state owed } ∷ rest
   pub requests : are_requests rest ≡ true
-  -- where the destination does not run none come behind it, and it lists no page
+  -- if the destination does not run, no request comes behind it, and it lists no page
   pub alone : state ≢ Received.Running → rest ≡ []
   pub none_listed : state ≢ Received.Running → owed ≡ no_pages
   pub needed : (page origin : ℕ) → get destination.owed page ≡ Some origin → contains owed origin ≡ true

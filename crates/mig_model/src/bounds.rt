@@ -9,13 +9,13 @@ ghost use Rattle.mig_model.specs.Promises.{IsReached};
 ghost use Rattle.mig_model.specs.Bounds.{AreUrgentFew, HasBoundedMemory, IsWithinBounds};
 
 /// Before the switch nothing was put on the urgent wire. From then on, until the source is released, the frames that were put on it in
-/// this epoch and the pages that remain are together no more than the source has pages.
+/// this epoch and the remaining pages are together at most the present pages of the source.
 pub fn urgent_frames_are_few()
     ensures { (world : World) → IsReached world → AreUrgentFew world }
 {}
 
-/// The guest's memory lies in the address space and has at most MAX_PAGES pages: the flat memory of every transcript, and the mapped pages
-/// of both nodes.
+/// The guest's memory lies in the address space and has at most MAX_PAGES pages. That holds of the flat memory of every transcript, and
+/// of the mapped pages of both nodes.
 pub fn memory_is_bounded()
     ensures flat { (entries : List Entry) → IsWithinBounds (memory_of entries) }
     ensures world { (world : World) → IsReached world → HasBoundedMemory world }

@@ -1,6 +1,6 @@
-//! The handlers use the calls of the userfault object: where a step changes what an object watches, or puts or protects a page, the row of
-//! that call in `specs/Ioctls.antt` answers no error, leaves the space that the machine has, and wakes the processors that the machine
-//! wakes. Each law is a function with an empty body, whose contract is the law.
+//! The handlers use the calls of the userfault object. Where a step registers pages, or puts or protects a page, the row of that call in
+//! `specs/Ioctls.antt` answers no error, leaves the space that the machine has, and wakes the processors that the machine wakes. Each law
+//! is a function with an empty body, whose contract is the law.
 
 ghost use Rattle.std.specs.Prelude.{◌≡◌, ℕ, ◌*◌, ◌∷◌, List, Ok, IsOk};
 ghost use Rattle.std.specs.Ordering.{nat_cmp};
@@ -19,15 +19,15 @@ ghost use Rattle.mig_model.specs.Promises.{IsReached};
 ghost use Rattle.mig_model.specs.Bounds.{IsMapping};
 ghost use Rattle.mig_model.specs.Handlers.{AreRegistered, AreRunsOf, AreWatched, IsCopy, IsWake, IsWriteProtect, IsZeroPage};
 
-/// What the source's handler resolves. A page of zeros is put by UFFDIO_ZEROPAGE, and a page is unprotected by UFFDIO_WRITEPROTECT; both
-/// wake those that sleep on the page.
+/// The source's handler puts a page of zeros by UFFDIO_ZEROPAGE, and unprotects a page by UFFDIO_WRITEPROTECT. Both wake those that
+/// sleep on the page.
 pub fn the_source_resolves_faults()
     ensures zeroed { (world : World) (addr : ℕ) → IsReached world → outcome world Step.SourceAct ≡ Ok (Effect.Zeroed addr) → IsZeroPage world.source.guest (next world Step.SourceAct).source.guest addr }
     ensures unprotected { (world : World) (addr : ℕ) → IsReached world → outcome world Step.SourceAct ≡ Ok (Effect.Unprotected addr) → IsWriteProtect world.source.guest (next world Step.SourceAct).source.guest addr 4096 0 (Range addr 4096) }
 {}
 
-/// Whom the handlers wake where nothing is to be put or unprotected: UFFDIO_WAKE of the page of the fault, whether the page is there or is
-/// gone.
+/// Where nothing is to be put or unprotected, the handlers wake those that sleep on the page of the fault by UFFDIO_WAKE, whether the page
+/// is present or gone.
 pub fn the_handlers_wake()
     ensures source { (world : World) (addr : ℕ) → IsReached world → outcome world Step.SourceAct ≡ Ok (Effect.Woke addr) → IsWake world.source.guest (next world Step.SourceAct).source.guest addr }
     ensures source_forgot { (world : World) (addr : ℕ) → IsReached world → outcome world Step.SourceAct ≡ Ok (Effect.Forgot addr) → IsWake world.source.guest (next world Step.SourceAct).source.guest addr }
@@ -35,15 +35,15 @@ pub fn the_handlers_wake()
     ensures destination_forgot { (world : World) (addr : ℕ) → IsReached world → outcome world Step.DestAct ≡ Ok (Effect.Forgot addr) → IsWake world.destination.guest (next world Step.DestAct).destination.guest addr }
 {}
 
-/// A page that is sent in a round is protected by UFFDIO_WRITEPROTECT, which wakes nobody; so are the pages of a run, all at once.
+/// A page that is sent in a round is protected by UFFDIO_WRITEPROTECT, which wakes nobody. The pages of a run are protected by one call.
 pub fn the_source_protects_what_it_sends()
     ensures page { (world : World) (addr : ℕ) → IsReached world → outcome world Step.Send ≡ Ok (Effect.SentPage addr) → IsWriteProtect world.source.guest (next world Step.Send).source.guest addr 4096 1 Nobody }
     ensures zero { (world : World) (addr : ℕ) → IsReached world → outcome world Step.Send ≡ Ok (Effect.SentZero addr) → IsWriteProtect world.source.guest (next world Step.Send).source.guest addr 4096 1 Nobody }
     ensures run { (world : World) (count addr pages : ℕ) → IsReached world → outcome world (Step.SendRun count) ≡ Ok (Effect.SentRun addr pages) → IsWriteProtect world.source.guest (next world (Step.SendRun count)).source.guest addr (4096 * pages) 1 Nobody }
 {}
 
-/// What the destination puts. A page of zeros that nobody owes is put by UFFDIO_ZEROPAGE. A copy that is installed is put by UFFDIO_COPY;
-/// where it is a page of zeros, UFFDIO_ZEROPAGE does the same.
+/// The destination makes a missing page that is not owed zeros by UFFDIO_ZEROPAGE, and installs a copy by UFFDIO_COPY. If the copy is a
+/// page of zeros, UFFDIO_ZEROPAGE does the same.
 pub fn the_destination_puts_pages()
     ensures zeroed { (world : World) (addr : ℕ) → IsReached world → outcome world Step.DestAct ≡ Ok (Effect.Zeroed addr) → IsZeroPage world.destination.guest (next world Step.DestAct).destination.guest addr }
     ensures installed { (world : World) (copy : Copy) (rest : List Copy) (addr source : ℕ) → IsReached world → world.destination.arrivals ≡ copy ∷ rest → outcome world Step.Install ≡ Ok (Effect.Installed addr source) →
@@ -52,9 +52,10 @@ pub fn the_destination_puts_pages()
         IsZeroPage world.destination.guest (next world Step.Install).destination.guest addr }
 {}
 
-/// What is registered, area by area. Whatever runs of pages have exactly the mapped pages, UFFDIO_REGISTER of one behind the other is
-/// accepted each time, and leaves the space that the machine has: at Start and at each Round in both modes, and where the destination
-/// begins to run for missing faults, on an object that UFFDIO_API has just opened for events. There are such runs of every guest's pages.
+/// Pages are registered area by area. For any list of runs that covers exactly the mapped pages, one UFFDIO_REGISTER for each run is
+/// accepted, and together they leave the space that the machine has. Start and each Round register in both modes. Where the destination
+/// begins to run, it registers for missing faults, on an object that UFFDIO_API has just enabled for events. Every mapping within bounds
+/// has such runs.
 pub fn areas_are_registered()
     ensures start { (world : World) (runs : List Run) → IsReached world → IsOk (outcome world Step.Start) → AreRunsOf (space_of world.source).host.areas runs → AreRegistered (space_of world.source) (space_of (next world Step.Start).source) runs 3 }
     ensures round { (world : World) (runs : List Run) → IsReached world → IsOk (outcome world Step.Round) → AreRunsOf (space_of world.source).host.areas runs → AreRegistered (space_of world.source) (space_of (next world Step.Round).source) runs 3 }

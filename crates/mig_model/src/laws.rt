@@ -1,4 +1,4 @@
-//! What holds of one address space: each command does to its pages what it does to the flat memory that they mean. Each law is a
+//! What holds of one address space: each command does to its pages what it does to the flat memory that they represent. Each law is a
 //! function with an empty body, whose contract is the law.
 
 ghost use Rattle.std.specs.Prelude.{◌≡◌, ℕ, true, false, List};
@@ -11,14 +11,14 @@ ghost use Rattle.mig_base.specs.Commands.{is_access};
 ghost use Rattle.mig_model.specs.Space.{Space, fresh_space, IsSoundSpace, access_of, accessed, called};
 ghost use Rattle.mig_model.specs.Ioctls.{handshaken, registered, range_unregistered, copied, zeropaged, write_protected, read_space};
 
-/// What a command does to the pages of a host is what it does to the flat memory that they mean.
+/// A command does to the pages of a host what it does to the flat memory that they represent.
 pub fn every_command()
     ensures memory { (host : Host) (command : Command) → IsSound host → memory (host_after host command) ≡ after (memory host) command }
     ensures sound { (host : Host) (command : Command) → IsSound host → IsSound (host_after host command) }
 {}
 
-/// Each load, store, map call and call of the userfault object leaves a space with a userfault object in order: what is registered is mapped, and what is
-/// write-protected is present and registered for that.
+/// Each load, store, map call and call of the userfault object leaves the space in order: registered pages are mapped, and
+/// write-protected pages are present and registered for write-protect faults.
 pub fn a_space_stays_sound()
     ensures fresh { IsSoundSpace fresh_space }
     ensures access { (space : Space) (cpu : ℕ) (command : Command) → is_access command ≡ true → IsSoundSpace space → IsSoundSpace (accessed space cpu command) }
@@ -32,7 +32,7 @@ pub fn a_space_stays_sound()
     ensures read { (space : Space) → IsSoundSpace space → IsSoundSpace (read_space space) }
 {}
 
-/// A space answers as the flat memory of its host does. A load or store that is a page fault leaves the memory as it is, one that is
+/// A space answers as the flat memory of its host does. A load or store that is a page fault leaves the memory as it is. One that is
 /// answered changes it as the flat memory changes, and so does a map call.
 pub fn a_space_answers_as_its_memory()
     ensures reply { (space : Space) (command : Command) (reply : Reply) → access_of space command ≡ access.Answered reply → reply ≡ reply_of (memory space.host) command }

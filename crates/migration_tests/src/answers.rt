@@ -15,7 +15,7 @@ pub type Last = Option<(u8, Reply)>;
 pub enum Answer {
     Replied(u8, Reply),
     Asleep(u8),
-    /// A map call goes on until so many messages are read.
+    /// A map call waits until this number of messages is read.
     InCall(u8, u8),
     Refused(Refusal),
     Started(u32),
@@ -31,7 +31,7 @@ pub enum Answer {
     ReadRemap(Addr, Addr, u64, Last),
     ReadRemove(Addr, Addr, Last),
     ReadUnmap(Addr, Addr, Last),
-    /// A page fault that is told as an event.
+    /// A page fault that is reported as an event.
     Unfit(Message),
     Unprotected(Addr),
     Zeroed(Addr),
@@ -81,7 +81,7 @@ impl Answer {
     }
 }
 
-/// What a processor or a handler was told.
+/// The answer for a step of a processor or a handler.
 fn of_processor(effect: Effect) -> Answer {
     match effect {
         Effect::Answered { cpu, reply } => Answer::Replied(cpu, reply),

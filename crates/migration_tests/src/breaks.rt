@@ -168,7 +168,7 @@ static PUSHED_ANEW: [Row; 14] = [
     (Progress, Stands(WorldPhase::Postcopy, [0, 6, 0, 3, 0, 0])),
 ];
 
-/// While a copy waits to be installed: its page is still owed, and the second copy is given up.
+/// While a copy waits to be installed: its page is still owed, and the second copy is dropped.
 static ARRIVED: [Row; 3] = [
     (Push(0x10), SentPage(0x10000)),
     (Deliver, TookPage(0x10000)),

@@ -32,7 +32,7 @@ pub enum Call {
     Switch,
     /// As many bytes as complete the first frame.
     Deliver,
-    /// At most so many bytes.
+    /// At most this number of bytes.
     DeliverPart(u64),
     Back,
     BackPart(u64),

@@ -147,7 +147,7 @@ fn tell(
     true
 }
 
-/// Makes a world, and plays on it. The only function that owns one, since its proof gives up all that a world owns.
+/// Makes a world, and plays on it. The only function that owns one, since its proof drops all that a world owns.
 fn tell_of_one(
     rt: &impl Abort,
     alloc: Global,
@@ -160,8 +160,8 @@ fn tell_of_one(
     Ok(tell(rt, alloc, &mut world, table, parts, behind))
 }
 
-/// Plays on a new world of so many processors, whose counts of epochs and of rounds stand at the numbers given. Where memory is refused
-/// for the world it is asked for again.
+/// Plays on a new world of this number of processors, with the given counts of epochs and rounds. If memory for the world is refused,
+/// it tries once more.
 pub fn on_world(
     rt: &impl Abort,
     alloc: Global,

@@ -102,7 +102,7 @@ static NOT_ASKED: [Row; 24] = [
     (Source, SourceIs(SourcePhase::Paused, 1)),
 ];
 
-/// A page is unmapped while its copy is in flight, which is given up.
+/// A page is unmapped while its copy is in flight, and the copy is dropped.
 pub static UNMAPPED: [Row; 10] = [
     (Push(0x10), SentPage(0x10000)),
     (Munmap(0, 0x10000, 4096), InCall(0, 1)),

@@ -37,7 +37,7 @@ enum Call {
     /// A range is opened, and closed again.
     OpenClose(PageNo, u32),
     Limit(PageNo, u32, Mode),
-    /// So many of the last events are given up.
+    /// Takes back this many of the last events.
     TakeBack(u8),
 }
 
@@ -470,7 +470,7 @@ fn faults_are_read_before_events(rt: HostRuntime) -> Result<(), Fail> {
     play(&rt, rt.alloc(), &FAULTS_FIRST)
 }
 
-/// The last events are given up, and no fault.
+/// The last events are taken back, and no fault.
 const TAKEN_BACK: [(Call, Answer); 13] = [
     (Event(REMOVE, 1), Done),
     (Event(UNMAP, 3), Done),

@@ -5,7 +5,9 @@ use Rattle.std.specs.FinMap.{FinMap, len}
 use Rattle.mig_base.specs.declared.TheConstants.{HIGH_PAGE}
 use Rattle.mig_base.specs.declared.chunk.TheConstants.{CHUNKS}
 use Rattle.mig_base.specs.Pages.{map_below}
+-- the model's owed table: whether a page is owed at another, where a page of the source belongs now, and the pages of the source owed
 pub use Rattle.mig_model.specs.Owed.{owes_to, home, origins}
+-- the table in which each page of a set is owed at its own place
 unfoldable pub use Rattle.mig_model.specs.Owed.{own_places}
 use Rattle.owed_pages.specs.Tables.{Place, number_at}
 
@@ -13,13 +15,13 @@ use Rattle.owed_pages.specs.Tables.{Place, number_at}
 unfoldable pub pairs_of : List Place → FinMap nat_cmp ℕ
 pairs_of forth = map_below (number_at forth) HIGH_PAGE
 
--- the table from page to origin and that from origin to page have the same pairs, `count` of them
+-- the table from pages to origins and the table from origins to pages have the same pairs, `count` of them
 pub record AreLinks (forth back : List Place) (count : ℕ) : Type 0 where
   pub few : length forth ≤ CHUNKS
   pub few_back : length back ≤ CHUNKS
   pub agree : (page origin : ℕ) → (number_at forth page ≡ Some origin) ↔ (number_at back origin ≡ Some page)
   pub counted : len (pairs_of forth) ≡ count
 
--- each page of the target range has a leaf where the page that is to be moved there has a number
+-- each page of the target range has a leaf if the page that will move there has a number
 abbrev pub HasRoom : (ℕ → Option ℕ) → (ℕ → Bool) → ℕ → ℕ → ℕ → Type 0
 HasRoom numbers leaves from to count = (q s : ℕ) → to ≤ q → q < to + count → numbers (from + (q - to)) ≡ Some s → leaves q ≡ true

@@ -1,7 +1,7 @@
 //! The pages that the source still owes, each with the page at the source that is to fill it.
 //!
-//! `table` has a number for each page, in places of 1024; `links` has two such tables, one for each direction, that have the
-//! same pairs.
+//! `table` has a number, or none, for each page, in places of 1024; `links` has two such tables, one for each direction, with
+//! the same pairs.
 
 ghost use Rattle.std.specs.Prelude.{◌≡◌, ◌≢◌, ℕ, ◌+◌, ◌<◌, ◌≤◌, ◌⊎◌, ◌↔◌, ◌==◌, Some, None, OnOk, OnErr, IfOk, IfSome};
 ghost use Rattle.std.specs.FinMap as map;
@@ -22,7 +22,7 @@ use std::marker::Model;
 /// The table of owed pages: which page of the source, the *origin*, is to fill which page of the destination.
 ///
 /// No page of the source is owed at two pages. Pages and origins lie below `HIGH_PAGE`. `home`, `origin` and `settle` take the
-/// same few steps whatever is owed, and the number of pairs is kept.
+/// same few steps whatever is owed. The number of pairs is kept, so that `len` and `is_empty` do not count.
 #[derive(Drop)]
 pub struct Owed {
     alloc: Global,
@@ -54,7 +54,7 @@ impl Owed {
         }
     }
 
-    /// A table in which each page of the set is owed at its own place. `NoMemory` is for the room of both directions.
+    /// A table in which each page of the set is owed at its own place. `NoMemory` if the room for the pairs cannot be allocated.
     pub fn new(alloc: Global, pages: &PageSet) -> Result<Self, NoMemory>
         ensures { IfOk result (λ owed. owed ≡ own_places pages.now HIGH_PAGE) }
     {
@@ -67,7 +67,7 @@ impl Owed {
         Ok(Owed { alloc, links })
     }
 
-    /// The page where a page of the source belongs now, or `None` if it is not owed. Any page number may be asked for.
+    /// The page where a page of the source belongs now, or `None` if it is not owed. Any page number is allowed.
     pub fn home(&self, origin: PageNo) -> Option<PageNo>
         ensures answer { result ≡ home self.now origin }
         ensures only { (q : ℕ) → (result ≡ Some q) ↔ (map.get self.now q ≡ Some origin) }
@@ -76,7 +76,7 @@ impl Owed {
         get_number(&self.links.back, origin)
     }
 
-    /// The page of the source that is owed at a page, or `None`. Any page number may be asked for.
+    /// The page of the source that is owed at a page, or `None`. Any page number is allowed.
     pub fn origin(&self, page: PageNo) -> Option<PageNo>
         ensures answer { result ≡ map.get self.now page }
         ensures below { IfSome result (λ origin. origin < HIGH_PAGE) }
@@ -84,16 +84,16 @@ impl Owed {
         get_number(&self.links.forth, page)
     }
 
-    /// The pages of the source that are owed, as a set of its own.
+    /// The pages of the source that are owed, as a new set.
     ///
-    /// `NoMemory` comes only where the set could not grow.
+    /// `NoMemory` only if the set cannot grow.
     pub fn origins(&self, alloc: Global) -> Result<PageSet, NoMemory>
         ensures { IfOk result (λ pages. pages ≡ origins self.now) }
     {
         numbered(alloc, &self.links.back)
     }
 
-    /// How many pages are owed.
+    /// The number of owed pages.
     pub fn len(&self) -> u32
         ensures { result ≡ map.len self.now }
     {
@@ -107,7 +107,7 @@ impl Owed {
         self.links.count == 0
     }
 
-    /// Ends what is owed of a page of the source, wherever it belongs now. One that is not owed changes nothing. It takes no
+    /// Removes the pair of a page of the source, wherever it belongs now. If that page is not owed, nothing changes. It takes no
     /// memory.
     pub fn settle(&mut self, origin: PageNo)
         ensures settled { (q : ℕ) → map.get self.old q ≡ Some origin → self.new ≡ map.remove self.old q }
@@ -118,8 +118,8 @@ impl Owed {
         }
     }
 
-    /// Ends what is owed at the `count` pages from `first` on. Leaves in which no page was ever owed are passed whole. It takes
-    /// no memory.
+    /// Removes the pairs of the `count` pages from `first` on. Leaves in which no page was ever owed are skipped. It takes no
+    /// memory.
     pub fn remove_range(&mut self, first: PageNo, count: u32)
         requires { first + count ≤ HIGH_PAGE }
         ensures { self.new ≡ remove_range self.old first count }
@@ -127,11 +127,11 @@ impl Owed {
         self.links.unlink_range(first, count);
     }
 
-    /// Has the `count` pages from `to` on owed what the pages from `from` on were. What was owed at the target ends, and
-    /// nothing is owed at the old pages afterwards. Both ranges end at or below page 0x100000, and lie apart.
+    /// Moves what is owed at the `count` pages from `from` on to the pages from `to` on. What was owed at the target is removed, and
+    /// nothing is owed at the old pages afterwards. The ranges do not overlap, and both end at or below page 0x100000.
     ///
-    /// Leaves in which no page was ever owed are passed whole, and need no room at the target. On `NoMemory`, for that room, the
-    /// table is as it was.
+    /// Leaves in which no page was ever owed are skipped, and need no room at the target. `NoMemory`, for that room, leaves the
+    /// table as it was.
     pub fn move_range(&mut self, from: PageNo, to: PageNo, count: u32) -> Result<(), NoMemory>
         requires inside { (from + count ≤ HIGH_PAGE) × (to + count ≤ HIGH_PAGE) }
         requires apart { (from + count ≤ to) ⊎ (to + count ≤ from) }

@@ -192,7 +192,7 @@ begins_counted (a ∷ rest) runs =
     count_below-one_more (begins_by (prot_in (a ∷ rest))) (begins_by (prot_in rest)) a.first HIGH_PAGE (λ q. begins_more a rest q runs) (nothing_begins (prot_in rest) a.first (prot_in-behind a rest a.first runs (omega arith))) (omega arith)
     ∙ ap suc (begins_counted rest runs.2)
 
--- maximal runs of one protection are as many as begin
+-- the number of maximal runs of one protection is the number of pages at which one begins
 pub areas_counted : (areas : List Area) (value : FinMap nat_cmp Prot) → AreRuns areas → pages_in areas ≡ value → length areas ≡ area_count value
 unfolding area_count
 areas_counted areas value runs is =

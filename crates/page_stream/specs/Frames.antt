@@ -1,8 +1,8 @@
--- What a frame of the code is in the machine.
+-- The meaning of a frame of the code: a frame of the machine.
 use Rattle.mig_model.specs.Wire as machine
 use Rattle.page_stream.specs.declared.frame.Frame.{Frame}
 
--- the machine's word for it
+-- the machine's frame of the same name with the same contents: bridges the two types
 abbrev pub frame_of : Frame → machine.Frame
 frame_of Frame.Advise = machine.Frame.Advise
 frame_of (Frame.Page page bytes) = machine.Frame.Page page bytes

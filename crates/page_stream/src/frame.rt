@@ -5,7 +5,7 @@ use area_map::AreaMap;
 use mig_base::phase::Received;
 use mig_base::{PageBytes, PageNo, PageSet};
 
-/// A message of one node to the other, after QEMU's postcopy document.
+/// A message from one node to the other, after QEMU's postcopy document.
 #[derive(Drop)]
 pub enum Frame {
     /// A migration begins.
@@ -19,33 +19,33 @@ pub enum Frame {
     Zero {
         page: PageNo,
     },
-    /// The bytes of neighbouring pages, from the first on.
+    /// The bytes of neighbouring pages, starting at `first`.
     Run {
         first: PageNo,
         pages: Pages,
     },
-    /// Pages whose copies are out of date.
+    /// The pages whose copies at the destination are out of date.
     Discard {
         pages: PageSet,
     },
-    /// The mapped pages, which of the present ones are still to come, and for each processor its outstanding command: the
-    /// destination runs.
+    /// The mapped pages, the owed pages, which are present at the source and still to come, and the outstanding command of each processor.
+    /// With it the destination runs.
     Package {
         areas: AreaMap,
         owed: PageSet,
         commands: Waiting,
     },
-    /// Nothing more is sent, and how many frames were put on the urgent wire in this epoch.
+    /// Nothing more is sent. `urgent` is the number of frames that were put on the urgent wire in this epoch.
     End {
         urgent: u32,
     },
     /// The channel is up again.
     Resume,
-    /// Back to the source: a page is asked for.
+    /// Back to the source: the destination asks for a page.
     Request {
         page: PageNo,
     },
-    /// Back to the source, once the channel is up again: how far the destination has come, and the pages that it still needs.
+    /// Back to the source, as the answer to Resume: how far the destination has come, and the pages that it still needs.
     Recv {
         state: Received,
         owed: PageSet,

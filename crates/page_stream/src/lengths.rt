@@ -8,11 +8,11 @@ use crate::frame::Frame;
 use area_map::AreaMap;
 use mig_base::{Command, HIGH_PAGE, PAGE_SIZE, PageSet};
 
-/// The bytes of a header.
+/// The length of a header in bytes.
 pub const HEADER_LEN: u64 = 12;
 
 impl Frame {
-    /// How many bytes its text has, header and body. No text is made and no memory taken: a set is walked by its runs.
+    /// The length of its text in bytes, header and body. It makes no text and takes no memory: it walks a set run by run.
     ///
     /// The length has to fit 64 bits. That of a well-formed frame fits 32.
     pub fn text_len(&self) -> u64
@@ -22,7 +22,7 @@ impl Frame {
         HEADER_LEN + self.body_len()
     }
 
-    /// The same without the header.
+    /// The length of its body in bytes: the same without the header.
     pub(crate) fn body_len(&self) -> u64
         requires { texts.body_len (frame_of self.now) < 2 ^ 64 }
         ensures { result ≡ texts.body_len (frame_of self.now) }
@@ -43,14 +43,14 @@ impl Frame {
     }
 }
 
-/// A count, and for each run of the set its first page and its number of pages.
+/// The bytes of a count, and for each run of the set of its first page and its number of pages.
 fn runs_len(pages: &PageSet) -> u64
     ensures { result ≡ texts.runs_len pages.now }
 {
     4 + 8 * u64::from(run_count(pages))
 }
 
-/// How many runs of neighbours the pages make. It goes from run to run.
+/// The number of maximal runs of neighbouring pages. It walks the set run by run.
 pub(crate) fn run_count(pages: &PageSet) -> u32
     ensures { result ≡ texts.run_count pages.now }
 {
@@ -64,14 +64,14 @@ pub(crate) fn run_count(pages: &PageSet) -> u32
     count
 }
 
-/// A count, and for each area its first page, its number of pages and its protection.
+/// The bytes of a count, and for each area of its first page, its number of pages and its protection.
 fn areas_len(areas: &AreaMap) -> u64
     ensures { result ≡ texts.areas_len areas.now }
 {
     4 + 9 * areas.areas().len() as u64
 }
 
-/// What each processor waits for.
+/// The bytes of what each processor waits for, without their count.
 fn commands_len(commands: &[Option<Command>]) -> u64
     requires { texts.commands_len commands.now < 2 ^ 64 }
     ensures { result ≡ texts.commands_len commands.now }
@@ -83,7 +83,7 @@ fn commands_len(commands: &[Option<Command>]) -> u64
     len
 }
 
-/// A tag, and of a load or store its address and its width, and of a store its value.
+/// The bytes of a tag, of the address and width of a load or store, and of the value of a store. A map call has none.
 fn command_len(command: Option<Command>) -> u64
     ensures { result ≡ texts.command_len command }
 {

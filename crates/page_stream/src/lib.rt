@@ -1,16 +1,16 @@
-//! What the two nodes of a migration tell each other: its frames.
+//! The frames that the two nodes of a migration send each other.
 //!
 //! A [`Frame`] keeps its pages and lists in types that callers see as sets, maps and lists: [`mig_base::PageSet`],
 //! [`area_map::AreaMap`], [`mig_base::PageBytes`], [`Pages`] and [`Waiting`].
 //!
-//! [`Frame::is_well_formed`] tells which frames may be sent, [`Frame::text_len`] how long the text of one is, and [`encode_into`]
-//! writes it: its bytes on a wire. [`encode_page_into`] writes a page from where its bytes stand, so that none are copied before.
+//! [`Frame::is_well_formed`] says whether a frame may be sent, and [`Frame::text_len`] how long its text is, its bytes on a wire.
+//! [`encode_into`] writes the text. [`encode_page_into`] writes a page from where its bytes stand, without copying them first.
 //!
-//! The crate decides nothing about a migration: which node sends a frame, when, and what is made of it, is for the nodes.
+//! The crate decides nothing about a migration: which node sends a frame and when, and how the other handles it, is for the nodes.
 //!
 //! Contracts see a frame as the machine's (`mig_model`, `specs/Wire.antt`), by `frame_of` of `specs/Frames.antt`. The rules are
-//! `IsFrame` of `specs/Bounds.antt` there, and the length of its text that of `specs/Lengths.antt`. The text is that of `frame_texts`,
-//! `specs/Texts.antt`.
+//! `IsFrame` of `specs/Bounds.antt` there, and the length of its text that of `specs/Lengths.antt`. The text is defined in
+//! `frame_texts`, `specs/Texts.antt`.
 #![tactic(auto)]
 
 pub mod frame;

@@ -35,14 +35,14 @@ impl Pages {
         self.pages.as_slice()
     }
 
-    /// How many pages they are.
+    /// The number of pages.
     pub fn len(&self) -> usize
         ensures { result ≡ length self.now }
     {
         self.pages.len()
     }
 
-    /// A law of all pages: each has its bytes. The call does nothing.
+    /// A law: each page has its 4096 bytes. The call does nothing.
     pub fn are_whole(&self)
         ensures { ArePageBytes self.now }
     {
@@ -51,7 +51,7 @@ impl Pages {
         }
     }
 
-    /// Hands the pages over.
+    /// Hands over the pages.
     pub fn into_vec(self) -> Vec<PageBytes>
         ensures { result.items ≡ self }
     {
@@ -59,7 +59,7 @@ impl Pages {
     }
 }
 
-/// For each processor the command that it still has to make, if there is one, in the order of their numbers.
+/// The command that each processor still has to make, if any, in the order of the processors' numbers.
 #[derive(Drop)]
 pub struct Waiting {
     commands: Vec<Option<Command>>,
@@ -75,7 +75,7 @@ impl Model for Waiting {
 }
 
 impl Waiting {
-    /// The list of these commands, one entry for each processor: the load or store that it still has to make, if there is one.
+    /// The list of these commands, one entry for each processor: the load or store that it still has to make, if any.
     pub fn new(commands: Vec<Option<Command>>) -> Self
         ensures { result ≡ commands.items }
     {

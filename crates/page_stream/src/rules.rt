@@ -1,4 +1,4 @@
-//! Which frames are well formed.
+//! The rules of well-formed frames.
 
 ghost use Rattle.std.specs.Prelude.{◌↔◌, length, IsTrue};
 ghost use Rattle.mig_model.specs.Bounds.{AreFewPages, ArePages, AreRightAccesses, IsCpuCount, IsFrame, IsMapping, IsPage};
@@ -12,11 +12,11 @@ use mig_base::command::{fits, is_aligned};
 use mig_base::{Command, HIGH_PAGE, LOW_PAGE, MAX_CPUS, MAX_PAGES, MAX_RUN, PageNo, PageSet};
 
 impl Frame {
-    /// Whether it may be sent. Its pages lie from `LOW_PAGE` up to `HIGH_PAGE`, and no map, and no set but that of a Discard, has
-    /// more than `MAX_PAGES`; a run has 1 to `MAX_RUN`. A Package is of 1 to `MAX_CPUS` processors, and those that wait do so for
-    /// an aligned load, or an aligned store whose value fits its width.
+    /// Whether it may be sent. Its pages lie from `LOW_PAGE` up to `HIGH_PAGE`. No map has more than `MAX_PAGES` pages, and no set but
+    /// that of a Discard. A run has 1 to `MAX_RUN` pages. A Package has 1 to `MAX_CPUS` processors, and each of them waits for nothing,
+    /// for an aligned load, or for an aligned store whose value fits its width.
     ///
-    /// It takes no memory, and goes by whole sets and maps, not page by page.
+    /// It takes no memory, and tests whole sets and maps, not page by page.
     pub fn is_well_formed(&self) -> bool
         ensures { IsTrue result ↔ IsFrame (frame_of self.now) }
     {
@@ -72,14 +72,14 @@ fn are_pages(pages: &PageSet) -> bool
     LOW_PAGE <= pages.next(0, true)
 }
 
-/// Whether all may be mapped at once.
+/// Whether the pages of a set may all be mapped at once.
 fn are_few_pages(pages: &PageSet) -> bool
     ensures { IsTrue result ↔ AreFewPages pages.now }
 {
     are_pages(pages) && pages.len() <= MAX_PAGES
 }
 
-/// Whether the mapped pages are ones that may be mapped, and not too many.
+/// Whether each mapped page may be mapped, and there are at most `MAX_PAGES`.
 fn is_mapping(areas: &AreaMap) -> bool
     ensures { IsTrue result ↔ IsMapping areas.now }
 {
@@ -87,14 +87,14 @@ fn is_mapping(areas: &AreaMap) -> bool
     areas.mapped_in(0, LOW_PAGE) == 0 && areas.mapped_pages() <= MAX_PAGES
 }
 
-/// Whether there is a command, or none, for each of 1 to `MAX_CPUS` processors, and each is a load or store of the right form.
+/// Whether the list has an entry for each of 1 to `MAX_CPUS` processors, and each is nothing or a load or store of the right form.
 fn are_commands(commands: &[Option<Command>]) -> bool
     ensures { IsTrue result ↔ (AreRightAccesses commands.now × IsCpuCount (length commands.now)) }
 {
     !commands.is_empty() && commands.len() <= usize::from(MAX_CPUS) && are_right(commands)
 }
 
-/// Whether each command is a load or store of the right form.
+/// Whether each entry is nothing or a load or store of the right form.
 fn are_right(commands: &[Option<Command>]) -> bool
     ensures { IsTrue result ↔ AreRightAccesses commands.now }
 {

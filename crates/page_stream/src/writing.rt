@@ -23,17 +23,17 @@ use std::alloc::Global;
 /// The version that is written.
 const VERSION: u8 = 2;
 
-/// What tells a frame of one page from the others.
+/// The tag of a frame of one page.
 const PAGE_TAG: u8 = 0x02;
 
-/// The bytes behind the header of a frame of one page: its number, and what it has.
+/// The bytes behind the header of a frame of one page: its number and its contents.
 const PAGE_BODY_LEN: u32 = 4 + PAGE_BYTES as u32;
 
 /// Appends the text of a frame that is sent in an epoch, in version 2 of the texts: [`Frame::text_len`] bytes. The frame is well formed
 /// ([`Frame::is_well_formed`]).
 ///
-/// All room is made before the first byte is written, and none is asked for where the vector has it. `NoMemory` is for that room,
-/// and leaves the bytes as they were.
+/// All room is reserved before the first byte is written, and no memory is requested if the vector has the room. `NoMemory` comes if
+/// that room cannot be reserved, and leaves the bytes as they were.
 pub fn encode_into(frame: &Frame, epoch: u32, into: &mut Vec<u8>) -> Result<(), NoMemory>
     requires { IsFrame (frame_of frame.now) }
     ensures ok { OnOk result (into.new.items ≡ into.old.items ++ text Two epoch (frame_of frame.now)) }
@@ -51,8 +51,8 @@ pub fn encode_into(frame: &Frame, epoch: u32, into: &mut Vec<u8>) -> Result<(), 
 /// Appends the text of a frame of one page, from bytes that stay where they are: 4,112 bytes, as [`encode_into`] would for
 /// [`Frame::Page`]. The page lies from 0x10 to 0xfffff.
 ///
-/// All room is made before the first byte is written, and none is asked for where the vector has it. `NoMemory` is for that room,
-/// and leaves the bytes as they were.
+/// All room is reserved before the first byte is written, and no memory is requested if the vector has the room. `NoMemory` comes if
+/// that room cannot be reserved, and leaves the bytes as they were.
 pub fn encode_page_into(
     page: PageNo,
     bytes: &[u8; PAGE_BYTES],
@@ -70,7 +70,7 @@ pub fn encode_page_into(
     Ok(())
 }
 
-/// The text of a well-formed frame, as [`encode_into`] writes it. `NoMemory` is for its room.
+/// The text of a well-formed frame, as [`encode_into`] writes it. `NoMemory` comes if its room cannot be reserved.
 pub fn encode(alloc: Global, frame: &Frame, epoch: u32) -> Result<Vec<u8>, NoMemory>
     requires { IsFrame (frame_of frame.now) }
     ensures { IfOk result (λ bytes. bytes.items ≡ text Two epoch (frame_of frame.now)) }
@@ -80,7 +80,7 @@ pub fn encode(alloc: Global, frame: &Frame, epoch: u32) -> Result<Vec<u8>, NoMem
     Ok(bytes)
 }
 
-/// What tells the frames apart. Those that go back to the source have the highest bit set.
+/// The tag of a frame. Those of frames that go back to the source have the highest bit set.
 fn tag(frame: &Frame) -> u8
     ensures { result ≡ tag_code (frame_of frame.now) }
 {
@@ -99,7 +99,7 @@ fn tag(frame: &Frame) -> u8
     }
 }
 
-/// The header: the version, what frame it is, the epoch in which it is sent, and how many bytes stand behind it.
+/// The header: the version, the tag, the epoch in which the frame is sent, and the length of the body in bytes.
 fn put_header(into: &mut Vec<u8>, tag: u8, epoch: u32, len: u32)
     requires { vec_len into.old + 12 ≤ vec_capacity into.old }
     ensures { Puts into.old into.new (header_text Two tag epoch len) }
@@ -109,7 +109,7 @@ fn put_header(into: &mut Vec<u8>, tag: u8, epoch: u32, len: u32)
     put(into, &len.to_be_bytes());
 }
 
-/// What stands behind the header.
+/// The body, which stands behind the header.
 fn put_body(into: &mut Vec<u8>, frame: &Frame)
     requires room { vec_len into.old + length (body_text (frame_of frame.now)) ≤ vec_capacity into.old }
     requires right { IsFrame (frame_of frame.now) }
@@ -134,7 +134,7 @@ fn put_body(into: &mut Vec<u8>, frame: &Frame)
     }
 }
 
-/// The mapped pages, the owed ones, and what each processor waits for.
+/// The body of a Package: the mapped pages, the owed ones, and what each processor waits for.
 fn put_package(into: &mut Vec<u8>, areas: &AreaMap, owed: &PageSet, commands: &[Option<Command>])
     requires room { vec_len into.old + length (areas_text (areas_of areas.now) ++ runs_text (runs_of owed.now) ++ commands_text commands.now) ≤ vec_capacity into.old }
     requires few { length commands.now < 256 }
@@ -145,7 +145,7 @@ fn put_package(into: &mut Vec<u8>, areas: &AreaMap, owed: &PageSet, commands: &[
     put_commands(into, commands);
 }
 
-/// A page, and its bytes.
+/// A page number and the bytes of the page.
 fn put_page(into: &mut Vec<u8>, page: PageNo, bytes: &[u8; PAGE_BYTES])
     requires { vec_len into.old + length (to_be_bytes w32 page ++ bytes.now) ≤ vec_capacity into.old }
     ensures { Puts into.old into.new (to_be_bytes w32 page ++ bytes.now) }
@@ -154,7 +154,7 @@ fn put_page(into: &mut Vec<u8>, page: PageNo, bytes: &[u8; PAGE_BYTES])
     put(into, bytes);
 }
 
-/// The first page, a count, and the bytes of each page.
+/// The first page, the number of pages, and the bytes of each page.
 fn put_pages(into: &mut Vec<u8>, first: PageNo, pages: &Pages)
     requires room { vec_len into.old + length (to_be_bytes w32 first ++ to_be_bytes w32 (length pages.now) ++ flat_map (λ bytes. bytes) pages.now) ≤ vec_capacity into.old }
     requires few { length pages.now < 2 ^ 32 }
@@ -167,7 +167,7 @@ fn put_pages(into: &mut Vec<u8>, first: PageNo, pages: &Pages)
     }
 }
 
-/// A count, and each run of neighbours. It goes from run to run and takes no memory.
+/// The number of runs, and each run of neighbouring pages. It walks the set run by run and takes no memory.
 fn put_runs(into: &mut Vec<u8>, pages: &PageSet)
     requires { vec_len into.old + length (runs_text (runs_of pages.now)) ≤ vec_capacity into.old }
     ensures { Puts into.old into.new (runs_text (runs_of pages.now)) }
@@ -196,7 +196,7 @@ fn put_run(into: &mut Vec<u8>, run: Run)
     put(into, &run.count.to_be_bytes());
 }
 
-/// A count, and each area.
+/// The number of areas, and each area.
 fn put_areas(into: &mut Vec<u8>, areas: &[Area])
     requires room { vec_len into.old + length (areas_text areas.now) ≤ vec_capacity into.old }
     requires few { length areas.now < 2 ^ 32 }
@@ -217,7 +217,7 @@ fn put_area(into: &mut Vec<u8>, area: Area)
     put(into, &[prot_byte(area.prot)]);
 }
 
-/// A count of one byte, and what each processor waits for.
+/// The number of processors in one byte, and what each of them waits for.
 fn put_commands(into: &mut Vec<u8>, commands: &[Option<Command>])
     requires room { vec_len into.old + length (commands_text commands.now) ≤ vec_capacity into.old }
     requires few { length commands.now < 256 }
@@ -276,7 +276,7 @@ fn state_byte(state: Received) -> u8
     }
 }
 
-/// Appends bytes where there is room.
+/// Appends bytes; the vector has room for them.
 fn put(into: &mut Vec<u8>, bytes: &[u8])
     requires { vec_len into.old + length bytes.now ≤ vec_capacity into.old }
     ensures { Puts into.old into.new bytes.now }

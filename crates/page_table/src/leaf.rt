@@ -1,4 +1,4 @@
-//! Leaves: `CHUNK` pages each, some of them present, and the set of those that are protected.
+//! Leaves: `CHUNK` pages each, present or missing, and the set of the protected ones.
 
 ghost use Rattle.std.specs.Prelude.{◌≡◌, ◌≢◌, ℕ, ◌+◌, ◌*◌, ◌%◌, ◌<◌, ◌&&◌, ◌||◌, is_some, ◌≤◌, true, false, nat_eq, if◌then◌else◌, None, OnOk, IfOk, length, slice_index_or, slice_set};
 ghost use Rattle.std.specs.FinSet.{contains};
@@ -13,13 +13,13 @@ use mig_base::chunk::{CHUNK, Chunk};
 use mig_base::{NoMemory, PageBytes};
 use std::alloc::Global;
 
-/// A page: its bytes, or nothing where it is missing.
+/// A page: its bytes, or `None` if it is missing.
 pub type Page = Option<PageBytes>;
 
 /// A place for a leaf: empty until one of its pages is put.
 pub type Place = Option<Box<Leaf>>;
 
-/// `CHUNK` pages, and the places of those that are protected.
+/// `CHUNK` pages, and the numbers of the protected ones.
 #[derive(Drop)]
 pub struct Leaf {
     pub pages: Vec<Page>,
@@ -28,7 +28,7 @@ pub struct Leaf {
     pub ghost sized: { AreWhole pages.items },
 }
 
-/// A list of `CHUNK` missing pages.
+/// A list of `CHUNK` missing pages. `NoMemory` if it cannot be allocated.
 pub fn missing_pages(alloc: Global) -> Result<Vec<Page>, NoMemory>
     ensures { IfOk result (λ pages. (length pages.items ≡ CHUNK) × ((i : ℕ) → slice_index_or pages.items i None ≡ None)) }
 {
@@ -39,7 +39,7 @@ pub fn missing_pages(alloc: Global) -> Result<Vec<Page>, NoMemory>
     Ok(pages)
 }
 
-/// Takes a page out of a list.
+/// Takes a page out of a list: it is missing there afterwards.
 pub fn take_page(pages: &mut Vec<Page>, i: usize) -> Page
     requires { i < length pages.old.items }
     ensures page { result ≡ slice_index_or pages.old.items i None }
@@ -56,7 +56,7 @@ pub fn put_page(pages: &mut Vec<Page>, i: usize, page: Page)
     pages[i] = page;
 }
 
-/// Writes bytes into a page of a list, where it is present.
+/// Writes bytes into a page of a list, from byte `offset` on. A missing page stays missing.
 pub fn write_page(pages: &mut Vec<Page>, i: usize, offset: usize, bytes: &[u8])
     requires place { i < length pages.old.items }
     requires inside { offset + length bytes.now ≤ PAGE_SIZE }
@@ -67,7 +67,7 @@ pub fn write_page(pages: &mut Vec<Page>, i: usize, offset: usize, bytes: &[u8])
     write_bytes(&mut pages[i], offset, bytes);
 }
 
-/// Writes bytes into a page, where it is present.
+/// Writes bytes into a page, from byte `offset` on. A missing page stays missing.
 fn write_bytes(page: &mut Page, offset: usize, bytes: &[u8])
     requires { offset + length bytes.now ≤ PAGE_SIZE }
     ensures { page.new ≡ option_map (λ held. overwrite held offset bytes.now) page.old }
@@ -77,7 +77,7 @@ fn write_bytes(page: &mut Page, offset: usize, bytes: &[u8])
     }
 }
 
-/// Puts a number into a set, or takes it out.
+/// Inserts a number into a set, or removes it.
 pub fn set_member(set: &mut Chunk, i: u32, member: bool)
     requires { i < CHUNK }
     ensures { (j : ℕ) → contains set.new j ≡ (if nat_eq j i then member else contains set.old j) }

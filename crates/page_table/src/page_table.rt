@@ -1,4 +1,4 @@
-//! The type that callers see: present pages, with their bytes and their protection.
+//! The type that callers see: the present pages, with their bytes and their protection.
 
 ghost use Rattle.std.specs.Prelude.{◌≡◌, ℕ, ◌+◌, ◌-◌, ◌<◌, ◌≤◌, ◌⊎◌, ◌↔◌, true, false, if◌then◌else◌, List, Some, None, Err, OnOk, OnErr, IfOk, IfErr, IsTrue, length};
 ghost use Rattle.std.specs.Option.{option_copied};
@@ -30,14 +30,14 @@ pub enum PutFault {
     /// The page is present already, and it keeps its bytes and its protection.
     #[error("the page is present")]
     Present,
-    /// The page is missing and stays so, since a growth was refused. The same call may succeed later.
+    /// The page is missing and stays so, because an allocation failed. The same call may succeed later.
     #[error("no memory")]
     NoMemory,
 }
 
 /// The present pages of a host below `HIGH_PAGE`, their bytes, and which of them are write-protected.
 ///
-/// `get`, `is_protected`, `write`, `protect` and `unprotect` take the same few steps whatever is present, and need no memory.
+/// `get`, `is_protected`, `write`, `protect` and `unprotect` take the same few steps whatever is present, and take no memory.
 #[derive(Drop)]
 pub struct PageTable {
     alloc: Global,
@@ -67,27 +67,27 @@ impl PageTable {
         }
     }
 
-    /// The 4096 bytes of a page, or `None` if it is missing. Any page number may be asked for.
+    /// The 4096 bytes of a page, or `None` if it is missing. Any page number is allowed.
     pub fn get(&self, page: PageNo) -> Option<&[u8; PAGE_BYTES]>
         ensures { option_copied result ≡ map.get self.now.bytes page }
     {
         bytes_at(&self.places, page)
     }
 
-    /// Whether a page is present and protected. Any page number may be asked for.
+    /// Whether a page is present and protected. Any page number is allowed.
     pub fn is_protected(&self, page: PageNo) -> bool
         ensures answer { result ≡ set.contains self.now.protected page }
         ensures present { result ≡ true → IsTrue (map.contains_key self.now.bytes page) }
 
-        // A law of every table: protected pages are present.
+        // The invariant of every table: protected pages are present.
         ensures law { (q : ℕ) → IsTrue (set.contains self.now.protected q) → IsTrue (map.contains_key self.now.bytes q) }
     {
         is_protected_at(&self.places, page)
     }
 
-    /// The present pages, as a set of its own. It walks each leaf that was ever made.
+    /// The present pages, as a new set. The call visits every leaf that was ever made.
     ///
-    /// `NoMemory` comes only where the set could not grow.
+    /// `NoMemory` only if the set cannot grow.
     pub fn present(&self) -> Result<PageSet, NoMemory>
         ensures { IfOk result (λ pages. (q : ℕ) → set.contains pages q ≡ map.contains_key self.now.bytes q) }
     {
@@ -96,8 +96,8 @@ impl PageTable {
 
     /// Makes a missing page present, not protected, with these bytes, which are not copied.
     ///
-    /// On an error the table is as it was, and they come back with the reason: `Present` exactly where the page is
-    /// present, and otherwise `NoMemory` for the room of its leaf.
+    /// An error leaves the table as it was, and returns the bytes with the reason: `Present` if the page is present, else
+    /// `NoMemory` for the room of its leaf.
     pub fn put(&mut self, page: PageNo, bytes: PageBytes) -> Result<(), (PutFault, PageBytes)>
         requires { page < HIGH_PAGE }
         ensures ok { OnOk result (self.new.bytes ≡ map.insert self.old.bytes page bytes) }
@@ -118,8 +118,8 @@ impl PageTable {
 
     /// Makes a missing page present, not protected, with 4096 zeros.
     ///
-    /// On an error the table is as it was: `Present` exactly where the page is present, and otherwise `NoMemory` for the page
-    /// or the room of its leaf.
+    /// An error leaves the table as it was: `Present` if the page is present, else `NoMemory` for the page or the room of its
+    /// leaf.
     pub fn put_zero(&mut self, page: PageNo) -> Result<(), PutFault>
         requires { page < HIGH_PAGE }
         ensures ok { OnOk result (self.new.bytes ≡ map.insert self.old.bytes page zero_page) }
@@ -140,7 +140,7 @@ impl PageTable {
         Ok(())
     }
 
-    /// Gives a present page these bytes, which are not copied, in place of its own. It is not protected afterwards.
+    /// Replaces the bytes of a present page by these, which are not copied. The page is not protected afterwards.
     ///
     /// It takes no memory.
     pub fn replace(&mut self, page: PageNo, bytes: PageBytes)
@@ -153,7 +153,7 @@ impl PageTable {
         put_at(&mut self.places, page, bytes, false);
     }
 
-    /// Writes bytes into a present page, protected or not, from the offset on, which counts in bytes.
+    /// Writes bytes into a present page, protected or not, from byte `offset` on.
     ///
     /// It takes no memory and touches only the bytes written.
     pub fn write(&mut self, page: PageNo, offset: usize, bytes: &[u8])
@@ -165,7 +165,7 @@ impl PageTable {
         write_at(&mut self.places, page, offset, bytes);
     }
 
-    /// Makes the `count` pages from `first` on missing: gives up the bytes of those that are present, and their protection.
+    /// Makes the `count` pages from `first` on missing: drops their bytes and their protection.
     ///
     /// The room of their leaves stays, so that pages put there later need none.
     pub fn drop_range(&mut self, first: PageNo, count: u32)
@@ -176,7 +176,7 @@ impl PageTable {
         clear_range(&mut self.places, first, count);
     }
 
-    /// Protects a present page. One that is protected already stays so.
+    /// Write-protects a present page. A protected page stays so.
     pub fn protect(&mut self, page: PageNo)
         requires { IsTrue (map.contains_key self.old.bytes page) }
         ensures bytes { self.new.bytes ≡ self.old.bytes }
@@ -185,7 +185,7 @@ impl PageTable {
         protect_at(&mut self.places, page, true);
     }
 
-    /// Ends the protection of a present page. One that is not protected stays so.
+    /// Ends the protection of a present page. A page that is not protected stays so.
     pub fn unprotect(&mut self, page: PageNo)
         requires { IsTrue (map.contains_key self.old.bytes page) }
         ensures bytes { self.new.bytes ≡ self.old.bytes }
@@ -194,7 +194,7 @@ impl PageTable {
         protect_at(&mut self.places, page, false);
     }
 
-    /// A law of every table: a present page has its `PAGE_SIZE` bytes, and lies below `HIGH_PAGE`. The call does nothing.
+    /// The invariant of every table: a present page has `PAGE_SIZE` bytes and lies below `HIGH_PAGE`. The call does nothing.
     pub fn has_whole_pages(&self)
         ensures whole { (q : ℕ) (bytes : List ℕ) → map.get self.now.bytes q ≡ Some bytes → length bytes ≡ PAGE_SIZE }
         ensures inside { (q : ℕ) → HIGH_PAGE ≤ q → map.get self.now.bytes q ≡ None }
@@ -202,11 +202,11 @@ impl PageTable {
         let _ = &self.places;
     }
 
-    /// Moves the `count` pages from `from` on, with their protection, to those from `to` on. No byte is copied. Both ranges end at or
-    /// below page 0x100000, and lie apart.
+    /// Moves the `count` pages from `from` on, with their protection, to those from `to` on. No byte is copied. The ranges do not
+    /// overlap, and both end at or below page 0x100000.
     ///
-    /// What was present in the target range is given up, where the source page is missing too, and the source range is
-    /// missing afterwards. On `NoMemory`, for the room of the target's leaves, the table is as it was.
+    /// The target range loses the pages that it had, also where the source page is missing. The source range is missing afterwards.
+    /// `NoMemory`, for the room of the target's leaves, leaves the table as it was.
     pub fn move_range(&mut self, from: PageNo, to: PageNo, count: u32) -> Result<(), NoMemory>
         requires inside { (from + count ≤ HIGH_PAGE) × (to + count ≤ HIGH_PAGE) }
         requires apart { (from + count ≤ to) ⊎ (to + count ≤ from) }

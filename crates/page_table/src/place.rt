@@ -1,4 +1,5 @@
-//! Leaves, and one place for a leaf: what is read, put in, written, taken out and cleared there. Pages go by their number in the leaf.
+//! Leaves, and one place for a leaf: reading, putting, writing, taking out and clearing pages there. A page is named by its number in
+//! the leaf.
 
 ghost use Rattle.std.specs.Prelude.{◌≡◌, ℕ, ◌+◌, ◌*◌, ◌%◌, ◌<◌, ◌≤◌, ◌&&◌, ◌||◌, Bool, true, false, nat_eq, if◌then◌else◌, Some, None, IfOk, OnOk, is_some, length};
 ghost use Rattle.std.specs.Option.{option_copied};
@@ -18,7 +19,7 @@ use mig_base::{NoMemory, PAGE_BYTES};
 use std::alloc::Global;
 
 impl Leaf {
-    /// A leaf of missing pages.
+    /// A leaf of missing pages. `NoMemory` if it cannot be allocated.
     pub fn new(alloc: Global) -> Result<Self, NoMemory>
         ensures { IfOk result (λ leaf. (i : ℕ) → leaf_cell leaf i ≡ no_cell) }
     {
@@ -36,7 +37,7 @@ impl Leaf {
         self.pages[i as usize].is_some()
     }
 
-    /// Puts the present pages into a set, where the leaf is that of that number.
+    /// Puts the present pages into a set. The leaf is number `at` of its table. `NoMemory` may leave some of them in the set.
     pub fn gather(&self, at: u32, pages: &mut PageSet) -> Result<(), NoMemory>
         requires { at < CHUNK }
         ensures { OnOk result ((q : ℕ) → contains pages.new q ≡ (contains pages.old q || (in_range (CHUNK * at) CHUNK q && is_some (leaf_cell self.now (q % CHUNK)).0))) }
@@ -49,7 +50,7 @@ impl Leaf {
         Ok(())
     }
 
-    /// Takes a page out, and tells whether it was protected.
+    /// Takes a page out, and returns whether it was protected.
     pub fn take(&mut self, i: u32) -> (Page, bool)
         requires { i < CHUNK }
         ensures taken { result ≡ leaf_cell self.old i }
@@ -72,7 +73,7 @@ impl Leaf {
         set_member(&mut self.protected, i, protected);
     }
 
-    /// Writes bytes into a page, where it is present.
+    /// Writes bytes into a page, from byte `offset` on. A missing page stays missing.
     pub fn write(&mut self, i: u32, offset: usize, bytes: &[u8])
         requires place { i < CHUNK }
         requires inside { offset + length bytes.now ≤ PAGE_SIZE }
@@ -124,7 +125,7 @@ pub fn place_is_protected(place: &Place, i: u32) -> bool
     }
 }
 
-/// Makes the leaf, where there is none.
+/// Makes the leaf if there is none. `NoMemory` if it cannot be allocated.
 pub fn place_make(alloc: Global, place: &mut Place) -> Result<(), NoMemory>
     ensures same { (i : ℕ) → cell_in place.new i ≡ cell_in place.old i }
     ensures there { OnOk result (is_place place.new ≡ true) }
@@ -139,7 +140,7 @@ pub fn place_make(alloc: Global, place: &mut Place) -> Result<(), NoMemory>
     }
 }
 
-/// Puts the present pages of the place of that number into a set.
+/// Puts the present pages of place number `at` into a set. `NoMemory` may leave some of them in the set.
 pub fn place_gather(place: &Place, at: u32, pages: &mut PageSet) -> Result<(), NoMemory>
     requires { at < CHUNK }
     ensures { OnOk result ((q : ℕ) → contains pages.new q ≡ (contains pages.old q || (in_range (CHUNK * at) CHUNK q && is_some (cell_in place.now (q % CHUNK)).0))) }
@@ -150,7 +151,7 @@ pub fn place_gather(place: &Place, at: u32, pages: &mut PageSet) -> Result<(), N
     }
 }
 
-/// Takes a page out, and tells whether it was protected.
+/// Takes a page out, and returns whether it was protected.
 pub fn place_take(place: &mut Place, i: u32) -> (Page, bool)
     requires { i < CHUNK }
     ensures taken { result ≡ cell_in place.old i }
@@ -177,7 +178,7 @@ pub fn place_put(place: &mut Place, i: u32, page: Page, protected: bool)
     }
 }
 
-/// Writes bytes into a page, where it is present.
+/// Writes bytes into a page, from byte `offset` on. A missing page stays missing.
 pub fn place_write(place: &mut Place, i: u32, offset: usize, bytes: &[u8])
     requires place { i < CHUNK }
     requires inside { offset + length bytes.now ≤ PAGE_SIZE }

@@ -1,4 +1,4 @@
-//! The places of all pages, a leaf made in each when it is first needed.
+//! The places of all pages. The leaf of a place is made when it is first needed.
 
 ghost use Rattle.std.specs.Prelude.{◌≡◌, ℕ, ◌+◌, ◌-◌, ◌/◌, ◌%◌, ◌<◌, ◌≤◌, ◌⊎◌, Bool, true, false, nat_eq, if◌then◌else◌, None, OnOk, IfOk, is_some, length, slice_index_or};
 ghost use Rattle.std.specs.FinSet.{contains};
@@ -53,7 +53,7 @@ pub fn is_protected_at(places: &Vec<Place>, page: PageNo) -> bool
     }
 }
 
-/// Makes the leaf of a page, where there is none.
+/// Makes the leaf of a page if there is none. `NoMemory` leaves all pages as they were.
 pub fn make_place(alloc: Global, places: &mut Vec<Place>, page: PageNo) -> Result<(), NoMemory>
     requires { (page < HIGH_PAGE) × (length places.old.items ≤ CHUNKS) }
     ensures same { (q : ℕ) → cell_at places.new.items q ≡ cell_at places.old.items q }
@@ -68,7 +68,7 @@ pub fn make_place(alloc: Global, places: &mut Vec<Place>, page: PageNo) -> Resul
     place_make(alloc, &mut places[at])
 }
 
-/// Takes a page out, and tells whether it was protected.
+/// Takes a page out, and returns whether it was protected.
 pub fn take_at(places: &mut Vec<Place>, page: PageNo) -> (Page, bool)
     ensures taken { result ≡ cell_at places.old.items page }
     ensures whole { IsWhole result.0 }
@@ -100,7 +100,7 @@ pub fn put_at(places: &mut Vec<Place>, page: PageNo, bytes: Page, protected: boo
     );
 }
 
-/// Writes bytes into a page, where it is present.
+/// Writes bytes into a page, from byte `offset` on. A missing page stays missing.
 pub fn write_at(places: &mut Vec<Place>, page: PageNo, offset: usize, bytes: &[u8])
     requires { offset + length bytes.now ≤ PAGE_SIZE }
     ensures written { (q : ℕ) → cell_at places.new.items q ≡ (if nat_eq q page then written_cell (cell_at places.old.items page) offset bytes.now else cell_at places.old.items q) }
@@ -143,7 +143,7 @@ pub fn clear_range(places: &mut Vec<Place>, first: PageNo, count: u32)
     }
 }
 
-/// Makes the leaves of a range.
+/// Makes the leaves of a range. `NoMemory` may leave some of them made; all pages are as they were.
 pub fn make_places(
     alloc: Global,
     places: &mut Vec<Place>,
@@ -162,7 +162,7 @@ pub fn make_places(
     Ok(())
 }
 
-/// Moves the pages of a range, with their protection, to another that it does not meet and that has its leaves.
+/// Moves the pages of a range, with their protection, to another range that does not overlap it and has its leaves.
 pub fn move_cells(places: &mut Vec<Place>, from: PageNo, to: PageNo, count: u32)
     requires inside { (from + count ≤ HIGH_PAGE) × (to + count ≤ HIGH_PAGE) }
     requires apart { (from + count ≤ to) ⊎ (to + count ≤ from) }
@@ -176,7 +176,7 @@ pub fn move_cells(places: &mut Vec<Place>, from: PageNo, to: PageNo, count: u32)
     }
 }
 
-/// Gives the pages from `first` on, which have their leaves, these bytes, the last page first. None is protected afterwards.
+/// Puts these bytes at the pages from `first` on, which have their leaves, the last page first. None is protected afterwards.
 pub fn put_cells(places: &mut Vec<Place>, first: PageNo, mut run: Vec<PageBytes>)
     requires inside { first + length run.items ≤ HIGH_PAGE }
     requires there { (q : ℕ) → first ≤ q → q < first + length run.items → has_place places.old.items q ≡ true }
@@ -190,7 +190,7 @@ pub fn put_cells(places: &mut Vec<Place>, first: PageNo, mut run: Vec<PageBytes>
     }
 }
 
-/// The present pages, as a set. Only places that have a leaf are walked.
+/// The present pages, as a set. The call visits only the places that have a leaf. `NoMemory` if the set cannot grow.
 pub fn present_of(alloc: Global, places: &Vec<Place>) -> Result<PageSet, NoMemory>
     requires { length places.now.items ≤ CHUNKS }
     ensures { IfOk result (λ pages. (q : ℕ) → contains pages q ≡ is_some (cell_at places.now.items q).0) }

@@ -1,4 +1,4 @@
-//! The end of the protection of a range, by whole leaves.
+//! Ending the protection of a range, leaf by leaf.
 
 ghost use Rattle.std.specs.Prelude.{◌≡◌, ℕ, ◌+◌, ◌≤◌, length};
 ghost use Rattle.mig_base.specs.Ranges.{in_range};

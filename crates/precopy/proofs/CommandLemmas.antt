@@ -1,4 +1,4 @@
--- What the machine makes of a command of the source's guest.
+-- How the machine handles a command of the source's guest.
 use Rattle.std.proofs.Common.{◌≡◌, ℕ, Bool, true, false, not, Option, Some, None, List, refl, inl, inr, unwrap_or, arith}
 use Rattle.mig_base.specs.Commands.{is_access}
 use Rattle.mig_base.specs.declared.command.Command.{Command}

@@ -1,6 +1,6 @@
 -- The guest of a source: its memory is one that commands leave, and what its processors still have to make is of the right form.
 use Rattle.std.proofs.lemmas.Bool.Decides.{nat_tests}
-use Rattle.std.proofs.Common.{◌≡◌, ℕ, zero, suc, Bool, true, cond, eqb, ltb, not, Option, Some, None, is_some, List, [], ◌∷◌, ◌++◌, length, set, refl, sym, ap, ◌∙◌, subst, arith}
+use Rattle.std.proofs.Common.{◌≡◌, ℕ, zero, suc, Bool, true, cond, eqb, not, Option, Some, None, is_some, List, [], ◌∷◌, ◌++◌, length, set, refl, sym, ap, ◌∙◌, subst, arith}
 use Rattle.std.specs.FinMap.{get}
 use Rattle.std.specs.FinSet.{FinSet, contains}
 use Rattle.std.specs.Ordering.{nat_cmp}
@@ -8,11 +8,9 @@ use Rattle.std.proofs.lemmas.Bool.{and_parts, eqb-true}
 use Rattle.std.proofs.lemmas.List.{length-map}
 use Rattle.std.proofs.lemmas.Option.{none-some}
 use Rattle.mig_base.proofs.ByteLemmas.{get_or-zero_page}
-use Rattle.mig_base.proofs.SetLemmas.{member_below}
 use Rattle.mig_base.specs.Bytes.{zero_page}
 use Rattle.mig_base.specs.Commands.{is_access}
 use Rattle.mig_base.specs.Flat.{is_mapped}
-use Rattle.mig_base.specs.declared.TheConstants.{HIGH_PAGE}
 use Rattle.mig_base.specs.declared.command.Command.{Command}
 use Rattle.mig_base.specs.declared.cpu_state.CpuState.{CpuState}
 use Rattle.mig_base.specs.declared.message.Message.{Message}
@@ -36,7 +34,7 @@ use Rattle.mig_model.proofs.RightCommands.{AllRight, IsInside, right_commands, r
 use Rattle.mig_model.proofs.SourceMapped.{read_host}
 use Rattle.mig_model.proofs.Stopping.{member_less}
 use Rattle.mig_model.proofs.WaitingCommands.{less_same}
-use Rattle.frame_texts.proofs.FrameBounds.{present_pages}
+use Rattle.frame_texts.proofs.FrameBounds.{member_present, present_pages}
 use Rattle.precopy.specs.Order.{HasRightGuest}
 
 -- Commands that wait
@@ -146,9 +144,6 @@ acted_guest node new fault is old =
 -- What it sends of it
 
 -- a page that is not clean is present
-member_present : (space : Space) (page : ℕ) → contains (present space) page ≡ true → is_present space page ≡ true
-member_present space page h = (and_parts (ltb page HIGH_PAGE) (is_present space page) (sym (member_below (λ q. is_present space q) HIGH_PAGE page) ∙ h)).1
-
 pub dirty_present : (space : Space) (log : Log) (page : ℕ) → contains (dirty space log) page ≡ true → is_present space page ≡ true
 dirty_present space log page h = member_present space page (and_parts (contains (present space) page) (not (contains log.clean page)) (sym (member_less (present space) log.clean page) ∙ h)).0
 

@@ -1,4 +1,4 @@
--- What the machine's handler makes of a source.
+-- How the machine's handler changes a source.
 use Rattle.std.proofs.Common.{◌≡◌, ℕ, ◌*◌, Bool, true, false, ltb, Option, Some, None, List, [], ◌∷◌, refl, sym, ap, ◌∙◌, inl, inr, ◌⊎◌, if◌then◌else◌, arith}
 use Rattle.std.specs.Prelude.{Ok, Err, Result}
 use Rattle.std.specs.Option.{IsSome}
@@ -43,7 +43,7 @@ told_count : (guest : Guest) (cpu : ℕ) (message : Message) (reply : Option Rep
 told_count guest cpu message None = refl
 told_count guest cpu message (Some reply) = refl
 
--- a fault that was read is told as one
+-- reading a message counts one fault if it is a page fault
 pub faults_read : (guest : Guest) (cpu : ℕ) (message : Message) → faults_told (read_effect guest cpu message) ≡ fault_count message
 faults_read guest cpu (PageFault addr write wp tid) = refl
 faults_read guest cpu (Remap from to len) = told_count guest cpu (Remap from to len) (handed_over (processor_at guest.cpus cpu))
@@ -119,7 +119,7 @@ pub some_held : (log : Log) (space : Space) (held : List Fault) → log.held ≡
 some_held log space [] is h = absurd (let other : first_holding ((is_empty log.held, Refusal.NothingThere) ∷ []) ≡ None = grind arith in grind arith)
 some_held log space (fault ∷ rest) is h = record { fault = fault; rest = rest; is = is; quiet = grind arith }
 
--- what a fault that is resolved makes of a source does not depend on its other parts
+-- resolving a fault changes the log and the guest of a source independently of its other parts
 acted_parts : (act : machine.Act) (node : Source) (page : ℕ) → source_acted_by act node page ≡
     record node { guest = (source_acted_by act (source_of node.log (space_of node) node.guest.cpus) page).guest; log = (source_acted_by act (source_of node.log (space_of node) node.guest.cpus) page).log }
 acted_parts machine.Act.Unprotected node page = refl
@@ -132,7 +132,7 @@ pub acted_is : (node : Source) (space : Space) (cpus : Cpus) (log : Log) (fault 
     record node { guest = record { space = space; cpus = cpus }; log = log } ≡ source_acted node fault
 acted_is node space cpus log fault same = ap (λ other. record node { guest = other.guest; log = other.log }) same ∙ sym (acted_parts (source_act node fault) node fault.page)
 
--- what is told of it
+-- the effect of resolving it
 pub told_is : (done : Act) (act : machine.Act) (addr at : ℕ) → act_is done ≡ act → addr ≡ at → act_told done addr ≡ act_effect act at
 told_is done act addr at is same = rw (is, same) refl
 

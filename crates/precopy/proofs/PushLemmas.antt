@@ -1,4 +1,4 @@
--- What the machine's steps make of a stopped source.
+-- How the machine's steps change a stopped source.
 use Rattle.std.proofs.Common.{◌≡◌, ℕ, ◌+◌, ◌*◌, true, false, List, [], ◌∷◌, refl, inl, inr, arith}
 use Rattle.std.specs.Prelude.{Ok, Err}
 use Rattle.std.specs.FinSet as finset

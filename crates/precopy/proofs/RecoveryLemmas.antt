@@ -1,4 +1,4 @@
--- A source that goes back to pre-copy is in order; and what the machine makes of the source in a recovery.
+-- A source that goes back to pre-copy is in order; and how the machine changes the source in a recovery.
 use Rattle.std.proofs.Common.{◌≡◌, ◌+◌, Bool, true, false, [], refl, sym, ◌∙◌, arith}
 use Rattle.std.specs.Prelude.{IfOk}
 use Rattle.std.specs.FinSet.{FinSet, len}
@@ -31,7 +31,7 @@ precopy_order phase switched space log now is forgot old =
       released = λ h. absurd (false≢true h);
     }
 
--- a source that has switched is released, and has given up its memory
+-- a source that has switched is in order when it is released and has no memory left
 pub released_order : (switched : Bool) → switched ≡ true → IsInOrder SourcePhase.Released switched fresh_space empty_log
 released_order switched is =
     record {

@@ -1,12 +1,11 @@
--- What the machine's SendRun makes of a source, and why it is refused; the pages of a run can be sent.
-use Rattle.std.proofs.Common.{◌≡◌, ℕ, zero, suc, ◌+◌, ◌*◌, ◌<◌, ◌≤◌, List, sym, subst, true, false, not, ltb, None, [], ◌∷◌, length, refl, ap, ◌∙◌, inl, inr, arith}
+-- How the machine's SendRun changes a source, and why it is refused; the pages of a run can be sent.
+use Rattle.std.proofs.Common.{◌≡◌, ℕ, ◌+◌, ◌*◌, ◌<◌, ◌≤◌, List, sym, subst, true, false, not, ltb, None, [], ◌∷◌, length, refl, ap, ◌∙◌, inl, inr, arith}
 use Rattle.std.specs.Prelude.{Ok, Err}
 use Rattle.std.specs.FinSet.{contains}
 use Rattle.mig_base.specs.declared.effect.Effect.{Effect}
 use Rattle.mig_base.specs.declared.refusal.Refusal.{Refusal}
 use Rattle.mig_base.specs.declared.schedule.Step.{Step}
 use Rattle.mig_base.specs.declared.TheConstants.{HIGH_PAGE, LOW_PAGE, MAX_RUN, PAGE_SIZE}
-use Rattle.std.proofs.lemmas.Bool.Decides.{nat_tests}
 use Rattle.mig_base.specs.Ranges.{in_range}
 use Rattle.mig_base.specs.Sets.{run_length}
 use Rattle.mig_base.specs.Tests.{is_every}
@@ -24,6 +23,8 @@ use Rattle.precopy.specs.Answers.{send_answer}
 use Rattle.precopy.specs.Order.{AreSendable}
 use Rattle.precopy.specs.Steps.{IsMade, IsRefused}
 use Rattle.precopy.proofs.SendLemmas.{least_sent, no_unread, only_memory, quiet}
+use Rattle.frame_texts.proofs.FrameBounds.{length-run_of}
+use Rattle.frame_texts.proofs.FrameSteps.{most_bound}
 
 -- how many pages a run from here has
 abbrev pub pages_from : Source → ℕ → ℕ → ℕ
@@ -76,15 +77,8 @@ run_stopped node first count pages refusal is few kept why =
 
 -- Its frame
 
-bound_few : (count : ℕ) → run_bound count ≤ 64
-bound_few count = grind (arith, nat_tests)
-
 pub few_pages : (node : Source) (first count pages most : ℕ) → most ≡ run_bound count → pages ≤ most → pages ≤ 64
-few_pages node first count pages most is few = let bound = bound_few count in omega (arith, is, few, bound)
-
-length-run_of : (node : Source) (first number : ℕ) → length (run_of node first number) ≡ number
-length-run_of node first zero = refl
-length-run_of node first (suc number) = ap suc (length-run_of node (1 + first) number)
+few_pages node first count pages most is few = let bound = most_bound count in omega (arith, is, few, bound)
 
 pub run_frame : (node : Source) (first count : ℕ) (pages : List (List ℕ)) (frame : Frame) → frame ≡ Frame.Run first pages → pages ≡ run_of node first count → 0 < count → count ≤ 64 → LOW_PAGE ≤ first → first + count ≤ HIGH_PAGE → ArePageBytes pages →
     IsFrame frame

@@ -1,4 +1,4 @@
--- What the machine's steps make of a source, and why they are refused.
+-- How the machine's steps change a source, and why they are refused.
 use Rattle.std.proofs.Common.{◌≡◌, ℕ, ◌*◌, Bool, true, false, cond, List, [], ◌∷◌, refl, ap, ◌∙◌, inl, inr, arith}
 use Rattle.std.specs.Prelude.{Ok, Err}
 use Rattle.mig_base.specs.declared.effect.Effect.{Effect}
@@ -54,7 +54,7 @@ sent_by : (node : Source) (page : ℕ) → send_answer node ≡ Ok page → IsMa
 unfolding unless
 sent_by node page is = grind arith
 
--- what is told of the frame of a page
+-- the effect of sending a frame with a page
 abbrev told_of : Frame → Effect
 told_of (Frame.Zero page) = Effect.SentZero (4096 * page)
 told_of (Frame.Page page bytes) = Effect.SentPage (4096 * page)
@@ -68,7 +68,7 @@ told_by : (zeros : Bool) (page : ℕ) (bytes : List ℕ) → told_of (cond zeros
 told_by true page bytes = refl
 told_by false page bytes = refl
 
--- what is told of a page goes by its bytes
+-- the effect of sending a page depends on its bytes alone
 pub effect_is : (page : ℕ) (bytes : List ℕ) (sent : Sent) → frame_sent page sent ≡ page_frame page bytes → sent_effect page sent ≡ page_effect page bytes
 effect_is page bytes sent is = told_sent page sent ∙ ap told_of is ∙ told_by (is_zeros bytes) page bytes
 

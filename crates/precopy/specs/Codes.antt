@@ -1,4 +1,4 @@
--- How a proof tells sources apart, for models that contain them.
+-- Codes of sources: proofs about models that contain a source compare sources by them.
 use Rattle.std.specs.Prelude.{ℕ, Bool, List, refl}
 use Rattle.std.specs.Ordering.{nat_cmp}
 use Rattle.std.specs.FinSet as set
@@ -11,24 +11,27 @@ use Rattle.mig_model.specs.Source.{Source}
 use Rattle.guest.specs.Codes.{coded_guest}
 use Rattle.dirty_log.specs.Codes.{coded_log}
 
--- how far a source is: its phase, whether it has switched, and its two epochs
+-- the progress of a source: its phase, whether it has switched, its epoch, and the epoch of its last End
 abbrev pub Progress : Type 0
 Progress = SourcePhase × (Bool × (ℕ × ℕ))
 
+-- the code of a source's progress
 abbrev pub coded_progress : Coded Progress
 coded_progress = coded× phase.the_row.coded (coded× coded_bool (coded× coded_ℕ coded_ℕ))
 
--- what it still has to send
+-- what a source still has to send: the remaining pages, and the requested pages in their order
 abbrev pub Left : Type 0
 Left = set.FinSet nat_cmp × List ℕ
 
+-- the code of what a source still has to send
 abbrev pub coded_left : Coded Left
 coded_left = coded× (set.code coded_ℕ) (coded_list coded_ℕ)
 
--- its counts
+-- the counts of a source: urgent frames, pages of the last Package, rounds, pages sent, and faults read
 abbrev pub Counts : Type 0
 Counts = ℕ × (ℕ × (ℕ × (ℕ × ℕ)))
 
+-- the code of a source's counts
 abbrev pub coded_counts : Coded Counts
 coded_counts = coded× coded_ℕ (coded× coded_ℕ (coded× coded_ℕ (coded× coded_ℕ coded_ℕ)))
 

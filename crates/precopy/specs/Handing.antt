@@ -1,4 +1,4 @@
--- What a source hands over as it stops.
+-- What a source hands over when it stops.
 use Rattle.std.specs.Prelude.{◌≡◌}
 use Rattle.mig_model.specs.Bounds.{ArePages, IsFrame}
 use Rattle.mig_model.specs.Log.{less}
@@ -7,7 +7,7 @@ use Rattle.mig_model.specs.Wire.Frame.{Package}
 use Rattle.page_stream.specs.Frames.{frame_of}
 use Rattle.precopy.specs.declared.source.pushes.HandedOver.{HandedOver}
 
--- the pages to be discarded, each of which may be mapped, those that are owed, and the Package that owes them, which is well formed
+-- the pages that the destination has to discard, each of which may be mapped; the owed pages; and the well formed Package that owes them
 pub record IsHandedOver (node : Source) (handed : HandedOver) : Type 0 where
   pub discarded : handed.discarded ≡ less node.log.sent node.log.clean
   pub pages : ArePages handed.discarded

@@ -1,4 +1,4 @@
--- What every source keeps, whatever calls are made of it.
+-- The invariants of every source, which each of its calls keeps.
 use Rattle.std.specs.Prelude.{◌≡◌, ℕ, Bool, true, false, List}
 use Rattle.std.specs.FinSet.{contains}
 use Rattle.mig_base.specs.declared.command.Entry.{Entry}
@@ -18,8 +18,8 @@ use Rattle.dirty_log.specs.Spaces.{AreProtected, is_sendable}
 abbrev pub AreSendable : Log → Space → Type 0
 AreSendable log space = (page : ℕ) → contains log.todo page ≡ true → is_unread space.object.events page ≡ false → is_sendable space page ≡ true
 
--- until the memory is given up the log may be lent the space; clean pages are protected, and pages to be sent can be sent; and the
--- processors are stopped before the source is
+-- until the source is released, its space may be lent to the log; clean pages are protected, and pages that the round has to send can be
+-- sent; a stopped or released source has switched
 pub record IsInOrder (phase : SourcePhase) (switched : Bool) (space : Space) (log : Log) : Type 0 where
   pub lent : is_released phase ≡ false → IsLent space
   pub clean : AreProtected log space
@@ -27,8 +27,8 @@ pub record IsInOrder (phase : SourcePhase) (switched : Bool) (space : Space) (lo
   pub stopped : is_stopped phase ≡ true → switched ≡ true
   pub released : is_released phase ≡ true → switched ≡ true
 
--- its host has the memory that some list of commands leaves, and each command that a processor still has to make is a load or store of the
--- right form
+-- the host has the memory that some list of commands leaves, and each command that a processor still has to make is a well formed load or
+-- store
 pub record HasRightGuest (host : Host) (cpus : Cpus) : Type 0 where
   pub entries : List Entry
   pub holds : memory host ≡ memory_of entries

@@ -1,4 +1,4 @@
-//! What holds of all steps of a source, as a law: a function that does nothing, whose contract is the law.
+//! What holds for all steps of a source, as laws: each is a function that does nothing and whose contract is the law.
 
 ghost use Rattle.std.specs.Prelude.{◌≡◌, ℕ, ◌+◌, [], true, false, IfOk};
 ghost use Rattle.std.specs.FinSet.{FinSet, len};
@@ -15,9 +15,8 @@ ghost use Rattle.mig_model.specs.Source.{Source, is_released, released, source_t
 ghost use Rattle.mig_model.specs.Wire.{Frame};
 ghost use Rattle.precopy.specs.Steps.{in_world, world_of};
 
-/// A step of the source reads nothing of a world but its source and that the link is up: in any world it has the effect, sends the
-/// frames and leaves the source that it has, sends and leaves where nothing else is there. Commands are the source's while the
-/// destination has not run.
+/// A step of the source depends on the source alone: in any world whose link is up it has the same effect, sends the same frames and
+/// leaves the same source as in an otherwise empty world. Commands are the source's while the destination has not run.
 pub fn a_step_of_the_source()
     ensures start { (world : World) → answer world Step.Start ≡ in_world world (answer (world_of world.source) Step.Start) }
     ensures round { (world : World) → answer world Step.Round ≡ in_world world (answer (world_of world.source) Step.Round) }
@@ -34,10 +33,11 @@ pub fn a_step_of_the_source()
     ensures retry { (world : World) (cpu : ℕ) → world.destination.has_run ≡ false → answer world (Step.Retry cpu) ≡ in_world world (answer (world_of world.source) (Step.Retry cpu)) }
 {}
 
-/// What a broken channel and the recovery from it make of the source of a world is what the calls of a source make. A Notice at the
-/// source makes what `pause` makes, of a source that is not released; a Resume what `set_epoch` makes, in the next epoch; and a Recv, by
-/// what the destination has received, what `to_precopy`, `to_stopped` or `release` makes: nothing has run there, and the source has not
-/// switched, or has; it runs, and the last Package stands; or it has ended.
+/// A broken channel and the recovery from it change the source of a world as the calls of a source do. A Notice at the source changes it
+/// as `pause` does, and the source is not released; a Resume as `set_epoch` does, with the next epoch; and a Recv by the state of the
+/// destination. If the destination has not run, a source that has not switched changes as by `to_precopy`, and one that has switched as
+/// by `to_stopped`, with all its present pages. If the destination runs, as by `to_stopped`, and the last Package stands. If it has
+/// ended, as by `release`.
 pub fn a_recovery_of_the_source()
     ensures notice { (world : World) → IfOk (answer world (Step.Notice Side.Source)) (λ made. made.world.source ≡ record world.source { phase = SourcePhase.Paused }) }
     ensures noticed { (world : World) → IfOk (answer world (Step.Notice Side.Source)) (λ made. is_released world.source.phase ≡ false) }

@@ -1,6 +1,6 @@
 //! The type that callers see: the source of a migration.
 
-ghost use Rattle.std.specs.Prelude.{◌≡◌, ◌↔◌, false, IfOk, Err};
+ghost use Rattle.std.specs.Prelude.{◌≡◌, ◌↔◌, false, length, IfOk, Err};
 ghost use Rattle.mig_model.specs.Source as machine;
 ghost use Rattle.vcpu.specs.Answers.{is_count};
 
@@ -26,9 +26,9 @@ use vcpu::{Cpus, NewFault};
 
 /// The source of a migration.
 ///
-/// A call that is refused changes nothing. Where several refusals apply the first is given, in the order of
-/// [`mig_base::refusal::Refusal`]; `NoMemory` comes after all others, and the same call may succeed later. That the link is up is
-/// for whoever calls to know: a source sends, and does not see whether what it sends arrives.
+/// A call that is refused changes nothing. If several refusals apply, a call returns the first in the order of
+/// [`mig_base::refusal::Refusal`]; `NoMemory` comes after all others, and the same call may succeed later. The caller has to know
+/// whether the link is up: a source sends, and does not see whether what it sends arrives.
 #[derive(Drop)]
 pub struct Source {
     alloc: Global,
@@ -63,8 +63,9 @@ impl Model for Source {
 }
 
 impl Source {
-    /// A source of `cpus` idle processors, on which nothing is mapped and no migration has begun, whose counts of epochs and of rounds
-    /// stand at the numbers given. Its userfault object is enabled for all that it has. `NoCpu` unless there are 1 to 16 processors.
+    /// A source with `cpus` idle processors, on which nothing is mapped and no migration has begun. Its counts of epochs and of rounds
+    /// begin at the numbers given. Its userfault object is enabled for all its features. `NoCpu` unless there are 1 to 16 processors;
+    /// `NoMemory` if they cannot be allocated.
     pub fn new(alloc: Global, cpus: u8, epoch: u32, rounds: u32) -> Result<Self, NewFault>
         ensures ok { IfOk result (λ source. source ≡ machine.first_source cpus epoch rounds) }
         ensures no_cpu { (result ≡ Err NewFault.NoCpu) ↔ (is_count cpus ≡ false) }
@@ -93,21 +94,21 @@ impl Source {
         })
     }
 
-    /// How far it is.
+    /// The phase of the source.
     pub fn phase(&self) -> SourcePhase
         ensures { result ≡ self.now.phase }
     {
         self.phase
     }
 
-    /// Whether it has stopped its processors for good.
+    /// Whether the source has stopped its processors for good.
     pub fn has_switched(&self) -> bool
         ensures { result ≡ self.now.switched }
     {
         self.switched
     }
 
-    /// The epoch of the migration: each resumption begins a new one.
+    /// The epoch of the migration: each Resume begins a new one.
     pub fn epoch(&self) -> u32
         ensures { result ≡ self.now.epoch }
     {
@@ -121,21 +122,28 @@ impl Source {
         &self.remaining
     }
 
-    /// How many rounds of pre-copy were made, counted on from the number that the source was made with.
+    /// The number of requests from the destination that were not served yet.
+    pub fn asked(&self) -> usize
+        ensures { result ≡ length self.now.asked }
+    {
+        self.asked.len()
+    }
+
+    /// The number of rounds of pre-copy so far, plus the number that the source was made with.
     pub fn rounds(&self) -> u32
         ensures { result ≡ self.now.rounds }
     {
         self.rounds
     }
 
-    /// How many pages were sent, on either wire. The count stops at its greatest value.
+    /// The number of pages that were sent, on either wire. The count stops at its greatest value.
     pub fn pages_sent(&self) -> u64
         ensures { result ≡ self.now.pages_sent }
     {
         self.pages_sent
     }
 
-    /// How many messages of page faults were read. The count stops at its greatest value.
+    /// The number of page fault messages that were read. The count stops at its greatest value.
     pub fn faults(&self) -> u64
         ensures { result ≡ self.now.faults }
     {
@@ -156,7 +164,7 @@ impl Source {
         &self.cpus
     }
 
-    /// What it knows of its pages.
+    /// What the source knows about its pages.
     pub fn log(&self) -> &DirtyLog
         ensures { result.now ≡ self.now.log }
     {

@@ -15,7 +15,7 @@ use mig_base::{NoMemory, PageNo};
 use std::alloc::Global;
 use std::marker::Model;
 
-/// A list of pages with a bit for each, which is set while its page is free.
+/// A list of pages with a bit for each. The bit is set while its page is free.
 #[derive(Drop)]
 pub struct Claims {
     epoch: u32,
@@ -39,7 +39,7 @@ impl Model for Claims {
 }
 
 impl Claims {
-    /// Claims of a list of pages, in any order, all free, and a seat that has the whole share. Out of memory, the list is dropped.
+    /// Claims of a list of pages, in any order and all free, and a seat that has the whole share. `NoMemory` drops the list.
     pub fn new(
         alloc: Global,
         epoch: u32,
@@ -77,7 +77,7 @@ impl Claims {
         self.pages.len()
     }
 
-    /// The epoch of each ticket.
+    /// The epoch that each ticket names.
     pub fn epoch(&self) -> u32
         ensures { result ≡ self.now.epoch }
     {
@@ -92,7 +92,7 @@ impl Claims {
         self.pages[index]
     }
 
-    /// The index of a page, or none where it is not a starting page. A binary search, without an atomic step.
+    /// The index of a page, or `None` if it is not a starting page. It is a binary search, without an atomic step.
     pub fn index_of(&self, page: PageNo) -> Option<usize>
         ensures some { IfSome result (λ i. (i < length self.now.pages) × (slice_index self.now.pages i ≡ page)) }
         ensures none { IfNone result (Contains self.now.pages page → ⊥) }
@@ -100,7 +100,7 @@ impl Claims {
         find(self.by_page.as_slice(), page)
     }
 
-    /// Claims an index with one fetch-and. None: it was claimed before, by this seat or another.
+    /// Claims an index with one fetch-and. `None` if it was claimed before, by this seat or another.
     pub fn claim(&self, seat: &mut ClaimSeat, index: usize) -> Option<Ticket>
         requires seat { IsSeatOf self.now seat.old }
         requires index { index < length self.now.pages }
@@ -126,7 +126,7 @@ impl Claims {
         })
     }
 
-    /// Whether an index is free, by one load. Another thread may claim it at once; a false answer stays true of the index.
+    /// Whether an index is free, by one load. If it is, another thread may claim it at once; if it is not, it never becomes free.
     pub fn is_free(&self, seat: &mut ClaimSeat, index: usize) -> bool
         requires seat { IsSeatOf self.now seat.old }
         requires index { index < length self.now.pages }
@@ -149,7 +149,8 @@ impl Claims {
         seat.held[index]
     }
 
-    /// A seat for one more thread, with nothing claimed and half of a share. Out of memory, the seat stays as it was.
+    /// A seat for one more thread, which has claimed nothing and gets half of the first part of this seat's share. `NoMemory` leaves the
+    /// seat as it was.
     pub fn split(&self, alloc: Global, seat: &mut ClaimSeat) -> Result<ClaimSeat, NoMemory>
         requires { IsSeatOf self.now seat.old }
         ensures seat { IsSeatOf self.now seat.new }
@@ -165,7 +166,7 @@ impl Claims {
         Ok(ClaimSeat { seat: other, held })
     }
 
-    /// Adds what another seat has claimed and seen, and its share. The other seat ends.
+    /// Adds to the seat what another seat has claimed and seen, and its share. The other seat ends.
     pub fn join(&self, seat: &mut ClaimSeat, other: ClaimSeat)
         requires seat { IsSeatOf self.now seat.old }
         requires other { IsSeatOf self.now other }
@@ -182,8 +183,8 @@ impl Claims {
         mark_all(&mut seat.held, other_held.as_slice());
     }
 
-    /// The pages that are free, and those that the seat has claimed, each in the order of their indexes. Out of memory, both
-    /// arguments come back unchanged.
+    /// The pages that are free, and those that the seat has claimed, each in the order of their indexes. If memory runs out, it
+    /// returns both arguments unchanged.
     pub fn close(
         self,
         alloc: Global,

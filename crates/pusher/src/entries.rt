@@ -6,7 +6,7 @@ ghost use Rattle.pusher.specs.Entries.{IsIndexed};
 use mig_base::{NoMemory, PageNo};
 use std::alloc::Global;
 
-/// Each page with its index, in ascending order of pages.
+/// Each page with its index, in ascending order of pages. `NoMemory` if the list cannot be allocated.
 pub(crate) fn sorted_entries(
     alloc: Global,
     pages: &[PageNo],
@@ -21,7 +21,7 @@ pub(crate) fn sorted_entries(
     Ok(entries)
 }
 
-/// The index of a page.
+/// The index of a page, or `None` if the entries do not have it.
 pub(crate) fn find(entries: &[(PageNo, usize)], page: PageNo) -> Option<usize>
     requires { IsNonDecreasingBy (λ e. e.0) entries.now }
     ensures some { IfSome result (λ index. Contains entries.now (page, index)) }

@@ -1,4 +1,4 @@
--- What a notice makes of a source, and when all pages of a set are present.
+-- The effect of a notice on a source, and when all pages of a set are present.
 use Rattle.std.proofs.lemmas.Bool.{not-false}
 use Rattle.std.proofs.lemmas.Bool.Decides.{nat_tests}
 use Rattle.std.proofs.Common.{◌≡◌, ℕ, ◌<◌, ◌≤◌, ◌&&◌, ◌||◌, Bool, eqb, ltb, not, true, false, Err, List, [], ◌∷◌, map, refl, ap, ◌∙◌, arith}

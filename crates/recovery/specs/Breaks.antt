@@ -1,4 +1,4 @@
--- What a break and a recovery make of the two nodes.
+-- The effect of a break and of the recovery from it on the two nodes.
 use Rattle.std.specs.Prelude.{Bool, true, false, List, [], ◌∷◌, map, Result, Ok, Err}
 use Rattle.mig_base.specs.declared.effect.Effect.{Effect}
 use Rattle.mig_base.specs.declared.refusal.Refusal.{Refusal}
@@ -17,30 +17,31 @@ use Rattle.page_stream.specs.Frames.{frame_of}
 abbrev pub broken_world : Source → Destination → World
 broken_world source destination = record (first_world 0) { source = source; destination = destination; up = false }
 
--- what a step of it answers that told this, and left these nodes
+-- the answer of a step in such a world: this effect with these nodes after it, or this refusal
 abbrev pub answered_with : Source → Destination → Result Effect Refusal → Answer
 answered_with source destination (Ok effect) = made effect (broken_world source destination)
 answered_with source destination (Err refusal) = Err refusal
 
--- the machine's words for frames
+-- bridges frames of the code to the machine's
 abbrev pub frames_of : List Frame → List machine.Frame
 frames_of frames = map frame_of frames
 
--- each of them can be sent
+-- each frame is well formed, so it can be sent
 abbrev pub AreWellFormed : List machine.Frame → Type 0
 AreWellFormed [] = Unit {0}
 AreWellFormed (frame ∷ frames) = IsFrame frame × AreWellFormed frames
 
--- how far a destination has come: the first frame that it answers to a Resume
+-- the Recv of a destination that has come this far; it lists the owed pages of the source if the destination runs, and none otherwise
 abbrev pub received_by : Received → Destination → machine.Frame
 received_by Received.Running node = machine.Frame.Recv Received.Running (origins node.owed)
 received_by state node = machine.Frame.Recv state no_pages
 
+-- the Recv of a destination: the first frame that it sends back for a Resume
 abbrev pub received_frame : Destination → machine.Frame
 received_frame node = received_by (received_of node) node
 
--- whether a source that goes on from there needs memory: for the pages that a destination which runs still needs, or for all of its own
--- once it has switched
+-- whether a source that goes on from there needs memory: for the pages that a running destination still needs, or for all of its own, once
+-- it has switched and the destination has not run
 abbrev pub takes_pages : Received → Bool → Bool
 takes_pages Received.NotRun switched = switched
 takes_pages Received.Running switched = true

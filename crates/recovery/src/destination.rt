@@ -1,4 +1,4 @@
-//! The destination: the break is noticed, and the source is told how far the destination has come.
+//! The destination notices a break, and reports how far it has come.
 
 ghost use Rattle.std.specs.Prelude.{◌≡◌, ◌∷◌, ◌++◌, map, IfOk, OnErr};
 ghost use Rattle.mig_base.specs.declared.schedule.Side.{Side};
@@ -22,9 +22,9 @@ use page_stream::Frame;
 use precopy::Source;
 use std::alloc::Global;
 
-/// The destination notices that the channel is broken, and is paused; where it has run, its processors go on. Refused as `Phase` before the
-/// start, once the migration is complete, both of which the source knows, and where it has noticed. That the channel is broken is for
-/// whoever calls to know.
+/// Pauses the destination, which notices that the channel is broken; if it has run, its processors go on. Refused as `Phase` before the
+/// start and once the migration is complete, both of which the source knows, and if the destination is paused already. The caller
+/// knows that the channel is broken.
 pub fn notice_dest(source: &Source, destination: &mut Destination) -> Result<Effect, Refusal>
     ensures noticed { answer (broken_world source.now destination.old) (Step.Notice Side.Destination) ≡ answered_with source.now destination.new result }
     ensures err { OnErr result (destination.new ≡ destination.old) }
@@ -43,7 +43,8 @@ pub fn notice_dest(source: &Source, destination: &mut Destination) -> Result<Eff
     })
 }
 
-/// The frame that tells how far the destination has come, with the pages of the source that it still needs if it runs.
+/// The Recv that reports how far the destination has come, with the pages of the source that it still needs if it runs. `NoMemory` comes
+/// if memory for these pages is refused.
 pub fn report_received(alloc: Global, destination: &Destination) -> Result<Frame, NoMemory>
     ensures frame { IfOk result (λ frame. frame_of frame ≡ received_frame destination.now) }
     ensures well_formed { IfOk result (λ frame. IsFrame (frame_of frame)) }
@@ -56,7 +57,7 @@ pub fn report_received(alloc: Global, destination: &Destination) -> Result<Frame
     Ok(Frame::Recv { state, owed })
 }
 
-/// The requests of the destination once more, in the order in which they were first made: what it sends behind a Recv if it runs.
+/// The requests of the destination once more, in order: it sends them behind a Recv if it runs. `NoMemory` comes if room is refused.
 pub fn rerequest(alloc: Global, destination: &Destination) -> Result<Vec<Frame>, NoMemory>
     ensures frames { IfOk result (λ frames. frames_of frames.items ≡ map wire.Frame.Request destination.now.requests) }
     ensures well_formed { IfOk result (λ frames. AreWellFormed (frames_of frames.items)) }
@@ -68,9 +69,7 @@ pub fn rerequest(alloc: Global, destination: &Destination) -> Result<Vec<Frame>,
 fn requests_for(alloc: Global, pages: &[PageNo]) -> Result<Vec<Frame>, NoMemory>
     ensures { IfOk result (λ asked. asked.items ≡ map frames.Frame.Request pages.now) }
 {
-    let frames = pages
-        .iter()
-        .map(|page| Frame::Request { page: *page })
-        .collect(alloc)?;
+    let mut frames = Vec::with_capacity(alloc, pages.len())?;
+    frames.extend(pages.iter().map(|page| Frame::Request { page: *page }))?;
     Ok(frames)
 }

@@ -1,10 +1,10 @@
-//! What a broken channel and the recovery from it make of the two nodes of a migration, after the recovery of QEMU's postcopy document.
+//! The effect of a broken channel, and of the recovery from it, on the two nodes of a migration, after QEMU's postcopy document.
 //!
-//! Each side notices the break by itself ([`notice_source`], [`notice_dest`]). Once the channel is up again the destination tells how far it
-//! has come ([`report_received`]) and asks anew for what it has asked for ([`rerequest`]), and the source goes on from there
-//! ([`rebuild`]): it trusts what was received, and not what it has sent.
+//! Each side notices the break by itself ([`notice_source`], [`notice_dest`]). Once the channel is up again, the destination reports how
+//! far it has come ([`report_received`]) and repeats its requests ([`rerequest`]). The source resumes from there ([`rebuild`]): it trusts
+//! what was received, not what it has sent.
 //!
-//! Contracts see the nodes as the machine's (`mig_model`), and each call as what the machine's Notice, Resume or Recv makes of them.
+//! Contracts see the nodes as the machine's (`mig_model`), and each call as the effect of the machine's Notice, Resume or Recv on them.
 #![tactic(auto)]
 
 mod destination;

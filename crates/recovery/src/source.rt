@@ -1,4 +1,4 @@
-//! The source: the break is noticed, and the migration goes on from what the destination has received.
+//! The source notices a break, and resumes the migration from what the destination has received.
 
 ghost use Rattle.std.specs.Prelude.{◌≡◌, ◌==◌, false, true, [], None, Err, unwrap_or, IfOk, IfErr, OnOk, OnErr};
 ghost use Rattle.std.specs.FinSet.{len};
@@ -22,8 +22,8 @@ use precopy::Source;
 use std::alloc::Global;
 use uffd_ioctl::Space;
 
-/// The source notices that the channel is broken, and is paused. Refused as `Phase` before the start, once the migration is complete, and
-/// where it has noticed. That the channel is broken is for whoever calls to know.
+/// Pauses the source, which notices that the channel is broken. Refused as `Phase` before the start, once the migration is complete, and
+/// if the source is paused already. The caller knows that the channel is broken.
 pub fn notice_source(source: &mut Source) -> Result<Effect, Refusal>
     ensures noticed { (destination : Destination) → answer (broken_world source.old destination) (Step.Notice Side.Source) ≡ answered_with source.new destination result }
     ensures err { OnErr result (source.new ≡ source.old) }
@@ -37,16 +37,16 @@ pub fn notice_source(source: &mut Source) -> Result<Effect, Refusal>
     }
 }
 
-/// A source that is not released goes on from what a destination says that it has received: how far it has come, and the pages that it
-/// still needs. Answers the frames that are to be sent then.
+/// Resumes a source that is not released from a Recv, which says how far the destination has come and which pages it still needs.
+/// Returns the frames to send.
 ///
-/// Where the destination has not run, a source that has not switched goes on with pre-copy, of which nothing was kept, and one that has
-/// switched has all its present pages left to send, and sends a Discard of none and a new Package. Where it runs, those that it
-/// needs remain. Where it has ended, the source is released.
+/// If the destination has not run, its kept copies are gone. A source that has not switched then continues pre-copy from nothing; one
+/// that has switched has all its present pages to send, and sends an empty Discard and a new Package. If the destination runs, the
+/// pages that it needs remain. If it has ended, the source is released.
 ///
-/// `BadOwed` for a page that is not present, for any page unless the destination runs, and for a destination that runs or has ended
-/// before the switch; then `NoMemory`, where the destination runs, or the source has switched and sends its pages anew. A refusal changes
-/// nothing.
+/// `BadOwed` comes for a page that is not present, for any page unless the destination runs, and for a destination that runs or has
+/// ended before the switch. `NoMemory` comes after it, if the destination runs, or the source has switched and sends its pages anew.
+/// A refusal changes nothing.
 pub fn rebuild(
     alloc: Global,
     source: &mut Source,
@@ -71,7 +71,7 @@ pub fn rebuild(
     Ok(frames)
 }
 
-/// Whether what the destination is said to have come to cannot be.
+/// Whether a Recv contradicts the source's state.
 fn is_bad(source: &Source, state: Received, owed: &PageSet) -> bool
     ensures { result ≡ is_bad_owed source.now state owed.now }
 {
@@ -98,7 +98,7 @@ fn are_present(space: &Space, pages: &PageSet) -> bool
     true
 }
 
-/// The source goes on from there.
+/// Resumes the source from a Recv that does not contradict it. `NoMemory` changes nothing.
 fn go_on(
     alloc: Global,
     source: &mut Source,
@@ -131,7 +131,7 @@ fn go_on(
     }
 }
 
-/// A source that has switched owes the destination, which has kept nothing, all its present pages.
+/// A source that has switched owes all its present pages to a destination that has kept nothing: the Discard and the Package to send.
 fn begin_again(alloc: Global, source: &mut Source) -> Result<Vec<Frame>, NoMemory>
     requires kept { machine.is_released source.old.phase ≡ false }
     requires switched { source.old.switched ≡ true }

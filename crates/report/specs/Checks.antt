@@ -6,18 +6,18 @@ use Rattle.mig_base.specs.Flat.{reply_of, IsFlatRun, memory_of}
 use Rattle.report.specs.declared.check.CheckFault.{CheckFault}
 use Rattle.report.specs.declared.check.CheckFault.TheVariants.{Wrong, NoMemory}
 
--- the entry at the index is the first whose reply is wrong, and the expected one is right
+-- the entry at the index is the first whose reply is wrong, and `expected` is the right reply
 pub record FirstWrong (entries : List Entry) (index : ℕ) (expected : Reply) : Type 0 where
-  -- the entry stands at the index
+  -- the entry at the index
   pub entry : Entry
   pub inside : slice_get entries index ≡ Some entry
-  -- those before it are a flat run
+  -- the entries before it are a flat run
   pub before : IsFlatRun (take index entries)
-  -- whose memory answers the command by the expected reply, and the entry has another
+  -- the memory that they leave answers the command with the expected reply, and the entry has another reply
   pub answers : expected ≡ reply_of (memory_of (take index entries)) entry.command
   pub differs : entry.reply ≢ expected
 
--- what a fault says of the entries: nothing where memory is wanting
+-- what a fault says about the entries: nothing if memory ran out
 abbrev pub IsFaultOf : List Entry → CheckFault → Type 0
 IsFaultOf entries (Wrong index expected) = FirstWrong entries index expected
 IsFaultOf entries NoMemory = Unit {0}

@@ -43,18 +43,18 @@ prot_text NoAccess = codes "none"
 prot_text Read = codes "r"
 prot_text ReadWrite = codes "rw"
 
--- the words of a place, as in a script, with a space before each: no word where the place is left open
+-- the words of a place, as in a script, with a space before each; empty if the place is left open
 abbrev pub place_text : Place → List ℕ
 place_text Anywhere = []
 place_text (Fixed addr) = codes " fixed " ++ hexadecimal addr
 place_text (NoReplace addr) = codes " noreplace " ++ hexadecimal addr
 
--- the word that lets a range move, with a space before it: no word where it may not
+-- the word that lets a range move, with a space before it; empty if the range may not move
 abbrev pub may_move_text : Bool → List ℕ
 may_move_text false = []
 may_move_text true = codes " maymove"
 
--- the words of a fixed target, with a space before each: no word where none is fixed
+-- the words of a fixed target, with a space before each; empty if there is none
 abbrev pub target_text : Option ℕ → List ℕ
 target_text None = []
 target_text (Some addr) = codes " fixed " ++ hexadecimal addr

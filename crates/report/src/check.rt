@@ -1,4 +1,4 @@
-//! Whether entries are a run of one flat memory.
+//! Checking that entries are a run of one flat memory.
 
 ghost use Rattle.std.specs.Prelude.{◌≡◌, OnOk, IfErr};
 ghost use Rattle.mig_base.specs.Flat.{IsFlatRun, no_memory};
@@ -10,20 +10,19 @@ use mig_base::{Entry, Reply};
 use std::alloc::Global;
 use thiserror::Error;
 
-/// Why entries are no flat run.
+/// Why a check fails.
 #[derive(Clone, Copy, Debug, PartialEq, Eq, Error)]
 pub enum CheckFault {
-    /// The entry at this index, counted from 0, is the first whose reply is not that of the flat memory, which answers
-    /// `expected`.
+    /// The entry at this index, counted from 0, is the first whose reply is wrong: one flat memory answers `expected`.
     #[error("entry {index}: one flat memory answers otherwise")]
     Wrong { index: usize, expected: Reply },
-    /// A growth was refused, and nothing is known of the entries.
+    /// An allocation failed, and nothing is known about the entries. The same check may succeed later.
     #[error("no memory")]
     NoMemory,
 }
 
-/// Replays entries on one flat memory, kept in pages: no more memory is taken than for the pages that are stored to and the
-/// areas. The processors of the entries play no part.
+/// Replays entries on one flat memory, kept in pages: it takes memory only for the areas and for the pages that are stored to.
+/// The processors of the entries do not matter.
 pub fn check(alloc: Global, entries: &[Entry]) -> Result<(), CheckFault>
     ensures ok { OnOk result (IsFlatRun entries.now) }
     ensures wrong { IfErr result (λ fault. IsFaultOf entries.now fault) }

@@ -11,12 +11,12 @@ pub fn wrong_is_inside()
     ensures { (entries : List Entry) (i : ℕ) (r : Reply) → FirstWrong entries i r → i < length entries }
 {}
 
-/// Entries with a wrong reply are no flat run.
+/// Entries with a wrong reply are not a flat run.
 pub fn wrong_is_no_flat_run()
     ensures { (entries : List Entry) (i : ℕ) (r : Reply) → FirstWrong entries i r → IsFlatRun entries → ⊥ }
 {}
 
-/// No list of entries has two first wrong ones, nor two replies that are expected there.
+/// A list of entries has at most one first wrong entry, with one expected reply.
 pub fn one_first_wrong()
     ensures { (entries : List Entry) (i j : ℕ) (r s : Reply) → FirstWrong entries i r → FirstWrong entries j s → (i ≡ j) × (r ≡ s) }
 {}

@@ -1,11 +1,11 @@
-//! What is said of runs: the lines of a transcript, and whether a transcript is that of one flat memory.
+//! Reporting on runs: printing the lines of a transcript, and checking that a transcript is that of one flat memory.
 //!
-//! [`texts`] prints entries, and [`ReplyText`] and [`EntryText`] print a reply and an entry inside other texts; the words are
-//! `specs/Texts.antt`. [`check`] replays entries on a `hosts::Host`, and names the first whose reply is wrong; what it answers
-//! is `specs/Checks.antt`, over the flat memory of `mig_base`. [`laws`] says that there is no other answer.
+//! [`texts`] prints entries, and [`ReplyText`] and [`EntryText`] print a reply and an entry inside other texts, as
+//! `specs/Texts.antt` defines. [`check`] replays entries on a `hosts::Host`, and names the first whose reply is wrong;
+//! `specs/Checks.antt` defines the answer, over the flat memory of `mig_base`. [`laws`] says that there is only one.
 //!
-//! The crate owns no state. It runs no world and knows of no migration, and it reads and writes nothing: texts go behind a
-//! `String` of the caller's.
+//! The crate owns no state. It runs no world, knows no migration, and does no input or output: it appends texts to the caller's
+//! `String`.
 #![tactic(auto)]
 
 pub mod check;

@@ -1,4 +1,4 @@
-//! How commands, replies and entries are printed.
+//! Printing commands, replies and entries.
 
 ghost use Rattle.std.specs.Prelude.{◌≡◌, ◌++◌, OnOk, OnErr, Some, string_bytes};
 ghost use Rattle.report.specs.Texts.{errno_name, reply_text, prot_text, place_text, may_move_text, target_text, mmap_text, mremap_text, command_text, entry_text, entry_line};
@@ -6,7 +6,7 @@ ghost use Rattle.report.specs.Texts.{errno_name, reply_text, prot_text, place_te
 use mig_base::{Addr, Command, Entry, Errno, NoMemory, Place, Prot, Reply};
 use std::fmt;
 
-/// The room that is made for a line, in bytes: more than most have.
+/// The room that is allocated for a line, in bytes: more than most lines need.
 const LINE: usize = 128;
 
 /// The name of an error number.
@@ -84,7 +84,7 @@ impl fmt::Display for PlaceText {
     }
 }
 
-/// The word that lets a range move, with a space before it: no word where it may not.
+/// The word that lets a range move, with a space before it; empty if the range may not move.
 #[derive(Clone, Copy)]
 struct MayMoveText(bool);
 
@@ -99,7 +99,7 @@ impl fmt::Display for MayMoveText {
     }
 }
 
-/// The words of a fixed target, with a space before each: no word where none is fixed.
+/// The words of a fixed target, with a space before each; empty if there is none.
 #[derive(Clone, Copy)]
 struct TargetText(Option<Addr>);
 
@@ -218,7 +218,7 @@ impl fmt::Display for EntryText {
     }
 }
 
-/// Prints the transcript line of an entry, with its line feed, behind a text. Out of memory leaves the text as it was.
+/// Appends the transcript line of an entry, with its line feed, to a text. `NoMemory` leaves the text as it was.
 #[tactic(auto, unfolding(crate::specs::Texts::entry_line))]
 pub fn print_entry(text: &mut String, entry: Entry) -> Result<(), NoMemory>
     ensures ok { OnOk result (string_bytes text.new ≡ string_bytes text.old ++ entry_line entry) }

@@ -146,7 +146,7 @@ unfolding behind_of
 goes_on-more here wanted behind rest x y P h w same kept =
     (λ e. kept.0 (h ∙ ap (λ xs. x ∷ xs) e ∙ ap (λ z. z ∷ rest) same ∙ sym w), λ p. ap behind_of (sym h ∙ kept.1 p ∙ w))
 
--- what a rig keeps of the world that it is made of
+-- what a rig keeps of the world that it is given
 pub kept_opening : (entries opening : List Entry) (handed cpus count : ℕ) → opening ≡ entries → handed ≡ cpus → cpus ≡ count → (1 ≤ cpus) × (cpus ≤ MAX_CPUS) → All (λ e. e.cpu < count) entries →
     All (λ e. e.cpu < handed) opening × (handed ≤ MAX_CPUS)
 kept_opening entries opening handed cpus count same many is range within =

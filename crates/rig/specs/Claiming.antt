@@ -1,19 +1,19 @@
--- The pages that claims are made of, and what is tested of claims at the end.
+-- The pages of claims, and the test of claims at the end.
 use Rattle.std.specs.Prelude.{◌≡◌, ◌≢◌, ◌⊎◌, ◌↔◌, ◌++◌, ℕ, ◌<◌, true, List, Option, Some, None, length, slice_index, AllPairs, Contains}
 use Rattle.std.specs.Ordering.{nat_cmp}
 use Rattle.std.specs.FinSet.{FinSet, contains}
 use Rattle.mig_model.specs.Migration.{World}
 use Rattle.pusher.specs.Seats.{Starting, Held}
 
--- the list has the pages of the set, each once
+-- the list has exactly the pages of the set, each once
 abbrev pub Lists : FinSet nat_cmp → List ℕ → Type 0
 Lists set pages = AllPairs ◌≢◌ pages × ((q : ℕ) → (contains set q ≡ true) ↔ Contains pages q)
 
--- each starting page remains to be sent, or the seat has claimed it
+-- each page of the claims remains to be sent, or the seat has claimed it
 abbrev pub AreKept : Starting → Held → FinSet nat_cmp → Type 0
 AreKept claims seat remaining = (i : ℕ) → i < length claims.pages → (contains remaining (slice_index claims.pages i) ≡ true) ⊎ Contains seat.claimed i
 
--- there are claims, they are of the world's epoch, and some of their pages are neither
+-- there are claims, they are of the world's epoch, and some page of them neither remains to be sent nor was claimed by the seat
 abbrev pub IsLost : Option (Starting × Held) → World → Type 0
 IsLost None world = ⊥
 IsLost (Some c) world = (c.0.epoch ≡ world.source.epoch) × (AreKept c.0 c.1 world.source.remaining → ⊥)

@@ -1,23 +1,25 @@
--- What a seat has, and what the entries of one processor are.
+-- Seats, and the entries of one processor.
 use Rattle.std.specs.Prelude.{Bool, ◌≡◌, ℕ, ◌<◌, ◌≤◌, ◌+◌, ◌==◌, true, if◌then◌else◌, List, [], ◌∷◌, ◌++◌, length, Some}
 use Rattle.std.specs.List.{slice_get}
 use Rattle.mig_base.specs.declared.command.Entry.{Entry}
 use Rattle.rig.specs.declared.seat.Answer.{Answer}
 
+-- a seat: the number of its processor, and the answers to its calls, in order
 pub record Seat : Type 0 where
   pub cpu : ℕ
   pub answers : List Answer
 
--- what callers see of a rig: the transcript at its beginning, and which seats were handed out
+-- a rig as callers see it: the opening, which is the transcript when the rig was made, and the seats that were handed out
 pub record Handed : Type 0 where
   pub opening : List Entry
   pub handed : List Bool
 
--- the values of the items with that number, joined
+-- the values of the items with the number `k`, joined
 abbrev pub picked : {X : Type 0} → {Y : Type 0} → (X → ℕ) → (X → List Y) → ℕ → List X → List Y
 picked number value k [] = []
 picked number value k (x ∷ xs) = if number x == k then value x ++ picked number value k xs else picked number value k xs
 
+-- the command and the reply of an entry
 abbrev pub answer_of : Entry → Answer
 answer_of entry = record { command = entry.command; reply = entry.reply }
 
@@ -25,11 +27,11 @@ answer_of entry = record { command = entry.command; reply = entry.reply }
 abbrev pub answers_of : ℕ → List Entry → List Answer
 answers_of k entries = picked (λ (e : Entry). e.cpu) (λ e. answer_of e ∷ []) k entries
 
--- the list of a processor's seat, [] where there is none
+-- the answers of a processor's seat, [] if there is no seat
 abbrev pub list_of : ℕ → List Seat → List Answer
 list_of k seats = picked (λ (s : Seat). s.cpu) (λ s. s.answers) k seats
 
--- how many seats of a processor there are
+-- the number of seats of a processor
 abbrev pub seats_of : ℕ → List Seat → ℕ
 seats_of k [] = 0
 seats_of k (s ∷ ss) = (if s.cpu == k then 1 else 0) + seats_of k ss
@@ -39,8 +41,8 @@ abbrev pub calls_of : List Seat → ℕ
 calls_of [] = 0
 calls_of (s ∷ ss) = length s.answers + calls_of ss
 
--- its answers are those of the opening transcript and then its seat's; at most one seat has come back, and one if it was
--- handed out; a world that does not have the processor has no seat of it
+-- the processor `k` is right: its answers are those of the opening and then its seat's; at most one seat has come back, and exactly one if
+-- it was handed out; and if the world does not have the processor, no seat has
 pub record IsRight (rig : Handed) (seats : List Seat) (entries : List Entry) (cpus : ℕ) (k : ℕ) : Type 0 where
   pub answers : answers_of k entries ≡ answers_of k rig.opening ++ list_of k seats
   pub once : seats_of k seats ≤ 1
@@ -52,7 +54,8 @@ pub record IsLeastWrong (rig : Handed) (seats : List Seat) (entries : List Entry
   pub wrong : IsRight rig seats entries cpus k → ⊥
   pub least : (j : ℕ) → j < k → IsRight rig seats entries cpus j
 
--- each processor has entered what it had in the opening transcript and then what its seat was answered, and nobody has entered more
+-- each processor's answers are those of the opening and then its seat's, at most one seat of it has come back, and the transcript has no
+-- further entries
 pub record AreAnswered (rig : Handed) (seats : List Seat) (entries : List Entry) (cpus : ℕ) : Type 0 where
   pub answers : (k : ℕ) → k < cpus → answers_of k entries ≡ answers_of k rig.opening ++ list_of k seats
   pub once : (k : ℕ) → k < cpus → seats_of k seats ≤ 1

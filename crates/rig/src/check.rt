@@ -1,4 +1,4 @@
-//! What `close` tests: whether each processor's answers are those of its seat.
+//! The test of `close`: whether each processor's answers are those of its seat.
 
 ghost use Rattle.std.specs.Prelude.{◌≡◌, ◌++◌, ◌∷◌, [], length, ◌<◌, ◌≤◌, ℕ, IfSome, IfNone, MatchBool, true, false, Some, All, ◌+◌};
 ghost use Rattle.std.specs.List.{slice_get};
@@ -29,7 +29,7 @@ pub(crate) fn next_answer(entries: &[Entry], cpu: u8) -> Option<(Answer, &[Entry
     None
 }
 
-/// The first answer of what a processor was answered in `opening` and then in `list`, and what is behind it.
+/// The first answer of a processor in `opening` and then in `list`, and what is behind it.
 fn next_wanted<'a>(
     opening: &'a [Entry],
     list: &'a [Answer],
@@ -69,7 +69,7 @@ pub(crate) fn goes_on(entries: &[Entry], opening: &[Entry], list: &[Answer], cpu
     next_wanted(there, left, cpu).is_none()
 }
 
-/// The least processor whose answers are not those of its seat, or whose seat is not there once.
+/// The least processor whose answers are not those of its seat, or whose seat did not come back as it has to.
 pub(crate) fn first_wrong(
     entries: &[Entry],
     opening: &[Entry],
@@ -90,7 +90,8 @@ pub(crate) fn first_wrong(
     None
 }
 
-/// Whether the processor's answers are those of its seat.
+/// Whether the processor's answers are those of its seat, and the seat came back as it has to: at most once, exactly once if it was handed
+/// out, and not at all if the world does not have the processor.
 fn is_right(
     entries: &[Entry],
     opening: &[Entry],
@@ -110,7 +111,7 @@ fn is_right(
     goes_on(entries, opening, list_in(seats, cpu), cpu)
 }
 
-/// How many seats of a processor there are.
+/// The number of seats of a processor.
 fn count_seats(seats: &[CpuSeat], cpu: u8) -> usize
     ensures { result ≡ seats_of cpu seats.now }
 {
@@ -123,7 +124,7 @@ fn count_seats(seats: &[CpuSeat], cpu: u8) -> usize
     count
 }
 
-/// The list of a processor's seat, which is there at most once.
+/// The answers of a processor's seat, of which there is at most one; empty if there is none.
 fn list_in(seats: &[CpuSeat], cpu: u8) -> &[Answer]
     requires { seats_of cpu seats.now ≤ 1 }
     ensures { result.now ≡ list_of cpu seats.now }
@@ -138,7 +139,7 @@ fn list_in(seats: &[CpuSeat], cpu: u8) -> &[Answer]
     &[]
 }
 
-/// Reads each seat's number, so that it is known to be one of a processor.
+/// A call for the proof: reads each seat's number, so that it is known to be below `MAX_CPUS`.
 fn read_numbers(seats: &[CpuSeat])
     ensures { All (λ s. s.cpu < MAX_CPUS) seats.now }
 {

@@ -1,4 +1,4 @@
-//! Which turns the workers take.
+//! The gate, which decides the turns of the workers.
 
 use mig_base::schedule::Step;
 
@@ -42,7 +42,7 @@ pub enum StepKind {
     Resume,
 }
 
-/// What a worker does with its turn.
+/// What a worker does in its turn.
 #[derive(Clone, Copy, Debug, PartialEq, Eq)]
 pub enum Pass {
     /// It makes the step.
@@ -53,7 +53,7 @@ pub enum Pass {
     Stop,
 }
 
-/// Decides which turns the workers take. It is asked before each turn, while the lock is free. The turns of each worker are counted from 0.
+/// Decides what the workers do in their turns. A worker asks it before each turn, while the lock is free; its turns are counted from 0.
 pub trait Gate {
     fn pass(&self, who: Worker, next: StepKind, turn: u64) -> Pass;
 }

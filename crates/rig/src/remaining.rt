@@ -1,4 +1,4 @@
-//! The pages that remain to be sent, as claims are made of them and tested against them.
+//! The pages that remain to be sent: claims begin with them, and are tested against them.
 
 ghost use Rattle.std.specs.Prelude.{◌≡◌, ◌⊎◌, IfOk, IfErr, true, false};
 ghost use Rattle.mig_base.specs.declared.phase.SourcePhase.{SourcePhase as Phase};
@@ -12,7 +12,7 @@ use pusher::{ClaimSeat, Claims};
 use std::alloc::Global;
 use world::World;
 
-/// The epoch, and the pages that remain in it, ascending. `Phase` unless the source is stopped.
+/// The epoch, and the pages that remain in it, ascending. `Phase` unless the source is stopped, then `NoMemory` if the list has no room.
 pub(crate) fn remaining_in(alloc: Global, world: &World) -> Result<(u32, Vec<PageNo>), Refusal>
     ensures epoch { IfOk result (λ r. r.0 ≡ world.now.source.epoch) }
     ensures pages { IfOk result (λ r. Lists world.now.source.remaining r.1.items) }
@@ -51,7 +51,7 @@ pub(crate) fn are_lost(world: &World, claims: &Claims, seat: &ClaimSeat) -> bool
     claims.epoch() == world.epoch() && !are_kept(claims, seat, world.remaining())
 }
 
-/// Whether each page that the claims are of remains, or was claimed by the seat.
+/// Whether each page of the claims remains, or was claimed by the seat.
 fn are_kept(claims: &Claims, seat: &ClaimSeat, remaining: &PageSet) -> bool
     requires { IsSeatOf claims.now seat.now }
     ensures yes { result ≡ true → AreKept claims.now seat.now remaining.now }

@@ -26,10 +26,10 @@ use std::sync::{Condvar, Mutex, Wait};
 use std::thread;
 use world::World;
 
-/// What a rig was closed with that does not fit.
+/// Why the seats or claims with which a rig was closed do not agree with its world.
 #[derive(Clone, Copy, Debug, PartialEq, Eq)]
 pub enum CloseFault {
-    /// The answers of the processor of this number are not those of its seat.
+    /// The answers of the processor with this number are not those of its seat, or its seat did not come back as it has to.
     Answers(u8),
     /// A page of the claims neither remains to be sent nor was claimed by the seat that came with them.
     Claims,
@@ -45,7 +45,7 @@ pub struct Rig {
     handed: Vec<bool>,
 }
 
-// (written, so that each exit of a function that owns a rig has one call, and not the dropping of all its parts)
+// Written by hand, so that each exit of a function that owns a rig has one call instead of the drops of all parts.
 impl Drop for Rig {
     fn drop(self) {
         let Rig {
@@ -71,7 +71,7 @@ impl Model for Rig {
 }
 
 impl Rig {
-    /// Puts a world under a lock, and keeps a copy of its transcript. The world comes back where there is no memory.
+    /// Puts a world under a lock, and keeps a copy of its transcript. If memory is refused, the world comes back.
     pub fn new(alloc: Global, world: World) -> Result<Rig, World>
         ensures opening { IfOk result (λ rig. rig.opening ≡ world.transcript) }
         ensures handed { IfOk result (λ rig. (length rig.handed ≡ length world.source.guest.cpus) × All (λ h. h ≡ false) rig.handed) }
@@ -92,7 +92,7 @@ impl Rig {
         })
     }
 
-    /// Hands out the seat of a processor, once. `NoCpu` where there is no such processor, `Busy` where its seat was handed out.
+    /// Hands out the seat of a processor, once. `NoCpu` if there is no such processor, `Busy` if its seat was handed out before.
     pub fn seat(&mut self, cpu: u8) -> Result<CpuSeat, Refusal>
         ensures seat { IfOk result (λ seat. seat ≡ record { cpu = cpu; answers = [] }) }
         ensures first { IfOk result (λ seat. slice_get self.old.handed cpu ≡ Some false) }
@@ -114,11 +114,11 @@ impl Rig {
         })
     }
 
-    /// Makes a command as the seat's processor, and returns its reply once there is one: a load or store that sleeps is tried again
-    /// when it was woken, and a map call returns when its messages have been read. Waits while no host runs the processors.
+    /// Makes a command as the seat's processor, and returns its reply once there is one: a load or store that sleeps is tried again when
+    /// it is woken, and a map call returns when its messages have been read. Waits while neither node runs the processors.
     ///
-    /// `Busy` where the processor still has a command: one of the opening, or one whose retry was refused for memory; see
-    /// [`finish`](Rig::finish). `NoMemory` where the seat has no room for the answer, or a step had none. In the second case a command
+    /// `Busy` if the processor still has a command: one from before the rig, or one whose retry was refused for lack of memory; see
+    /// [`finish`](Rig::finish). `NoMemory` if the seat has no room for the answer, or a step had no memory. In the second case a command
     /// that has slept stays with the processor, and `finish` waits for its reply.
     pub fn call<R: Wait>(
         &self,
@@ -142,8 +142,8 @@ impl Rig {
         }
     }
 
-    /// Waits for the reply to the load or store that the seat's processor waits with. `NotAsleep` where it waits with none. `NoMemory`
-    /// as [`call`](Rig::call).
+    /// Waits for the reply to the outstanding load or store of the seat's processor. `NotAsleep` if it has none. `NoMemory` as for
+    /// [`call`](Rig::call).
     pub fn finish<R: Wait>(&self, rt: &R, seat: &mut CpuSeat) -> Result<Reply, Refusal>
         ensures cpu { seat.new.cpu ≡ seat.old.cpu }
         ensures ok { IfOk result (λ reply. (command : Command) × (seat.new.answers ≡ seat.old.answers ++ record { command = command; reply = reply } ∷ [])) }
@@ -161,7 +161,7 @@ impl Rig {
         }
     }
 
-    /// Issues a command, later where no host runs processors, and waits for its reply.
+    /// Issues a command, once a node runs the processors, and waits for its reply.
     fn issue<R: Wait>(&self, rt: &R, cpu: u8, command: Command) -> Result<Reply, Refusal> {
         let mut world = self.world.lock(rt);
         for _ in rt.forever() {
@@ -193,7 +193,7 @@ impl Rig {
         }
     }
 
-    /// Waits until the processor's command is answered by a retry.
+    /// Waits until a retry of the processor's command has a reply.
     fn retry<R: Wait>(&self, rt: &R, cpu: u8) -> Result<Answer, Refusal> {
         let mut world = self.world.lock(rt);
         for _ in rt.forever() {
@@ -211,7 +211,7 @@ impl Rig {
         unreachable!()
     }
 
-    /// Waits until the processor is in no map call.
+    /// Waits until the processor is not in a map call.
     fn return_from_call<R: Wait>(&self, rt: &R, cpu: u8) {
         let mut world = self.world.lock(rt);
         for _ in rt.forever() {
@@ -285,24 +285,29 @@ impl Rig {
         )
     }
 
-    /// Makes those steps over and over, each turn as the gate says.
+    /// Makes the steps over and over, each turn as the gate says. Yields after each round of them in which it made none.
     fn work<R: Wait, G: Gate>(&self, rt: &R, gate: &G, who: Worker, steps: &[Step])
         requires { 0 < length steps.now }
     {
         let mut at = 0;
+        let mut is_idle = true;
         for turn in 0..u64::MAX {
             if at >= steps.len() {
                 at = 0;
+                if is_idle {
+                    thread::yield_now();
+                }
+                is_idle = true;
             }
             let next = steps[at];
             at += 1;
             match gate.pass(who, StepKind::of(next), turn) {
                 Pass::Go => {
-                    if self.make(rt, next).is_err() {
-                        thread::yield_now();
+                    if self.make(rt, next).is_ok() {
+                        is_idle = false;
                     }
                 }
-                Pass::Skip => thread::yield_now(),
+                Pass::Skip => {}
                 Pass::Stop => return,
             }
         }
@@ -318,10 +323,12 @@ impl Rig {
         outcome
     }
 
-    /// Returns the world, and tests that each processor's entries are those that it had when the rig was made, and then the answers of
-    /// its seat; that each seat that was handed out is there once; and that no other is. `Answers` names the least processor of which
-    /// this is wrong. Then, of claims of the world's epoch, it tests that each of their pages remains to be sent or was claimed by the seat
-    /// that comes with them; `Claims` where one does neither. Claims of another epoch are not tested. With a fault comes the world.
+    /// Returns the world, after two tests; if one fails, the world comes with the fault.
+    ///
+    /// `Answers` names the least processor that fails the first: its entries are those that it had when the rig was made, and then the
+    /// answers of its seat; and its seat is in `seats` at most once, exactly once if it was handed out, and not at all if the world does
+    /// not have the processor. The second is for claims of the world's epoch alone: each of their pages remains to be sent, or was claimed
+    /// by the seat that comes with them. `Claims` comes if a page does neither.
     ///
     /// Takes 16 walks over the transcript and one over the claims, and no memory.
     pub fn close(

@@ -1,4 +1,4 @@
-//! Equal answers. That `==` says so of commands with fields of their own kinds is proved by cases.
+//! Equal answers. Commands and replies are compared case by case, and so is the proof that `==` means equality.
 
 ghost use Rattle.std.specs.Prelude.{◌≡◌, true, false};
 ghost use Rattle.mig_base.specs.Commands.{is_access};
@@ -6,7 +6,7 @@ ghost use Rattle.mig_base.specs.Commands.{is_access};
 use crate::seat::Answer;
 use mig_base::{Addr, Command, Errno, Place, Prot, Reply};
 
-/// Whether the two answers are one.
+/// Whether two answers are equal.
 pub(crate) fn is_same(one: Answer, other: Answer) -> bool
     ensures yes { result ≡ true → one ≡ other }
     ensures no { result ≡ false → one ≡ other → ⊥ }
@@ -35,7 +35,7 @@ fn same_command(one: Command, other: Command) -> bool
     }
 }
 
-/// Whether the two commands are one, of which the first is a map call.
+/// Whether two commands are equal, of which the first is a map call.
 fn same_map_call(one: Command, other: Command) -> bool
     ensures yes { result ≡ true → one ≡ other }
     ensures no { result ≡ false → is_access one ≡ false → one ≡ other → ⊥ }

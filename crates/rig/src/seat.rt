@@ -1,4 +1,4 @@
-//! What one processor's thread was answered.
+//! Seats, which keep the answers of one processor.
 
 ghost use Rattle.std.specs.Prelude.{◌≡◌, ◌<◌};
 ghost use Rattle.mig_base.specs.declared.TheConstants.{MAX_CPUS};
@@ -13,7 +13,7 @@ pub struct Answer {
     pub reply: Reply,
 }
 
-/// The right to make calls as one processor, with what it was answered.
+/// The right to make calls as one processor, with the answers to them.
 #[derive(Drop)]
 pub struct CpuSeat {
     pub(crate) cpu: u8,
@@ -41,7 +41,7 @@ impl CpuSeat {
         self.cpu
     }
 
-    /// What was answered, in order: the answers of [`Rig::call`](crate::Rig::call) and [`Rig::finish`](crate::Rig::finish).
+    /// The answers of [`Rig::call`](crate::Rig::call) and [`Rig::finish`](crate::Rig::finish), in order.
     pub fn answers(&self) -> &[Answer]
         ensures { result.now ≡ self.now.answers }
     {

@@ -1,4 +1,4 @@
-//! What is done while the lock is held: at most one step of the world.
+//! Sections, the work under the lock: at most one step of the world.
 
 ghost use Rattle.std.specs.Prelude.{◌≡◌, ◌++◌, ◌⊎◌, List, ℕ, Ok, Err, IfOk, IfSome, IfNone, OnErr, true, false};
 ghost use Rattle.mig_model.specs.Runs.{Happens};
@@ -18,10 +18,10 @@ use mig_base::schedule::{Step, Ticket};
 use mig_base::{Command, Reply};
 use world::World;
 
-/// What became of a command that was tried.
+/// The outcome of trying a command.
 #[derive(Clone, Copy, Debug, PartialEq, Eq)]
 pub(crate) enum Tried {
-    /// It is answered.
+    /// It has this reply.
     Answered(Reply),
     /// It took effect, and returns this reply once its messages have been read.
     InCall(Reply),
@@ -41,7 +41,7 @@ pub(crate) fn issue_in(world: &mut World, cpu: u8, command: Command) -> Result<T
     }
 }
 
-/// A processor tries the command that it waits with, if it was woken.
+/// A processor that was woken tries its command again. `NotAsleep` if it has no load or store outstanding.
 pub(crate) fn retry_in(world: &mut World, cpu: u8) -> Result<(Command, Tried), Refusal>
     ensures step { (world.new ≡ world.old) ⊎ IsStep world.old (Step.Retry cpu) world.new }
     ensures woken { (command : Command) → cpu_state world.old cpu ≡ Ok (CpuState.Woken command) → IsStep world.old (Step.Retry cpu) world.new }
@@ -67,7 +67,7 @@ pub(crate) fn is_in_call(world: &World, cpu: u8) -> bool
     matches!(world.cpu_state(cpu), Ok(CpuState::InCall { .. }))
 }
 
-/// Takes the first request of the destination; `StaleEpoch`, and no step, where the epoch is another.
+/// Dequeues the oldest request of the destination. `StaleEpoch`, and no step, if the world's epoch is another.
 pub(crate) fn serve_in(world: &mut World, epoch: u32) -> Result<Effect, Refusal>
     ensures stale { (epoch ≡ world.old.source.epoch → ⊥) → (result ≡ Err Refusal.StaleEpoch) × (world.new ≡ world.old) }
     ensures served { epoch ≡ world.old.source.epoch → Happens world.old Step.Serve result world.new }
@@ -78,8 +78,8 @@ pub(crate) fn serve_in(world: &mut World, epoch: u32) -> Result<Effect, Refusal>
     world.step(Step::Serve)
 }
 
-/// Sends the page of a ticket, on the urgent wire or behind the others. With no ticket no step is made; `StaleEpoch` where the epoch is another, else
-/// `NothingThere`.
+/// Sends the page of a ticket, on the urgent wire or the other. Without a ticket it makes no step: `StaleEpoch` if the world's epoch is
+/// another, and `NothingThere` otherwise.
 pub(crate) fn send_in(
     world: &mut World,
     epoch: u32,
@@ -100,7 +100,7 @@ pub(crate) fn send_in(
     }
 }
 
-/// What the effect of a try tells. The reply of a map call that waits is that of its entry, the last one.
+/// The outcome of a try, by its effect. A map call that waits has the reply of the last entry, its own.
 fn told(world: &World, effect: Effect) -> Tried
     ensures { (old : List Entry) (cpu : ℕ) (command : Command) → IsEntered effect old world.now.transcript cpu command → world.now.transcript ≡ old ++ entries_by cpu command result }
 {

@@ -80,7 +80,7 @@ impl<R: Wait> Gate for CutAfterFirst<'_, R> {
     }
 }
 
-/// Lets no page be installed until a store was answered. It rests its thread at each such turn, and gives up after 10,000.
+/// Lets no page be installed until a store has its reply. It rests its thread at each such turn, and stops the worker after 10,000.
 #[derive(Drop)]
 pub struct StoreFirst<C> {
     pub clock: C,

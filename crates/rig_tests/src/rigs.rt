@@ -11,7 +11,7 @@ use std::alloc::Global;
 use std::sync::Wait;
 use world::World;
 
-/// A rig of a new world of so many processors in which the steps were made.
+/// A rig of a new world of `cpus` processors in which the steps were made.
 pub fn rig_after(alloc: Global, cpus: u8, steps: &[Step]) -> Option<Rig> {
     let world = world_after(alloc, cpus, steps)?;
     match Rig::new(alloc, world) {
@@ -20,7 +20,7 @@ pub fn rig_after(alloc: Global, cpus: u8, steps: &[Step]) -> Option<Rig> {
     }
 }
 
-/// A new world of so many processors in which the steps were made.
+/// A new world of `cpus` processors in which the steps were made.
 pub fn world_after(alloc: Global, cpus: u8, steps: &[Step]) -> Option<World> {
     let mut world = new_world(alloc, cpus)?;
     if !make_all(&mut world, steps) {

@@ -75,7 +75,7 @@ fn areas(rt: &impl Abort, alloc: Global, mapped: Areas) -> Result<AreaMap, NoMem
     Ok(areas)
 }
 
-/// No command for each of so many processors.
+/// `count` processors without a command.
 fn idle(alloc: Global, count: usize) -> Result<Waiting, NoMemory> {
     Ok(Waiting::new(vec![in alloc; None; count]?))
 }

@@ -165,7 +165,7 @@ fn command(space: &mut Space, call: Call) -> Result<Answer, NoMemory> {
     Ok(Answer::Called(reply, queued))
 }
 
-/// What a copy or a call for zeros answers: want of memory is an error only where nothing was put.
+/// The answer of a copy or of a call for zeros: running out of memory is an error only if no page was put.
 pub fn put(outcome: Result<Copied, CopyFault>) -> Result<Answer, NoMemory> {
     match outcome {
         Ok(Copied { bytes, wake }) => Ok(Answer::Put(bytes, wake)),

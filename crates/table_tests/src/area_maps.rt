@@ -305,7 +305,7 @@ fn the_address_space_fills(rt: HostRuntime) -> Result<(), Fail> {
     play(&rt, rt.alloc(), &FULL)
 }
 
-/// So many areas that their list grows more than once.
+/// Enough areas for their list to grow more than once.
 const SPLIT: Steps<14> = [
     (Map(0x10, 32, Prot::Read), Done),
     (Map(0x12, 1, Prot::ReadWrite), Done),

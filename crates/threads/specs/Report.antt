@@ -1,4 +1,4 @@
--- What a run in threads writes.
+-- The report of a run in threads.
 use Rattle.std.specs.Prelude.{◌≡◌, ℕ, ◌<◌, suc, ⊤, Bool, true, false, List, [], ◌∷◌, ◌++◌, length, codes, Option}
 use Rattle.std.specs.Fmt.{decimal}
 use Rattle.std.specs.Io.KnownBytes.{Appends}
@@ -11,47 +11,49 @@ use Rattle.engine.specs.declared.fault.RunFault.{RunFault}
 use Rattle.engine.specs.declared.fault.RunFault.TheVariants as faults
 use Rattle.engine.specs.Engine.{Front}
 
--- the number of a processor, and how many of its calls were answered
+-- the line of a seat: the number of its processor, and the number of its calls that were answered
 abbrev pub seat_line : Seat → List ℕ
 seat_line seat = codes "cpu " ++ decimal seat.cpu ++ codes " calls " ++ decimal (length seat.answers) ++ 10 ∷ []
 
+-- the lines of seats, in order
 abbrev pub seat_lines : List Seat → List ℕ
 seat_lines [] = []
 seat_lines (seat ∷ seats) = seat_line seat ++ seat_lines seats
 
--- how many commands took effect
+-- the line with the number of commands that took effect
 abbrev pub count_line : ℕ → List ℕ
 count_line entries = codes "transcript " ++ decimal entries ++ 10 ∷ []
 
--- the seats agree with them
+-- the line if the seats agree with the transcript
 abbrev pub ok_line : List ℕ
 ok_line = codes "close ok\n"
 
+-- the name of a fault, without its processor
 abbrev pub fault_name : CloseFault → List ℕ
 fault_name (close.Answers cpu) = codes "Answers"
 fault_name close.Claims = codes "Claims"
 
--- what does not agree
+-- the line with the fault if they do not agree
 abbrev pub fault_line : CloseFault → List ℕ
 fault_line fault = codes "close fault " ++ fault_name fault ++ 10 ∷ []
 
--- the seats are those of this processor and the next ones, and each has as many answers
+-- the seats are those of the processors from this one on, in order, and each has this number of answers
 abbrev pub AreFrom : ℕ → ℕ → List Seat → Type 0
 AreFrom cpu calls [] = ⊤
 AreFrom cpu calls (seat ∷ seats) = (seat.cpu ≡ cpu) × (length seat.answers ≡ calls) × AreFrom (suc cpu) calls seats
 
--- the transcript is that of one flat memory, has the answers of each seat in their order, and no others
+-- the transcript is that of one flat memory, has the answers of each seat in their order, and no other entries
 pub record IsHistory (seats : List Seat) (world : World) : Type 0 where
   pub flat : IsFlatRun world.transcript
   pub answers : (k : ℕ) → k < length world.source.guest.cpus → answers_of k world.transcript ≡ list_of k seats
   pub count : length world.transcript ≡ calls_of seats
 
--- what is written of a rig that was closed with these seats
+-- the last lines of the report, for a rig that was closed with these seats
 abbrev pub IsVerdict : List Seat → Bool → List ℕ → Type 0
 IsVerdict seats true text = (world : World) × IsHistory seats world × (text ≡ count_line (length world.transcript) ++ ok_line)
 IsVerdict seats false text = (world : World) × (fault : CloseFault) × IsFlatRun world.transcript × (text ≡ count_line (length world.transcript) ++ fault_line fault)
 
--- the report of a run with this many processors, of which each makes this many calls
+-- the report of a run with this number of processors, each of which makes this number of calls
 pub record IsReport (cpus calls : ℕ) (answer : Bool) (text : List ℕ) : Type 0 where
   pub seats : List Seat
   pub verdict : List ℕ
@@ -64,7 +66,7 @@ pub record IsReport (cpus calls : ℕ) (answer : Bool) (text : List ℕ) : Type 
 abbrev pub Reports : ℕ → ℕ → Bool → Option (List ℕ) → Option (List ℕ) → Type 0
 Reports cpus calls answer before after = (text : List ℕ) × IsReport cpus calls answer text × Appends before after text
 
--- how a run ends without a whole report: nothing was written, or where writing failed the front of a report
+-- a run ends without a whole report: if memory ran out, nothing was written; if writing failed, the first part of a report was
 abbrev pub Stops : ℕ → ℕ → RunFault → Option (List ℕ) → Option (List ℕ) → Type 0
 Stops cpus calls (faults.Line n) before after = ⊥
 Stops cpus calls faults.ReadFault before after = ⊥

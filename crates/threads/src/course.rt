@@ -1,25 +1,25 @@
-//! How far a run is, as its threads ask for it.
+//! The state of a run, which its threads share.
 
 use rig::{Gate, Pass, StepKind, Worker};
 use std::sync::Wait;
 use std::sync::atomic::{AtomicBool, AtomicU64, Ordering};
 use std::thread;
 
-/// What the threads of a run share beside the rig.
+/// The state that the threads of a run share beside the rig.
 #[derive(Drop)]
 pub struct Course {
-    /// How many calls the processors have made. One that makes no more counts those that it leaves out.
+    /// The number of calls that the processors have made. One that stops early counts its other calls too.
     calls: AtomicU64,
-    /// No cut is to come, so the migration may end.
+    /// Whether the migration may end: no cut is still to come.
     may_end: AtomicBool,
-    /// The workers have nothing more to do.
+    /// Whether the workers have nothing more to do.
     is_over: AtomicBool,
-    /// A thread could not be started, or a seat for it not be made.
+    /// Whether a thread could not be started, or memory for one was refused.
     is_lacking: AtomicBool,
 }
 
 impl Gate for Course {
-    /// Stops the workers once the run is over, and lets the source make no End while a cut may come.
+    /// Stops the workers once the run is over, and skips the source's End while a cut may come.
     fn pass(&self, _who: Worker, next: StepKind, _turn: u64) -> Pass {
         if self.is_over() {
             Pass::Stop
@@ -32,6 +32,7 @@ impl Gate for Course {
 }
 
 impl Course {
+    /// The state at the start of a run: no call was made, a cut may come, and nothing is lacking.
     pub fn new() -> Course {
         Course {
             calls: AtomicU64::new(0),
@@ -41,12 +42,12 @@ impl Course {
         }
     }
 
-    /// Counts calls that a processor has made or leaves out.
+    /// Counts calls that a processor has made, or will not make.
     pub fn count(&self, calls: u64) {
         self.calls.fetch_add(calls, Ordering::SeqCst);
     }
 
-    /// Waits until as many calls were counted.
+    /// Waits until at least `calls` calls were counted.
     pub fn wait_for_calls<R: Wait>(&self, rt: &R, calls: u64) {
         for _ in rt.forever() {
             if self.calls.load(Ordering::SeqCst) >= calls {
@@ -56,26 +57,27 @@ impl Course {
         }
     }
 
-    /// No cut is to come.
+    /// Lets the migration end: no cut is still to come.
     pub fn let_end(&self) {
         self.may_end.store(true, Ordering::SeqCst);
     }
 
-    /// The workers end at their next turn.
+    /// Has the workers end at their next turn.
     pub fn end(&self) {
         self.is_over.store(true, Ordering::SeqCst);
     }
 
+    /// Whether the workers are to end.
     pub fn is_over(&self) -> bool {
         self.is_over.load(Ordering::SeqCst)
     }
 
-    /// A thread could not be started.
+    /// Notes that a thread could not be started, or that memory for one was refused.
     pub fn lack(&self) {
         self.is_lacking.store(true, Ordering::SeqCst);
     }
 
-    /// Whether a thread could not be started.
+    /// Whether a thread could not be started, or memory for one was refused.
     pub fn is_lacking(&self) -> bool {
         self.is_lacking.load(Ordering::SeqCst)
     }

@@ -1,4 +1,4 @@
-//! Who starts the threads, and switches, cuts and resumes.
+//! The driver of a run: it starts the threads, switches, cuts and resumes.
 
 use crate::course::Course;
 use crate::processor::{calls_with, make_calls};
@@ -11,10 +11,10 @@ use std::sync::Wait;
 use std::thread;
 use std::thread::Threads;
 
-/// How a run goes.
+/// The plan of a run.
 #[derive(Clone, Copy, Debug)]
 pub(crate) struct Plan {
-    /// The stores of each processor, and its loads.
+    /// The number of stores of each processor, and of its loads.
     pub stores: u16,
     /// Whether the channel breaks once, and when.
     pub cut: Option<Cut>,
@@ -29,10 +29,10 @@ pub(crate) enum Cut {
     AfterRun,
 }
 
-/// Runs the processors of the seats through a migration, and returns once all threads have ended: the seats, and the claims of the last
-/// epoch. None where a thread could not be started or memory was refused that no later turn makes good.
+/// Runs the processors of the seats through a migration. Returns the seats and the claims of the last epoch once all threads have ended,
+/// or `None` if a thread could not be started, or memory was refused that no later turn makes up for.
 ///
-/// The workers are started first, so that no processor waits for one that could not be. The workers end only when all processors have.
+/// The workers are started first, so that no processor waits for one that could not be. They end only when all processors have.
 pub(crate) fn run_all<R: Threads + Wait + Sync>(
     rt: &R,
     alloc: Global,
@@ -88,8 +88,8 @@ pub(crate) fn run_all<R: Threads + Wait + Sync>(
     })
 }
 
-/// Switches once half of the calls are made, breaks the channel and resumes if the plan says so, and waits for the other calls. False where
-/// the switch was refused for memory, or a processor was not started: the source goes on to run the others then.
+/// Switches once half of the calls are made, breaks the channel and resumes if the plan says so, and waits for the other calls. False if
+/// the switch was refused for lack of memory, or a processor was not started: the source then goes on to run the others.
 fn migrate<R: Wait>(rt: &R, rig: &Rig, course: &Course, cut: Option<Cut>, calls: u64) -> bool {
     course.wait_for_calls(rt, calls / 2);
     let is_moved = !course.is_lacking() && switch(rt, rig);
@@ -103,7 +103,7 @@ fn migrate<R: Wait>(rt: &R, rig: &Rig, course: &Course, cut: Option<Cut>, calls:
     is_moved
 }
 
-/// Switches, as soon as no event is unread. False where it is refused for memory.
+/// Switches as soon as no event is unread. False if the switch is refused for lack of memory.
 fn switch<R: Wait>(rt: &R, rig: &Rig) -> bool {
     for _ in rt.forever() {
         match rig.switch(rt) {
@@ -115,7 +115,7 @@ fn switch<R: Wait>(rt: &R, rig: &Rig) -> bool {
     unreachable!()
 }
 
-/// Breaks the channel, and resumes when both sides are paused.
+/// Breaks the channel, and resumes once both sides are paused.
 fn cut_and_resume<R: Wait>(rt: &R, rig: &Rig, cut: Cut) {
     if cut == Cut::AfterRun {
         wait_for_phase(rt, rig, WorldPhase::Postcopy);
@@ -131,7 +131,7 @@ fn cut_and_resume<R: Wait>(rt: &R, rig: &Rig, cut: Cut) {
     }
 }
 
-/// Waits until the migration has come to a phase.
+/// Waits until the migration is in a phase.
 fn wait_for_phase<R: Wait>(rt: &R, rig: &Rig, phase: WorldPhase) {
     for _ in rt.forever() {
         if rig.phase(rt) == phase {

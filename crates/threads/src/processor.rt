@@ -1,4 +1,4 @@
-//! What a processor does.
+//! The calls of a processor.
 
 ghost use Rattle.std.specs.Prelude.{◌≡◌, ◌+◌, ◌*◌};
 
@@ -7,21 +7,21 @@ use mig_base::{Addr, Command, LOW, PAGE_SIZE, Place, Prot};
 use rig::{CpuSeat, Rig};
 use std::sync::Wait;
 
-/// The pages of a processor.
+/// The number of pages of a processor.
 const PAGES: u64 = 8;
 
-/// The bytes of a store or load.
+/// The width of a store or load, in bytes.
 const WIDTH: u8 = 8;
 
-/// How many calls a processor makes that makes this many stores, and as many loads.
+/// The number of calls of a processor that makes `stores` stores: a map, the stores, and the same number of loads.
 pub(crate) fn calls_with(stores: u16) -> u32
     ensures { result ≡ 1 + 2 * stores }
 {
     1 + 2 * u32::from(stores)
 }
 
-/// Makes the calls of a processor: a map, then stores, then as many loads. It ends early where one is refused, which is for memory. A
-/// command that it leaves asleep then does not hold up the others.
+/// Makes the calls of a processor: a map, then stores, then the same number of loads. It ends early if one is refused, which is for lack
+/// of memory. A command that it then leaves asleep does not hold up the others.
 pub(crate) fn make_calls<R: Wait>(
     rt: &R,
     rig: &Rig,
@@ -44,7 +44,7 @@ pub(crate) fn make_calls<R: Wait>(
     seat
 }
 
-/// Where the pages of a processor begin. The second half of them is the first half of the next processor's.
+/// The address of the first page of a processor. The second half of its pages is the first half of the next processor's.
 fn first_address(cpu: u8) -> Addr {
     LOW + u64::from(cpu) * (PAGES / 2) * PAGE_SIZE
 }
@@ -72,7 +72,7 @@ fn nth_command(first: Addr, n: u32, stores: u16) -> Command {
     }
 }
 
-/// The address of the n-th store or load: they go round the pages, each time to the next place of a page.
+/// The address of the n-th store or load: they go round the pages, and in each round to the next place of a page.
 fn nth_address(first: Addr, n: u32) -> Addr {
     let n = u64::from(n);
     let place = n / PAGES * u64::from(WIDTH) % PAGE_SIZE;

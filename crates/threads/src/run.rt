@@ -18,7 +18,11 @@ use std::thread::Threads;
 use world::World;
 
 /// Runs a guest of `cpus` processors, 1 to 16, through a whole migration, each processor and each worker in a thread of its own, and
-/// writes a report when all have ended.
+/// writes a report when all have ended. Each processor makes a map call, `calls` stores and `calls` loads; with `cut` the channel breaks
+/// once. Returns whether the tests of `Rig::close` passed.
+///
+/// `NoMemory` comes if memory is refused or a thread cannot be started: nothing is written then. `WriteFault` comes if a write fails; the
+/// first part of the report may be written then.
 pub fn run_threads<R: Threads + Wait + Sync, W: Write>(
     rt: &R,
     alloc: Global,
@@ -38,7 +42,7 @@ pub fn run_threads<R: Threads + Wait + Sync, W: Write>(
     Ok(answer)
 }
 
-/// Runs to the end of all threads, and puts the report in the place of a text.
+/// Runs to the end of all threads, and replaces a text by the report.
 fn run<R: Threads + Wait + Sync>(
     rt: &R,
     alloc: Global,
@@ -69,7 +73,7 @@ fn run<R: Threads + Wait + Sync>(
     close_and_print(rig, seats, sent, text)
 }
 
-/// When a run with a cut has it: where the number of processors is odd, right after the switch, else once the destination runs.
+/// When a run with a cut breaks the channel: right after the switch if the number of processors is odd, else once the destination runs.
 fn cut_for(cut: bool, cpus: u8) -> Option<Cut> {
     if !cut {
         None

@@ -10,7 +10,7 @@ use std::sync::Wait;
 use std::thread;
 use std::thread::{Promise, Threads};
 
-/// The claims of an epoch, with a seat that has all that was claimed.
+/// The claims of an epoch, with a seat that has every claim.
 #[derive(Drop)]
 pub(crate) struct Sent {
     pub claims: Claims,
@@ -18,7 +18,7 @@ pub(crate) struct Sent {
     ghost fits: { IsSeatOf claims seat },
 }
 
-/// That a thread gives back a seat of these claims.
+/// The promise of a thread to return a seat of these claims.
 #[derive(Clone, Copy)]
 struct SeatOf<'a>(&'a Claims);
 
@@ -26,8 +26,8 @@ impl<'a> Promise<ClaimSeat> for SeatOf<'a> {
     ghost kept_by = { λ p r. IsSeatOf p.0.now r };
 }
 
-/// Sends the owed pages until the run is over, in each epoch by new claims. The claims of the last one come back. Claims that are
-/// refused for memory are taken again.
+/// Sends the owed pages until the run is over, in each epoch by new claims. Returns the claims of the last epoch. Claims that are refused
+/// for lack of memory are tried again.
 pub(crate) fn send_pages<R: Threads + Wait + Sync>(
     rt: &R,
     alloc: Global,
@@ -47,8 +47,8 @@ pub(crate) fn send_pages<R: Threads + Wait + Sync>(
     unreachable!()
 }
 
-/// Sends the pages of an epoch: those that are asked for in a thread of its own, the others in this one. Where that thread cannot be
-/// started this one sends them all.
+/// Sends the pages of an epoch: those that are requested in a thread of its own, the others in this one. If that thread cannot be started,
+/// this one sends them all.
 fn send_epoch<R: Threads + Wait + Sync>(
     rt: &R,
     alloc: Global,

@@ -1,4 +1,4 @@
-//! What a run writes.
+//! The report of a run.
 
 ghost use Rattle.std.specs.Prelude.{◌≡◌, ◌++◌, [], List, ℕ, true, OnOk, IfOk, IfErr, IfSome, string_bytes, length};
 ghost use Rattle.engine.specs.declared.fault.RunFault.TheVariants.{NoMemory as OutOfMemory};
@@ -10,7 +10,7 @@ use engine::RunFault;
 use pusher::{ClaimSeat, Claims};
 use rig::{CloseFault, CpuSeat, Rig};
 
-/// Whether the seats are those of the processors 0, 1 and so on, as many as there are, and each has this many answers.
+/// Whether the seats are those of all `cpus` processors, in order, and each has `calls` answers.
 pub(crate) fn are_whole(seats: &[CpuSeat], cpus: u8, calls: usize) -> bool
     ensures all { result ≡ true → length seats.now ≡ cpus }
     ensures each { result ≡ true → AreFrom 0 calls seats.now }
@@ -27,7 +27,7 @@ pub(crate) fn are_whole(seats: &[CpuSeat], cpus: u8, calls: usize) -> bool
     cpu == usize::from(cpus)
 }
 
-/// Prints a line for each seat behind a text.
+/// Appends a line for each seat to a text.
 pub(crate) fn print_seats(text: &mut String, seats: &[CpuSeat]) -> Result<(), RunFault>
     ensures ok { OnOk result (string_bytes text.new ≡ string_bytes text.old ++ seat_lines seats.now) }
     ensures err { IfErr result (λ fault. fault ≡ OutOfMemory) }
@@ -40,7 +40,7 @@ pub(crate) fn print_seats(text: &mut String, seats: &[CpuSeat]) -> Result<(), Ru
     Ok(())
 }
 
-/// Prints the line of a seat behind a text.
+/// Appends the line of a seat to a text.
 fn print_seat(text: &mut String, seat: &CpuSeat) -> Result<(), RunFault>
     ensures ok { OnOk result (string_bytes text.new ≡ string_bytes text.old ++ seat_line seat.now) }
     ensures err { IfErr result (λ fault. fault ≡ OutOfMemory) }
@@ -51,7 +51,7 @@ fn print_seat(text: &mut String, seat: &CpuSeat) -> Result<(), RunFault>
     Ok(())
 }
 
-/// Closes the rig, and prints behind a text how many entries its world has, and whether it closed.
+/// Closes the rig, and appends to a text the number of entries of its world, and whether the tests of `close` passed.
 pub(crate) fn close_and_print(
     rig: Rig,
     seats: Vec<CpuSeat>,
@@ -74,7 +74,7 @@ pub(crate) fn close_and_print(
     }
 }
 
-/// Prints behind a text how many entries there are, and that the rig has closed.
+/// Appends the number of entries to a text, and that the tests of `close` passed.
 fn print_ok(text: &mut String, entries: usize) -> Result<(), RunFault>
     ensures ok { OnOk result (string_bytes text.new ≡ string_bytes text.old ++ (count_line entries ++ ok_line)) }
     ensures err { IfErr result (λ fault. fault ≡ OutOfMemory) }
@@ -84,7 +84,7 @@ fn print_ok(text: &mut String, entries: usize) -> Result<(), RunFault>
     Ok(())
 }
 
-/// Prints behind a text how many entries there are, and the fault with which the rig was closed.
+/// Appends the number of entries to a text, and the fault with which the rig was closed.
 fn print_fault(text: &mut String, entries: usize, fault: CloseFault) -> Result<(), RunFault>
     ensures ok { OnOk result (string_bytes text.new ≡ string_bytes text.old ++ (count_line entries ++ fault_line fault)) }
     ensures err { IfErr result (λ fault. fault ≡ OutOfMemory) }
@@ -93,7 +93,7 @@ fn print_fault(text: &mut String, entries: usize, fault: CloseFault) -> Result<(
     print_fault_line(text, fault)
 }
 
-/// Prints behind a text the fault with which the rig was closed.
+/// Appends the fault with which the rig was closed to a text.
 fn print_fault_line(text: &mut String, fault: CloseFault) -> Result<(), RunFault>
     ensures ok { OnOk result (string_bytes text.new ≡ string_bytes text.old ++ fault_line fault) }
     ensures err { IfErr result (λ fault. fault ≡ OutOfMemory) }
@@ -103,7 +103,7 @@ fn print_fault_line(text: &mut String, fault: CloseFault) -> Result<(), RunFault
     Ok(())
 }
 
-/// Prints behind a text how many entries there are.
+/// Appends the number of entries to a text.
 fn print_count(text: &mut String, entries: usize) -> Result<(), RunFault>
     ensures ok { OnOk result (string_bytes text.new ≡ string_bytes text.old ++ count_line entries) }
     ensures err { IfErr result (λ fault. fault ≡ OutOfMemory) }
@@ -112,7 +112,7 @@ fn print_count(text: &mut String, entries: usize) -> Result<(), RunFault>
     Ok(())
 }
 
-/// The claims and the seat that has all that was claimed.
+/// The claims, and the seat that has every claim.
 fn claims_in(sent: Option<Sent>) -> Option<(Claims, ClaimSeat)>
     ensures { IfSome result (λ c. IsSeatOf c.0 c.1) }
 {

@@ -1,4 +1,4 @@
--- What loads and stores answer, and what a store makes of a space.
+-- What loads and stores answer, and how a store changes a space.
 use Rattle.std.proofs.Common.{◌≡◌, ℕ, ◌/◌, ◌%◌, ◌^◌, ◌<◌, ◌&&◌, Bool, true, false, cond, eqb, ltb, Option, Some, None, List, Result, Ok, Err, OnOk, refl, sym, ap, ◌∙◌, subst, arith, is_some}
 use Rattle.std.proofs.lemmas.Bool.{false≢true}
 use Rattle.std.proofs.lemmas.Bool.Decides.{nat_tests}

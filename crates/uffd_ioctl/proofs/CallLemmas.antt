@@ -1,4 +1,4 @@
--- What the map calls make of a space.
+-- How the map calls change a space.
 use Rattle.std.proofs.Common.{◌≡◌, ℕ, ◌+◌, ◌-◌, ◌*◌, ◌/◌, ◌%◌, ◌^◌, ◌<◌, ◌≤◌, ◌&&◌, Bool, true, false, cond, not, eqb, leb, Option, None, List, length, refl, sym, ap, ◌∙◌, subst, ◌⊎◌, ⊎_elim, arith, min}
 use Rattle.std.specs.Ordering.{nat_cmp}
 use Rattle.std.specs.FinMap.{FinMap, get}

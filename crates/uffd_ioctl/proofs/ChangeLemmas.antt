@@ -1,4 +1,4 @@
--- What the map calls make of a host.
+-- How the map calls change a host.
 use Rattle.std.proofs.Common.{◌≡◌, ℕ, ◌+◌, ◌-◌, ◌/◌, ◌%◌, ◌<◌, ◌≤◌, Bool, false, cond, Option, Some, None, sym, ap, ◌∙◌, subst, ◌⊎◌, ⊎_elim, inl, inr, arith, min, max, is_some}
 use Rattle.std.specs.FinMap.{get, contains_key}
 use Rattle.std.proofs.lemmas.Bool.Decides.{nat_tests}

@@ -67,7 +67,7 @@ untold : (due watched : Bool) (message : Message) → (due ≡ true → watched 
 untold true watched message h = ap (λ b. told b message) (h refl)
 untold false watched message h = refl
 
--- nothing is told of pages that are not watched
+-- a remap of ranges without a registered page queues no message
 pub remap_untold : (object : Object) (range : Remap) → is_watched object range.from range.count ≡ false → is_watched object range.to range.new_count ≡ false
     → remap_messages object (4096 * range.from) range.count (4096 * range.to) range.new_count ≡ []
 remap_untold object range from to =

@@ -56,7 +56,7 @@ protected_one old now new page protect same put asked q =
 
 -- The pages of a range up to one of them
 
--- so many pages of the range were missing, and are put
+-- the first `done` pages of the range were missing, and are put
 pub record ArePut (pages now : FinMap nat_cmp (List ℕ)) (first count done : ℕ) (bytes : ℕ → List ℕ) : Type 0 where
   pub few : done ≤ count
   pub missing : (i : ℕ) → i < done → contains_key pages (first + i) ≡ false
@@ -205,7 +205,7 @@ one_area_not space first count watched value enough here modes found =
 new_below : (first done page : ℕ) (old protect : Bool) → first + done ≤ HIGH_PAGE → HIGH_PAGE ≤ page → old ≡ false → (old || (protect && in_range first done page)) ≡ false
 new_below first done page old protect inside past none = grind (arith, nat_tests)
 
--- what the code makes of the pages is what the machine does
+-- the code changes the pages as the machine does
 pub is_installed : (areas : FinMap nat_cmp Prot) (old new : Pages) (object : Object) (first done : ℕ) (bytes : ℕ → List ℕ) (protect : Bool) → IsSoundSpace (space_of areas old object) → first + done ≤ HIGH_PAGE → new.bytes ≡ put_pages old.bytes first done bytes → ((q : ℕ) → contains new.protected q ≡ (contains old.protected q || (protect && in_range first done q))) → space_of areas new object ≡ installed (space_of areas old object) first done bytes protect
 is_installed areas old new object first done bytes protect sound inside put protected =
     ap (λ b. space_of areas (record { bytes = b; protected = new.protected }) object) put
@@ -242,7 +242,7 @@ run_above (Some k) count done room h = h k refl
 above_or : (done k : ℕ) → (done < k) ⊎ (k < done + 1)
 above_or done k = grind (arith, nat_tests)
 
--- all, or as many as come before one that is present, or fewer
+-- all pages before the first that is present were put, or, if memory ran out, fewer
 pub record IsRun (run done : ℕ) (why : Option PutFault) : Type 0 where
   pub few : done ≤ run
   pub all : (why ≡ Some stop.NoMemory → ⊥) → run ≡ done
@@ -290,7 +290,7 @@ row_answer bytes first start count done bits (Some stop.NoMemory) put h = absurd
 
 -- The row of a call
 
--- either the row of the table, or want of memory
+-- either the row of the table, or a call that ran out of memory
 abbrev pub IsRow : Option Errno → Space → Space → ℕ → ℕ → ℕ → (ℕ → List ℕ) → Bool → Result Copied CopyFault → Type 0
 IsRow error old new start count bits bytes protect result =
     ((result ≡ result_of (put_by error (put_answer start count (missing_run old (start / 4096) count) bits Eexist)))
@@ -408,7 +408,7 @@ pub record IsMovedIn (old new : Space) (page : ℕ) (bytes : List ℕ) : Type 0 
   pub copied : new ≡ copied old (4096 * page) bytes 0
   pub installed : new ≡ installed old page 1 (λ i. bytes) false
 
-quiet_tested : (count : ℕ) → count ≡ 0 → ltb 0 count ≡ false
+pub quiet_tested : (count : ℕ) → count ≡ 0 → ltb 0 count ≡ false
 quiet_tested count h = rw h refl
 
 pub moved_in : (areas : FinMap nat_cmp Prot) (old new : Pages) (object : Object) (now : Space) (page : ℕ) (bytes : List ℕ) → space_of areas old object ≡ now → IsSoundSpace (space_of areas old object) → IsPage page

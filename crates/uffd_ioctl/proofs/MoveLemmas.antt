@@ -189,7 +189,7 @@ forgotten : (object : Object) (first count cpu : ℕ) (due : Bool) (message : Me
 forgotten object first count cpu true message = refl
 forgotten object first count cpu false message = refl
 
--- a message is told of a range, and no page of it is registered any more
+-- a message reports a range, and none of its pages is registered any more
 pub told_of : (object noted new : Object) (first count cpu : ℕ) (due : Bool) (message : Message) → noted ≡ all_queued object (told due message) cpu → new ≡ unregistered noted first count → due ≡ is_watched object first count
     → new ≡ all_queued (unregistered object first count) (told (is_watched object first count) message) cpu
 told_of object noted new first count cpu due message is_noted is is_due =

@@ -1,4 +1,4 @@
--- What the areas of a host tell of its replies to map calls: whatever its pages hold.
+-- What the areas of a host decide about its replies to map calls, whatever bytes its pages have.
 use Rattle.std.specs.Prelude.{◌≡◌, ℕ, Option, Some, None, Result, Ok, Err, List}
 use Rattle.std.specs.Ordering.{nat_cmp}
 use Rattle.std.specs.FinMap.{FinMap}
@@ -14,15 +14,15 @@ use Rattle.mig_model.specs.Host.{Host, memory, IsSound}
 abbrev pub host_of : FinMap nat_cmp Prot → FinMap nat_cmp (List ℕ) → Host
 host_of areas bytes = record { areas = areas; bytes = bytes }
 
--- it holds of the memory of each host with these areas
+-- P holds for the memory of every host with these areas
 abbrev pub Tells : FinMap nat_cmp Prot → (Memory → Type 0) → Type 0
 Tells areas P = (bytes : FinMap nat_cmp (List ℕ)) → IsSound (host_of areas bytes) → P (memory (host_of areas bytes))
 
--- the reply that each host with these areas gives
+-- every host with these areas gives this reply to the command
 abbrev pub Answers : FinMap nat_cmp Prot → Reply → Command → Type 0
 Answers areas reply command = Tells areas (λ memory. reply ≡ reply_of memory command)
 
--- the reply of a call that answers a place, or is refused
+-- the reply of a call that returns a place, or is refused
 abbrev pub reply_at : Result ℕ Errno → Reply
 reply_at (Ok start) = At start
 reply_at (Err errno) = Refused errno

@@ -1,4 +1,4 @@
--- The space of the code as that of the machine.
+-- The machine's space that a space of the code means.
 use Rattle.std.specs.Prelude.{ℕ, ◌*◌, ◌==◌, ◌&&◌, not, Bool, true, false, if◌then◌else◌, Result, Ok, Err, refl}
 use Rattle.std.specs.Ordering.{nat_cmp}
 use Rattle.std.specs.FinMap.{FinMap, contains_key}
@@ -30,30 +30,32 @@ coded_space =
     (λ p. record { host = p.0; protected = p.1.0; object = p.1.1 })
     (λ _. refl)
 
--- what the fields of a space mean
+-- the machine's space that the fields of a space mean
 abbrev pub space_of : FinMap nat_cmp Prot → Pages → Object → Space
 space_of areas pages object = record { host = record { areas = areas; bytes = pages.bytes }; protected = pages.protected; object = object }
 
--- the answer of a row, where the call may also want for memory
+-- the answer of a row of the machine's table, as the result of a call that may also run out of memory
 abbrev pub ioctl_result : {A : Type 0} → Result A Errno → Result A IoctlFault
 ioctl_result (Ok answer) = Ok answer
 ioctl_result (Err errno) = Err (fault.Errno errno)
 
--- the object of a space that is put together: with a mode it is enabled for the three events, and all mapped pages are registered
+-- the object of a space that `assemble` makes: with mode bits it is enabled for the three events, and all mapped pages are registered in
+-- that mode
 abbrev pub assembled_object : FinMap nat_cmp Prot → ℕ → Object
 assembled_object areas bits =
     if bits == 0 then fresh_object else registered_where (enabled_with fresh_object event_features) (λ page. contains_key areas page) (mode_of bits)
 
--- whether an access with this outcome needs memory: a page fault that does not wait yet is queued, or a store makes a page present
+-- whether an access with this outcome needs memory: to queue a page fault that is not unread yet, or to make the page of a store present
 abbrev pub needs_room_by : Access → Space → Command → Bool
 needs_room_by (Answered reply) space command = is_made reply && is_store command && not (contains_key space.host.bytes (page_of command))
 needs_room_by Missing space command = not (waits_fault space.object.faults (PAGE_SIZE * page_of command) false)
 needs_room_by Protected space command = not (waits_fault space.object.faults (PAGE_SIZE * page_of command) true)
 
+-- whether an access needs memory
 abbrev pub needs_room : Space → Command → Bool
 needs_room space command = needs_room_by (access_of space command) space command
 
--- the flat memory after an access that comes to this: one that is answered is made, and a page fault changes nothing
+-- the flat memory after an access with this outcome: an access that is answered is made, and a page fault changes nothing
 abbrev pub memory_after : Access → Memory → Command → Memory
 memory_after (Answered reply) memory command = after memory command
 memory_after Missing memory command = memory

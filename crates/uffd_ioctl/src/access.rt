@@ -1,4 +1,4 @@
-//! The bytes of a load, and what its reply says.
+//! The number that a load reads, and whether a reply means that the access was made.
 
 ghost use Rattle.std.specs.Prelude.{◌≡◌, ◌≤◌, length};
 ghost use Rattle.mig_base.specs.Bytes.{little_endian};
@@ -16,7 +16,7 @@ pub(crate) fn number(bytes: &[u8]) -> u64
     u64::from_le_bytes(padded)
 }
 
-/// Whether a reply says that an access was made.
+/// Whether a reply means that the access was made.
 pub(crate) fn is_made(reply: Reply) -> bool
     ensures { result ≡ machine.is_made reply }
 {

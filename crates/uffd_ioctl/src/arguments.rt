@@ -13,14 +13,14 @@ use mig_base::flags::{
 use mig_base::{Addr, HIGH_PAGE, LOW, PAGE_SIZE, PageNo};
 use userfault::Mode;
 
-/// A range of pages: at least one, all of the address space.
+/// A range of at least one page, inside the address space.
 #[derive(Clone, Copy, Drop)]
 pub(crate) struct PageRange {
     pub(crate) first: PageNo,
     pub(crate) count: u32,
 }
 
-/// Whether a range of bytes is no range of whole pages of the address space.
+/// Whether a range of bytes is not a nonempty range of whole pages of the address space.
 pub(crate) fn is_bad_range(start: Addr, len: u64) -> bool
     ensures { result ≡ table.is_bad_range start len }
 {
@@ -55,7 +55,7 @@ pub(crate) fn mode_of(flags: u64) -> Mode
     }
 }
 
-/// Whether a feature is asked for that the object does not know.
+/// Whether a feature is asked for that the object does not have.
 pub(crate) fn has_unknown_feature(features: u64) -> bool
     ensures { result ≡ table.has_unknown table.is_feature features }
 {
@@ -67,7 +67,7 @@ pub(crate) fn has_unknown_feature(features: u64) -> bool
     false
 }
 
-/// Whether this object has the feature of that bit.
+/// Whether the object has the feature of bit `i`.
 fn is_feature(i: u32) -> bool
     ensures { result ≡ table.is_feature i }
 {

@@ -1,7 +1,7 @@
-//! What the map calls make of the userfault object: the messages that they queue, and the modes that go with the pages.
+//! How the map calls change the userfault object: they queue messages, and modes move with their pages.
 //!
-//! Where no page of a call's ranges is registered the object stays as it is. What may want for memory comes first, and is taken back
-//! where the rest of a call wants for memory. Only the modes of pages that a range is put over are copied, to be given back then.
+//! If no page of a call's ranges is registered, the object stays as it is. Whatever may fail comes first, and is undone if a later
+//! part of the call runs out of memory. Only the modes of the pages that a range replaces are copied, to be restored then.
 
 ghost use Rattle.std.specs.Prelude.{◌≡◌, ℕ, ◌+◌, ◌-◌, ◌*◌, ◌<◌, ◌≤◌, false, None, IfOk, OnOk, OnErr, length, take};
 ghost use Rattle.std.specs.FinMap as map;
@@ -20,7 +20,7 @@ use mig_base::{Message, NoMemory, PAGE_SIZE, page_address};
 use page_table::PageTable;
 use userfault::Userfault;
 
-/// Queues a message, if it is due, and answers how many were queued. `NoMemory` changes nothing.
+/// Queues a message if it is due, and returns the number of messages queued, 0 or 1. `NoMemory` changes nothing.
 pub(crate) fn tell(
     object: &mut Userfault,
     is_due: bool,
@@ -38,8 +38,8 @@ pub(crate) fn tell(
     Ok(1)
 }
 
-/// Queues a message, if it is due, behind others of its call, and answers how many there are with it. `NoMemory` takes those others
-/// back.
+/// Queues a message if it is due, behind the `queued` messages of its call, and returns how many there are now. `NoMemory`
+/// removes those `queued` messages.
 fn tell_more(
     object: &mut Userfault,
     queued: u8,
@@ -60,8 +60,8 @@ fn tell_more(
     Ok(queued + more)
 }
 
-/// Makes mremap's change of the areas and pages, and of the object where it watches one of them; answers how many messages were queued.
-/// `NoMemory` changes nothing.
+/// Makes mremap's change of the areas and pages, and of the object if a page of either range is registered. Returns the number of
+/// messages queued. `NoMemory` changes nothing.
 pub(crate) fn remapped(
     areas: &mut AreaMap,
     pages: &mut PageTable,
@@ -100,7 +100,8 @@ pub(crate) fn remapped(
     Ok(queued)
 }
 
-/// The modes of the pages go along, to where the room for them is open, and the pages by which a range grows have that of its last page.
+/// Moves the modes along with the pages, to the range that was opened for them. The pages by which the range grows get the mode of
+/// its last page.
 fn move_modes(object: &mut Userfault, range: Remap)
     requires range { IsRemap range }
     requires open { IsOpen object.old (room_first range) (room_count range) }
@@ -115,7 +116,7 @@ fn move_modes(object: &mut Userfault, range: Remap)
     object.limit_range(range.to + kept, range.new_count - kept, last);
 }
 
-/// Queues the messages of a remap, and answers how many. `NoMemory` changes nothing.
+/// Queues the messages of a remap, and returns their number. `NoMemory` changes nothing.
 fn tell_remap(object: &mut Userfault, range: Remap, cpu: u8) -> Result<u8, NoMemory>
     requires { IsRemap range }
     ensures object { OnOk result (object.new ≡ all_queued object.old (three_messages object.old range) cpu) }
@@ -130,7 +131,7 @@ fn tell_remap(object: &mut Userfault, range: Remap, cpu: u8) -> Result<u8, NoMem
     tell_more(object, queued, is_moved, moved, cpu)
 }
 
-/// UNMAP of what the range is put over, and whether it is due.
+/// The UNMAP of the pages that the moved range replaces, and whether it is due.
 fn told_replaced(object: &Userfault, range: Remap) -> (bool, Message)
     requires { IsRemap range }
     ensures { told result.0 result.1 ≡ replaced_message object.now range }
@@ -143,7 +144,7 @@ fn told_replaced(object: &Userfault, range: Remap) -> (bool, Message)
     (is_due, message)
 }
 
-/// UNMAP of the end that is cut off, and whether it is due.
+/// The UNMAP of the end that is cut off, and whether it is due.
 fn told_cut(object: &Userfault, range: Remap) -> (bool, Message)
     requires { IsRemap range }
     ensures { told result.0 result.1 ≡ cut_message object.now range }
@@ -158,7 +159,7 @@ fn told_cut(object: &Userfault, range: Remap) -> (bool, Message)
     (is_due, message)
 }
 
-/// REMAP of the pages that go elsewhere, and whether it is due.
+/// The REMAP of the pages that move, and whether it is due.
 fn told_moved(object: &Userfault, range: Remap) -> (bool, Message)
     requires { IsRemap range }
     ensures { told result.0 result.1 ≡ moved_message object.now range }

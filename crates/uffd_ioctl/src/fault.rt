@@ -1,4 +1,4 @@
-//! How the calls of a userfault object answer.
+//! The results and errors of a userfault object's calls.
 
 ghost use Rattle.std.specs.Prelude.{◌≡◌, ◌*◌, ◌<◌, Some, None};
 ghost use Rattle.uffd_ioctl.specs.Puts.{put_result, own_fault};
@@ -10,10 +10,10 @@ use thiserror::Error;
 /// Why a call of a userfault object was refused.
 #[derive(Clone, Copy, Debug, PartialEq, Eq, Error)]
 pub enum IoctlFault {
-    /// The error of ioctl_userfaultfd(2). The same call is refused again as long as nothing else has changed the space.
+    /// The error of ioctl_userfaultfd(2). The same call is refused again until something else changes the space.
     #[error("{}", phrase(*.0))]
     Errno(Errno),
-    /// A growth was refused. The same call may succeed later.
+    /// An allocation failed. The same call may succeed later.
     #[error("out of memory")]
     NoMemory,
 }
@@ -28,7 +28,7 @@ impl From<NoMemory> for IoctlFault {
     }
 }
 
-/// What an error number of these calls tells their caller.
+/// What an error number of these calls means to their caller.
 fn phrase(errno: Errno) -> &'static str {
     match errno {
         Errno::Einval =>
@@ -43,7 +43,7 @@ fn phrase(errno: Errno) -> &'static str {
     }
 }
 
-/// What UFFDIO_COPY or UFFDIO_ZEROPAGE has done.
+/// The result of UFFDIO_COPY or UFFDIO_ZEROPAGE when it put the whole range.
 #[derive(Clone, Copy, Debug, PartialEq, Eq)]
 pub struct Copied {
     /// How many bytes were put: the whole range.
@@ -52,19 +52,20 @@ pub struct Copied {
     pub wake: Wake,
 }
 
-/// Why UFFDIO_COPY or UFFDIO_ZEROPAGE stopped, and what it did before: the pages put stay, and those who sleep on them are woken.
+/// Why UFFDIO_COPY or UFFDIO_ZEROPAGE stopped, and what it did before: the pages that it put stay, and those who sleep on them
+/// have to be woken, as `wake` says.
 #[derive(Clone, Copy, Debug, PartialEq, Eq, Error)]
 #[error("{fault} after {copied} bytes")]
 pub struct CopyFault {
     /// How many bytes were put before it stopped: a multiple of the page size.
     pub copied: u64,
-    /// Why it stopped: behind a page that was put this is EAGAIN, and the same call from there on says more.
+    /// Why it stopped. If a page was put before, this is EAGAIN: call again from the first page left to learn the page's own error.
     pub fault: IoctlFault,
     /// The processors to be woken.
     pub wake: Wake,
 }
 
-/// What a call says that was refused before any page was put.
+/// The error of a call that was refused before it put any page.
 pub(crate) fn refused(errno: Errno) -> CopyFault
     ensures { result ≡ record { copied = 0; fault = IoctlFault.Errno errno; wake = Wake.Nobody } }
 {
@@ -75,8 +76,8 @@ pub(crate) fn refused(errno: Errno) -> CopyFault
     }
 }
 
-/// What a call says that has put the first `done` pages from `start` on, where `quiet` wakes nobody, and `stop` is why it put no
-/// more, if it did not put all.
+/// The result of a call that put the first `done` pages from `start` on. `quiet` wakes nobody; `stop` is why it put no more, or
+/// `None` if it put all.
 pub(crate) fn outcome(
     start: Addr,
     done: u32,
@@ -108,7 +109,7 @@ pub(crate) fn outcome(
     }
 }
 
-/// What a page answers that could not be put.
+/// The error of a call whose first page could not be put.
 fn own_fault(stop: PutFault) -> IoctlFault
     ensures { result ≡ own_fault stop }
 {

@@ -1,4 +1,4 @@
-//! Pages that a call puts over a range, one after the other, up to the first that cannot be put.
+//! Putting pages over a range, one after the other, up to the first that cannot be put.
 
 ghost use Rattle.std.specs.Prelude.{◌≡◌, ℕ, ◌+◌, ◌/◌, ◌<◌, ◌≤◌, ◌&&◌, ◌||◌, ◌↔◌, false, OnOk, IfOk, IfErr, IsTrue, length};
 ghost use Rattle.std.specs.FinMap as map;
@@ -13,7 +13,8 @@ use mig_base::{NoMemory, PAGE_BYTES, PageBytes, PageNo};
 use page_table::{PageTable, PutFault};
 use std::alloc::Global;
 
-/// Puts copies of the bytes at the pages from `first` on, write-protected where `protect`: how many, and why no more.
+/// Puts copies of `bytes` at the pages from `first` on, write-protected if `protect`. Returns how many pages it put, and why it put
+/// no more, or `None` if it put all.
 pub(crate) fn put_copies(
     alloc: Global,
     pages: &mut PageTable,
@@ -45,7 +46,8 @@ pub(crate) fn put_copies(
     (done, None)
 }
 
-/// Puts a copy of the bytes of one page. On an error the table is as it was: `Present` exactly where the page is present.
+/// Puts a copy of the bytes of one page. `Present` if the page is present, else `NoMemory` if the copy or its entry cannot be
+/// allocated. An error leaves the table as it was.
 fn put_copy(
     alloc: Global,
     pages: &mut PageTable,
@@ -75,7 +77,7 @@ fn put_copy(
     Ok(())
 }
 
-/// A copy of the bytes of one page.
+/// A copy of the bytes of one page. `NoMemory` if the allocation fails.
 fn copy_of(alloc: Global, bytes: &[u8]) -> Result<PageBytes, NoMemory>
     requires { length bytes.now ≡ 4096 }
     ensures { IfOk result (λ copy. copy ≡ bytes.now) }
@@ -86,7 +88,8 @@ fn copy_of(alloc: Global, bytes: &[u8]) -> Result<PageBytes, NoMemory>
     }
 }
 
-/// Puts zeros at the `count` pages from `first` on, not write-protected: how many, and why no more.
+/// Puts zeros at the `count` pages from `first` on, not write-protected. Returns how many pages it put, and why it put no more, or
+/// `None` if it put all.
 pub(crate) fn put_zeros(pages: &mut PageTable, first: PageNo, count: u32) -> (u32, Option<PutFault>)
     requires { first + count ≤ HIGH_PAGE }
     ensures put { IsPut pages.old.bytes first count result.0 result.1 }

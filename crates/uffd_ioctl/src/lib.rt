@@ -1,17 +1,17 @@
-//! An address space that a userfault object watches, with the calls of both.
+//! An address space with its userfault object, and the calls of both.
 //!
-//! [`Space`] makes the loads and stores and the map calls of processors, after mmap(2), munmap(2), mremap(2) and madvise(2), and
-//! the calls of userfaultfd(2) and ioctl_userfaultfd(2), API 0xAA, in the missing and the write-protect mode. What each call
-//! answers and leaves is a row of the tables of the crate `mig_model`, `specs/Space.antt` and `specs/Ioctls.antt`, and a call of
-//! this crate is that row.
+//! [`Space`] makes the loads, stores and map calls of processors, after mmap(2), munmap(2), mremap(2) and madvise(2), and the calls
+//! of userfaultfd(2) and ioctl_userfaultfd(2), API 0xAA, in the missing and the write-protect mode. What each call answers, and how
+//! it changes the space, is a row of the tables `specs/Space.antt` and `specs/Ioctls.antt` of the crate `mig_model`; each call of
+//! this crate is one row.
 //!
-//! The crate has no processors: a page fault is an answer and a message, and whom a call wakes is an answer ([`Wake`]) that the
-//! caller carries out. It knows of no other host.
+//! The crate has no processors: it reports a page fault and queues its message, and it reports whom a call wakes ([`Wake`]); the
+//! caller acts on both. It knows no other host.
 //!
-//! The modules follow: `access` (the form of a load or store), `map_calls` (what map calls answer), `remap` (ranges that change
-//! their place), `events` (what map calls make of the object), `arguments` (ranges and flags of the object's calls),
-//! `register`, `install` and `protect` (what these calls do over a range), `fault` (how they answer), and `space` (the type that
-//! callers see, with its calls in three families).
+//! The modules follow: `access` (the number of a load), `map_calls` (what map calls answer), `remap` (moving a range), `events`
+//! (how map calls change the object), `arguments` (ranges and flags of the object's calls), `register`, `install` and `protect`
+//! (what these calls do over a range), `fault` (their results and errors), and `space` (the type that callers see, with its calls
+//! in three families).
 #![tactic(auto)]
 
 mod access;

@@ -1,4 +1,4 @@
-//! What the map calls answer, from the areas of a host alone: none of them reads a byte.
+//! What the map calls answer. It depends on the areas of a host alone, not on the bytes of its pages.
 
 ghost use Rattle.std.specs.Prelude.{◌≡◌, ℕ, ◌+◌, ◌%◌, ◌<◌, ◌≤◌, ◌∷◌, Bool, true, false, nat_lt, nat_le, [], ◌==◌, Some, None, IfNone, IsTrue, ◌↔◌};
 ghost use Rattle.mig_base.specs.Ranges.{pages_of, rounded};
@@ -12,14 +12,14 @@ use mig_base::{
     Addr, Errno, HIGH, HIGH_PAGE, LOW, LOW_PAGE, MAX_PAGES, PAGE_SIZE, PageNo, Place, Prot, Reply,
 };
 
-/// How many pages `len` bytes take.
+/// The number of pages that `len` bytes take, rounded up.
 pub(crate) fn page_count(len: u64) -> u64
     ensures { result ≡ pages_of len }
 {
     len.div_ceil(PAGE_SIZE)
 }
 
-/// Whether a range from the first address of a page on ends inside the address space.
+/// Whether a range of `len` bytes that begins with a page ends inside the address space.
 fn ends_inside(addr: Addr, len: u64) -> bool
     requires { addr % 4096 ≡ 0 }
     ensures { result ≡ nat_le (addr + rounded len) HIGH }
@@ -27,7 +27,7 @@ fn ends_inside(addr: Addr, len: u64) -> bool
     addr / PAGE_SIZE + page_count(len) <= u64::from(HIGH_PAGE)
 }
 
-/// Where mmap puts `len` bytes, or what refuses it.
+/// Where mmap puts `len` bytes, or the error that it returns.
 pub(crate) fn mmap_place(areas: &AreaMap, len: u64, place: Place) -> Result<Addr, Errno>
     ensures { (prot : Prot) → Answers areas.now (reply_at result) (Mmap len prot place) }
 {
@@ -38,7 +38,7 @@ pub(crate) fn mmap_place(areas: &AreaMap, len: u64, place: Place) -> Result<Addr
     }
 }
 
-/// The least place that is free.
+/// The lowest free place.
 fn free_place(areas: &AreaMap, len: u64) -> Result<Addr, Errno>
     ensures { (prot : Prot) → Answers areas.now (reply_at result) (Mmap len prot Place.Anywhere) }
 {
@@ -58,7 +58,7 @@ fn free_place(areas: &AreaMap, len: u64) -> Result<Addr, Errno>
     }
 }
 
-/// The address, in place of what is mapped there.
+/// The address itself: what is mapped there is replaced.
 fn fixed_place(areas: &AreaMap, addr: Addr, len: u64) -> Result<Addr, Errno>
     ensures { (prot : Prot) → Answers areas.now (reply_at result) (Mmap len prot (Place.Fixed addr)) }
 {
@@ -73,7 +73,7 @@ fn fixed_place(areas: &AreaMap, addr: Addr, len: u64) -> Result<Addr, Errno>
     Ok(addr)
 }
 
-/// The address, where nothing may be mapped.
+/// The address itself, if nothing is mapped there.
 fn unmapped_place(areas: &AreaMap, addr: Addr, len: u64) -> Result<Addr, Errno>
     ensures { (prot : Prot) → Answers areas.now (reply_at result) (Mmap len prot (Place.NoReplace addr)) }
 {
@@ -87,7 +87,7 @@ fn unmapped_place(areas: &AreaMap, addr: Addr, len: u64) -> Result<Addr, Errno>
     fixed_place(areas, addr, len)
 }
 
-/// What refuses a place that is asked for, whatever is mapped.
+/// The error for a requested place that does not depend on what is mapped.
 fn place_refusal(addr: Addr, len: u64) -> Option<Errno>
     ensures inside { IfNone result ((addr % 4096 ≡ 0) × (LOW ≤ addr) × (addr + rounded len ≤ HIGH)) }
     ensures refusal { (answer : Reply) → unless_refused result answer ≡ flat.first_refusal ((len == 0, Einval) ∷ flat.place_refusals addr (rounded len)) answer }
@@ -107,7 +107,7 @@ fn place_refusal(addr: Addr, len: u64) -> Option<Errno>
     None
 }
 
-/// What madvise answers for pages that are not needed.
+/// What madvise answers to MADV_DONTNEED.
 pub(crate) fn dontneed_reply(areas: &AreaMap, addr: Addr, len: u64) -> Reply
     ensures { Answers areas.now result (DontNeed addr len) }
 {
@@ -147,7 +147,7 @@ fn is_all_mapped(areas: &AreaMap, addr: Addr, len: u64) -> bool
     areas.mapped_in((addr / PAGE_SIZE) as PageNo, count) == count
 }
 
-/// Where mremap puts a range, or what refuses it.
+/// Where mremap puts a range, or the error that it returns.
 pub(crate) fn mremap_place(
     areas: &AreaMap,
     addr: Addr,
@@ -173,8 +173,8 @@ pub(crate) fn mremap_place(
     }
 }
 
-/// Whether a fixed target is wrong: the range may not move, or the target is no page inside the address space, or lies over
-/// the range.
+/// Whether a fixed target is wrong: the range may not move, or the target does not begin with a page, leaves the address space, or
+/// overlaps the range.
 fn is_bad_target(
     addr: Addr,
     old_len: u64,
@@ -194,7 +194,7 @@ fn is_bad_target(
     begins_before_end(target, addr, old_len) && begins_before_end(addr, target, new_len)
 }
 
-/// Whether an address stands before the end of a range; all begin with a page.
+/// Whether `start` lies before the end of the range of `len` bytes from `other`. Both begin with a page.
 fn begins_before_end(start: Addr, other: Addr, len: u64) -> bool
     requires start { start % 4096 ≡ 0 }
     requires other { other % 4096 ≡ 0 }
@@ -219,7 +219,7 @@ fn has_one_prot(areas: &AreaMap, addr: Addr, len: u64) -> bool
         .is_some()
 }
 
-/// Where a range goes that has no fixed target: it stays where it has room, else it moves, if it may.
+/// The place of a range without a fixed target: it stays if it has room there, else it moves if it may.
 fn resized_place(
     areas: &AreaMap,
     addr: Addr,
@@ -249,7 +249,7 @@ fn resized_place(
     }
 }
 
-/// Whether a range can become longer where it is.
+/// Whether a range can grow in place.
 fn can_grow(areas: &AreaMap, addr: Addr, old_len: u64, new_len: u64) -> bool
     requires whole { addr % 4096 ≡ 0 }
     requires longer { pages_of old_len < pages_of new_len }
@@ -263,7 +263,7 @@ fn can_grow(areas: &AreaMap, addr: Addr, old_len: u64, new_len: u64) -> bool
     areas.mapped_in((addr / PAGE_SIZE + count) as PageNo, added as u32) == 0
 }
 
-/// The target that is fixed, in place of what is mapped there.
+/// The fixed target: what is mapped there is replaced.
 fn moved_place(
     areas: &AreaMap,
     addr: Addr,

@@ -10,7 +10,7 @@ use crate::arguments::PageRange;
 use page_table::PageTable;
 use userfault::Userfault;
 
-/// Protects the present pages of a range, or ends their protection.
+/// Write-protects the present pages of a range, or ends their protection.
 pub(crate) fn set_protection(pages: &mut PageTable, range: PageRange, protect: bool)
     requires range { range.first + range.count ≤ HIGH_PAGE }
     requires present { (q : ℕ) → set.contains pages.old.protected q ≡ true → map.contains_key pages.old.bytes q ≡ true }
@@ -24,7 +24,7 @@ pub(crate) fn set_protection(pages: &mut PageTable, range: PageRange, protect: b
     }
 }
 
-/// Protects the present pages of a range.
+/// Write-protects the present pages of a range.
 fn protect_present(pages: &mut PageTable, range: PageRange)
     requires { range.first + range.count ≤ HIGH_PAGE }
     ensures bytes { pages.new.bytes ≡ pages.old.bytes }
@@ -37,7 +37,7 @@ fn protect_present(pages: &mut PageTable, range: PageRange)
     }
 }
 
-/// Ends the protection of those pages of a range that are not registered for write-protect faults, run by run.
+/// Ends, run by run, the protection of the pages of a range that are not registered for write-protect faults.
 pub(crate) fn open_unwatched(pages: &mut PageTable, object: &Userfault, range: PageRange)
     requires { range.first + range.count ≤ HIGH_PAGE }
     ensures bytes { pages.new.bytes ≡ pages.old.bytes }

@@ -1,4 +1,4 @@
-//! The registration of the mapped pages of a range.
+//! Registering the mapped pages of a range.
 
 ghost use Rattle.std.specs.Prelude.{◌≡◌, ℕ, ◌+◌, ◌≤◌, ◌&&◌, false, IfOk};
 ghost use Rattle.std.specs.FinMap.{contains_key};
@@ -12,7 +12,8 @@ use area_map::AreaMap;
 use mig_base::{Area, NoMemory};
 use userfault::{Mode, Userfault};
 
-/// A copy of the object in which the mapped pages of a range are registered. Only the areas that the range meets are walked.
+/// A copy of the object in which the mapped pages of a range are registered. It visits only the areas that overlap the range.
+/// `NoMemory` if the copy or a registration cannot be allocated.
 pub(crate) fn registered(
     object: &Userfault,
     areas: &AreaMap,
@@ -30,7 +31,7 @@ pub(crate) fn registered(
     Ok(after)
 }
 
-/// The object with the pages of an area registered that lie in a range.
+/// The object with those pages of an area registered that lie in the range. `NoMemory` drops the object.
 fn register_area(
     object: Userfault,
     area: Area,

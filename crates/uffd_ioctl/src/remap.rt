@@ -1,4 +1,4 @@
-//! Ranges of pages that become longer or shorter, or go elsewhere.
+//! Ranges of pages that grow, shrink or move.
 
 ghost use Rattle.std.specs.Prelude.{◌≡◌, ℕ, ◌+◌, ◌<◌, ◌≤◌, ◌⊎◌, false, OnOk, OnErr, None};
 ghost use Rattle.std.specs.FinMap as map;
@@ -14,7 +14,8 @@ use area_map::AreaMap;
 use mig_base::{HIGH_PAGE, NoMemory, PageNo, Prot};
 use page_table::PageTable;
 
-/// A range of pages, and the one that it becomes: it begins where it was, or lies apart from it.
+/// The range of `count` pages from `from`, and the range of `new_count` pages from `to` that it becomes: they begin at the same page,
+/// or do not overlap.
 #[derive(Clone, Copy, Drop)]
 pub(crate) struct Remap {
     pub(crate) from: PageNo,
@@ -24,7 +25,7 @@ pub(crate) struct Remap {
 }
 
 impl Remap {
-    /// Where the range needs room that it may not have: all of a target elsewhere, and else the pages by which it grows.
+    /// The pages that may need room: the whole target if the range moves, else the pages by which it grows.
     pub(crate) fn room(self) -> PageRange
         requires { IsRemap self }
         ensures first { result.first ≡ room_first self }
@@ -45,7 +46,7 @@ impl Remap {
     }
 }
 
-/// Makes the change of the areas and pages of a host. `NoMemory` leaves both as they were.
+/// Makes the change in the areas and pages of a host. `NoMemory` leaves both as they were.
 pub(crate) fn apply(
     areas: &mut AreaMap,
     pages: &mut PageTable,
@@ -71,7 +72,7 @@ pub(crate) fn apply(
     }
 }
 
-/// Takes the end of a range away.
+/// Unmaps the end of a range. `NoMemory` changes nothing.
 fn shrink(areas: &mut AreaMap, pages: &mut PageTable, range: Remap) -> Result<(), NoMemory>
     requires range { IsRemap range }
     requires prot { HasProt areas.old range.from range.count }
@@ -90,7 +91,7 @@ fn shrink(areas: &mut AreaMap, pages: &mut PageTable, range: Remap) -> Result<()
     Ok(())
 }
 
-/// Adds pages of zeros to the end of a range.
+/// Adds pages of zeros to the end of a range. `NoMemory` changes nothing.
 fn grow(
     areas: &mut AreaMap,
     pages: &mut PageTable,
@@ -114,7 +115,7 @@ fn grow(
     Ok(())
 }
 
-/// Moves a range: its pages go along as far as both ranges go.
+/// Moves a range. The pages that fit into both ranges move; the rest are dropped. `NoMemory` changes nothing.
 fn relocate(
     areas: &mut AreaMap,
     pages: &mut PageTable,

@@ -1,4 +1,4 @@
-//! The type that callers see: an address space, and the userfault object that watches it.
+//! The type that callers see: an address space with its userfault object.
 
 ghost use Rattle.std.specs.Prelude.{◌≡◌, ℕ, ◌<◌, ◌≤◌, IfOk, IfErr, OnErr, None, []};
 ghost use Rattle.std.specs.Option.{option_copied, option_map};
@@ -23,12 +23,12 @@ use std::alloc::Global;
 use std::marker::Model;
 use userfault::{Mode, Userfault};
 
-/// An address space: the mapped pages with their protections, the present pages with their bytes, which of these are
-/// write-protected, and the userfault object that watches them. A page that is mapped and not present is missing.
+/// An address space: the mapped pages with their protections, the present pages with their bytes, which of the present pages are
+/// write-protected, and the userfault object. A page that is mapped and not present is missing.
 ///
-/// A call that is refused changes nothing, and neither does one that answers `NoMemory`, which may succeed when it is called
-/// again; the exceptions are [`Space::copy`] and [`Space::zeropage`], which keep the pages put before they stopped. Where several
-/// errors apply the first is answered, in the order in which a call names them.
+/// A call that is refused, or that returns `NoMemory`, changes nothing; after `NoMemory` the same call may succeed later. The
+/// exceptions are [`Space::copy`] and [`Space::zeropage`], which keep the pages that they put before they stopped. If several errors
+/// apply, a call returns the first in the order in which its comment names them.
 #[derive(Drop)]
 pub struct Space {
     alloc: Global,
@@ -63,11 +63,11 @@ impl Space {
         }
     }
 
-    /// A space of these areas and present pages: each present page is mapped, and none is protected. With a mode of 1 to 3, as the flags of
-    /// UFFDIO_REGISTER, the object is enabled for the three events and all mapped pages are registered in it; with mode 0 it is not
-    /// enabled. No other mode may be given.
+    /// A space with these areas and present pages. Each present page has to be mapped, and none write-protected. With a mode of 1 to 3, in
+    /// the flags of UFFDIO_REGISTER, the object is enabled for the three events and all mapped pages are registered in that mode; with
+    /// mode 0 the object is not enabled. No other mode is allowed.
     ///
-    /// On `NoMemory` the table comes back. With mode 0 the call takes no memory.
+    /// `NoMemory` returns the page table. With mode 0 the call takes no memory.
     pub fn assemble(
         alloc: Global,
         areas: AreaMap,
@@ -103,8 +103,8 @@ impl Space {
         })
     }
 
-    /// A law of every space: a registered page is mapped, and a protected page is present and registered for write-protect faults.
-    /// The call does nothing.
+    /// The invariant of every space: a registered page is mapped, and a protected page is present and registered for write-protect
+    /// faults. The call does nothing.
     pub fn is_in_order(&self)
         ensures { machine.IsSoundSpace self.now }
     {
@@ -132,7 +132,7 @@ impl Space {
         self.pages.is_protected(page)
     }
 
-    /// How many events are unread.
+    /// The number of unread events.
     pub fn changing(&self) -> usize
         ensures { result ≡ object.changing self.now.object }
     {
@@ -146,21 +146,21 @@ impl Space {
         self.object.next_message()
     }
 
-    /// Gives up the unread page faults, which nobody will read any more. Unread events stay.
+    /// Drops the unread page faults. Unread events stay.
     pub fn drop_faults(&mut self)
         ensures { self.new ≡ record self.old { object = record self.old.object { faults = [] } } }
     {
         self.object.drop_faults();
     }
 
-    /// A copy of the mapped pages, with their protections.
+    /// A copy of the mapped pages, with their protections. `NoMemory` if the allocation fails.
     pub fn areas(&self) -> Result<AreaMap, NoMemory>
         ensures { IfOk result (λ areas. areas ≡ self.now.host.areas) }
     {
         self.areas.copy()
     }
 
-    /// The present pages.
+    /// The set of the present pages. `NoMemory` if the allocation fails.
     pub fn present(&self) -> Result<PageSet, NoMemory>
         ensures { IfOk result (λ pages. (q : ℕ) → set.contains pages q ≡ map.contains_key self.now.host.bytes q) }
     {

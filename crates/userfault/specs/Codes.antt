@@ -1,4 +1,4 @@
--- How a proof tells messages that wait, and objects, apart, for models that contain them.
+-- Codes of unread messages and of objects: proofs about models that contain them compare them by these.
 use Rattle.std.specs.Prelude.{ℕ, Bool, List, refl}
 use Rattle.std.specs.Ordering.{nat_cmp}
 use Rattle.std.specs.FinSet as set
@@ -7,7 +7,7 @@ use Rattle.mig_base.specs.declared.message.Message.{Message}
 use Rattle.mig_base.specs.contracts.message.Message as message
 use Rattle.mig_model.specs.Userfault.{Noted, Object}
 
--- the code of a message that waits
+-- the code of an unread message
 abbrev pub coded_noted : Coded Noted
 coded_noted =
     code_by (Message × ℕ) (coded× message.the_row.coded coded_ℕ) (λ n. (n.message, n.cpu)) (λ p. record { message = p.0; cpu = p.1 }) (λ _. refl)

@@ -1,4 +1,4 @@
-//! The modes of pages, and sets of pages once a range was registered or moved.
+//! The modes of pages, and sets of pages after a range was registered or moved.
 
 ghost use Rattle.std.specs.Prelude.{◌≡◌, ℕ, ◌+◌, ◌<◌, ◌≤◌, ◌⊎◌, ◌&&◌, ◌||◌, not, true, false, IfOk};
 ghost use Rattle.std.specs.FinSet.{contains};
@@ -14,14 +14,14 @@ use std::alloc::Global;
 /// The mode in which a page is registered. With both false it is not registered.
 #[derive(Clone, Copy, Debug, PartialEq, Eq)]
 pub struct Mode {
-    /// UFFDIO_REGISTER_MODE_MISSING: a touch of the page where it is missing is a fault.
+    /// UFFDIO_REGISTER_MODE_MISSING: an access to the page while it is missing is a page fault.
     pub missing: bool,
-    /// UFFDIO_REGISTER_MODE_WP: a store to the page where it is write-protected is a fault.
+    /// UFFDIO_REGISTER_MODE_WP: a store to the page while it is write-protected is a page fault.
     pub protect: bool,
 }
 
-/// The pages of one mode once a range is registered: `own` are those of this mode and `other` those of the other one, and
-/// `asked` and `other_asked` say which of the two are asked for. `NoMemory` is for the room of the new set.
+/// The pages of one mode after the `count` pages from `first` on are registered: `own` are the pages of this mode so far and
+/// `other` those of the other mode; `asked` and `other_asked` are the modes asked for. `NoMemory` if the new set cannot be allocated.
 pub fn registered(
     own: &PageSet,
     other: &PageSet,
@@ -42,7 +42,7 @@ pub fn registered(
     Ok(set)
 }
 
-/// Takes those pages of a range out that another set has not.
+/// Removes the pages of a range that are not in `other`. It takes no memory.
 pub fn remove_unless_in(set: &mut PageSet, other: &PageSet, first: PageNo, count: u32)
     requires { first + count ≤ HIGH_PAGE }
     ensures { (q : ℕ) → contains set.new q ≡ (contains set.old q && not (in_range first count q && not (contains other.now q))) }
@@ -56,7 +56,8 @@ pub fn remove_unless_in(set: &mut PageSet, other: &PageSet, first: PageNo, count
     }
 }
 
-/// Moves the pages of a range to one that it does not meet, all of which are in. It takes no memory.
+/// Moves the pages of a range to another range that does not overlap it. All pages of the target have to be in the set, so it
+/// takes no memory.
 pub fn move_into(set: &mut PageSet, from: PageNo, to: PageNo, count: u32)
     requires inside { (from + count ≤ HIGH_PAGE) × (to + count ≤ HIGH_PAGE) }
     requires apart { (from + count ≤ to) ⊎ (to + count ≤ from) }
@@ -74,7 +75,7 @@ pub fn move_into(set: &mut PageSet, from: PageNo, to: PageNo, count: u32)
     set.remove_range(from, count);
 }
 
-/// Those pages of a range that are in a set.
+/// The pages of a range that are in `set`. `NoMemory` if the new set cannot be allocated.
 pub fn part_of(alloc: Global, set: &PageSet, first: PageNo, count: u32) -> Result<PageSet, NoMemory>
     requires { first + count ≤ HIGH_PAGE }
     ensures { IfOk result (λ part. (q : ℕ) → contains part q ≡ (in_range first count q && contains set.now q)) }
@@ -92,8 +93,8 @@ pub fn part_of(alloc: Global, set: &PageSet, first: PageNo, count: u32) -> Resul
     Ok(part)
 }
 
-/// The first run from `from` on, before `end`, of pages that the set has, or with `want` false has not: where it starts and
-/// where it stops. Both are `end` where there is none.
+/// The first run of pages that are in the set (or, with `want` false, are not), from `from` on and before `end`: its first
+/// page, and the page behind its last. Both are `end` if there is no such run.
 pub fn run_of(set: &PageSet, from: PageNo, end: PageNo, want: bool) -> (PageNo, PageNo)
     requires { (from < end) × (end ≤ HIGH_PAGE) }
     ensures range { (from ≤ result.0) × (result.0 ≤ result.1) × (result.1 ≤ end) }
@@ -106,7 +107,7 @@ pub fn run_of(set: &PageSet, from: PageNo, end: PageNo, want: bool) -> (PageNo, 
     (start, stop)
 }
 
-/// Whether a set has all pages of a range, where it is asked for that.
+/// Whether a set has all pages of a range. It is true unless `asked`.
 pub fn has_all(set: &PageSet, first: PageNo, count: u32, asked: bool) -> bool
     requires { first + count ≤ HIGH_PAGE }
     ensures { result ≡ is_every (λ page. not asked || contains set.now page) first count }

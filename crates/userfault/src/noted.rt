@@ -1,4 +1,4 @@
-//! One message that waits, and a queue of them.
+//! An unread message, and a queue of them.
 
 ghost use Rattle.std.specs.Prelude.{◌≡◌, IfOk};
 ghost use Rattle.mig_model.specs.Userfault.{is_fault_at, waits_fault};
@@ -8,7 +8,7 @@ use std::alloc::Global;
 use std::collections::VecDeque;
 use std::marker::Model;
 
-/// A message that waits, and the processor that caused it.
+/// An unread message, and the processor that caused it.
 #[derive(Clone, Copy)]
 pub struct Noted {
     message: Message,
@@ -51,8 +51,7 @@ impl Noted {
         self.cpu
     }
 
-    /// Whether it is a page fault of this kind at the address: of a page that is write-protected where `wp`, else of one that
-    /// is missing.
+    /// Whether it is a page fault of this kind at the address: write-protected if `wp`, else missing.
     fn is_fault_at(&self, addr: Addr, wp: bool) -> bool
         ensures { result ≡ is_fault_at self.now.message addr wp }
     {
@@ -67,7 +66,7 @@ impl Noted {
     }
 }
 
-/// Whether a page fault of this kind at the address waits in a queue.
+/// Whether a page fault of this kind at the address is in the queue.
 pub fn waits(faults: &VecDeque<Noted>, addr: Addr, wp: bool) -> bool
     ensures { result ≡ waits_fault faults.now.items addr wp }
 {
@@ -79,7 +78,7 @@ pub fn waits(faults: &VecDeque<Noted>, addr: Addr, wp: bool) -> bool
     false
 }
 
-/// A copy of the queue.
+/// A copy of the queue. `NoMemory` if the allocation fails.
 pub fn copy_queue(alloc: Global, queue: &VecDeque<Noted>) -> Result<VecDeque<Noted>, NoMemory>
     ensures { IfOk result (λ copy. copy.items ≡ queue.now.items) }
 {

@@ -20,10 +20,10 @@ use std::alloc::Global;
 use std::collections::VecDeque;
 use std::marker::Model;
 
-/// A userfault object. Pages lie below `HIGH_PAGE`, and a processor goes by its number.
+/// A userfault object. Pages lie below `HIGH_PAGE`, and a processor is named by its number.
 ///
-/// Those calls that may answer `NoMemory` leave the object as it was, and may succeed when they are called again. The others
-/// take no memory.
+/// A call that returns `NoMemory` leaves the object as it was, and may succeed when it is called again. The calls that cannot
+/// return it take no memory.
 #[derive(Drop)]
 pub struct Userfault {
     alloc: Global,
@@ -47,7 +47,7 @@ impl Model for Userfault {
 }
 
 impl Userfault {
-    /// An object that is not enabled, watches no page and has no message. It takes no memory.
+    /// An object that is not enabled, has no registered page and no message. It takes no memory.
     pub fn new(alloc: Global) -> Self
         ensures { result ≡ machine.fresh_object }
     {
@@ -62,7 +62,7 @@ impl Userfault {
         }
     }
 
-    /// Makes the handshake, for the features of UFFDIO_API as one word of flags.
+    /// Makes the handshake of UFFDIO_API. `features` has one bit for each feature that is asked for.
     pub fn enable(&mut self, features: u64)
         ensures { self.new ≡ machine.enabled_with self.old features }
     {
@@ -77,8 +77,8 @@ impl Userfault {
         self.enabled.then_some(self.features)
     }
 
-    /// Registers the `count` pages from `first` on: a page that has all modes asked for keeps its own, and any other has
-    /// exactly these. With no mode asked for nothing changes. `NoMemory` changes nothing.
+    /// Registers the `count` pages from `first` on, as UFFDIO_REGISTER: a page that already has all modes of `mode` keeps what it
+    /// has, any other page gets exactly `mode`. If `mode` has neither mode, nothing changes. `NoMemory` changes nothing.
     pub fn register(&mut self, first: PageNo, count: u32, mode: Mode) -> Result<(), NoMemory>
         requires { first + count ≤ HIGH_PAGE }
         ensures ok { OnOk result (self.new ≡ machine.registered_where self.old (in_range first count) (mode_of mode)) }
@@ -114,7 +114,7 @@ impl Userfault {
         self.protect.remove_range(first, count);
     }
 
-    /// Forgets the `count` pages from `first` on, which are no longer mapped or were replaced: they are not registered.
+    /// Forgets the registration of the `count` pages from `first` on, because they were unmapped or replaced.
     pub fn forget_range(&mut self, first: PageNo, count: u32)
         requires { first + count ≤ HIGH_PAGE }
         ensures { self.new ≡ machine.unregistered self.old first count }
@@ -122,7 +122,7 @@ impl Userfault {
         self.unregister(first, count);
     }
 
-    /// The mode of a page. Any page number may be asked for.
+    /// The mode of a page. Any page number is allowed.
     pub fn mode_at(&self, page: PageNo) -> Mode
         ensures { mode_of result ≡ machine.mode_at self.now page }
     {
@@ -132,7 +132,7 @@ impl Userfault {
         }
     }
 
-    /// Whether some of the `count` pages from `first` on is registered.
+    /// Whether any of the `count` pages from `first` on is registered.
     pub fn is_any_registered(&self, first: PageNo, count: u32) -> bool
         requires { first + count ≤ HIGH_PAGE }
         ensures { result ≡ is_watched self.now first count }
@@ -142,7 +142,7 @@ impl Userfault {
             || self.protect.next_before(first, true, end) < end
     }
 
-    /// Whether each of the `count` pages from `first` on has all modes asked for.
+    /// Whether each of the `count` pages from `first` on has all modes of `mode`.
     pub fn has_modes(&self, first: PageNo, count: u32, mode: Mode) -> bool
         requires { first + count ≤ HIGH_PAGE }
         ensures { result ≡ is_every (λ page. machine.has_modes self.now page (mode_of mode)) first count }
@@ -152,7 +152,7 @@ impl Userfault {
         missing && protect
     }
 
-    /// Whether the `count` pages from `first` on all have the mode of the first, which may be none.
+    /// Whether the `count` pages from `first` on all have the mode of the first, which may be no mode.
     pub fn has_one_mode(&self, first: PageNo, count: u32) -> bool
         requires { first + count ≤ HIGH_PAGE }
         ensures { result ≡ is_every (has_mode_of self.now first) first count }
@@ -162,10 +162,10 @@ impl Userfault {
         missing && protect
     }
 
-    /// Notes that a processor sleeps on the page at an address: by a store where `write`, on a page that is write-protected
-    /// where `wp` and else on one that is missing. An unread fault of this kind at this address stays the only one, whoever
-    /// caused it, and keeps its thread; to find it all unread faults are looked through. `NoMemory` comes only where no such fault
-    /// is unread, and changes nothing.
+    /// Queues the page fault of processor `cpu` at `addr`: a store if `write`, else a load; of a write-protected page if `wp`, else
+    /// of a missing one. If a fault of this kind at this address is already unread, it stays the only one and keeps its thread,
+    /// whichever processor caused it. The call searches all unread faults. `NoMemory` only if there is no such fault; it changes
+    /// nothing.
     pub fn queue_fault(
         &mut self,
         addr: Addr,
@@ -190,7 +190,7 @@ impl Userfault {
         Ok(())
     }
 
-    /// The thread that a page fault of a processor tells: 0 unless UFFD_FEATURE_THREAD_ID was asked for.
+    /// The thread that a page fault of a processor names: 0 unless UFFD_FEATURE_THREAD_ID was asked for.
     fn thread_id(&self, cpu: u8) -> u32
         ensures { result ≡ machine.thread_id self.now cpu }
     {
@@ -201,8 +201,8 @@ impl Userfault {
         }
     }
 
-    /// Notes an event that a processor caused: any message but a page fault, for which [`queue_fault`](Userfault::queue_fault) is. A page
-    /// fault would wait among the events. `NoMemory` changes nothing.
+    /// Queues an event that a processor caused. `message` should not be a page fault, which belongs to
+    /// [`queue_fault`](Userfault::queue_fault): it would be queued among the events. `NoMemory` changes nothing.
     pub fn queue_event(&mut self, message: Message, cpu: u8) -> Result<(), NoMemory>
         ensures ok { OnOk result (self.new ≡ machine.event_queued self.old message cpu) }
         ensures err { OnErr result (self.new ≡ self.old) }
@@ -211,7 +211,7 @@ impl Userfault {
         Ok(())
     }
 
-    /// Gives up the last `count` events, as if they had not been queued.
+    /// Removes the last `count` events, as if they had not been queued.
     pub fn take_back_events(&mut self, count: u8)
         requires { count ≤ machine.changing self.old }
         ensures { self.new ≡ record self.old { events = take (machine.changing self.old - count) self.old.events } }
@@ -230,8 +230,8 @@ impl Userfault {
         }
     }
 
-    /// Reads a message: page faults before events, each in the order in which they were queued. It comes with the processor
-    /// that caused it. With no message nothing changes.
+    /// Reads a message, page faults before events and each kind in the order of its queue, and the processor that caused it. If
+    /// there is no message, nothing changes.
     pub fn read_message(&mut self) -> Option<(Message, u8)>
         ensures message { result ≡ option_map (λ noted. (noted.message, noted.cpu)) (machine.next_message self.old) }
         ensures rest { self.new ≡ machine.message_read self.old }
@@ -243,21 +243,21 @@ impl Userfault {
         Some((noted.message(), noted.cpu()))
     }
 
-    /// Gives up the unread page faults. Unread events stay.
+    /// Drops the unread page faults. Unread events stay.
     pub fn drop_faults(&mut self)
         ensures { self.new ≡ record self.old { faults = [] } }
     {
         self.faults.clear();
     }
 
-    /// How many events are unread. While there are any, the address space is changing.
+    /// The number of unread events. While there are any, the address space is changing.
     pub fn changing(&self) -> usize
         ensures { result ≡ machine.changing self.now }
     {
         self.events.len()
     }
 
-    /// An equal object, of memory of its own.
+    /// An equal object, in memory of its own.
     pub fn copy(&self) -> Result<Self, NoMemory>
         ensures { IfOk result (λ copy. copy ≡ self.now) }
     {

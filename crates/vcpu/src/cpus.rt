@@ -15,8 +15,8 @@ use mig_base::{Addr, Command, MAX_CPUS, NoMemory, PageNo, Reply};
 use std::alloc::Global;
 use std::marker::Model;
 
-/// The processors of a guest, 1 to 16, by their numbers from 0 on. Only `new`, `copy` and `commands` take memory. A call
-/// that is refused changes nothing.
+/// The 1 to 16 processors of a guest, numbered from 0. Only `new`, `copy` and `commands` take memory. A refused call
+/// changes nothing.
 #[derive(Debug, Drop)]
 pub struct Cpus {
     alloc: Global,
@@ -37,7 +37,7 @@ impl Model for Cpus {
 }
 
 impl Cpus {
-    /// `n` processors, all idle. `NoCpu` unless `n` is 1 to 16.
+    /// `n` processors, all idle. `NoCpu` unless `n` is 1 to 16; `NoMemory` if the allocation fails.
     pub fn new(alloc: Global, n: u8) -> Result<Self, NewFault>
         ensures cpus { IfOk result (λ cpus. cpus ≡ idle_processors n) }
         ensures no_cpu { (result ≡ Err NewFault.NoCpu) ↔ (is_count n ≡ false) }
@@ -49,7 +49,7 @@ impl Cpus {
         Ok(Cpus { alloc, states })
     }
 
-    /// Equal processors, of memory of their own.
+    /// Equal processors, in memory of their own. `NoMemory` if the allocation fails.
     pub fn copy(&self) -> Result<Self, NoMemory>
         ensures { IfOk result (λ copy. copy ≡ self.now) }
     {
@@ -60,7 +60,7 @@ impl Cpus {
         })
     }
 
-    /// How many processors there are.
+    /// The number of processors, 1 to 16.
     pub fn count(&self) -> u8
         ensures count { result ≡ length self.now }
         ensures range { (1 ≤ result) × (result ≤ MAX_CPUS) }
@@ -68,7 +68,7 @@ impl Cpus {
         self.states.len() as u8
     }
 
-    /// What processor `k` does. `NoCpu` where there is none.
+    /// The state of processor `k`. `NoCpu` if there is no such processor.
     pub fn state(&self, k: u8) -> Result<CpuState, Refusal>
         ensures answer { result ≡ state_answer self.now k }
         ensures message { IfOk result HasMessage }
@@ -79,27 +79,24 @@ impl Cpus {
         }
     }
 
-    /// The command that processor `k` still has to make: that of a processor that sleeps or was woken. `NoCpu` where there is no
-    /// such processor.
+    /// The command that processor `k` still has to make, if it sleeps or was woken. `NoCpu` if there is no such processor.
     pub fn outstanding(&self, k: u8) -> Result<Option<Command>, Refusal>
         ensures { result ≡ outstanding_answer self.now k }
     {
         Ok(command_of(self.state(k)?))
     }
 
-    /// The commands that the processors still have to make, in the order of their numbers.
+    /// For each processor, in the order of their numbers, the command that it still has to make, if any. `NoMemory` if the
+    /// allocation fails.
     pub fn commands(&self) -> Result<Vec<Option<Command>>, NoMemory>
         ensures { IfOk result (λ commands. commands.items ≡ map outstanding self.now) }
     {
-        let commands = self
-            .states
-            .iter()
-            .map(|state| command_of(*state))
-            .collect(self.alloc)?;
+        let mut commands = Vec::with_capacity(self.alloc, self.states.len())?;
+        commands.extend(self.states.iter().map(|state| command_of(*state)))?;
         Ok(commands)
     }
 
-    /// Whether processor `k` may begin a command: `Busy` unless it is idle, `NoCpu` where there is no such processor.
+    /// Whether processor `k` may begin a command: `Busy` unless it is idle, `NoCpu` if there is no such processor.
     pub fn ensure_idle(&self, k: u8) -> Result<(), Refusal>
         ensures { result ≡ idle_answer self.now k }
     {
@@ -109,8 +106,8 @@ impl Cpus {
         }
     }
 
-    /// The command that processor `k`, which was woken, has to try again. `NoCpu` where there is no such processor, `NotAsleep`
-    /// where it is idle or in a call, `NotWoken` where it still sleeps.
+    /// The command that processor `k`, which was woken, has to try again. `NoCpu` if there is no such processor, `NotAsleep`
+    /// if it is idle or in a map call, `NotWoken` if it still sleeps.
     pub fn woken(&self, k: u8) -> Result<Command, Refusal>
         ensures { result ≡ woken_answer self.now k }
     {
@@ -121,8 +118,8 @@ impl Cpus {
         }
     }
 
-    /// Processor `k` sleeps on the page of a load or a store; no other command may be given. `NoCpu` where there is no such processor, `Busy`
-    /// unless it is idle.
+    /// Puts processor `k` to sleep on the page of `command`, which has to be a load or a store. `NoCpu` if there is no such
+    /// processor, `Busy` unless it is idle.
     pub fn sleep(&mut self, k: u8, command: Command) -> Result<(), Refusal>
         requires { is_access command ≡ true }
         ensures answer { result ≡ idle_answer self.old k }
@@ -134,8 +131,8 @@ impl Cpus {
         Ok(())
     }
 
-    /// Processor `k` is in a map call, which returns `reply` once `left` messages have been read, at least one. `NoCpu` where there is no
-    /// such processor, `Busy` unless it is idle.
+    /// Puts processor `k` into a map call, which returns `reply` once `left` messages, at least one, have been read. `NoCpu` if
+    /// there is no such processor, `Busy` unless it is idle.
     pub fn call_sleeps(&mut self, k: u8, reply: Reply, left: u8) -> Result<(), Refusal>
         requires { 0 < left }
         ensures answer { result ≡ idle_answer self.old k }
@@ -147,7 +144,7 @@ impl Cpus {
         Ok(())
     }
 
-    /// Hands out the command of processor `k`, which was woken, and leaves it idle. Refused as `woken` is.
+    /// Returns the command of processor `k`, which was woken, and leaves the processor idle. Refused like `woken`.
     pub fn take(&mut self, k: u8) -> Result<Command, Refusal>
         ensures answer { result ≡ woken_answer self.old k }
         ensures ok { OnOk result (self.new ≡ set self.old k CpuState.Idle) }
@@ -158,8 +155,8 @@ impl Cpus {
         Ok(command)
     }
 
-    /// A message of the call of processor `k` was read. The last one hands over the reply, and leaves the processor idle. `NoCpu`
-    /// where there is no such processor, `NotAsleep` unless it is in a call.
+    /// Counts one message of processor `k`'s map call as read. With the last one it returns the reply of the call and leaves the
+    /// processor idle. `NoCpu` if there is no such processor, `NotAsleep` unless it is in a map call.
     pub fn message_read(&mut self, k: u8) -> Result<Option<Reply>, Refusal>
         ensures answer { result ≡ message_answer self.old k }
         ensures ok { OnOk result (self.new ≡ set self.old k (message_less (processor_at self.old k))) }
@@ -178,36 +175,37 @@ impl Cpus {
         Ok(handed_over)
     }
 
-    /// Wakes those that sleep on the page.
+    /// Wakes the processors that sleep on `page`.
     pub fn wake_page(&mut self, page: PageNo)
         ensures { self.new ≡ all_woken (λ q. q == page) self.old }
     {
         self.wake(Sleepers::OnPage(page));
     }
 
-    /// Wakes those that sleep on a page from that of address `start` up to, not with, that of address `end`.
+    /// Wakes the processors that sleep on a page from that of address `start` up to, but not including, that of address `end`.
     pub fn wake_range(&mut self, start: Addr, end: Addr)
         ensures { self.new ≡ all_woken (in_bytes start end) self.old }
     {
         self.wake(Sleepers::Between { start, end });
     }
 
-    /// Wakes those that sleep on a page of the `len` bytes from `start` on, which may go past the greatest address.
+    /// Wakes the processors that sleep on a page from that of address `start` up to, but not including, that of `start + len`,
+    /// which may lie past the greatest address. `len` is in bytes.
     pub fn wake_span(&mut self, start: Addr, len: u64)
         ensures { self.new ≡ all_woken (in_bytes start (start + len)) self.old }
     {
         self.wake(Sleepers::Span { start, len });
     }
 
-    /// Wakes all that sleep.
+    /// Wakes every processor that sleeps.
     pub fn wake_all(&mut self)
         ensures { self.new ≡ all_woken (λ page. true) self.old }
     {
         self.wake(Sleepers::OnAnyPage);
     }
 
-    /// The processors take over from those of another host, which hands each its outstanding command, to be tried again. There is one
-    /// entry for each processor, and one that is handed `None` is idle.
+    /// Takes over the processors of another host: processor `k` has to try `commands[k]` again, or is idle if that is `None`.
+    /// The slice has one entry for each processor.
     pub fn take_over(&mut self, commands: &[Option<Command>])
         requires { length commands.now ≡ length self.old }
         ensures { self.new ≡ map taken_over commands.now }
@@ -219,14 +217,14 @@ impl Cpus {
 
     ghost use Rattle.vcpu.specs.Sleepers.{are_woken};
 
-    /// Wakes these.
+    /// Wakes the processors that are in `sleepers`.
     fn wake(&mut self, sleepers: Sleepers)
         ensures { self.new ≡ all_woken (are_woken sleepers) self.old }
     {
         sleepers.wake(&mut self.states);
     }
 
-    /// Processor `k` does this from now on.
+    /// Sets the state of processor `k`.
     fn put(&mut self, k: usize, state: CpuState)
         requires cpu { k < length self.old }
         requires message { HasMessage state }
@@ -246,7 +244,7 @@ fn command_of(state: CpuState) -> Option<Command>
     }
 }
 
-/// The processor that was handed the command.
+/// The state of a processor that takes over `command`: woken, to try it again, or idle if there is none.
 fn state_taken_over(command: Option<Command>) -> CpuState
     ensures { result ≡ taken_over command }
 {

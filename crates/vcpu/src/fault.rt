@@ -1,4 +1,4 @@
-//! Why there are no processors.
+//! The error of making a guest's processors.
 
 use std::alloc::AllocError;
 use thiserror::Error;
@@ -9,7 +9,7 @@ pub enum NewFault {
     /// A guest has 1 to 16 processors.
     #[error("a guest has 1 to 16 processors")]
     NoCpu,
-    /// A growth was refused. The same call may succeed later.
+    /// An allocation failed. The same call may succeed later.
     #[error("no memory")]
     NoMemory,
 }

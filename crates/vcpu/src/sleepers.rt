@@ -7,14 +7,14 @@ ghost use Rattle.mig_model.specs.Cpus.{woken_if, all_woken};
 use mig_base::cpu_state::CpuState;
 use mig_base::{Addr, Command, PAGE_SIZE, PageNo};
 
-/// Those who sleep on some pages.
+/// The processors that sleep on some pages.
 #[derive(Clone, Copy)]
 pub enum Sleepers {
     /// On this page.
     OnPage(PageNo),
-    /// On a page from that of `start` up to, not with, that of `end`.
+    /// On a page from that of address `start` up to, but not including, that of address `end`.
     Between { start: Addr, end: Addr },
-    /// On a page of the `len` bytes from `start` on.
+    /// On a page from that of address `start` up to, but not including, that of `start + len`. `len` is in bytes.
     Span { start: Addr, len: u64 },
     /// On any page.
     OnAnyPage,
@@ -23,7 +23,7 @@ pub enum Sleepers {
 impl Sleepers {
     ghost use Rattle.vcpu.specs.Sleepers.{are_woken};
 
-    /// Whether those who sleep on the page are among them.
+    /// Whether a processor that sleeps on `page` is among them.
     fn contain(self, page: u64) -> bool
         ensures { result ≡ are_woken self page }
     {
@@ -56,7 +56,7 @@ impl Sleepers {
     }
 }
 
-/// The page of the address behind `len` bytes, whether or not that is an address.
+/// The page of `start + len`, also if that lies past the greatest address.
 fn end_page(start: Addr, len: u64) -> u64
     ensures { result ≡ (start + len) / 4096 }
 {

@@ -9,9 +9,9 @@ use wires::Wire;
 /// A call with its arguments.
 #[derive(Clone, Copy)]
 enum Call {
-    /// Makes room for a frame, and sends an End in an epoch that tells of so many urgent frames: 16 bytes.
+    /// Reserves room for a frame, and sends an End in an epoch that announces this number of urgent frames: 16 bytes.
     Send(u32, u32),
-    /// So many bytes come.
+    /// This number of bytes come.
     Arrive(u64),
     /// The first frame is taken off.
     Drop,

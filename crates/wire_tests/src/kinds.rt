@@ -65,7 +65,7 @@ fn send(rt: &impl Abort, wire: &mut Wire, epoch: u32, frame: Frame) -> Result<()
     Ok(())
 }
 
-/// So many bytes come, and once more where memory was refused.
+/// `n` bytes come, and once more if memory was refused.
 fn arrive(wire: &mut Wire, n: u64) -> Result<Option<Sent>, NoMemory> {
     match wire.arrive(n) {
         Ok(arrived) => Ok(arrived),

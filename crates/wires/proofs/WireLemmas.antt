@@ -69,7 +69,7 @@ pub none_held : (frames : List machine.Sent) → IsHeld frames 0
 none_held [] = refl
 none_held (sent ∷ rest) = omega arith
 
--- whether so many more complete the frame
+-- whether `n` more bytes complete the frame
 pub moves : (old new : List machine.Sent) (sent : machine.Sent) (rest : List machine.Sent) (held len n : ℕ) → new ≡ old → new ≡ sent ∷ rest → len ≡ text_len sent.frame → n < len - held →
     IsMoved (record { frames = old; held = held }) n (record { frames = new; held = held + n })
 moves old new sent rest held len n stays first long less =

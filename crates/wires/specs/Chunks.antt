@@ -10,44 +10,46 @@ use Rattle.frame_decoder.specs.declared.version.Version.TheVariants as versions
 use Rattle.wires.specs.declared.chunks.Chunks.{Chunks}
 use Rattle.wires.specs.declared.chunks.TheConstants.{LONGEST_TEXT}
 
--- the frames whose texts of version 2 stand at the front of the bytes, one after the other; so many at most
+-- the frames whose texts of version 2 stand at the front of the bytes, one after the other, `most` of them at most
 unfoldable pub frames_from : (most : ℕ) → List ℕ → List Sent
 frames_from zero bytes = []
 frames_from (suc most) bytes = elim (next_at (Some versions.Two) bytes) [ Front.Whole version epoch frame len ↦ record { epoch = epoch; frame = frame } ∷ frames_from most (drop len bytes) | Front.Part ↦ [] | Front.Fault fault ↦ [] ]
 
+-- all frames at the front of the bytes: a text has at least one byte, so their number bounds that of the frames
 abbrev pub frames_in : List ℕ → List Sent
 frames_in bytes = frames_from (length bytes) bytes
 
--- the bytes are the texts of these frames, and nothing more
+-- the bytes are the texts of frames, and nothing more
 pub record AreTexts (bytes : List ℕ) : Type 0 where
   pub whole : bytes ≡ texts versions.Two (frames_in bytes)
   pub each : AllByRecursion (IsSent versions.Two) (frames_in bytes)
 
--- a chunk behind the first has a frame
+-- a full chunk has whole texts, at least one
 pub record IsFull (chunk : Vec ℕ) : Type 0 where
   pub texts : AreTexts chunk.items
   pub some : chunk.items ≡ [] → ⊥
 
--- the bytes of the first chunk that were not taken
+-- the bytes of the first chunk that were not taken yet
 abbrev pub left : Chunks → List ℕ
 left chunks = drop chunks.taken chunks.reading.items
 
+-- the frames of the full chunks, in order
 abbrev pub in_full : List (Vec ℕ) → List Sent
 in_full chunks = flat_map (λ (chunk : Vec ℕ). frames_in chunk.items) chunks
 
--- the frames in flight
+-- the frames in flight, in the order in which they were sent: of the chunk that is read, the full ones, and the one that is written
 abbrev pub in_flight : Chunks → List Sent
 in_flight chunks = frames_in (left chunks) ++ (in_full chunks.full.items ++ frames_in chunks.writing.items)
 
--- their bytes, in the pieces in which they lie
+-- the bytes of the frames in flight, a piece for each chunk
 abbrev pub pieces : Chunks → List (List ℕ)
 pieces chunks = left chunks ∷ (map (λ (chunk : Vec ℕ). chunk.items) chunks.full.items ++ chunks.writing.items ∷ [])
 
--- for how many frames there is room, however long they are
+-- the number of frames for which there is room, however long they are
 abbrev pub room : Chunks → ℕ
 room chunks = (vec_capacity chunks.writing - vec_len chunks.writing) / LONGEST_TEXT
 
--- every chunk has whole texts
+-- every chunk has whole texts, and no more bytes of the first were taken than it has
 pub record AreChunks (chunks : Chunks) : Type 0 where
   pub inside : chunks.taken ≤ length chunks.reading.items
   pub reading : AreTexts (left chunks)

@@ -1,4 +1,4 @@
--- How a proof tells wires apart, for models that contain them.
+-- Codes of frames and wires, by which a proof distinguishes the values of models that contain them.
 use Rattle.std.specs.Prelude.{◌≡◌, ℕ, List, Option, ◌⊎◌, refl}
 use Rattle.std.proofs.Common.{inl, inr}
 use Rattle.std.specs.Ordering.{nat_cmp}
@@ -18,11 +18,11 @@ use Rattle.mig_model.specs.Wire.{Frame, Sent}
 use Rattle.mig_model.specs.Wire.Frame.{Advise, Page, Zero, Run, Discard, Package, End, Resume, Request, Recv, Done}
 use Rattle.wires.specs.Lanes.{Lane}
 
--- what a frame to the destination carries
+-- the contents of a frame to the destination
 abbrev pub Forward : Type 0
 Forward = Unit {0} ⊎ ((ℕ × List ℕ) ⊎ (ℕ ⊎ ((ℕ × List (List ℕ)) ⊎ (FinSet nat_cmp ⊎ ((FinMap nat_cmp Prot × (FinSet nat_cmp × List (Option Command))) ⊎ (ℕ ⊎ Unit {0}))))))
 
--- what a frame back to the source carries
+-- the contents of a frame back to the source
 abbrev pub Back : Type 0
 Back = ℕ ⊎ ((Received × FinSet nat_cmp) ⊎ Unit {0})
 
@@ -54,7 +54,7 @@ parts_frame (inr (inl page)) = Request page
 parts_frame (inr (inr (inl parts))) = Recv parts.0 parts.1
 parts_frame (inr (inr (inr bare))) = Done
 
--- a frame is that of its parts
+-- no frame is lost: the frame of its parts is the frame itself
 abbrev pub parts_frame-frame_parts : (frame : Frame) → parts_frame (frame_parts frame) ≡ frame
 parts_frame-frame_parts Advise = refl
 parts_frame-frame_parts (Page page bytes) = refl
@@ -68,7 +68,7 @@ parts_frame-frame_parts (Request page) = refl
 parts_frame-frame_parts (Recv state owed) = refl
 parts_frame-frame_parts Done = refl
 
--- the codes of the parts
+-- the code of the contents of a frame to the destination
 abbrev pub coded_forward : Coded Forward
 coded_forward =
     coded⊎ coded_unit
@@ -78,6 +78,7 @@ coded_forward =
     (coded⊎ (set.code coded_ℕ)
     (coded⊎ (coded× (map.code coded_ℕ coded_prot) (coded× (set.code coded_ℕ) (coded_list (coded_option command.the_row.coded)))) (coded⊎ coded_ℕ coded_unit))))))
 
+-- the code of the contents of a frame back to the source
 abbrev pub coded_back : Coded Back
 coded_back = coded⊎ coded_ℕ (coded⊎ (coded× received.the_row.coded (set.code coded_ℕ)) coded_unit)
 
@@ -85,11 +86,11 @@ coded_back = coded⊎ coded_ℕ (coded⊎ (coded× received.the_row.coded (set.c
 abbrev pub coded_frame : Coded Frame
 coded_frame = code_by (Forward ⊎ Back) (coded⊎ coded_forward coded_back) frame_parts parts_frame parts_frame-frame_parts
 
--- the code of a frame that was sent
+-- the code of a frame with its epoch
 abbrev pub coded_sent : Coded Sent
 coded_sent = code_by (ℕ × Frame) (coded× coded_ℕ coded_frame) (λ s. (s.epoch, s.frame)) (λ p. record { epoch = p.0; frame = p.1 }) (λ _. refl)
 
--- the code of a wire with its bytes and its room
+-- the code of a wire with its bytes and room
 abbrev pub coded_lane : Coded Lane
 coded_lane =
     code_by (List Sent × (ℕ × (List (List ℕ) × ℕ))) (coded× (coded_list coded_sent) (coded× coded_ℕ (coded× (coded_list (coded_list coded_ℕ)) coded_ℕ)))

@@ -8,29 +8,29 @@ use Rattle.mig_model.specs.Wire as machine
 use Rattle.page_stream.specs.Frames.{frame_of}
 use Rattle.wires.specs.declared.sent.Sent.{Sent}
 
--- the machine's word for a frame that was sent
+-- bridges a frame of the code with its epoch to the machine's
 abbrev pub sent_of : Sent → machine.Sent
 sent_of sent = record { epoch = sent.epoch; frame = frame_of sent.frame }
 
--- what callers see of it
+-- a wire as callers see it
 pub record Lane : Type 0 where
-  -- the frames in flight, and how many bytes of the first have come
+  -- the frames in flight, and the number of bytes of the first that have come
   pub wire : machine.Wire
   -- the bytes in flight, in the pieces in which they are lent
   pub pieces : List (List ℕ)
-  -- for how many frames there is room, however long they are
+  -- the number of frames for which there is room, however long they are
   pub room : ℕ
 
 -- the bytes in flight
 abbrev pub bytes_of : Lane → List ℕ
 bytes_of lane = concat lane.pieces
 
--- the bytes of the first frame that have come do not complete it, and there are none where no frame is in flight
+-- fewer bytes of the first frame have come than its text has, and none if no frame is in flight
 abbrev pub IsHeld : List machine.Sent → ℕ → Type 0
 IsHeld [] held = held ≡ 0
 IsHeld (sent ∷ rest) held = held < text_len sent.frame
 
--- so many more bytes do not complete the first frame
+-- `n` more bytes come and do not complete the first frame: they are counted
 pub record IsMoved (old : machine.Wire) (n : ℕ) (new : machine.Wire) : Type 0 where
   pub sent : machine.Sent
   pub rest : List machine.Sent
@@ -38,21 +38,21 @@ pub record IsMoved (old : machine.Wire) (n : ℕ) (new : machine.Wire) : Type 0 
   pub short : is_short old sent.frame n ≡ true
   pub moved : new ≡ machine.wire_moved old n
 
--- they complete it
+-- `n` more bytes complete the first frame, and it is `sent`
 pub record IsWhole (old : machine.Wire) (n : ℕ) (sent : Sent) : Type 0 where
   pub rest : List machine.Sent
   pub first : old.frames ≡ sent_of sent ∷ rest
   pub whole : is_short old (frame_of sent.frame) n ≡ false
 
--- they complete the first frame, whichever it is
+-- `n` more bytes complete the first frame
 pub record Completes (old : machine.Wire) (n : ℕ) : Type 0 where
   pub sent : machine.Sent
   pub rest : List machine.Sent
   pub first : old.frames ≡ sent ∷ rest
   pub whole : is_short old sent.frame n ≡ false
 
--- what comes of so many more bytes of the first frame: they are counted, or complete it, or there is no memory for the frame
--- that they complete
+-- `n` more bytes of the first frame come: they are counted, or they complete it and the wire stays as it was, or memory runs out for the
+-- frame that they complete; if nothing is in flight, nothing happens
 abbrev pub Arrives : machine.Wire → ℕ → Result (Option Sent) NoMemory → machine.Wire → Type 0
 Arrives old n (Ok None) new = ((old.frames ≡ []) × (new ≡ old)) ⊎ IsMoved old n new
 Arrives old n (Ok (Some sent)) new = IsWhole old n sent × (new ≡ old)

@@ -12,20 +12,20 @@ use page_stream::{Frame, encode_into, encode_page_into};
 use std::alloc::Global;
 use std::collections::VecDeque;
 
-/// The bytes of the longest text, that of a Package: a header, two counts and a number of processors, an area or an owed page for
-/// each page that may be mapped, and a store for each processor.
+/// The length in bytes of the longest text, that of a Package: a header, two counts and a number of processors, an area or an owed page
+/// for each page that may be mapped, and a store for each processor.
 const LONGEST_TEXT: usize = 12 + 9 + 17 * MAX_PAGES as usize + 18 * MAX_CPUS as usize;
 
-/// The least capacity of a chunk, in bytes. The kernel gives memory for what is written of it alone.
+/// The least capacity of a chunk, in bytes. The kernel supplies memory only for the part that is written.
 const CHUNK_LEN: usize = 4 * LONGEST_TEXT;
 
-/// The bytes in flight, in chunks. Each has whole texts, so that a frame is read where it was written, and no byte is moved.
+/// The bytes in flight, in chunks. Each chunk has whole texts, so a frame is read where it was written, and no byte is moved.
 #[derive(Drop)]
 pub(crate) struct Chunks {
-    /// The chunk that is read, and how many of its bytes were taken.
+    /// The chunk that is read, and the number of its bytes that were taken.
     pub(crate) reading: Vec<u8>,
     pub(crate) taken: usize,
-    /// The chunks behind it that have no room.
+    /// The chunks behind it, which are no longer written.
     pub(crate) full: VecDeque<Vec<u8>>,
     /// The chunk that is written.
     pub(crate) writing: Vec<u8>,
@@ -45,7 +45,7 @@ impl Chunks {
         }
     }
 
-    /// Whether there are none.
+    /// Whether no byte is in flight.
     pub(crate) fn is_empty(&self) -> bool
         requires { AreChunks self.now }
         ensures { result ≡ is_none_of (in_flight self.now) }
@@ -59,7 +59,7 @@ impl Chunks {
         false
     }
 
-    /// Makes room for so many frames, however long they are.
+    /// Reserves room for `count` frames, however long they are. `NoMemory` comes if it is refused; what is in flight stays either way.
     pub(crate) fn reserve(&mut self, alloc: Global, count: usize) -> Result<(), NoMemory>
         requires { AreChunks self.old }
         ensures chunks { AreChunks self.new }
@@ -75,8 +75,8 @@ impl Chunks {
         self.make_room(alloc, wanted)
     }
 
-    /// Where all bytes of the chunk that is read were taken, and none are written, it becomes the one that is written: the kernel has
-    /// given its memory.
+    /// Swaps the two chunks if all bytes of the one that is read were taken and none are written: the kernel has already supplied the
+    /// memory of that chunk.
     fn reuse(&mut self)
         requires { AreChunks self.old }
         ensures chunks { AreChunks self.new }
@@ -93,7 +93,7 @@ impl Chunks {
         std::mem::swap(&mut self.reading, &mut self.writing);
     }
 
-    /// Makes room for so many bytes.
+    /// Makes room for `wanted` bytes. `NoMemory` comes if it is refused; what is in flight stays either way.
     fn make_room(&mut self, alloc: Global, wanted: usize) -> Result<(), NoMemory>
         requires { AreChunks self.old }
         ensures chunks { AreChunks self.new }
@@ -130,7 +130,7 @@ impl Chunks {
         };
     }
 
-    /// Writes the text of a frame of one page, for which there is room, from where its bytes stand.
+    /// Writes the text of a Page, for which there is room, from where its bytes stand.
     pub(crate) fn write_page(&mut self, epoch: u32, page: PageNo, bytes: &[u8; PAGE_BYTES])
         requires chunks { AreChunks self.old }
         requires well_formed { IsFrame (machine.Frame.Page page bytes.now) }
@@ -144,7 +144,7 @@ impl Chunks {
         };
     }
 
-    /// Goes on to the next chunk where all bytes of the one that is read were taken. The first frame in flight is then in it.
+    /// Goes on to the next chunk if all bytes of the one that is read were taken. The first frame in flight is then in it.
     pub(crate) fn turn(&mut self)
         requires { AreChunks self.old }
         ensures chunks { AreChunks self.new }
@@ -164,7 +164,7 @@ impl Chunks {
         }
     }
 
-    /// The bytes that are left of the chunk that is read.
+    /// The bytes of the chunk that is read that were not taken yet.
     pub(crate) fn left(&self) -> &[u8]
         requires { AreChunks self.now }
         ensures { result.now ≡ left self.now }
@@ -173,14 +173,14 @@ impl Chunks {
         left
     }
 
-    /// In how many pieces the bytes lie. Any of them may have none.
+    /// The number of pieces in which the bytes lie. Any of them may be empty.
     pub(crate) fn pieces(&self) -> usize
         ensures { result ≡ length (pieces self.now) }
     {
         self.full.len() + 2
     }
 
-    /// One of the pieces: what is left of the chunk that is read, then each that is full, then the one that is written.
+    /// One of the pieces: the rest of the chunk that is read, then each full chunk, then the chunk that is written.
     pub(crate) fn piece(&self, index: usize) -> &[u8]
         requires chunks { AreChunks self.now }
         requires index { index < length (pieces self.now) }
@@ -195,7 +195,7 @@ impl Chunks {
         }
     }
 
-    /// Loses all bytes.
+    /// Drops all bytes. The room stays.
     pub(crate) fn clear(&mut self)
         requires { AreChunks self.old }
         ensures chunks { AreChunks self.new }

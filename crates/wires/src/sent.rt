@@ -1,4 +1,4 @@
-//! Frames that were sent.
+//! Frames in flight.
 
 use page_stream::Frame;
 

@@ -1,4 +1,4 @@
-//! The type that callers see.
+//! A wire: the type that callers see.
 
 ghost use Rattle.std.specs.Prelude.{◌≡◌, ◌+◌, ◌<◌, ◌≤◌, ◌++◌, ◌∷◌, [], length, slice_index_or, take, None, IfOk, OnOk, List};
 ghost use Rattle.std.specs.List.{AllByRecursion};
@@ -21,15 +21,15 @@ use page_stream::Frame;
 use std::alloc::Global;
 use std::marker::Model;
 
-/// One way between the nodes: the frames in flight, in the order in which they were sent, and how many bytes of the first have come,
-/// fewer than its text has. Each frame is well formed.
+/// One direction of the channel: the frames in flight, in the order in which they were sent, and the number of bytes of the first that
+/// have come, fewer than its text has. Each frame is well formed.
 ///
 /// The wire holds bytes alone, the texts of version 2 of its frames, one after the other; [`piece`](Wire::piece) lends them. A frame is
-/// written as it is sent, and read where it stands once its last byte has come. The wire has no [`Decoder`](frame_decoder::Decoder): one
-/// that is fed its bytes, cut anywhere, answers the same frames.
+/// written as it is sent, and read in place once its last byte has come. The wire has no [`Decoder`](frame_decoder::Decoder), but one
+/// that is fed its bytes, cut anywhere, returns the same frames.
 ///
-/// Room is for the frames that are pushed next. [`arrive`](Wire::arrive) and [`drop_first`](Wire::drop_first) may leave less of it, so
-/// whoever sends makes it again first.
+/// A sender reserves room for the frames that it pushes next. [`arrive`](Wire::arrive) and [`drop_first`](Wire::drop_first) may leave
+/// less room, so it reserves right before it sends.
 #[derive(Drop)]
 pub struct Wire {
     alloc: Global,
@@ -70,8 +70,8 @@ impl Wire {
         self.chunks.is_empty()
     }
 
-    /// In how many pieces the bytes in flight lie. Joined they are the texts of the frames in flight, in version 2 and in order; a decoder
-    /// that is fed them, cut anywhere, answers these frames and no fault, and holds no byte then.
+    /// The number of pieces in which the bytes in flight lie. Joined they are the texts of the frames in flight, in version 2 and in
+    /// order; a decoder that is fed them, cut anywhere, returns these frames and no fault, and then holds no byte.
     pub fn pieces(&self) -> usize
         ensures count { result ≡ length self.now.pieces }
         ensures texts { bytes_of self.now ≡ texts Two self.now.wire.frames }
@@ -89,8 +89,8 @@ impl Wire {
         self.chunks.piece(index)
     }
 
-    /// How many bytes have come, of the first frame in flight and too few for it: a decoder that is fed these holds them, and answers
-    /// nothing.
+    /// The number of bytes of the first frame in flight that have come, fewer than its text has: a decoder that is fed these holds them,
+    /// and returns no frame.
     pub fn held(&self) -> u64
         ensures count { result ≡ self.now.wire.held }
         ensures short { IsHeld self.now.wire.frames self.now.wire.held }
@@ -99,7 +99,7 @@ impl Wire {
         self.held
     }
 
-    /// Makes room for so many frames, however long they are. `NoMemory` where the room was refused; what is in flight stays either way.
+    /// Reserves room for `count` frames, however long they are. `NoMemory` comes if it is refused; what is in flight stays either way.
     pub fn reserve(&mut self, count: usize) -> Result<(), NoMemory>
         ensures stays { self.new.wire ≡ self.old.wire }
         ensures bytes { bytes_of self.new ≡ bytes_of self.old }
@@ -108,7 +108,7 @@ impl Wire {
         self.chunks.reserve(self.alloc, count)
     }
 
-    /// Sends a frame, for which there is room: its bytes are written at the end.
+    /// Sends a well-formed frame, for which there is room: its bytes are written at the end.
     pub fn push(&mut self, epoch: u32, frame: Frame)
         requires well_formed { IsFrame (frame_of frame) }
         requires room { 0 < self.old.room }
@@ -119,7 +119,7 @@ impl Wire {
         self.chunks.write(epoch, &frame);
     }
 
-    /// The same of a frame of one page, whose bytes are written from where they stand.
+    /// The same for a Page, whose bytes are written from where they stand.
     pub fn push_page(&mut self, epoch: u32, page: PageNo, bytes: &[u8; PAGE_BYTES])
         requires well_formed { IsFrame (machine.Frame.Page page bytes.now) }
         requires room { 0 < self.old.room }
@@ -130,11 +130,11 @@ impl Wire {
         self.chunks.write_page(epoch, page, bytes);
     }
 
-    /// `n` more bytes of the first frame come. Unless they complete it, they are counted, and the answer is `None`. Else it is the frame,
-    /// read from its bytes, and the wire is as before until [`drop_first`](Wire::drop_first): whoever cannot take the frame lets it come
-    /// again. Where nothing is in flight the answer is `None`.
+    /// Lets `n` more bytes of the first frame come. Unless they complete it, they are counted, and the result is `None`. If they do, the
+    /// result is the frame, read from its bytes, and the wire is as before until [`drop_first`](Wire::drop_first): a receiver that cannot
+    /// take the frame lets it come again. If nothing is in flight, the result is `None`.
     ///
-    /// `NoMemory` is for the frame that is read, so it comes only where the bytes complete one, and leaves the wire as it was.
+    /// `NoMemory` comes if memory for the frame is refused, so only if the bytes complete one. It leaves the wire as it was.
     pub fn arrive(&mut self, n: u64) -> Result<Option<Sent>, NoMemory>
         ensures arrived { Arrives self.old.wire n result self.new.wire }
         ensures bytes { bytes_of self.new ≡ bytes_of self.old }
@@ -157,7 +157,7 @@ impl Wire {
         }
     }
 
-    /// Takes the first frame, and all bytes of it that have come, off the wire.
+    /// Removes the first frame from the wire, with all of its bytes. If nothing is in flight, nothing changes.
     pub fn drop_first(&mut self)
         ensures first { (sent : machine.Sent) (rest : List machine.Sent) → self.old.wire.frames ≡ sent ∷ rest → self.new.wire ≡ machine.wire_behind rest }
         ensures bytes { (sent : machine.Sent) (rest : List machine.Sent) → self.old.wire.frames ≡ sent ∷ rest → bytes_of self.old ≡ written.text written.Version.Two sent.epoch sent.frame ++ bytes_of self.new }
@@ -172,7 +172,7 @@ impl Wire {
         self.held = 0;
     }
 
-    /// Loses all that is in flight: the channel breaks.
+    /// Drops all that is in flight: the channel breaks. The room stays.
     pub fn clear(&mut self)
         ensures wire { self.new.wire ≡ machine.empty_wire }
         ensures bytes { bytes_of self.new ≡ [] }

@@ -13,6 +13,7 @@ use Rattle.mig_model.specs.Wire.Frame.{Resume}
 use Rattle.mig_model.specs.Wire.{Wire, wire_with}
 use Rattle.precopy.specs.Answers.{next_count}
 use Rattle.recovery.specs.Breaks.{answered_with, broken_world}
+use Rattle.world.specs.Answers.{resume_answer}
 use Rattle.world.proofs.StepLemmas.{happens_made, happens_refused}
 
 -- whether a migration has not begun, or is complete
@@ -72,6 +73,22 @@ pub noticed_destination : (world : World) (destination : Destination) (result : 
 noticed_destination world destination (Ok effect) down h same = happens_made world (record world { destination = destination }) (Step.Notice Side.Destination) effect (notice_in world Side.Destination down ∙ ap (with_nodes world) h)
 noticed_destination world destination (Err refusal) down h same = rw same (happens_refused world (Step.Notice Side.Destination) refusal (notice_refused world Side.Destination refusal down h))
 
+pub break_ok : (world : World) → is_outside world ≡ false → not world.up ≡ false → IsOk (outcome world Step.Break)
+unfolding unless outcome
+break_ok world h up = grind (arith, nat_tests)
+
+pub break_answer : (world : World) → IsOk (outcome world Step.Break) → answer world Step.Break ≡ made Effect.Broken (after_break world)
+unfolding unless outcome
+break_answer world ok = grind (arith, nat_tests)
+
+pub notice_ok : (world : World) (side : Side) → is_outside world ≡ false → is_paused_at world side ≡ false → world.up ≡ false → IsOk (outcome world (Step.Notice side))
+unfolding unless outcome
+notice_ok world side h paused down = grind (arith, nat_tests)
+
+pub notice_down : (world : World) (side : Side) → IsOk (outcome world (Step.Notice side)) → world.up ≡ false
+unfolding unless outcome
+notice_down world side ok = grind (arith, nat_tests)
+
 -- Resume
 
 pub resume_source : (world : World) → not (is_paused_at world Side.Source) ≡ true → outcome world Step.Resume ≡ Err Refusal.Phase
@@ -125,3 +142,23 @@ resume_done world epoch source wire from to down h is sent =
     (resume_made world from to down (left_by world.source.epoch epoch h)
     ∙ (λ i. made (Effect.Resumed (e i)) (record world { source = record world.source { epoch = e i; urgent_sent = 0 }; forward = wire_with world.forward (e i) (Resume ∷ []); up = true }))
     ∙ (λ i. made (Effect.Resumed epoch) (record world { source = sym is i; forward = sym sent i; up = true })))
+
+-- what is known of a world in which both sides can go on
+pub record CanResume (world : World) (epoch : ℕ) : Type 0 where
+  pub from : not (is_paused_at world Side.Source) ≡ false
+  pub to : not (is_paused_at world Side.Destination) ≡ false
+  pub down : world.up ≡ false
+  pub free : next_count world.source.epoch ≡ Ok epoch
+
+pub can_resume : (world : World) (epoch : ℕ) → resume_answer world ≡ Ok epoch → CanResume world epoch
+can_resume world epoch h = grind (arith, nat_tests)
+
+resume_by : (world : World) (refusal : Refusal) → resume_answer world ≡ Err refusal → outcome world Step.Resume ≡ Err refusal
+unfolding unless outcome
+resume_by world refusal h = grind (arith, nat_tests)
+
+pub resume_refused : (world : World) (refusal : Refusal) → resume_answer world ≡ Err refusal → outcome world Step.Resume ≡ Err refusal
+resume_refused world refusal h = resume_by world refusal h
+
+pub resume_could : (world : World) (epoch : ℕ) → resume_answer world ≡ Ok epoch → IsOk (outcome world Step.Resume)
+resume_could world epoch h = let can = can_resume world epoch h in resume_ok world epoch can.from can.to can.down can.free

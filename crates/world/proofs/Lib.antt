@@ -3,9 +3,11 @@ pub mod CommandLemmas
 pub mod DeliveryLemmas
 pub mod FlightLemmas
 pub mod HeadlineLemmas
+pub mod PieceLemmas
 pub mod RunLemmas
 pub mod SendingLemmas
 pub mod StepLemmas
 pub mod UrgentLemmas
+pub mod WouldLemmas
 pub mod NewLemmas
 pub mod WithinLemmas

@@ -23,6 +23,6 @@ made_by : {A : Type 0} (b : Bool) (made : A) → ((Ok made ≡ Err NewFault.NoCp
 made_by true made h = refl
 made_by false made h = grind arith
 
--- a node of so many processors was made
+-- a node of this number of processors was made
 pub count_made : {A : Type 0} {made : A} (cpus : ℕ) → ((Ok made ≡ Err NewFault.NoCpu) ↔ (is_count cpus ≡ false)) → is_count cpus ≡ true
 count_made {A} {made} cpus h = made_by (is_count cpus) made h

@@ -38,7 +38,7 @@ lacks_by : (step : Step) (result : Outcome) → IsOk result → needs_always ste
 lacks_by step (Ok effect) ok needs = grind (arith, nat_tests)
 lacks_by step (Err refusal) ok needs = absurd (false≢true ok)
 
--- want of memory
+-- a step that runs out of memory
 pub happens_lacking : (world : World) (step : Step) → IsOk (outcome world step) → needs_always step ≡ true → Happens world step (Err Refusal.NoMemory) world
 happens_lacking world step ok needs = inr (refl, lacks_by step (outcome world step) ok needs, refl)
 

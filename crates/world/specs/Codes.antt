@@ -1,4 +1,4 @@
--- How a proof tells worlds apart, for models that contain them.
+-- Codes of worlds, by which a proof distinguishes the values of models that contain them.
 use Rattle.std.specs.Prelude.{ℕ, Bool, List, refl}
 use Rattle.std.specs.Coded.{Coded, code_by, coded×, coded_ℕ, coded_bool, coded_list}
 use Rattle.mig_base.specs.contracts.command.Entry as entry
@@ -19,6 +19,7 @@ coded_wire = code_by (List Sent × ℕ) (coded× (coded_list coded_sent) coded_�
 abbrev pub Wires : Type 0
 Wires = Wire × (Wire × Wire)
 
+-- the code of the three wires
 abbrev pub coded_wires : Coded Wires
 coded_wires = coded× coded_wire (coded× coded_wire coded_wire)
 

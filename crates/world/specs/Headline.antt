@@ -1,12 +1,12 @@
--- What is promised of every world, whatever list of steps has led to it: by processors, handlers, pushers and deliveries, lost channels and
--- resumptions. The transcript is the run of one flat memory on the same commands, in the order in which they took effect; no page is
--- installed over one that is present; and when the migration is complete, the destination alone holds that flat memory, and no page is owed.
+-- The promises for every world, whatever list of steps has led to it: of processors, handlers, pushers and deliveries, breaks and resumes.
+-- The transcript is the run of one flat memory on the same commands, in the order in which they took effect; no page is installed over one
+-- that is present; and once the migration is complete, the destination alone holds that flat memory, and no page is owed.
 --
--- `reached` carries what the laws of mig_model/src/migration.rt say of every such world, and what stands in them alone: no frame is
--- refused (no_frame_is_refused); a page that is pushed does not come to remain again in its epoch (pages_that_remain); how a command comes
--- to wait and ends (a_waiting_command), what is entered (what_is_entered) and which reply a map call gets (replies_of_map_calls); each step
+-- `reached` brings the laws of mig_model/src/migration.rt, which hold for every such world. Some of them stand only there: no frame is
+-- refused (no_frame_is_refused); a page that is pushed does not remain again in its epoch (pages_that_remain); how a command begins to
+-- wait and ends (a_waiting_command), what is entered (what_is_entered) and the reply of a map call (replies_of_map_calls); each step
 -- changes only its own parts (each_step_changes_its_parts, a_delivery_is_a_function); the wires keep their order (the_wires); completion
--- comes exactly by Done, or by a Recv of a destination that has ended (completion), and can be brought about (a_migration_can_complete).
+-- comes exactly by Done, or by a Recv of a destination that has ended (completion), and can be reached (a_migration_can_complete).
 use Rattle.std.specs.Prelude.{◌≡◌, ℕ, ◌/◌, ◌==◌, true, false, if◌then◌else◌, None, Ok, IsOk, List}
 use Rattle.mig_base.specs.Commands.{is_access}
 use Rattle.mig_base.specs.Flat.{IsFlatRun, memory_of, reply_of}
@@ -24,8 +24,8 @@ use Rattle.mig_model.specs.Promises.{AreUnderWay, ArePaired, IsAlone, IsComplete
 use Rattle.mig_model.specs.Source.{is_precopy, is_source_paused, is_stopped, space_of}
 use Rattle.mig_model.specs.Views.{phase_of}
 
--- the next step installs nothing over a page that is present, neither a copy, which is that of the page from which it was owed, nor a page of
--- zeros
+-- the next step installs nothing over a page that is present: neither a copy, which is that of the page from which it was owed, nor a
+-- page of zeros
 pub record InstallsNothingOver (world : World) : Type 0 where
   pub copy : (addr source : ℕ) → outcome world Step.Install ≡ Ok (Effect.Installed addr source) → IsPut world (next world Step.Install) (addr / PAGE_SIZE) (source / PAGE_SIZE)
   pub source_zero : (addr : ℕ) → outcome world Step.SourceAct ≡ Ok (Effect.Zeroed addr) → IsZeroed (space_of world.source) (space_of (next world Step.SourceAct).source) (addr / PAGE_SIZE)
@@ -36,8 +36,8 @@ pub record IsMoved (world : World) : Type 0 where
   pub alone : IsAlone world
   pub stays : (steps : List Step) → IsComplete (after_steps world steps) × IsAlone (after_steps world steps)
 
--- where the destination has run, the next step changes which page of the source is owed where, once the unread events are applied, only as
--- it changes the pages: a map call by what it does to its range, an install by its own pair, and no other step at all
+-- once the destination has run, the next step changes the settled relation, which page is owed which page of the source, only as it
+-- changes the pages: a map call by its effect on its range, an install by its own pair, and no other step at all
 pub record SettlesRight (world : World) : Type 0 where
   pub call : (cpu : ℕ) (command : Command) (page : ℕ) → world.destination.has_run ≡ true → is_access command ≡ false → IsOk (outcome world (Step.Issue cpu command)) →
       settled (next world (Step.Issue cpu command)).destination page ≡ owed_changed (settled world.destination) command (reply_of (memory world.destination.guest.space.host) command) page
@@ -46,25 +46,26 @@ pub record SettlesRight (world : World) : Type 0 where
   pub dropped : (source page : ℕ) → outcome world Step.Install ≡ Ok (Effect.Dropped source) → settled (next world Step.Install).destination page ≡ settled world.destination page
   pub others : (step : Step) (page : ℕ) → world.destination.has_run ≡ true → leaves_settled step ≡ true → settled (next world step).destination page ≡ settled world.destination page
 
+-- everything that is promised of a world
 pub record Headline (world : World) : Type 0 where
   -- some list of steps leads to it from a first world, so every law of such worlds speaks of it
   pub reached : IsReached world
-  -- the three sentences
+  -- the three sentences at the head of this file
   pub flat : IsFlatRun world.transcript
   pub installs : InstallsNothingOver world
   pub complete : phase_of world ≡ WorldPhase.Complete → IsMoved world
-  -- what the guest sees is the last memory of the transcript
+  -- the guest's memory is the last memory of the transcript
   pub current : memory (current_host world) ≡ memory_of world.transcript
-  -- what is owed follows the pages
+  -- the settled relation changes by map calls and installs alone
   pub settles : SettlesRight world
   -- from the run on, each owed page is still to be pushed, in flight or arrived, with the source's bytes
   pub under_way : world.destination.has_run ≡ true → AreUnderWay world
   -- before the run as well, each copy on the urgent wire has the source's bytes
   pub urgent : AreFaithful (space_of world.source).host.bytes (copies_of world.urgent.frames)
-  -- between Switch and the run, what will be kept is what the source has and does not owe
+  -- between Switch and the run, the destination will have kept exactly the source's pages that are not owed
   pub packaged : world.up ≡ true → is_stopped world.source.phase ≡ true → world.destination.has_run ≡ false →
       IsSwitching world.source world.destination.kept world.forward.frames world.urgent.frames
-  -- after a resumption, the list of the destination has each page that it still needs, and the source has all of them
+  -- after a Resume, the Recv of the destination lists each page that it still needs, and the source has all of them
   pub received : world.up ≡ true → is_source_paused world.source.phase ≡ true → is_running world.destination.phase ≡ true →
       IsReceiving world.source world.destination Received.Running world.back.frames
   -- during pre-copy, the newest copy of a clean page is the source's page

@@ -1,4 +1,4 @@
--- What every world keeps, whatever steps are made, and the machine's word for a world of the code.
+-- The invariant of every world, and the bridge from a world of the code to the machine's.
 use Rattle.std.specs.Prelude.{length}
 use Rattle.mig_model.specs.Bounds.{IsCpuCount}
 use Rattle.mig_model.specs.Migration.{World}
@@ -10,7 +10,7 @@ pub record IsWorld (world : World) : Type 0 where
   pub reached : IsReached world
   pub count : IsCpuCount (length world.source.guest.cpus)
 
--- the machine's world of the parts
+-- bridges the parts of a world of the code to the machine's world
 abbrev pub world_of : Parts → World
 world_of parts =
     record {

@@ -1,4 +1,4 @@
-//! What is told of a frame that a node takes, what it answers, and frames that are put on a wire.
+//! How the nodes of a world take frames, and frames that are put on a wire.
 
 ghost use Rattle.std.specs.Prelude.{◌≡◌, ◌≤◌, ◌<◌, ◌+◌, ◌++◌, true, None, length, map, option_to_list, unwrap_or, IfOk, IfErr, OnOk, OnErr};
 ghost use Rattle.std.specs.FinSet.{FinSet};
@@ -28,7 +28,7 @@ use recovery::{rebuild, report_received, rerequest};
 use std::alloc::Global;
 use wires::{Sent, Wire};
 
-/// The destination takes a frame, and answers it on the wire back. A frame that it does not take now changes nothing.
+/// The destination takes a frame, and sends its answers on the wire back. A frame that it refuses changes nothing.
 pub(crate) fn receive(
     alloc: Global,
     destination: &mut Destination,
@@ -60,7 +60,7 @@ pub(crate) fn receive(
     }
 }
 
-/// The destination takes a frame of the urgent wire. Where there is no memory for it, nothing is changed.
+/// The destination takes a frame of the urgent wire. `NoMemory` changes nothing.
 pub(crate) fn receive_urgent(destination: &mut Destination, sent: Sent) -> Result<Effect, NoMemory>
     requires frame { IsFrame (frame_of sent.frame) }
     requires right { urgent_fault destination.old sent.epoch (frame_of sent.frame) ≡ None }
@@ -75,7 +75,7 @@ pub(crate) fn receive_urgent(destination: &mut Destination, sent: Sent) -> Resul
     }
 }
 
-/// The source takes a frame that came back: the frames that it sends then. Want of memory changes nothing.
+/// The source takes a frame that came back. Returns the frames that it sends then. `NoMemory` changes nothing.
 pub(crate) fn hear(alloc: Global, source: &mut Source, sent: &Sent) -> Result<Vec<Frame>, NoMemory>
     requires right { back_fault source.old sent.now.epoch (frame_of sent.now.frame) ≡ None }
     requires recv { (state : Received) (owed : FinSet nat_cmp) → frame_of sent.now.frame ≡ machine.Frame.Recv state owed → rebuild_fault source.old state owed ≡ None }
@@ -95,8 +95,8 @@ pub(crate) fn hear(alloc: Global, source: &mut Source, sent: &Sent) -> Result<Ve
     }
 }
 
-/// What the destination answers a frame, apart from what it answers as it takes it: to a Resume, how far it has come and its requests once
-/// more.
+/// The frames that the destination sends back for a frame, beside those that it returns when it takes the frame: for a Resume its Recv,
+/// and its requests once more.
 fn answers_to(
     alloc: Global,
     destination: &Destination,
@@ -110,7 +110,7 @@ fn answers_to(
     }
 }
 
-/// How far the destination has come, and behind it, where it runs, its requests once more.
+/// The Recv of the destination, and behind it, if it runs, its requests once more.
 fn report(alloc: Global, destination: &Destination) -> Result<Vec<Frame>, NoMemory>
     ensures { IfOk result (λ answers. frames_of answers.items ≡ to.destination_answers destination.now machine.Frame.Resume) }
 {
@@ -123,7 +123,7 @@ fn report(alloc: Global, destination: &Destination) -> Result<Vec<Frame>, NoMemo
     Ok(requests)
 }
 
-/// Puts frames on a wire that has room for them, in their order.
+/// Puts frames, in their order, on a wire that has room for them.
 pub(crate) fn push_all(wire: &mut Wire, epoch: u32, mut frames: Vec<Frame>)
     requires good { AreFrames (frames_of frames.items) }
     requires room { length frames.items ≤ wire.old.room }
@@ -136,7 +136,7 @@ pub(crate) fn push_all(wire: &mut Wire, epoch: u32, mut frames: Vec<Frame>)
     }
 }
 
-/// Puts a frame of the destination on a wire that has room for it, if there is one; while the link is down it is lost.
+/// Puts the frame of the destination, if any, on a wire that has room for it; while the link is down it is lost.
 pub(crate) fn send_back(wire: &mut Wire, up: bool, epoch: u32, frame: Option<Frame>)
     requires good { up ≡ true → AreFrames (map frame_of (option_to_list frame)) }
     requires room { 0 < wire.old.room }
@@ -148,7 +148,7 @@ pub(crate) fn send_back(wire: &mut Wire, up: bool, epoch: u32, frame: Option<Fra
     }
 }
 
-/// What is told of a frame that a node takes.
+/// The effect of a node's taking a frame.
 pub(crate) fn told(frame: &Frame) -> Effect
     requires { IsFrame (frame_of frame.now) }
     ensures { result ≡ frame_effect (frame_of frame.now) }
@@ -180,8 +180,8 @@ pub(crate) fn told(frame: &Frame) -> Effect
     }
 }
 
-/// How a delivery is refused whose frame the destination does not take now. No frame in a world has another fault than the two for
-/// which it waits, so what is left is that memory was refused.
+/// The refusal of a delivery whose frame the destination does not take. In a world a frame has no other fault than the two that make it
+/// wait, so any other refusal is for lack of memory.
 fn refusal_of(fault: TakeFault) -> Refusal
     ensures { result ≡ unwrap_or (waiting_refusal fault) Refusal.NoMemory }
 {

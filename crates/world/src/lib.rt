@@ -1,20 +1,22 @@
 //! The world of a migration: the two nodes, the three wires between them, and the transcript.
 //!
-//! [`World::step`] makes one step of a processor, a fault handler, a pusher, a delivery, a break or a resumption, and [`World::run`] makes
-//! steps in turn. Whoever calls chooses the schedule; a world never chooses. Each node changes by its own calls alone, and what one tells
-//! the other goes over a wire: a step first asks its node whether it would be made, then makes room on the wire, then has the node make
-//! it, and puts on the wire what the node sends, which takes no memory then.
+//! [`World::step`] makes one step: of a processor, a fault handler or a pusher, a delivery, a break or a resume. [`World::run`] makes
+//! steps in turn. The caller chooses the schedule; a world never chooses. Each node changes by its own calls alone, and the nodes
+//! communicate over the wires alone. A step first asks its node whether it would be made, then reserves room on the wire, then has the
+//! node make it, and puts on the wire what the node sends, which then takes no memory.
 //!
-//! Contracts see a world as the machine's (`mig_model`, `specs/Migration.antt`): a step answers and leaves what the machine's does, or
-//! wants for memory and changes nothing. Every world is one that some list of steps leads to, so every law about such worlds speaks of
-//! each: `specs/Headline.antt` has them in one record, which [`World::step`], [`World::run`] and [`World::headline`] promise.
+//! Contracts see a world as the machine's (`mig_model`, `specs/Migration.antt`): a step returns the machine's effect or refusal and leaves
+//! the machine's next world, or it runs out of memory and changes nothing. Every world is reached by some list of steps, so every law of
+//! such worlds holds for it: `specs/Headline.antt` has them in one record, which [`World::step`], [`World::run`] and
+//! [`World::headline`] promise.
 //!
-//! The modules follow: `parts` (the parts of a world, and the steps that they make, by kind), `frames` (what is told of a frame, and frames
-//! that are put on a wire), `world` (the type that callers see).
+//! The modules: `parts` (the parts of a world, and their steps, by kind), `frames` (how a node takes a frame, and frames that are put on a
+//! wire), `world` (the type that callers see).
 #![tactic(auto)]
 
 mod frames;
 mod parts;
+pub mod prelude;
 pub mod world;
 
 pub use crate::world::World;

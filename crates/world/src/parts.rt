@@ -1,4 +1,4 @@
-//! The parts of a world, and the step that they make.
+//! The parts of a world, and their steps.
 
 ghost use Rattle.std.specs.Prelude.{◌≡◌};
 ghost use Rattle.mig_model.specs.Migration.{guest_of, runs};
@@ -11,6 +11,7 @@ mod deliveries;
 mod handlers;
 mod pushes;
 mod rounds;
+mod would;
 
 use fault_handler::Destination;
 use mig_base::Entry;
@@ -22,7 +23,7 @@ use std::alloc::Global;
 use vcpu::Cpus;
 use wires::Wire;
 
-/// The parts of a world. Their invariant is the world's: each step asks for it, and keeps it by being the machine's.
+/// The parts of a world. Their invariant is the world's: each step requires it, and keeps it because the step is the machine's.
 #[derive(Drop)]
 pub(crate) struct Parts {
     pub(crate) alloc: Global,
@@ -67,7 +68,7 @@ impl Parts {
         }
     }
 
-    /// The processors of the guest, where it runs.
+    /// The processors of the guest: at the destination once that has run, and at the source before.
     pub(crate) fn cpus(&self) -> &Cpus
         ensures { result.now ≡ (guest_of (world_of self.now)).cpus }
     {

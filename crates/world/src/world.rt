@@ -1,11 +1,11 @@
-//! The type that callers see.
+//! A world: the type that callers see.
 
 ghost use Rattle.std.specs.Prelude.{◌≡◌, ◌↔◌, ◌==◌, ◌||◌, nat_lt, true, false, Ok, Err, ◌⊎◌, IfOk, IfErr, OnErr, All, ◌<◌, length};
 ghost use Rattle.mig_base.specs.Flat.{IsFlatRun};
 ghost use Rattle.mig_model.specs.Runs.{Happens, IsRun};
 ghost use Rattle.mig_model.specs.Views.{new_world_with};
 ghost use Rattle.vcpu.specs.Answers.{is_count};
-ghost use Rattle.world.specs.Answers.{new_refusal};
+ghost use Rattle.world.specs.Answers.{IsAnswered, new_refusal};
 ghost use Rattle.world.specs.Headline.{Headline};
 
 mod views;
@@ -22,17 +22,17 @@ use std::marker::Model;
 use vcpu::NewFault;
 use wires::Wire;
 
-/// The world of a migration: a guest of 1 to 16 processors, a source and a destination, the wire between them, the wire back, the urgent wire
-/// for pages that were asked for, and the transcript.
+/// The world of a migration: a guest of 1 to 16 processors, a source and a destination, the wire to the destination, the wire back, the
+/// urgent wire for pages that were requested, and the transcript.
 ///
 /// After every list of steps the transcript is the run of one flat memory on the same commands, in the order in which they took effect; no
-/// page is installed over one that is present; and once the migration is complete the destination alone holds that flat memory, and no
+/// page is installed over one that is present; and once the migration is complete, the destination alone holds that flat memory, and no
 /// page is owed.
 pub struct World {
     parts: Parts,
 }
 
-// (written, so that each exit of a function that owns a world has one call, and not the dropping of all its parts)
+// Written by hand, so that each exit of a function that owns a world has one call instead of the drops of all parts.
 impl Drop for World {
     fn drop(self) {
         let World { parts: _parts } = self;
@@ -54,7 +54,7 @@ impl Model for World {
 }
 
 impl World {
-    /// A world in which nothing has happened, of `cpus` idle processors. `NoCpu` exactly where `cpus` is not 1 to 16; else the only
+    /// A world of `cpus` idle processors in which nothing has happened. `NoCpu` comes exactly if `cpus` is not 1 to 16; the only other
     /// refusal is `NoMemory`.
     pub fn new(alloc: Global, cpus: u8) -> Result<World, Refusal>
         ensures ok { IfOk result (λ world. new_world_with cpus 0 0 ≡ Ok world) }
@@ -65,7 +65,7 @@ impl World {
         World::with_counts(alloc, cpus, 0, 0)
     }
 
-    /// The same, where the epoch and the number of rounds stand at these counts.
+    /// The same, with these counts as the epoch and the number of rounds.
     pub fn with_counts(alloc: Global, cpus: u8, epoch: u32, rounds: u32) -> Result<World, Refusal>
         ensures ok { IfOk result (λ world. new_world_with cpus epoch rounds ≡ Ok world) }
         ensures refused { IfErr result (λ refusal. (refusal ≡ Refusal.NoMemory) ⊎ (new_world_with cpus epoch rounds ≡ Err refusal)) }
@@ -94,9 +94,9 @@ impl World {
         })
     }
 
-    /// Makes one step, and answers its effect. A step that is refused changes nothing; where several refusals apply the first is
-    /// answered, in the order of [`Refusal`]. `NoMemory` comes after all others, but that a Deliver may answer it where its frame would have to
-    /// wait; Break, Notice and Serve never do. The same step may be made again.
+    /// Makes one step, and returns its effect. A step that is refused changes nothing, and may be made again. If several refusals apply,
+    /// the first in the order of [`Refusal`] counts. `NoMemory` comes after all others, with one exception: a Deliver whose frame would
+    /// have to wait may return it. Break, Notice and Serve never return it.
     pub fn step(&mut self, step: Step) -> Result<Effect, Refusal>
         ensures happens { Happens self.old step result self.new }
         ensures headline { Headline self.new }
@@ -104,8 +104,16 @@ impl World {
         self.parts.step(step)
     }
 
-    /// Makes steps in turn, and answers the outcome of each. It goes on after a step that is refused. Where it answers `NoMemory` itself,
-    /// no step was made.
+    /// How [`World::step`] would refuse a step, memory aside: the refusal exactly where the machine refuses the step with it, and `Ok`
+    /// else. It changes nothing, takes no memory, and walks over no pages and no frames.
+    pub fn would(&self, step: Step) -> Result<(), Refusal>
+        ensures { IsAnswered self.now step result }
+    {
+        self.parts.would(step)
+    }
+
+    /// Makes steps in turn, and returns the outcome of each. It goes on after a step that is refused. If the call itself returns
+    /// `NoMemory`, no step was made.
     pub fn run(
         &mut self,
         alloc: Global,
@@ -124,14 +132,14 @@ impl World {
         Ok(outcomes)
     }
 
-    /// What is promised of every world, as a call that does nothing.
+    /// A law: the promises for every world. The call does nothing.
     pub fn headline(&self)
         ensures { Headline self.now }
     {
         let _ = &self.parts;
     }
 
-    /// The commands that took effect, in that order, with their replies. Each is of a processor that the guest has.
+    /// The commands that took effect, in that order, with their replies. Each is a command of one of the guest's processors.
     pub fn transcript(&self) -> &[Entry]
         ensures entries { result.now ≡ self.now.transcript }
         ensures flat { IsFlatRun result.now }
@@ -141,7 +149,7 @@ impl World {
     }
 }
 
-/// How a world is refused that cannot be made.
+/// The refusal of a new world whose source or destination cannot be made.
 fn refusal_of(fault: NewFault) -> Refusal
     ensures { result ≡ new_refusal fault }
 {

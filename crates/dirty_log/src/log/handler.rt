@@ -1,4 +1,4 @@
-//! What the source's handler makes of a log: messages that are read, and faults that are resolved.
+//! How the source's handler changes a log: it reads messages and resolves faults.
 
 ghost use Rattle.std.specs.Prelude.{◌≡◌, ℕ, ◌*◌, ◌⊎◌, List, ◌∷◌, Some, None, Err, IfOk, IfErr, OnOk, OnErr};
 ghost use Rattle.std.specs.Option.{IsSome};
@@ -23,9 +23,9 @@ use uffd_ioctl::Space;
 use vcpu::Cpus;
 
 impl DirtyLog {
-    /// Reads the next message, and answers what was read. A page fault is held. The pages of an event are neither clean nor to be sent,
-    /// those that sleep on pages that are gone are woken, and with the last message of its call the processor is handed its reply.
-    /// Refused as `NothingThere` where no message waits.
+    /// Reads the next message, and returns the effect. A page fault is held. The pages of an event are neither clean nor still to be sent;
+    /// processors that sleep on pages that are gone or have moved away are woken; and with the last message of its map call the calling
+    /// processor is handed its reply. Refused with `NothingThere` if there is no message, with `NoMemory` if a page fault cannot be held.
     pub fn read(&mut self, space: &mut Space, cpus: &mut Cpus) -> Result<Effect, Refusal>
         requires { IsLent space.old }
         ensures answer { (result ≡ read_answer (record { space = space.old; cpus = cpus.old }) (next_message space.old.object)) ⊎ ((result ≡ Err Refusal.NoMemory) × IsSome (next_message space.old.object)) }
@@ -50,7 +50,7 @@ impl DirtyLog {
         Ok(effect)
     }
 
-    /// Holds a message if it is a page fault.
+    /// Holds a message if it is a page fault. `NoMemory` changes nothing.
     fn hold(&mut self, message: Message) -> Result<(), NoMemory>
         ensures ok { OnOk result (self.new ≡ record self.old { held = guest.held_after self.old.held message }) }
         ensures memory { OnErr result (guest.fault_count message ≡ 1) }
@@ -62,8 +62,9 @@ impl DirtyLog {
         Ok(())
     }
 
-    /// Resolves the first fault that is held, by what its page is now, and wakes those that sleep on the page: what was made of it, and
-    /// the address of its page. Refused as `NothingThere` where no fault is held, and as `Changing` while an event is unread.
+    /// Resolves the first held fault according to the present state of its page, and wakes the processors that sleep on the page.
+    /// Returns how it was resolved, and the address of the page. Refused with `NothingThere` if no fault is held, with `Changing`
+    /// while an event is unread, and with `NoMemory` if a missing page cannot be made zeros.
     pub fn act(&mut self, space: &mut Space, cpus: &mut Cpus) -> Result<(Act, Addr), Refusal>
         requires lent { IsLent space.old }
         ensures accepted { OnOk result (act_refusal self.old space.old ≡ None) }

@@ -1,4 +1,4 @@
-//! What a round of pre-copy makes of a log: which pages it has to send, and each page that is sent.
+//! How a round of pre-copy changes a log: which pages it has to send, and sending them.
 
 ghost use Rattle.std.specs.Prelude.{◌≡◌, ◌+◌, ◌<◌, ◌≤◌, ◌↔◌, true, Some, None, IfOk, IfErr, OnOk, OnErr};
 ghost use Rattle.std.specs.Borrow.{sem};
@@ -30,7 +30,7 @@ use mig_base::{HIGH_PAGE, NoMemory, PageBytes, PageNo, PageSet};
 use uffd_ioctl::Space;
 
 impl DirtyLog {
-    /// Registers every mapped page for missing faults and for write-protect faults, by the areas of the space.
+    /// Registers every mapped page for missing faults and for write-protect faults, area by area. `NoMemory` changes nothing.
     pub fn register_new(&self, space: &mut Space) -> Result<(), NoMemory>
         requires { IsLent space.old }
         ensures ok { OnOk result (space.new ≡ all_registered space.old) }
@@ -40,7 +40,7 @@ impl DirtyLog {
         register_mapped(space)
     }
 
-    /// The present pages that are not clean, as a set of its own.
+    /// The present pages that are not clean, as a new set. `NoMemory` if the set cannot be allocated.
     pub fn dirty(&self, space: &Space) -> Result<PageSet, NoMemory>
         ensures { IfOk result (λ pages. pages ≡ machine.dirty space.now self.now) }
     {
@@ -50,7 +50,7 @@ impl DirtyLog {
         Ok(pages)
     }
 
-    /// A round begins that has to send these pages. It takes no memory.
+    /// Begins a round that has to send these pages. It takes no memory.
     pub fn begin_round(&mut self, todo: PageSet)
         ensures { self.new ≡ record self.old { todo = todo } }
     {
@@ -58,7 +58,7 @@ impl DirtyLog {
         self.from = 0;
     }
 
-    /// The least page that this round still has to send.
+    /// The lowest page that this round still has to send.
     pub fn next_page(&self) -> Option<PageNo>
         ensures least { result ≡ machine.least_of self.now.todo }
         ensures below { IfSome result (λ page. page < HIGH_PAGE) }
@@ -67,7 +67,7 @@ impl DirtyLog {
         if page < HIGH_PAGE { Some(page) } else { None }
     }
 
-    /// How many pages from `first` on the round has to send without a gap, counted up to `most`.
+    /// The number of pages from `first` on, without a gap, that the round has to send, at most `most`.
     pub fn run_length(&self, first: PageNo, most: u32) -> u32
         requires { first ≤ HIGH_PAGE }
         ensures run { result ≡ run_length self.now.todo first most }
@@ -79,8 +79,9 @@ impl DirtyLog {
         (end - first).min(most)
     }
 
-    /// Write-protects a page, which is clean from then on: its bytes are to be sent before it changes. Refused as `Changing` while an
-    /// event is unread, and as `PageNotSendable` where the page is missing or not registered for write-protect faults.
+    /// Write-protects a page, which is clean from then on: the caller has to send its bytes before the page changes. Refused with
+    /// `Changing` while an event is unread, with `PageNotSendable` if the page is missing or not registered for write-protect faults, and
+    /// with `NoMemory`.
     pub fn protect_page(&mut self, space: &mut Space, page: PageNo) -> Result<(), Refusal>
         requires lent { IsLent space.old }
         requires page { page < HIGH_PAGE }
@@ -91,7 +92,7 @@ impl DirtyLog {
         ensures err { OnErr result ((self.new ≡ self.old) × (space.new ≡ space.old)) }
         ensures lent { IsLent space.new }
 
-        // The same in the words of a reader: the page is protected, and has what it had.
+        // The same for a reader: the page is protected, and has the bytes that it had.
         ensures protected { OnOk result (contains space.new.protected page ≡ true) }
         ensures bytes { OnOk result (get space.new.host.bytes page ≡ Some (contents space.old.host.bytes page)) }
         ensures present { OnOk result ((is_present space.new page ≡ true) × IsPage page) }
@@ -102,8 +103,8 @@ impl DirtyLog {
         Ok(())
     }
 
-    /// The same for a page that is sent: it is write-protected, then read. What is to be sent of it borrows the space, which cannot change
-    /// until that is written. Refused as [`DirtyLog::protect_page`] is.
+    /// Sends a page: like [`DirtyLog::protect_page`], and then reads it. The result borrows the space, which cannot change until the bytes
+    /// are written. Refused like [`DirtyLog::protect_page`].
     pub fn send_page<'a>(
         space: &'a mut Space,
         log: &mut DirtyLog,
@@ -119,7 +120,7 @@ impl DirtyLog {
         ensures frame { IfOk result (λ sent. IsFrame (frame_sent page sent)) }
         ensures err { OnErr result (log.new ≡ log.old) }
 
-        // The same in the words of a reader: it is a page of zeros where it has nothing else.
+        // The same for a reader: `Zero` is returned exactly if all bytes of the page are zero.
         ensures zero { IfOk result (λ sent. (sent ≡ Sent.Zero) ↔ (contents space.old.host.bytes page ≡ zero_page)) }
     {
         space.is_in_order();
@@ -127,8 +128,8 @@ impl DirtyLog {
         Ok(Sent::read(space, page))
     }
 
-    /// Write-protects the `count` pages from `first` on, then reads their bytes, in order; those of a page of zeros are read as well. The
-    /// pages are clean from then on. Refused as [`DirtyLog::send_page`] is, for any page of the range.
+    /// Write-protects the `count` pages from `first` on, then reads their bytes in order, also those of pages of zeros. The pages are
+    /// clean from then on. Refused like [`DirtyLog::send_page`], for any page of the range.
     pub fn send_run(
         &mut self,
         space: &mut Space,
@@ -155,7 +156,7 @@ impl DirtyLog {
         Ok(pages)
     }
 
-    /// Write-protects the pages of a range, all of which can be sent, and makes them clean.
+    /// Write-protects the pages of a range, all of which can be sent, and makes them clean. `NoMemory` changes nothing.
     fn mark_sent(&mut self, space: &mut Space, first: PageNo, count: u32) -> Result<(), Refusal>
         requires lent { IsLent space.old }
         requires some { 0 < count }
@@ -180,7 +181,7 @@ impl DirtyLog {
     }
 }
 
-/// Refuses a range that has a page which cannot be sent now.
+/// Refuses a range with a page that cannot be sent now.
 fn ensure_sendable(space: &Space, first: PageNo, count: u32) -> Result<(), Refusal>
     requires { first + count ≤ HIGH_PAGE }
     ensures ok { OnOk result (send_refusal space.now first count ≡ None) }

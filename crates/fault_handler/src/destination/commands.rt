@@ -11,8 +11,8 @@ use mig_base::Command;
 use mig_base::refusal::Refusal;
 
 impl Destination {
-    /// A processor makes a command. `NoCpu` where there is no such processor, `Busy` unless it is idle, and `Phase` before the destination
-    /// has run.
+    /// A processor makes a command. `NoCpu` if there is no such processor, `Busy` unless it is idle, `Phase` before the destination has
+    /// run, and then `NoMemory`.
     pub fn issue(&mut self, cpu: u8, command: Command) -> Result<Tried, Refusal>
         ensures made { IfOk result (λ tried. IsTried self.old (Step.Issue cpu command) tried.effect (option_to_list tried.entry) self.new) }
         ensures refused { self.old.has_run ≡ true → IfErr result (λ refusal. IsRefused self.old (Step.Issue cpu command) refusal) }
@@ -24,8 +24,8 @@ impl Destination {
         Ok(tried)
     }
 
-    /// A processor that was woken tries its load or store again. `NoCpu` where there is no such processor, `NotAsleep` where it is idle
-    /// or in a call, `NotWoken` where it still sleeps, and `Phase` before the destination has run.
+    /// A processor that was woken tries its load or store again. `NoCpu` if there is no such processor, `NotAsleep` if it is idle or in a
+    /// call, `NotWoken` if it still sleeps, `Phase` before the destination has run, and then `NoMemory`.
     pub fn retry(&mut self, cpu: u8) -> Result<Tried, Refusal>
         ensures made { IfOk result (λ tried. IsTried self.old (Step.Retry cpu) tried.effect (option_to_list tried.entry) self.new) }
         ensures refused { self.old.has_run ≡ true → IfErr result (λ refusal. IsRefused self.old (Step.Retry cpu) refusal) }

@@ -17,16 +17,18 @@ use mig_base::fault::TakeFault;
 use page_stream::Frame;
 
 impl Destination {
-    /// Takes a frame that the source has sent in an epoch, and answers the frame that is to be sent back at once: Done for an End, and none
-    /// for any other. What is to be sent for a Resume is a recovery's to say, before it is taken.
+    /// Takes a well-formed frame ([`Frame::is_well_formed`]) that the source has sent in an epoch, and returns the frame to send back at
+    /// once: Done for an End, and none for any other. For a Resume, `recovery` says before it is taken what to send.
     ///
-    /// The frame is well formed ([`Frame::is_well_formed`]). One that is refused is handed back, and nothing is changed. `OutOfPlace` for
-    /// a frame that the phase does not take, and for an End while pages are owed, no copy waits and no urgent frame is still to come;
-    /// then `StaleEpoch` for one of another epoch
-    /// (an Advise may be of any, a Resume has to be of a later one), `BadFrame` for a Package that owes a page which is kept, or does
-    /// not map one that it owes or one that is kept, or is of another number of processors, and for an End that tells of fewer
-    /// urgent frames than came; then, for an End, `InstallFirst` while a copy waits and `UrgentFirst` while urgent frames are still to
-    /// come; and last `NoMemory`, for a copy, a run or a Package.
+    /// A frame that is refused is handed back, and nothing changes. The first of these reasons counts:
+    /// - `OutOfPlace`: the phase does not take such a frame; or it is an End while pages are owed, no copy waits, and no urgent frame is
+    ///   still to come.
+    /// - `StaleEpoch`: the frame is of another epoch. An Advise may be of any, and a Resume has to be of a later one.
+    /// - `BadFrame`: a Package owes a page that is kept, does not map a page that it owes or that is kept, or has another number of
+    ///   processors; or an End announces fewer urgent frames than came.
+    /// - `InstallFirst`: an End comes while a copy waits.
+    /// - `UrgentFirst`: an End comes while urgent frames are still to come.
+    /// - `NoMemory`: memory for a copy, a run or a Package is refused.
     pub fn take(&mut self, epoch: u32, frame: Frame) -> Result<Option<Frame>, (TakeFault, Frame)>
         requires { IsFrame (frame_of frame) }
         ensures accepted { OnOk result (take_fault self.old epoch (frame_of frame) ≡ None) }
@@ -47,10 +49,9 @@ impl Destination {
         }
     }
 
-    /// Takes a frame of the urgent wire, which waits to be installed and is counted. The frame is well formed
-    /// ([`Frame::is_well_formed`]). One that is refused is handed back, and nothing is changed: `OutOfPlace` unless it is the copy of one
-    /// page and the destination runs, then `StaleEpoch`, and `NoMemory`, which is also for the frame after 2^64 - 1 others of its epoch,
-    /// since it could not be counted.
+    /// Takes a well-formed frame ([`Frame::is_well_formed`]) of the urgent wire: its copy waits to be installed, and is counted. A frame
+    /// that is refused is handed back, and nothing changes: `OutOfPlace` unless it is the copy of one page and the destination runs, then
+    /// `StaleEpoch`, and last `NoMemory`, which also refuses the frame after 2^64 - 1 others of its epoch, since it could not be counted.
     pub fn take_urgent(&mut self, epoch: u32, frame: Frame) -> Result<(), (TakeFault, Frame)>
         requires { IsFrame (frame_of frame) }
         ensures accepted { OnOk result (urgent_fault self.old epoch (frame_of frame) ≡ None) }
@@ -68,7 +69,7 @@ impl Destination {
         }
     }
 
-    /// Takes a frame that is in place. Where memory is refused the frame is handed back, and nothing is changed.
+    /// Takes a frame that is not refused. If memory is refused, the frame is handed back, and nothing changes.
     fn put_in(&mut self, epoch: u32, frame: Frame) -> Taken
         requires frame { IsFrame (frame_of frame) }
         requires accepted { take_fault self.old epoch (frame_of frame) ≡ None }
@@ -109,7 +110,7 @@ impl Destination {
         }
     }
 
-    /// Takes the copy of one page that came on the urgent wire. Where memory is refused the frame is handed back, and nothing is changed.
+    /// Takes the copy of one page from the urgent wire. If memory is refused, the frame is handed back, and nothing changes.
     fn put_in_urgent(&mut self, frame: Frame) -> Result<(), Frame>
         ensures took { OnOk result (self.new ≡ urgent_took self.old (frame_of frame)) }
         ensures handed_back { IfErr result (λ back. back ≡ frame) }

@@ -1,4 +1,4 @@
-//! The handler of the destination: messages that are read, and faults that are resolved.
+//! The handler of the destination: it reads messages and resolves faults.
 
 ghost use Rattle.std.specs.Option.{IfSome};
 ghost use Rattle.std.specs.Prelude.{◌≡◌, ℕ, ◌*◌, ◌<◌, ◌⊎◌, true, false, None, Some, Err, [], ◌∷◌, List, map, option_to_list, IfOk, IfErr, OnOk, OnErr};
@@ -31,24 +31,24 @@ use page_stream::Frame;
 use std::collections::VecDeque;
 
 impl Destination {
-    /// Reads the next message. A page fault is held. An event is applied to the pages that are owed: pairs of pages that are gone end, and
-    /// pairs of pages that moved move; those that sleep on pages that are gone are woken, and with the last message of its call the
-    /// processor is handed its reply. Refused as `Phase` before it has run, and as `NothingThere` where no message waits; then as
-    /// `NoMemory`, of a page fault or a move alone.
+    /// Reads the next message. A page fault is held. An event is applied to the owed table: pairs whose pages are gone are removed, and
+    /// pairs whose pages moved move with them. Those that sleep on pages that are gone are woken, and the last message of a map call gives
+    /// its processor the reply. Refused as `Phase` before it has run, and as `NothingThere` if no message waits; then as `NoMemory`, for a
+    /// page fault or a move alone.
     pub fn read(&mut self) -> Result<Effect, Refusal>
         ensures made { IfOk result (λ effect. IsMade self.old Step.DestRead effect [] self.new) }
         ensures refused { IfErr result (λ refusal. IsRefused self.old Step.DestRead refusal) }
         ensures memory { (noted : Noted) → next_message self.old.guest.space.object ≡ Some noted → result ≡ Err Refusal.NoMemory → read_grows noted.message ≡ true }
         ensures err { OnErr result (self.new ≡ self.old) }
 
-        // The same in the words of a reader: which page of the source is owed where, once the unread events are applied, is as it was.
+        // For a reader: the settled relation, which page is owed which page of the source once the unread events are applied, stays.
         ensures settled { (page : ℕ) → settled self.new page ≡ settled self.old page }
     {
         self.ensure_run()?;
         let Some(message) = self.space.next_message() else {
             return Err(Refusal::NothingThere);
         };
-        // Both growths come before the message is read, so that want of memory leaves it unread.
+        // Both growths come before the message is read, so that lack of memory leaves it unread.
         let Ok(()) = note(&mut self.held, &mut self.owed, message) else {
             return Err(Refusal::NoMemory);
         };
@@ -59,12 +59,14 @@ impl Destination {
         Ok(effect)
     }
 
-    /// Resolves the first fault that is held, by what its page is now. A page that is owed is asked for: its page at the source is put behind
-    /// the requests, and a Request is to be sent, unless it was asked for before or the destination is paused or has ended; those that
-    /// sleep on it sleep on. A missing page that is not owed becomes zeros, and those that sleep on it are woken, as they are where
-    /// the page is there, or is not mapped or not registered any more. Refused as `Phase` before it has run, as `NothingThere` where
-    /// no fault is held, and as `Changing` while an event is unread; then as `NoMemory`, of a page that becomes zeros or was not asked for
-    /// before alone.
+    /// Resolves the first held fault, by the present state of its page, and returns the effect and the frame to send, if any.
+    ///
+    /// An owed page is requested: its page at the source is appended to the requests, and those that sleep on it sleep on. The frame is a
+    /// Request, unless the page was requested before, or the destination is paused or has ended. Any other missing page becomes zeros.
+    /// Those that sleep on it are woken, also if the page is present, or no longer mapped or registered.
+    ///
+    /// Refused as `Phase` before it has run, as `NothingThere` if no fault is held, and as `Changing` while an event is unread; then as
+    /// `NoMemory`, for a page that becomes zeros or was not requested before.
     pub fn act(&mut self) -> Result<(Effect, Option<Frame>), Refusal>
         ensures made { IfOk result (λ told. IsMade self.old Step.DestAct told.0 (map frame_of (option_to_list told.1)) self.new) }
         ensures well_formed { IfOk result (λ told. IfSome told.1 (λ frame. IsFrame (frame_of frame))) }
@@ -72,7 +74,7 @@ impl Destination {
         ensures memory { (fault : machine.Fault) (rest : List machine.Fault) → self.old.held ≡ fault ∷ rest → result ≡ Err Refusal.NoMemory → act_grows (destination_act self.old fault) self.old ≡ true }
         ensures err { OnErr result (self.new ≡ self.old) }
 
-        // The same in the words of a reader: no page that is owed, or present, is made zeros.
+        // For a reader: no page that is owed or present becomes zeros.
         ensures zeroed { IfOk result (λ told. (page : ℕ) → told.0 ≡ effects.Effect.Zeroed (PAGE_SIZE * page) → (settled self.old page ≡ None) × (is_present self.old.guest.space page ≡ false)) }
     {
         let (act, addr) = self.next_act()?;
@@ -94,7 +96,7 @@ impl Destination {
         Ok((act.told(addr), None))
     }
 
-    /// Whether a fault can be resolved, want of memory aside: how [`Destination::act`] is refused otherwise.
+    /// Whether [`Destination::act`] would resolve a fault, or how it would be refused; memory is not considered.
     pub fn check_act(&self) -> Result<(), Refusal>
         ensures { IsChecked self.now Step.DestAct result }
     {
@@ -104,7 +106,7 @@ impl Destination {
         }
     }
 
-    /// What is to be made of the first fault that is held, and the address of its page.
+    /// The action on the first held fault, and the address of its page.
     fn next_act(&self) -> Result<(Act, Addr), Refusal>
         ensures accepted { OnOk result (act_refusal self.now ≡ None) }
         ensures refused { IfErr result (λ refusal. act_refusal self.now ≡ Some refusal) }
@@ -122,8 +124,8 @@ impl Destination {
         Ok((Act::of(&self.space, &self.owed, fault), fault.addr()))
     }
 
-    /// Puts a page of the source behind the requests: the frame that asks for it, unless it was asked for before, or the destination
-    /// is paused or has ended.
+    /// Appends a page of the source to the requests, and returns the frame that requests it: none if it was requested before, or the
+    /// destination is paused or has ended. `NoMemory` changes nothing.
     fn request(&mut self, origin: PageNo) -> Result<Option<Frame>, Refusal>
         requires page { IsPage origin }
         ensures frame { IfOk result (λ frame. map frame_of (option_to_list frame) ≡ act_frames (machine.Act.Requested origin) self.old) }
@@ -142,7 +144,7 @@ impl Destination {
         }
     }
 
-    /// Whether it runs the processors.
+    /// `Phase` before it has run.
     pub(super) fn ensure_run(&self) -> Result<(), Refusal>
         ensures { result ≡ run_answer self.now }
     {
@@ -154,7 +156,7 @@ impl Destination {
     }
 }
 
-/// Holds a page fault, and applies an event to the pages that are owed. Out of memory changes nothing.
+/// Holds a page fault, or applies an event to the owed table. `NoMemory` changes nothing.
 fn note(held: &mut VecDeque<Fault>, owed: &mut Owed, message: Message) -> Result<(), NoMemory>
     requires { LiesInside message }
     ensures held { OnOk result (held.new.items ≡ machine.held_after held.old.items message) }
@@ -180,7 +182,7 @@ fn note(held: &mut VecDeque<Fault>, owed: &mut Owed, message: Message) -> Result
     Ok(())
 }
 
-/// 1 for a page fault.
+/// 1 for a page fault, and 0 for an event.
 fn faults_in(message: Message) -> u64
     ensures { result ≡ machine.fault_count message }
 {

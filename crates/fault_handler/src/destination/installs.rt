@@ -1,4 +1,4 @@
-//! Copies that are installed.
+//! Installing copies.
 
 ghost use Rattle.std.specs.Prelude.{◌≡◌, ℕ, ◌*◌, true, false, [], ◌∷◌, List, is_some, Some, None, Err, IfOk, IfErr, OnOk, OnErr};
 ghost use Rattle.mig_base.specs.declared.TheConstants.{PAGE_SIZE};
@@ -25,18 +25,18 @@ use std::collections::VecDeque;
 use uffd_ioctl::Space;
 
 impl Destination {
-    /// Puts the first copy that has arrived where its page belongs now, by moving its bytes: UFFDIO_COPY for that page, or UFFDIO_ZEROPAGE
-    /// for a page of zeros. The page is owed no longer, its request ends, and those that sleep on it are woken. A copy of a page that is not
-    /// owed is given up. Refused as `Phase` before it has run, as `NothingThere` where no copy waits, and as `Changing` while an event
-    /// is unread; then as `NoMemory`, which only a copy that is installed needs.
+    /// Puts the first arrival where its page belongs now, by moving its bytes: UFFDIO_COPY for that page, or UFFDIO_ZEROPAGE for a page of
+    /// zeros. The page is no longer owed, its request ends, and those that sleep on it are woken. A copy of a page that is owed nowhere is
+    /// dropped. Refused as `Phase` before it has run, as `NothingThere` if no copy waits, and as `Changing` while an event is unread;
+    /// then as `NoMemory`, only for a copy that is installed.
     pub fn install(&mut self) -> Result<Effect, Refusal>
         ensures made { IfOk result (λ effect. IsMade self.old Step.Install effect [] self.new) }
         ensures refused { IfErr result (λ refusal. IsRefused self.old Step.Install refusal) }
         ensures memory { (copy : wire.Copy) (rest : List wire.Copy) → self.old.arrivals ≡ copy ∷ rest → result ≡ Err Refusal.NoMemory → is_some (home self.old.owed copy.page) ≡ true }
         ensures err { OnErr result (self.new ≡ self.old) }
 
-        // The same in the words of a reader: a copy is installed at the page that its page of the source is owed at, which is owed nothing
-        // then, and never over a page that is present.
+        // For a reader: a copy is installed at the page where its page of the source is owed, and never over a page that is present;
+        // afterwards that page is owed nothing.
         ensures pair { IfOk result (λ effect. (page origin : ℕ) → effect ≡ effects.Effect.Installed (PAGE_SIZE * page) (PAGE_SIZE * origin) → (settled self.old page ≡ Some origin) × (settled self.new page ≡ None)) }
         ensures missing { IfOk result (λ effect. (page origin : ℕ) → effect ≡ effects.Effect.Installed (PAGE_SIZE * page) (PAGE_SIZE * origin) → is_present self.old.guest.space page ≡ false) }
     {
@@ -62,7 +62,7 @@ impl Destination {
         })
     }
 
-    /// The page at the source of the first copy that has arrived.
+    /// The page at the source of the first arrival, or why none can be installed.
     fn next_arrival(&self) -> Result<PageNo, Refusal>
         ensures { result ≡ install_answer self.now }
     {
@@ -77,7 +77,7 @@ impl Destination {
     }
 }
 
-/// Takes the first copy out, and puts it at a missing page. Out of memory changes nothing.
+/// Removes the first arrival and puts it at a missing page. `NoMemory` changes nothing.
 fn put_first(
     arrivals: &mut VecDeque<Arrival>,
     space: &mut Space,
@@ -98,7 +98,7 @@ fn put_first(
     Ok(())
 }
 
-/// Moves the content of a copy to a missing page. Out of memory changes nothing.
+/// Moves the content of a copy to a missing page. `NoMemory` changes nothing.
 fn put(space: &mut Space, arrival: &mut Arrival, page: PageNo) -> Result<(), NoMemory>
     requires lent { IsLent space.old }
     requires quiet { object.changing space.old.object ≡ 0 }

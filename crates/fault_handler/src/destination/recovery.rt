@@ -1,4 +1,4 @@
-//! What a broken channel and the recovery from it see of a destination. No call takes memory, and none is refused.
+//! The calls of a destination for a broken channel and the recovery from it. None takes memory, and none is refused.
 
 ghost use Rattle.std.specs.Prelude.{◌≡◌};
 ghost use Rattle.mig_model.specs.Destination.{received_of};
@@ -7,7 +7,7 @@ use super::Destination;
 use mig_base::phase::{DestPhase, Received};
 
 impl Destination {
-    /// How far it has come: what a Recv tells of it.
+    /// How far it has come, as a Recv reports it.
     pub fn received(&self) -> Received
         ensures { result ≡ received_of self.now }
     {
@@ -18,7 +18,7 @@ impl Destination {
         }
     }
 
-    /// The channel is broken: the destination waits for a Resume. Where it has run, its processors go on.
+    /// Pauses the destination, since the channel is broken: it waits for a Resume. If it has run, its processors go on.
     pub fn pause(&mut self)
         ensures { self.new ≡ record self.old { phase = DestPhase.Paused } }
     {

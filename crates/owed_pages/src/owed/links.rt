@@ -1,7 +1,7 @@
 //! Pairs of a page and its origin, in two tables: the origin of each page, and the page of each origin.
 //!
-//! `specs/Owed.antt` says when both tables have the same pairs (`AreLinks`). So the contracts here speak of the pages'
-//! origins alone.
+//! `specs/Owed.antt` says when both tables have the same pairs (`AreLinks`). So the contracts here mention only the origins of
+//! pages.
 
 ghost use Rattle.std.specs.Prelude.{◌≡◌, ◌≢◌, ℕ, ◌+◌, ◌<◌, ◌≤◌, ◌⊎◌, true, nat_eq, if◌then◌else◌, Some, None, OnOk, OnErr};
 ghost use Rattle.mig_base.specs.Ranges.{in_range};
@@ -22,13 +22,13 @@ pub struct Links {
     pub forth: Vec<Place>,
     /// The page of each origin.
     pub back: Vec<Place>,
-    /// How many pairs there are.
+    /// The number of pairs.
     pub count: u32,
     pub ghost kept: { AreLinks forth.items back.items count },
 }
 
 impl Links {
-    /// No pair.
+    /// No pairs. It takes no memory.
     pub fn new(alloc: Global) -> Self
         ensures { (q : ℕ) → number_at result.forth.items q ≡ None }
     {
@@ -39,7 +39,7 @@ impl Links {
         }
     }
 
-    /// Takes the pair of a page out, if there is one.
+    /// Removes the pair of a page, if there is one.
     pub fn unlink(&mut self, page: PageNo)
         ensures pairs { (q : ℕ) → number_at self.new.forth.items q ≡ (if nat_eq q page then None else number_at self.old.forth.items q) }
         ensures free { (s : ℕ) → number_at self.old.forth.items page ≡ Some s → number_at self.new.back.items s ≡ None }
@@ -53,7 +53,7 @@ impl Links {
         }
     }
 
-    /// Puts a pair in.
+    /// Inserts a pair.
     pub fn link(&mut self, page: PageNo, origin: PageNo)
         requires room { (has_place self.old.forth.items page ≡ true) × (has_place self.old.back.items origin ≡ true) }
         requires free { (number_at self.old.forth.items page ≡ None) × (number_at self.old.back.items origin ≡ None) }
@@ -65,7 +65,7 @@ impl Links {
         self.count += 1;
     }
 
-    /// Puts the pair of a page with itself in.
+    /// Inserts the pair of a page with itself. `NoMemory` leaves the pairs as they were.
     pub fn link_itself(&mut self, alloc: Global, page: PageNo) -> Result<(), NoMemory>
         requires page { page < HIGH_PAGE }
         requires free { (number_at self.old.forth.items page ≡ None) × (number_at self.old.back.items page ≡ None) }
@@ -77,8 +77,8 @@ impl Links {
         Ok(())
     }
 
-    /// Makes the room for the pairs of a range of pages at another range. The pairs stay. Where a leaf is missing, there is no
-    /// pair to make room for.
+    /// Makes room at another range for the pairs of a range of pages. The pairs stay where they are, also after `NoMemory`. A missing
+    /// leaf has no pair to make room for.
     pub fn make_room(
         &mut self,
         alloc: Global,
@@ -101,7 +101,7 @@ impl Links {
         Ok(())
     }
 
-    /// Takes the pairs of a range of pages out, page by page.
+    /// Removes the pairs of a range of pages, page by page.
     fn unlink_run(&mut self, first: PageNo, count: u32)
         requires { first + count ≤ HIGH_PAGE }
         ensures pairs { (q : ℕ) → number_at self.new.forth.items q ≡ (if in_range first count q then None else number_at self.old.forth.items q) }
@@ -112,7 +112,7 @@ impl Links {
         }
     }
 
-    /// Takes the pairs of a range of pages out, leaf by leaf. Missing leaves are skipped.
+    /// Removes the pairs of a range of pages, leaf by leaf. Missing leaves are skipped.
     pub fn unlink_range(&mut self, first: PageNo, count: u32)
         requires { first + count ≤ HIGH_PAGE }
         ensures pairs { (q : ℕ) → number_at self.new.forth.items q ≡ (if in_range first count q then None else number_at self.old.forth.items q) }

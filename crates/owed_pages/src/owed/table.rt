@@ -62,7 +62,7 @@ fn place_make(alloc: Global, place: &mut Place) -> Result<(), NoMemory>
     }
 }
 
-/// The number of a page. Any page number may be asked for.
+/// The number of a page. Any page number is allowed.
 pub fn get_number(places: &Vec<Place>, page: PageNo) -> Option<PageNo>
     ensures { result ≡ number_at places.now.items page }
 {
@@ -74,7 +74,7 @@ pub fn get_number(places: &Vec<Place>, page: PageNo) -> Option<PageNo>
     }
 }
 
-/// Whether there is a leaf for a page. Where there is none, no page of its 1024 has a number.
+/// Whether there is a leaf for a page. If not, none of its 1024 pages has a number.
 pub fn has_leaf(places: &Vec<Place>, page: PageNo) -> bool
     ensures { result ≡ has_place places.now.items page }
 {
@@ -86,7 +86,7 @@ pub fn has_leaf(places: &Vec<Place>, page: PageNo) -> bool
     }
 }
 
-/// Gives a page a number, or none.
+/// Sets the number of a page, or clears it.
 pub fn put_number(places: &mut Vec<Place>, page: PageNo, number: Option<PageNo>)
     requires { has_place places.old.items page ≡ true }
     ensures put { (q : ℕ) → number_at places.new.items q ≡ (if nat_eq q page then number else number_at places.old.items q) }
@@ -96,7 +96,7 @@ pub fn put_number(places: &mut Vec<Place>, page: PageNo, number: Option<PageNo>)
     place_put(&mut places[(page / CHUNK) as usize], page % CHUNK, number);
 }
 
-/// Makes the leaf of a page, where there is none.
+/// Makes the leaf of a page if there is none. `NoMemory` leaves all numbers as they were.
 pub fn make_leaf(alloc: Global, places: &mut Vec<Place>, page: PageNo) -> Result<(), NoMemory>
     requires { (page < HIGH_PAGE) × (length places.old.items ≤ CHUNKS) }
     ensures same { (q : ℕ) → number_at places.new.items q ≡ number_at places.old.items q }
@@ -113,7 +113,7 @@ pub fn make_leaf(alloc: Global, places: &mut Vec<Place>, page: PageNo) -> Result
     place_make(alloc, &mut places[at])
 }
 
-/// Makes the leaves of a range.
+/// Makes the leaves of a range. `NoMemory` may leave some of them made; all numbers are as they were.
 pub fn make_leaves(
     alloc: Global,
     places: &mut Vec<Place>,
@@ -135,7 +135,7 @@ pub fn make_leaves(
     Ok(())
 }
 
-/// Where a walk over a range goes on after the leaf of `page`: the first page of the next leaf, or the end of the range.
+/// Where a walk over a range continues after the leaf of `page`: at the first page of the next leaf, or at the end of the range.
 pub fn next_leaf(page: PageNo, end: PageNo) -> PageNo
     requires { (page < end) × (end ≤ HIGH_PAGE) }
     ensures range { (page < result) × (result ≤ end) }
@@ -145,7 +145,8 @@ pub fn next_leaf(page: PageNo, end: PageNo) -> PageNo
     if next < end { next } else { end }
 }
 
-/// The pages that have a number, as a set. It goes over each leaf that was ever made, page by page.
+/// The pages that have a number, as a set. The call visits every leaf that was ever made, page by page. `NoMemory` if the set cannot
+/// grow.
 pub fn numbered(alloc: Global, places: &Vec<Place>) -> Result<PageSet, NoMemory>
     requires { length places.now.items ≤ CHUNKS }
     ensures { IfOk result (λ pages. (q : ℕ) → contains pages q ≡ is_some (number_at places.now.items q)) }
@@ -163,7 +164,8 @@ pub fn numbered(alloc: Global, places: &Vec<Place>) -> Result<PageSet, NoMemory>
     Ok(pages)
 }
 
-/// Goes on with the set of the pages that have a number, from one page to another.
+/// Extends the set of the pages that have a number by those from `first` up to, but not including, `end`. `NoMemory` may leave
+/// the set changed.
 fn insert_numbered(
     pages: &mut PageSet,
     places: &Vec<Place>,

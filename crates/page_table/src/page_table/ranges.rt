@@ -1,4 +1,4 @@
-//! Changes of whole ranges.
+//! Changing whole ranges.
 
 ghost use Rattle.std.specs.Prelude.{◌≡◌, ℕ, ◌+◌, ◌-◌, ◌≤◌, if◌then◌else◌, Some, [], OnOk, IfErr, length, slice_index_or};
 ghost use Rattle.std.specs.FinMap as map;
@@ -12,10 +12,10 @@ use crate::unprotect::unprotect_cells;
 use mig_base::{PageBytes, PageNo};
 
 impl PageTable {
-    /// Gives the pages from `first` on these bytes, which are not copied: a missing page becomes present, and a present one
-    /// has them in place of its own. None of these pages is protected afterwards.
+    /// Puts these bytes at the pages from `first` on, without copying them: a missing page becomes present, and a present page loses
+    /// its own bytes. None of these pages is protected afterwards.
     ///
-    /// It gives all or none: where the room of their leaves is refused they come back, and the table is as it was.
+    /// The call puts all pages or none: if the room of their leaves cannot be allocated, it returns the bytes and changes nothing.
     pub fn put_run(&mut self, first: PageNo, run: Vec<PageBytes>) -> Result<(), Vec<PageBytes>>
         requires { first + length run.items ≤ HIGH_PAGE }
         ensures bytes { OnOk result ((q : ℕ) → map.get self.new.bytes q ≡ (if in_range first (length run.items) q then Some (slice_index_or run.items (q - first) []) else map.get self.old.bytes q)) }
@@ -30,7 +30,7 @@ impl PageTable {
         Ok(())
     }
 
-    /// Ends the protection of the `count` pages from `first` on, by whole words. Those that are missing or not protected stay so.
+    /// Ends the protection of the `count` pages from `first` on, by whole words. Missing and unprotected pages stay so.
     pub fn unprotect_range(&mut self, first: PageNo, count: u32)
         requires { first + count ≤ HIGH_PAGE }
         ensures bytes { self.new.bytes ≡ self.old.bytes }

@@ -1,4 +1,4 @@
-//! What comes back from the destination, and what a source says of its guest.
+//! Frames from the destination, and what a source reports about its guest.
 
 ghost use Rattle.std.specs.Prelude.{◌≡◌, true, None, Err, unwrap_or, IfOk, IfErr, OnOk, OnErr};
 ghost use Rattle.mig_model.specs.Bounds.{AreFewPages, IsFrame};
@@ -16,10 +16,10 @@ use mig_base::{NoMemory, PageSet};
 use page_stream::{Frame, Waiting};
 
 impl Source {
-    /// Takes a frame that the destination has sent in an epoch. A page that is asked for is queued, and with Done the source is released. A
-    /// Recv is judged and changes nothing: the recovery that waits for it makes what follows. `OutOfPlace` for a Request unless the source
-    /// is stopped, for Done unless it is stopped and has sent End in its epoch, for a Recv unless it is paused, and for any other
-    /// frame; then `StaleEpoch` for one of another epoch, and `NoMemory`, for a Request alone. A refusal changes nothing.
+    /// Takes a frame that the destination sent in the given epoch. A requested page is queued, and Done releases the source. A Recv
+    /// is only validated here; the `recovery` crate then acts on it. `OutOfPlace` for a Request unless the source is stopped, for
+    /// Done unless it is stopped and has sent End in its epoch, for a Recv unless it is paused, and for any other frame; then
+    /// `StaleEpoch` for a frame of another epoch, and last `NoMemory`, for a Request alone. A refusal changes nothing.
     pub fn back(&mut self, epoch: u32, frame: &Frame) -> Result<(), BackFault>
         ensures accepted { OnOk result (back_fault self.old epoch (frame_of frame.now) ≡ None) }
         ensures refused { IfErr result (λ fault. fault ≡ unwrap_or (back_fault self.old epoch (frame_of frame.now)) BackFault.NoMemory) }
@@ -45,7 +45,7 @@ impl Source {
         Ok(())
     }
 
-    /// Whether a source takes such a frame now.
+    /// Whether the source takes a frame of this kind now.
     fn is_in_place(&self, frame: &Frame) -> bool
         ensures { result ≡ is_in_place_back self.now (frame_of frame.now) }
     {
@@ -57,14 +57,14 @@ impl Source {
         }
     }
 
-    /// The frame with which a destination can run that is owed these pages: the mapped pages, and the commands that the processors still
-    /// have to make. It is well formed where these pages may all be mapped.
+    /// The Package that owes these pages: with it a destination can run. It has the mapped pages, and the commands that the processors
+    /// still have to make. It is well formed if these pages may all be mapped. `NoMemory` if it cannot be allocated.
     pub fn package(&self, owed: &PageSet) -> Result<Frame, NoMemory>
         ensures frame { IfOk result (λ frame. frame_of frame ≡ machine.Frame.Package (space_of self.now).host.areas owed.now (commands_of self.now.guest.cpus)) }
         ensures well_formed { AreFewPages owed.now → IfOk result (λ frame. IsFrame (frame_of frame)) }
     {
         self.space.is_in_order();
-        // A law of all processors: how many they may be.
+        // Makes the bound on the number of processors known to the proof.
         let _count = self.cpus.count();
         let areas = self.space.areas()?;
         let owed = owed.copy()?;
@@ -76,7 +76,7 @@ impl Source {
         })
     }
 
-    /// Its present pages.
+    /// The present pages of the source. `NoMemory` if the set cannot be allocated.
     pub fn present(&self) -> Result<PageSet, NoMemory>
         ensures few { IfOk result (λ pages. AreFewPages pages) }
         ensures present { IfOk result (λ pages. pages ≡ log.present (space_of self.now)) }

@@ -1,4 +1,4 @@
-//! What a source answers before it is asked to send: whoever moves frames makes room for them first, and has to know whether they come.
+//! Checks before a source sends: the caller makes room for frames first, so it has to know whether there will be any.
 
 ghost use Rattle.mig_base.specs.declared.schedule.Step.{Step};
 ghost use Rattle.precopy.specs.Steps.{IsChecked};
@@ -8,7 +8,7 @@ use mig_base::refusal::Refusal;
 use mig_base::schedule::Ticket;
 
 impl Source {
-    /// Whether a migration can begin, want of memory aside: how [`Source::start`] is refused otherwise.
+    /// Whether a migration can begin: the refusal of [`Source::start`], except `NoMemory`.
     pub fn check_start(&self) -> Result<(), Refusal>
         ensures { IsChecked self.now Step.Start result }
     {
@@ -18,7 +18,7 @@ impl Source {
         }
     }
 
-    /// Whether the round has a page that can be sent, want of memory aside: how [`Source::send_next`] is refused otherwise.
+    /// Whether the round has a page that can be sent: the refusal of [`Source::send_next`], except `NoMemory`.
     pub fn check_send(&self) -> Result<(), Refusal>
         ensures { IsChecked self.now Step.Send result }
     {
@@ -39,15 +39,15 @@ impl Source {
         }
     }
 
-    /// Whether the source can stop, want of memory aside: how [`Source::switch`] is refused otherwise.
+    /// Whether the source can stop: the refusal of [`Source::switch`], except `NoMemory`.
     pub fn check_switch(&self) -> Result<(), Refusal>
         ensures { IsChecked self.now Step.Switch result }
     {
         self.ensure_settled()
     }
 
-    /// Whether the page of a ticket can be sent, on either wire, want of memory aside: how [`Source::push`] is refused otherwise, and
-    /// [`Source::push_urgent`] but for its count.
+    /// Whether the page of a ticket can be sent, on either wire: the refusal of [`Source::push`], and that of [`Source::push_urgent`]
+    /// except `CountUsed`.
     pub fn check_push(&self, ticket: Ticket) -> Result<(), Refusal>
         ensures push { IsChecked self.now (Step.Push ticket) result }
         ensures urgent { IsChecked self.now (Step.PushUrgent ticket) result }
@@ -55,7 +55,7 @@ impl Source {
         self.ensure_owed(ticket)
     }
 
-    /// Whether End can be sent: how [`Source::end`] is refused otherwise.
+    /// Whether End can be sent: the refusal of [`Source::end`].
     pub fn check_end(&self) -> Result<(), Refusal>
         ensures { IsChecked self.now Step.End result }
     {

@@ -1,4 +1,4 @@
-//! The handler of the source: messages that are read, and faults that are resolved.
+//! The handler of the source: it reads messages and resolves faults.
 
 ghost use Rattle.std.specs.Prelude.{◌≡◌, List, [], ◌∷◌, Some, Err, IfOk, IfErr, OnErr};
 ghost use Rattle.mig_base.specs.declared.refusal.Refusal.{Refusal};
@@ -19,9 +19,10 @@ use mig_base::phase::SourcePhase;
 use mig_base::refusal::Refusal;
 
 impl Source {
-    /// Reads the next message. A page fault is held. The pages of an event are neither clean nor to be sent, those that sleep on pages that
-    /// are gone are woken, and with the last message of its call the processor is handed its reply. Refused as `Phase` before the start
-    /// and once the processors have stopped, and as `NothingThere` where no message waits; then as `NoMemory`, of a page fault alone.
+    /// Reads the next message. A page fault is held. The pages of an event are neither clean nor still to be sent; processors that
+    /// sleep on pages that are gone or have moved away are woken; and with the last message of its map call the calling processor is
+    /// handed its reply. Refused with `Phase` before the start and once the processors have stopped, with `NothingThere` if there is
+    /// no message, and last with `NoMemory`, for a page fault alone.
     pub fn read(&mut self) -> Result<Effect, Refusal>
         ensures made { IfOk result (λ effect. IsMade self.old Step.SourceRead effect [] self.new) }
         ensures refused { IfErr result (λ refusal. IsRefused self.old Step.SourceRead refusal) }
@@ -35,9 +36,9 @@ impl Source {
         Ok(effect)
     }
 
-    /// Resolves the first fault that is held, by what its page is now, and wakes those that sleep on the page. Refused as `Phase` before the
-    /// start and once the processors have stopped, as `NothingThere` where no fault is held, and as `Changing` while an event is unread;
-    /// then as `NoMemory`, of a page that becomes zeros alone.
+    /// Resolves the first held fault according to the present state of its page, and wakes the processors that sleep on the page.
+    /// Refused with `Phase` before the start and once the processors have stopped, with `NothingThere` if no fault is held, with
+    /// `Changing` while an event is unread, and last with `NoMemory`, for a page that has to become zeros alone.
     pub fn act(&mut self) -> Result<Effect, Refusal>
         ensures made { IfOk result (λ effect. IsMade self.old Step.SourceAct effect [] self.new) }
         ensures refused { IfErr result (λ refusal. IsRefused self.old Step.SourceAct refusal) }
@@ -62,7 +63,7 @@ impl Source {
     }
 }
 
-/// 1 for a page fault that was read.
+/// 1 if a page fault was read, else 0.
 fn faults_in(effect: Effect) -> u64
     ensures { result ≡ faults_told effect }
 {
@@ -72,7 +73,7 @@ fn faults_in(effect: Effect) -> u64
     }
 }
 
-/// What is told of a fault that was resolved.
+/// The effect of resolving a fault.
 fn told_act(act: Act, addr: Addr) -> Effect
     ensures { result ≡ act_told act addr }
 {

@@ -29,7 +29,7 @@ use mig_base::schedule::Ticket;
 use mig_base::{HIGH_PAGE, NoMemory, PageNo, PageSet, page_address};
 use page_stream::Frame;
 
-/// What a source hands over as it stops.
+/// What a source hands over when it stops.
 #[derive(Drop)]
 struct HandedOver {
     discarded: PageSet,
@@ -38,9 +38,10 @@ struct HandedOver {
 }
 
 impl Source {
-    /// Stops the processors for good: the pages that were sent and are not clean are to be discarded, the present pages that are not
-    /// clean are owed, and the commands that the processors still have to make go with them. Unread and held faults are given up, since
-    /// the destination takes those commands over. Refused as `Phase` outside pre-copy, and as `Changing` while an event is unread.
+    /// Stops the processors for good. Returns the effect, a Discard of the pages that were sent and are not clean, and the Package.
+    /// The Package has the mappings, the present pages that are not clean, which are now owed, and the commands that the processors
+    /// still have to make. The destination takes these commands over, so unread and held faults are dropped. Refused with `Phase`
+    /// outside pre-copy, with `Changing` while an event is unread, and last with `NoMemory`.
     pub fn switch(&mut self) -> Result<(Effect, Frame, Frame), Refusal>
         ensures made { IfOk result (λ told. IsMade self.old Step.Switch told.0 (frame_of told.1 ∷ frame_of told.2 ∷ []) self.new) }
         ensures frames { IfOk result (λ told. IsFrame (frame_of told.1) × IsFrame (frame_of told.2)) }
@@ -68,7 +69,7 @@ impl Source {
         ))
     }
 
-    /// What it hands over as it stops.
+    /// What the source hands over when it stops. `NoMemory` if that cannot be allocated.
     fn hand_over(&self) -> Result<HandedOver, NoMemory>
         ensures { IfOk result (λ handed. IsHandedOver self.now handed) }
     {
@@ -81,8 +82,9 @@ impl Source {
         })
     }
 
-    /// Sends an owed page, which does not remain then. Its bytes are borrowed, so that nothing changes until they are written. Refused as `Phase` unless the source is stopped, as `StaleEpoch` where the ticket is of another epoch, as `PageNotSendable`
-    /// where the page is not present here, and as `NotRemaining` where it is not owed or was sent in this epoch. It takes no memory.
+    /// Sends an owed page, which then no longer remains. Its bytes are borrowed, so that nothing changes until they are written.
+    /// Refused with `Phase` unless the source is stopped, with `StaleEpoch` if the ticket names another epoch, with `PageNotSendable`
+    /// if the page is not present here, and with `NotRemaining` if it is not owed or was sent in this epoch. It takes no memory.
     pub fn push(&mut self, ticket: Ticket) -> Result<(Effect, Sent<'_>), Refusal>
         ensures* made { sem 𝓛 (LeavesSource self.entry result (λ told last. IsPushed self.old ticket told.0 (frame_sent ticket.page told.1) last)) }
         ensures sent { IfOk result (λ told. frame_sent ticket.page told.1 ≡ page_frame ticket.page (bytes_of self.old ticket.page)) }
@@ -97,9 +99,9 @@ impl Source {
         Ok((told_page(ticket.page, sent), sent))
     }
 
-    /// The same as [`Source::push`], for the urgent wire: the page goes there, and is counted. Refused as that call is, and behind that as
-    /// `CountUsed` where the count of the epoch is at its greatest value; no source in a world gets there, since it sends a page once in an
-    /// epoch.
+    /// Like [`Source::push`], but for the urgent wire: the page goes there, and is counted. Refused like that call, and last with
+    /// `CountUsed` if the count of the epoch is at its greatest value. No source of a world reaches that value, because it sends each
+    /// page at most once in an epoch.
     pub fn push_urgent(&mut self, ticket: Ticket) -> Result<(Effect, Sent<'_>), Refusal>
         ensures* made { sem 𝓛 (LeavesSource self.entry result (λ told last. IsPushedUrgently self.old ticket told.0 (frame_sent ticket.page told.1) last)) }
         ensures sent { IfOk result (λ told. frame_sent ticket.page told.1 ≡ page_frame ticket.page (bytes_of self.old ticket.page)) }
@@ -116,7 +118,7 @@ impl Source {
         Ok((told_page(ticket.page, sent), sent))
     }
 
-    /// An owed page is sent, and does not remain.
+    /// Counts an owed page as sent: it no longer remains.
     fn take_owed(&mut self, page: PageNo)
         requires { is_present self.old.guest.space page ≡ true }
         ensures { self.new ≡ page_pushed self.old page }
@@ -126,8 +128,8 @@ impl Source {
         self.pages_sent = self.pages_sent.saturating_add(1);
     }
 
-    /// Takes the first request of the destination: the address of the page that is asked for. Refused as `Phase` unless the source is
-    /// stopped, and as `NothingThere` where no request waits. It takes no memory.
+    /// Dequeues the oldest request of the destination; the effect has the address of the requested page. Refused with `Phase` unless the
+    /// source is stopped, and with `NothingThere` if there is no request. It takes no memory.
     pub fn serve(&mut self) -> Result<Effect, Refusal>
         ensures made { IfOk result (λ effect. IsMade self.old Step.Serve effect [] self.new) }
         ensures refused { IfErr result (λ refusal. IsRefusedAs self.old Step.Serve refusal) }
@@ -142,8 +144,9 @@ impl Source {
         })
     }
 
-    /// Tells the destination that nothing more is sent in this epoch. Refused as `Phase` unless the source is stopped and has not told it in
-    /// this epoch, and as `PagesLeft` while pages remain. It takes no memory.
+    /// Announces to the destination that nothing more is sent in this epoch. The frame has the number of frames that were put on the
+    /// urgent wire in this epoch. Refused with `Phase` unless the source is stopped and has sent no End in this epoch, and with
+    /// `PagesLeft` while pages remain. It takes no memory.
     pub fn end(&mut self) -> Result<(Effect, Frame), Refusal>
         ensures made { IfOk result (λ told. IsMade self.old Step.End told.0 (frame_of told.1 ∷ []) self.new) }
         ensures frame { IfOk result (λ told. IsFrame (frame_of told.1)) }
@@ -188,7 +191,7 @@ impl Source {
         Ok(())
     }
 
-    /// Whether it has stopped, and is not paused.
+    /// Whether the source has stopped and is not paused.
     fn ensure_stopped(&self) -> Result<(), Refusal>
         ensures { result ≡ stop_answer self.now }
     {
@@ -199,7 +202,7 @@ impl Source {
     }
 }
 
-/// The least page of a set.
+/// The lowest page of a set.
 fn least_page(pages: &PageSet) -> Option<PageNo>
     ensures { result ≡ least_of pages.now }
 {

@@ -1,4 +1,5 @@
-//! What a broken channel, the recovery from it and the end of a migration make of a source. No call takes memory, and none is refused.
+//! How a source changes when the channel breaks, when it recovers, and when the migration ends. No call takes memory, and none is
+//! refused.
 
 ghost use Rattle.std.specs.Prelude.{◌≡◌, ◌<◌, false, true, []};
 ghost use Rattle.mig_model.specs.Log.{forgotten};
@@ -12,14 +13,14 @@ use std::collections::VecDeque;
 use uffd_ioctl::Space;
 
 impl Source {
-    /// How many pages the last Package owed.
+    /// The number of pages that the last Package owed.
     pub fn packaged(&self) -> u32
         ensures { result ≡ self.now.packaged }
     {
         self.packaged
     }
 
-    /// The channel is broken: the source, which is not released, waits for a new one.
+    /// The channel is broken: the source, which is not released, waits for a new channel.
     pub fn pause(&mut self)
         requires { is_released self.old.phase ≡ false }
         ensures { self.new ≡ record self.old { phase = SourcePhase.Paused } }
@@ -27,7 +28,7 @@ impl Source {
         self.phase = SourcePhase::Paused;
     }
 
-    /// A new epoch begins, in which nothing was put on the urgent wire, and no End was sent: it is greater than every one before.
+    /// Begins a new epoch, in which nothing was put on the urgent wire and no End was sent. It has to be greater than every epoch before.
     pub fn set_epoch(&mut self, epoch: u32)
         requires { self.old.epoch < epoch }
         ensures { self.new ≡ record self.old { epoch = epoch; urgent_sent = 0 } }
@@ -36,7 +37,7 @@ impl Source {
         self.urgent_sent = 0;
     }
 
-    /// A source that has not switched goes on with pre-copy, of which the destination has kept nothing. Held faults stay.
+    /// A source that has not switched begins pre-copy again, because the destination has kept nothing. Held faults stay.
     pub fn to_precopy(&mut self)
         requires { self.old.switched ≡ false }
         ensures { self.new ≡ record self.old { phase = SourcePhase.Precopy; asked = []; log = forgotten self.old.log } }
@@ -46,7 +47,7 @@ impl Source {
         self.log.forget();
     }
 
-    /// A source that has switched and is not released goes on with these pages left to send; the last Package owed `packaged` pages.
+    /// A source that has switched and is not released continues, with these pages left to send. The last Package owed `packaged` pages.
     pub fn to_stopped(&mut self, remaining: PageSet, packaged: u32)
         requires switched { self.old.switched ≡ true }
         requires kept { is_released self.old.phase ≡ false }
@@ -58,7 +59,7 @@ impl Source {
         self.packaged = packaged;
     }
 
-    /// The migration is complete: a source that has switched gives up its memory.
+    /// The migration is complete: a source that has switched releases its memory.
     pub fn release(&mut self)
         requires { self.old.switched ≡ true }
         ensures { self.new ≡ released self.old }

@@ -25,8 +25,9 @@ use mig_base::{PageNo, page_address};
 use page_stream::Frame;
 
 impl Source {
-    /// Begins a migration, in the next epoch: every mapped page is registered for missing faults and for write-protect faults, by areas,
-    /// and the destination is told. Refused as `Phase` where a migration has begun, and as `CountUsed` where no epoch is left.
+    /// Begins a migration, in the next epoch: registers every mapped page for missing faults and for write-protect faults, area by area,
+    /// and returns the frame Advise. Refused with `Phase` if a migration has begun, with `CountUsed` if no epoch is left, and last with
+    /// `NoMemory`.
     pub fn start(&mut self) -> Result<(Effect, Frame), Refusal>
         ensures made { IfOk result (λ told. IsMade self.old Step.Start told.0 (frame_of told.1 ∷ []) self.new) }
         ensures frame { IfOk result (λ told. IsFrame (frame_of told.1)) }
@@ -43,9 +44,9 @@ impl Source {
         Ok((Effect::Started { epoch }, Frame::Advise))
     }
 
-    /// Begins the next round of pre-copy: pages that were mapped since the last are registered, by areas, and the round has to send the
-    /// present pages that are not clean. Refused as `Phase` outside pre-copy, as `Changing` while an event is unread, and as
-    /// `CountUsed` where no number is left for the round.
+    /// Begins the next round of pre-copy: registers the pages that were mapped since the last one, area by area; the round has to
+    /// send the present pages that are not clean. Refused with `Phase` outside pre-copy, with `Changing` while an event is unread,
+    /// with `CountUsed` if no number is left for the round, and last with `NoMemory`.
     pub fn round(&mut self) -> Result<Effect, Refusal>
         ensures made { IfOk result (λ effect. IsMade self.old Step.Round effect [] self.new) }
         ensures refused { IfErr result (λ refusal. IsRefused self.old Step.Round refusal) }
@@ -65,16 +66,17 @@ impl Source {
         Ok(Effect::RoundMade { round, todo: pages })
     }
 
-    /// Sends the least page of the round: it is write-protected, then read, and is clean from then on. A page whose bytes are all zero
-    /// is sent as a page of zeros. Its bytes are borrowed, so that nothing changes until they are written. Refused as `Phase` outside
-    /// pre-copy, as `NothingThere` where the round has sent all its pages, and as `Changing` while an event is unread.
+    /// Sends the lowest page of the round: write-protects it, then reads it; it is clean from then on. A page whose bytes are all
+    /// zero is sent as a page of zeros. Its bytes are borrowed, so that nothing changes until they are written. Refused with `Phase`
+    /// outside pre-copy, with `NothingThere` if the round has sent all its pages, with `Changing` while an event is unread, and last
+    /// with `NoMemory`.
     pub fn send_next(&mut self) -> Result<(Effect, PageNo, Sent<'_>), Refusal>
         ensures* made { sem 𝓛 (LeavesSource self.entry result (λ told last. IsPageSent self.old told.0 told.1 (frame_sent told.1 told.2) last)) }
         ensures sent { IfOk result (λ told. frame_sent told.1 told.2 ≡ page_frame told.1 (bytes_of self.old told.1)) }
         ensures frame { IfOk result (λ told. IsFrame (frame_sent told.1 told.2)) }
         ensures refused { IfErr result (λ refusal. IsRefused self.old Step.Send refusal) }
 
-        // The same in the words of a reader: it is a page of zeros where it has nothing else.
+        // The same for a reader: `Zero` is returned exactly if all bytes of the page are zero.
         ensures zero { IfOk result (λ told. (told.2 ≡ Sent.Zero) ↔ (bytes_of self.old told.1 ≡ zero_page)) }
     {
         let page = self.next_to_send()?;
@@ -85,7 +87,7 @@ impl Source {
         Ok((told_page(page, sent), page, sent))
     }
 
-    /// The epoch that a migration would begin with.
+    /// The epoch with which a migration would begin.
     pub(super) fn next_epoch(&self) -> Result<u32, Refusal>
         ensures { result ≡ start_answer self.now }
     {
@@ -103,7 +105,7 @@ impl Source {
         next_count(self.rounds)
     }
 
-    /// Whether it is in pre-copy, and no event is unread.
+    /// Whether the source is in pre-copy and no event is unread.
     pub(super) fn ensure_settled(&self) -> Result<(), Refusal>
         ensures { result ≡ switch_answer self.now }
     {
@@ -136,7 +138,7 @@ impl Source {
     }
 }
 
-/// What is told of a page that was sent.
+/// The effect of sending a page.
 pub(super) fn told_page(page: PageNo, sent: Sent) -> Effect
     ensures { result ≡ sent_effect page sent.entry }
 {
@@ -147,7 +149,7 @@ pub(super) fn told_page(page: PageNo, sent: Sent) -> Effect
     }
 }
 
-/// The next number of a count, or `CountUsed` where it is at its greatest value.
+/// The next number of a count, or `CountUsed` if it is at its greatest value.
 pub(super) fn next_count(count: u32) -> Result<u32, Refusal>
     ensures { result ≡ counted_on count }
 {

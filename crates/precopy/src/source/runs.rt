@@ -17,9 +17,9 @@ use mig_base::{MAX_RUN, PageBytes, PageNo, page_address};
 use page_stream::{Frame, Pages};
 
 impl Source {
-    /// Sends the least page of the round and those that follow it in the round without a gap, at most `count` pages, in one frame: they are
-    /// write-protected, then read, and are clean from then on. A count of 0 is taken as 1, and one above [`MAX_RUN`] as that. Refused as
-    /// [`Source::send_next`] is.
+    /// Sends the lowest page of the round and those that follow it in the round without a gap, at most `count` pages, in one frame:
+    /// write-protects them, then reads them; they are clean from then on. A count of 0 means 1, and a count above [`MAX_RUN`] means
+    /// [`MAX_RUN`]. Refused like [`Source::send_next`].
     pub fn send_run(&mut self, count: u8) -> Result<(Effect, Frame), Refusal>
         ensures made { IfOk result (λ told. IsMade self.old (Step.SendRun count) told.0 (frame_of told.1 ∷ []) self.new) }
         ensures frame { IfOk result (λ told. IsFrame (frame_of told.1)) }
@@ -35,14 +35,14 @@ impl Source {
     }
 }
 
-/// How many pages a run may have where `count` are asked for.
+/// The largest number of pages in a run if `count` are asked for.
 fn most_of(count: u8) -> u32
     ensures { result ≡ run_bound count }
 {
     u32::from(count.clamp(1, MAX_RUN))
 }
 
-/// What is told of a run that was sent, and its frame.
+/// The effect of sending a run, and its frame.
 fn told_run(first: PageNo, count: u32, sent: Vec<PageBytes>) -> (Effect, Frame)
     ensures effect { result.0 ≡ Effect.SentRun (PAGE_SIZE * first) count }
     ensures frame { frame_of result.1 ≡ wire.Frame.Run first sent.items }

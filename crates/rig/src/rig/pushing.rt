@@ -1,4 +1,4 @@
-//! The workers that send the owed pages, which share them out by claims.
+//! The workers that send the owed pages, and divide them by claims.
 
 ghost use Rattle.std.specs.Prelude.{◌≡◌, ◌≢◌, ◌⊎◌, [], ◌∷◌, AllPairs, IfOk, IfErr};
 ghost use Rattle.pusher.specs.Seats.{IsSeatOf};
@@ -25,8 +25,8 @@ enum Turn {
 }
 
 impl Rig {
-    /// Claims over the pages that remain to be sent in this epoch, all of them free. `Phase` unless the source is stopped; `NoMemory` where the list
-    /// of the pages or the claims have no room. No step is made.
+    /// Claims of the pages that remain to be sent in this epoch, all of them free. `Phase` unless the source is stopped, and then
+    /// `NoMemory` if the list of the pages or the claims have no room. No step is made.
     pub fn claims<R: Wait>(&self, rt: &R) -> Result<(Claims, ClaimSeat), Refusal>
         ensures seat { IfOk result (λ r. IsSeatOf r.0 r.1 × (r.1.claimed ≡ []) × (r.1.seen ≡ []) × (r.1.share ≡ 0 ∷ [])) }
         ensures refused { IfErr result (λ refusal. (refusal ≡ Refusal.Phase) ⊎ (refusal ≡ Refusal.NoMemory)) }
@@ -38,12 +38,13 @@ impl Rig {
         }
     }
 
-    /// Sends the pages that the destination asks for, on the urgent wire, each time that the gate lets it: makes a Serve, claims the page, and then
-    /// makes a PushUrgent with its ticket. A request for a page that was claimed before, or that is none of the claims', is done. Ends when the gate
-    /// stops it, when the claims' epoch is over, or at the greatest turn. The seat comes back with what it had, and behind that what it has claimed here.
+    /// Sends the pages that the destination requests, on the urgent wire, each time that the gate lets it: makes a Serve, claims the page,
+    /// and then makes a PushUrgent with its ticket. It skips a request for a page that was claimed before, or is not among the claims'
+    /// pages. Ends when the gate stops it, when the claims' epoch is over, or at the greatest turn. Returns the seat with its claims, the
+    /// new ones last.
     ///
-    /// A ticket whose push is refused as `NoMemory`, `Broken` or `Phase` is pushed again at the next turn. One that the worker still has when it
-    /// ends was not sent.
+    /// A ticket whose push is refused as `NoMemory`, `Broken` or `Phase` is pushed again at the next turn. One that the worker still has
+    /// when it ends was not sent.
     pub fn serve_worker<R: Wait, G: Gate>(
         &self,
         rt: &R,
@@ -75,11 +76,12 @@ impl Rig {
         seat
     }
 
-    /// Sends the pages in the order of their indexes, each time that the gate lets it: claims the next one that is free, and makes a Push with its
-    /// ticket. Ends when the gate stops it, when the claims' epoch is over, or at the greatest turn. The seat comes back with what it had, and behind that what it has claimed here.
+    /// Sends the pages in the order of their indexes, each time that the gate lets it: claims the next one that is free, and makes a Push
+    /// with its ticket. Ends when the gate stops it, when the claims' epoch is over, or at the greatest turn. Returns the seat with its
+    /// claims, the new ones last.
     ///
-    /// A ticket whose push is refused as `NoMemory`, `Broken` or `Phase` is pushed again at the next turn. One that the worker still has when it
-    /// ends was not sent.
+    /// A ticket whose push is refused as `NoMemory`, `Broken` or `Phase` is pushed again at the next turn. One that the worker still has
+    /// when it ends was not sent.
     pub fn push_worker<R: Wait, G: Gate>(
         &self,
         rt: &R,
@@ -122,7 +124,7 @@ impl Rig {
         remaining_in(self.alloc, &world)
     }
 
-    /// One turn of the worker that serves: it sends the page of its ticket, or takes a request and claims its page.
+    /// One turn of the worker that serves: it sends the page of its ticket, or dequeues a request and claims its page.
     fn serve<R: Wait>(
         &self,
         rt: &R,
@@ -147,7 +149,7 @@ impl Rig {
         }
     }
 
-    /// Takes a request in one section of the lock.
+    /// Dequeues a request in one section of the lock.
     fn take_request<R: Wait>(&self, rt: &R, epoch: u32) -> Result<Effect, Refusal> {
         let mut world = self.world.lock(rt);
         let outcome = serve_in(&mut world, epoch);
@@ -175,7 +177,7 @@ impl Rig {
     }
 }
 
-/// Claims the first index from `index` on that is free. Behind it goes on the next search.
+/// Claims the first free index from `index` on. The next search begins behind it.
 fn claim_next(claims: &Claims, seat: &mut ClaimSeat, index: &mut usize) -> Option<Ticket>
     requires { IsSeatOf claims.now seat.old }
     ensures seat { IsSeatOf claims.now seat.new }
@@ -191,7 +193,7 @@ fn claim_next(claims: &Claims, seat: &mut ClaimSeat, index: &mut usize) -> Optio
     None
 }
 
-/// Claims the page at an address, if it is one of the claims' and free.
+/// Claims the page at an address, if it is among the claims' pages and free.
 fn claim_at(claims: &Claims, seat: &mut ClaimSeat, addr: Addr) -> Option<Ticket>
     requires { IsSeatOf claims.now seat.old }
     ensures seat { IsSeatOf claims.now seat.new }

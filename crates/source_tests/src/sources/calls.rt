@@ -21,7 +21,7 @@ use std::process::Abort;
 /// A call with its arguments. Loads and stores are of 8 bytes.
 #[derive(Clone, Copy)]
 pub(super) enum Call {
-    /// Maps so many bytes at the least free place, to be read and written.
+    /// Maps this many bytes at the lowest free place, for reading and writing.
     Map(u8, u64),
     Load(u8, Addr),
     Store(u8, Addr, u64),
@@ -48,7 +48,7 @@ pub(super) enum Call {
     /// The first page that remains, how many they are, and how many were owed.
     ToStopped(PageNo, u32, u32),
     Release,
-    /// A Package that owes so many pages from the first on.
+    /// A Package that owes this many pages from the first on.
     Package(PageNo, u32),
     /// How far the source is.
     Phase,
@@ -151,7 +151,7 @@ impl Brief {
     }
 }
 
-/// What a command came to.
+/// The outcome of a command.
 fn tried(answer: Result<Tried, Refusal>) -> Result<Answer, Refusal> {
     answer.map(|tried| match (tried.effect, tried.entry) {
         (Effect::Asleep { .. }, None) => Tries(tried.effect),

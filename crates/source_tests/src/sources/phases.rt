@@ -122,7 +122,7 @@ fn counts_are_used(rt: HostRuntime) -> Result<(), Fail> {
     play(&rt, rt.alloc(), (u32::MAX - 1, u32::MAX), &LAST_ROUND)
 }
 
-/// Processors, and whether a source has so many.
+/// A number of processors, and the error of a source with that number, if any.
 const PROCESSORS: [(u8, Option<NewFault>); 4] = [
     (0, Some(NewFault::NoCpu)),
     (1, None),

@@ -19,12 +19,12 @@ use mig_base::{
 use page_table::PutFault;
 
 impl Space {
-    /// Makes a load or store of a processor; no other command may be given. One that is wrong or not permitted is answered as one flat memory answers it; one of
-    /// a missing page that is registered for that, or a store to a protected page that is registered for that, is a page fault:
-    /// the processor sleeps, and a message waits, unless one of the same kind for the page is unread. Any other is answered as one
-    /// flat memory answers it. A load leaves a missing page missing.
+    /// Makes a load or store of a processor; no other command is allowed. An access that is malformed or not permitted is answered as
+    /// one flat memory answers it. An access to a missing page registered for missing faults is a page fault, and so is a store to a
+    /// protected page registered for write-protect faults: the processor sleeps, and a message is queued, unless one of the same kind
+    /// for the page is unread. Any other access is answered as one flat memory answers it. A load leaves a missing page missing.
     ///
-    /// `NoMemory` comes only where the access needs memory, to queue a page fault or to make a page present, and changes nothing.
+    /// `NoMemory` only if the access needs memory, to queue a page fault or to make a page present; it changes nothing.
     pub fn access(&mut self, cpu: u8, command: Command) -> Result<Access, NoMemory>
         requires { is_access command ≡ true }
         ensures access { IfOk result (λ access. access ≡ machine.access_of self.old command) }
@@ -57,7 +57,7 @@ impl Space {
         Ok(Access::Answered(reply))
     }
 
-    /// What one flat memory answers to a load or store.
+    /// The reply of one flat memory to a load or store.
     fn reply_to(&self, command: Command) -> Reply
         requires { is_access command ≡ true }
         ensures { result ≡ reply_of (memory self.now.host) command }
@@ -82,7 +82,7 @@ impl Space {
         }
     }
 
-    /// What a store is answered, which is not made yet.
+    /// The reply to a store that is not made yet.
     fn store_reply(&self, addr: Addr, width: u8, value: u64) -> Reply
         ensures { result ≡ reply_of (memory self.now.host) (Command.Store addr width value) }
     {
@@ -122,7 +122,7 @@ impl Space {
         }
     }
 
-    /// Makes a mapped page present: zeros, unless it is so already.
+    /// Makes a mapped page present, with zeros unless it is present already. `NoMemory` only if it is missing; it changes nothing.
     fn make_present(&mut self, page: PageNo) -> Result<(), NoMemory>
         requires below { page < HIGH_PAGE }
         requires mapped { IsTrue (map.contains_key self.old.host.areas page) }
@@ -138,7 +138,8 @@ impl Space {
         }
     }
 
-    /// Replaces the `width` bytes at an address by those of a number, and makes their page present.
+    /// Writes the `width` bytes of a number at an address, and makes their page present. `NoMemory` only if the page is missing; it
+    /// changes nothing.
     fn write(&mut self, addr: Addr, width: u8, value: u64) -> Result<(), NoMemory>
         requires high { addr < HIGH }
         requires aligned { is_form addr width ≡ true }

@@ -27,8 +27,8 @@ use mig_base::{Addr, Errno, HIGH_PAGE, Message, PageBytes, PageNo, Wake};
 use userfault::Mode;
 
 impl Space {
-    /// UFFDIO_API: enables the object for these features, and answers all that it has: UFFD_FEATURE_PAGEFAULT_FLAG_WP, the
-    /// events REMAP, REMOVE and UNMAP, and UFFD_FEATURE_THREAD_ID. EINVAL for another API than 0xAA, an unknown feature, or a
+    /// UFFDIO_API: enables the object for these features, and returns all features that it has: UFFD_FEATURE_PAGEFAULT_FLAG_WP, the
+    /// events REMAP, REMOVE and UNMAP, and UFFD_FEATURE_THREAD_ID. EINVAL for an API other than 0xAA, an unknown feature, or a
     /// second handshake.
     pub fn handshake(&mut self, api: u64, features: u64) -> Result<u64, Errno>
         ensures answer { result ≡ table.handshake_answer self.old api features }
@@ -41,7 +41,7 @@ impl Space {
         Ok(ALL_FEATURES)
     }
 
-    /// Whether the object is enabled: a handshake was accepted.
+    /// Whether the object is enabled, that is, a handshake was accepted.
     pub fn is_enabled(&self) -> bool
         ensures { result ≡ self.now.object.enabled }
     {
@@ -49,11 +49,11 @@ impl Space {
     }
 
     /// UFFDIO_REGISTER: registers the mapped pages of the `len` bytes from `start` on, for missing faults with bit 0 of the mode
-    /// and for write-protect faults with bit 1. A page that has all modes asked for keeps its own, and any other has exactly these;
-    /// one that is no longer registered for write-protect faults loses its protection.
+    /// and for write-protect faults with bit 1. A page that already has all modes asked for keeps what it has, any other page gets exactly
+    /// the modes asked for; a page that is no longer registered for write-protect faults loses its protection.
     ///
-    /// EINVAL where the object is not enabled, or not for the three events, for another mode than 1 to 3, a range that is bad, or
-    /// one of which no page is mapped. A range is bad where it is empty, no multiple of the page size, or outside the address space.
+    /// EINVAL if the object is not enabled for the three events, the mode is not 1 to 3, the range is bad, or no page of it is mapped. A
+    /// range is bad if it is empty, does not begin and end at a page boundary, or leaves the address space.
     pub fn register(&mut self, start: Addr, len: u64, mode: u64) -> Result<(), IoctlFault>
         ensures answer { (result ≡ ioctl_result (table.answered_by (table.register_error self.old start len mode) tt)) ⊎ ((result ≡ Err IoctlFault.NoMemory) × (table.register_error self.old start len mode ≡ None)) }
         ensures space { OnOk result (self.new ≡ table.registered self.old start len mode) }
@@ -85,7 +85,7 @@ impl Space {
         None
     }
 
-    /// Whether no page of a range is mapped.
+    /// Whether no page of the range is mapped.
     fn is_bare(&self, range: PageRange) -> bool
         requires { range.first + range.count ≤ HIGH_PAGE }
         ensures { result ≡ table.is_bare self.now range.first range.count }
@@ -94,7 +94,7 @@ impl Space {
     }
 
     /// UFFDIO_UNREGISTER: ends the registration and the protection of the `len` bytes from `start` on, and wakes those that sleep
-    /// there. EINVAL where the object is not enabled, for a bad range, or one of which no page is mapped. It takes no memory.
+    /// there. EINVAL if the object is not enabled, the range is bad, or no page of it is mapped. It takes no memory.
     pub fn unregister(&mut self, start: Addr, len: u64) -> Result<Wake, IoctlFault>
         ensures answer { result ≡ ioctl_result (table.unregister_answer self.old start len) }
         ensures space { self.new ≡ table.range_unregistered self.old start len }
@@ -117,8 +117,8 @@ impl Space {
         None
     }
 
-    /// UFFDIO_WAKE: wakes those that sleep on the `len` bytes from `start` on. EINVAL where the object is not enabled, or for a bad
-    /// range.
+    /// UFFDIO_WAKE: wakes those that sleep on the `len` bytes from `start` on. EINVAL if the object is not enabled or the range is
+    /// bad.
     pub fn wake(&self, start: Addr, len: u64) -> Result<Wake, Errno>
         ensures { result ≡ table.wake_answer self.now start len }
     {
@@ -128,13 +128,13 @@ impl Space {
         Ok(Wake::Range { start, len })
     }
 
-    /// UFFDIO_COPY: makes the missing pages from `start` on present, each with its 4096 of the bytes, write-protected with bit 1 of
+    /// UFFDIO_COPY: makes the missing pages from `start` on present, each with its 4096 bytes of `bytes`, write-protected with bit 1 of
     /// the mode (UFFDIO_COPY_MODE_WP), and wakes those that sleep there, unless bit 0 is set (UFFDIO_COPY_MODE_DONTWAKE). It stops
-    /// at the first page that is present or for which there is no memory: what was put stays and is woken. The fault is then
-    /// EAGAIN, or the page's own, EEXIST or `NoMemory`, where it is the first of the range.
+    /// at the first page that is present or cannot be allocated: the pages put before stay, and their sleepers are woken as above. The
+    /// error is then EAGAIN; if that page is the first of the range, it is EEXIST or `NoMemory`.
     ///
-    /// Before any page is put: EINVAL where the object is not enabled, for a mode above 3 or a bad range; EAGAIN while an event is
-    /// unread; ENOENT unless all pages are registered, with one protection and in one mode; EINVAL for bit 1 where they are not
+    /// Before any page is put: EINVAL if the object is not enabled, the mode is above 3 or the range is bad; EAGAIN while an event is
+    /// unread; ENOENT unless all pages are registered, with one protection and in one mode; EINVAL for bit 1 if they are not
     /// registered for write-protect faults.
     pub fn copy(&mut self, start: Addr, bytes: &[u8], mode: u64) -> Result<Copied, CopyFault>
         ensures row { ((result ≡ result_of (table.copy_answer self.old start bytes.now mode)) × (self.new ≡ table.copied self.old start bytes.now mode)) ⊎ ((table.copy_error self.old start (length bytes.now) mode ≡ None) × IsShort self.old self.new start (length bytes.now / 4096) mode (table.handed bytes.now) (is_one mode 1) result) }
@@ -148,9 +148,9 @@ impl Space {
         outcome(start, done, has_bit(mode, INSTALL_DONTWAKE_BIT), stop)
     }
 
-    /// UFFDIO_COPY of one missing page that is registered, with no mode, while the object is enabled and no event is unread: makes the
-    /// page present with these bytes, which are moved there. It wakes nobody. The only error is that memory is refused; the bytes come
-    /// back then, and nothing is changed.
+    /// UFFDIO_COPY, with mode 0, of one missing page that is registered, while the object is enabled and no event is unread: makes the
+    /// page present with these bytes, which are moved there. The call itself wakes nobody. The only error is that memory runs out; it
+    /// returns the bytes and changes nothing.
     pub fn install(&mut self, page: PageNo, bytes: PageBytes) -> Result<(), PageBytes>
         requires enabled { self.old.object.enabled ≡ true }
         requires quiet { object.changing self.old.object ≡ 0 }
@@ -160,7 +160,7 @@ impl Space {
         ensures ok { OnOk result (self.new ≡ table.copied self.old (4096 * page) bytes 0) }
         ensures err { IfErr result (λ back. (back ≡ bytes) × (self.new ≡ self.old)) }
 
-        // The same in the words of a page.
+        // The same in terms of the page number.
         ensures page { OnOk result (self.new ≡ table.installed self.old page 1 (λ i. bytes) false) }
     {
         if let Err((_, bytes)) = self.pages.put(page, bytes) {
@@ -189,7 +189,7 @@ impl Space {
         None
     }
 
-    /// Whether the pages of a range are registered, all with one protection and in one mode.
+    /// Whether the pages of the range are registered, all with one protection and in one mode.
     fn is_one_area(&self, range: PageRange) -> bool
         requires some { 0 < range.count }
         requires inside { range.first + range.count ≤ HIGH_PAGE }
@@ -204,7 +204,7 @@ impl Space {
     /// UFFDIO_ZEROPAGE: makes the missing pages of the `len` bytes from `start` on present, with zeros, and wakes those that sleep
     /// there, unless bit 0 of the mode is set (UFFDIO_ZEROPAGE_MODE_DONTWAKE). It stops as [`Space::copy`] does.
     ///
-    /// Before any page is put: EINVAL where the object is not enabled, for a mode above 1 or a bad range; EAGAIN while an event is
+    /// Before any page is put: EINVAL if the object is not enabled, the mode is above 1 or the range is bad; EAGAIN while an event is
     /// unread; ENOENT unless all pages are registered, with one protection and in one mode.
     pub fn zeropage(&mut self, start: Addr, len: u64, mode: u64) -> Result<Copied, CopyFault>
         ensures row { ((result ≡ result_of (table.zeropage_answer self.old start len mode)) × (self.new ≡ table.zeropaged self.old start len mode)) ⊎ ((table.zeropage_error self.old start len mode ≡ None) × IsShort self.old self.new start (len / 4096) mode (λ i. zero_page) false result) }
@@ -233,10 +233,10 @@ impl Space {
     }
 
     /// UFFDIO_WRITEPROTECT: with bit 0 of the mode (UFFDIO_WRITEPROTECT_MODE_WP) protects the present pages of the `len` bytes from
-    /// `start` on. Without it ends their protection and wakes those that sleep there, unless bit 1 is set
-    /// (UFFDIO_WRITEPROTECT_MODE_DONTWAKE). Missing pages are passed over. It takes no memory.
+    /// `start` on. Without bit 0 it ends their protection and wakes those that sleep there, unless bit 1 is set
+    /// (UFFDIO_WRITEPROTECT_MODE_DONTWAKE). Missing pages are skipped. It takes no memory.
     ///
-    /// EINVAL where the object is not enabled, for a mode above 2 or a bad range; EAGAIN while an event is unread; ENOENT unless all
+    /// EINVAL if the object is not enabled, the mode is above 2 or the range is bad; EAGAIN while an event is unread; ENOENT unless all
     /// pages are registered for write-protect faults.
     pub fn writeprotect(&mut self, start: Addr, len: u64, mode: u64) -> Result<Wake, Errno>
         ensures answer { result ≡ table.writeprotect_answer self.old start len mode }
@@ -277,8 +277,8 @@ impl Space {
         None
     }
 
-    /// read(2) of the object: the next message, page faults before events, with the processor that caused it. EINVAL where the
-    /// object is not enabled, and EAGAIN where there is no message.
+    /// read(2) of the object: the next message, page faults before events, with the processor that caused it. EINVAL if the
+    /// object is not enabled, EAGAIN if there is no message.
     pub fn read_message(&mut self) -> Result<(Message, u8), Errno>
         ensures message { IfOk result (λ read. option_map (λ noted. (noted.message, noted.cpu)) (object.next_message self.old.object) ≡ Some read) }
         ensures ok { OnOk result (table.read_error self.old ≡ None) }

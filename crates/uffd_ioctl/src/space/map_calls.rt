@@ -16,9 +16,9 @@ use mig_base::{
 };
 
 impl Space {
-    /// Makes a map call of a processor, which is any command but a load or a store, and answers as one flat memory does; with the reply comes how many events the call has
-    /// queued. The processor stays in its call until these are read. A page keeps its mode and its protection when it moves, and
-    /// the pages by which a range grows have the mode of its last page.
+    /// Makes a map call of a processor, which is any command but a load or a store. Returns the reply of one flat memory, and the
+    /// number of events that the call queued; the processor stays in its call until these are read. A page keeps its mode and its
+    /// protection when it moves, and the pages by which a range grows get the mode of its last page. `NoMemory` changes nothing.
     pub fn map_call(&mut self, cpu: u8, command: Command) -> Result<(Reply, u8), NoMemory>
         requires { is_access command ≡ false }
         ensures reply { IfOk result (λ answer. answer.0 ≡ reply_of (memory self.old.host) command) }

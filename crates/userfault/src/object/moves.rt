@@ -1,6 +1,6 @@
-//! Ranges of pages whose modes go elsewhere. First the target is opened, which makes its room and may want for memory; then the modes are
-//! moved there, or the target is closed again, and neither takes memory. The kernel has the same two steps for its events:
-//! mremap_userfaultfd_prep and mremap_userfaultfd_complete.
+//! Moving the modes of a range of pages, in two steps. First the target is opened, which allocates its room and may run out of
+//! memory; then the modes are moved there, or the target is closed again, and neither takes memory. The kernel has the same two
+//! steps for its events: mremap_userfaultfd_prep and mremap_userfaultfd_complete.
 
 ghost use Rattle.std.specs.Prelude.{◌≡◌, ℕ, ◌+◌, ◌≤◌, ◌⊎◌, OnOk, OnErr, IfOk};
 ghost use Rattle.mig_base.specs.declared.TheConstants.{HIGH_PAGE};
@@ -19,8 +19,8 @@ pub struct RangeModes {
 }
 
 impl Userfault {
-    /// Opens the `count` pages from `first` on: registers them in both modes, so that there is room for any, and answers which modes
-    /// they had. `NoMemory` changes nothing.
+    /// Opens the `count` pages from `first` on: registers them in both modes, so that there is room for any modes, and returns the
+    /// modes that they had. `NoMemory` changes nothing.
     pub fn open_range(&mut self, first: PageNo, count: u32) -> Result<RangeModes, NoMemory>
         requires { first + count ≤ HIGH_PAGE }
         ensures ok { OnOk result (self.new ≡ opened self.old first count) }
@@ -35,7 +35,7 @@ impl Userfault {
         Ok(modes)
     }
 
-    /// Gives the pages of a range that was opened the modes back that they had. It takes no memory.
+    /// Restores the modes that the pages of an open range had before. It takes no memory.
     pub fn close_range(&mut self, first: PageNo, count: u32, modes: &RangeModes)
         requires { first + count ≤ HIGH_PAGE }
         ensures { (before : machine.Object) → self.old ≡ opened before first count → AreModesOf modes.now before first count → self.new ≡ before }
@@ -44,7 +44,7 @@ impl Userfault {
         remove_unless_in(&mut self.protect, &modes.protect, first, count);
     }
 
-    /// Leaves the `count` pages from `first` on in no mode that is not asked for. It takes no memory.
+    /// Ends the registration of the `count` pages from `first` on in each mode that `mode` does not have. It takes no memory.
     pub fn limit_range(&mut self, first: PageNo, count: u32, mode: Mode)
         requires { first + count ≤ HIGH_PAGE }
         ensures { self.new ≡ limited self.old first count (mode_of mode) }
@@ -57,8 +57,8 @@ impl Userfault {
         }
     }
 
-    /// Moves the modes of the `count` pages from `from` on to those from `to` on, which are open. The pages from `from` on are not
-    /// registered afterwards. It takes no memory.
+    /// Moves the modes of the `count` pages from `from` on to those from `to` on, which are open; the ranges do not overlap. The
+    /// pages from `from` on are not registered afterwards. It takes no memory.
     pub fn move_to_open(&mut self, from: PageNo, to: PageNo, count: u32)
         requires inside { (from + count ≤ HIGH_PAGE) × (to + count ≤ HIGH_PAGE) }
         requires apart { (from + count ≤ to) ⊎ (to + count ≤ from) }
@@ -70,7 +70,7 @@ impl Userfault {
     }
 
     /// Moves the modes of the `count` pages from `from` on to those from `to` on, which lose their own. The pages from `from` on
-    /// are not registered afterwards. Both ranges end at or below page 0x100000, and lie apart. `NoMemory` changes nothing.
+    /// are not registered afterwards. The ranges do not overlap, and both end at or below page 0x100000. `NoMemory` changes nothing.
     pub fn move_range(&mut self, from: PageNo, to: PageNo, count: u32) -> Result<(), NoMemory>
         requires inside { (from + count ≤ HIGH_PAGE) × (to + count ≤ HIGH_PAGE) }
         requires apart { (from + count ≤ to) ⊎ (to + count ≤ from) }

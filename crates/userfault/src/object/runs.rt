@@ -1,4 +1,4 @@
-//! Runs of pages: one that is registered in an object that is not kept where that fails, and a search for one.
+//! Runs of pages: registering one in an object that is lost if that fails, and searching for one.
 
 ghost use Rattle.std.specs.Prelude.{◌≡◌, ℕ, ◌+◌, ◌<◌, ◌≤◌, false, true, OnOk, IfOk};
 ghost use Rattle.std.specs.FinSet.{contains};
@@ -12,8 +12,8 @@ use crate::modes::{Mode, remove_unless_in, run_of};
 use mig_base::{NoMemory, PageNo, PageSet};
 
 impl Userfault {
-    /// The object with the `count` pages from `first` on registered, as [`Userfault::register`] does. Nothing is copied: on
-    /// `NoMemory` the object is gone, so this is for one that is a copy.
+    /// The object with the `count` pages from `first` on registered, as [`Userfault::register`] does. Nothing is copied, and
+    /// `NoMemory` drops the object: call it on a copy.
     pub fn and_registered(self, first: PageNo, count: u32, mode: Mode) -> Result<Self, NoMemory>
         requires bound { first + count ≤ HIGH_PAGE }
         ensures { IfOk result (λ object. object ≡ machine.registered_where self (in_range first count) (mode_of mode)) }
@@ -25,8 +25,8 @@ impl Userfault {
         Ok(object)
     }
 
-    /// The first run from page `from` on, before `end`, of pages that are not registered for write-protect faults: where it
-    /// starts and where it stops. Both are `end` where there is none.
+    /// The first run of pages that are not registered for write-protect faults, from page `from` on and before `end`: its first
+    /// page, and the page behind its last. Both are `end` if there is no such run.
     pub fn unwatched_run(&self, from: PageNo, end: PageNo) -> (PageNo, PageNo)
         requires { (from < end) × (end ≤ HIGH_PAGE) }
         ensures range { (from ≤ result.0) × (result.0 ≤ result.1) × (result.1 ≤ end) }
@@ -38,7 +38,7 @@ impl Userfault {
     }
 }
 
-/// Registers a run of pages in the sets of both modes, which are not kept where that fails.
+/// Registers a run of pages in the sets of both modes. `NoMemory` may leave the sets changed.
 fn register_run(
     missing: &mut PageSet,
     protect: &mut PageSet,

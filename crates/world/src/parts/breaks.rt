@@ -1,4 +1,4 @@
-//! Broken channels, and their resumption.
+//! Broken channels, and the resume after them.
 
 ghost use Rattle.std.specs.Prelude.{◌≡◌, ◌||◌, not};
 ghost use Rattle.mig_base.specs.declared.schedule.Step.{Step};
@@ -6,6 +6,7 @@ ghost use Rattle.mig_model.specs.Migration.{has_started, is_paused_at};
 ghost use Rattle.mig_model.specs.Runs.{Happens};
 ghost use Rattle.mig_model.specs.Source.{is_released};
 ghost use Rattle.precopy.specs.Answers.{next_count};
+ghost use Rattle.world.specs.Answers.{IsAnswered, resume_answer};
 ghost use Rattle.world.specs.Worlds.{IsWorld, world_of};
 
 use super::Parts;
@@ -18,17 +19,12 @@ use precopy::Source;
 use recovery::{notice_dest, notice_source};
 
 impl Parts {
-    /// The channel breaks: all that is in flight is lost. It takes no memory.
+    /// The channel breaks: all frames in flight are lost. It takes no memory.
     pub(super) fn break_link(&mut self) -> Result<Effect, Refusal>
         requires { IsWorld (world_of self.old) }
         ensures { Happens (world_of self.old) Step.Break result (world_of self.new) }
     {
-        if !self.is_under_way() {
-            return Err(Refusal::Phase);
-        }
-        if !self.up {
-            return Err(Refusal::Broken);
-        }
+        self.check_break()?;
         self.forward.clear();
         self.back.clear();
         self.urgent.clear();
@@ -41,6 +37,45 @@ impl Parts {
         requires { IsWorld (world_of self.old) }
         ensures { Happens (world_of self.old) (Step.Notice side) result (world_of self.new) }
     {
+        self.check_notice(side)?;
+        match side {
+            Side::Source => notice_source(&mut self.source),
+            Side::Destination => notice_dest(&self.source, &mut self.destination),
+        }
+    }
+
+    /// Both sides go on over a new channel, in the next epoch: the source sends Resume.
+    pub(super) fn resume(&mut self) -> Result<Effect, Refusal>
+        requires { IsWorld (world_of self.old) }
+        ensures { Happens (world_of self.old) Step.Resume result (world_of self.new) }
+    {
+        let epoch = self.resumed_epoch()?;
+        let Ok(()) = self.forward.reserve(1) else {
+            return Err(Refusal::NoMemory);
+        };
+        self.source.set_epoch(epoch);
+        self.forward.push(epoch, Frame::Resume);
+        self.up = true;
+        Ok(Effect::Resumed { epoch })
+    }
+
+    /// Whether the channel can break.
+    pub(super) fn check_break(&self) -> Result<(), Refusal>
+        ensures { IsAnswered (world_of self.now) Step.Break result }
+    {
+        if !self.is_under_way() {
+            return Err(Refusal::Phase);
+        }
+        if !self.up {
+            return Err(Refusal::Broken);
+        }
+        Ok(())
+    }
+
+    /// Whether a side can notice that the channel is broken.
+    pub(super) fn check_notice(&self, side: Side) -> Result<(), Refusal>
+        ensures { IsAnswered (world_of self.now) (Step.Notice side) result }
+    {
         if !self.is_under_way() {
             return Err(Refusal::Phase);
         }
@@ -50,16 +85,22 @@ impl Parts {
         if self.up {
             return Err(Refusal::NotBroken);
         }
-        match side {
-            Side::Source => notice_source(&mut self.source),
-            Side::Destination => notice_dest(&self.source, &mut self.destination),
+        Ok(())
+    }
+
+    /// Whether both sides can go on; memory is not considered.
+    pub(super) fn check_resume(&self) -> Result<(), Refusal>
+        ensures { IsAnswered (world_of self.now) Step.Resume result }
+    {
+        match self.resumed_epoch() {
+            Ok(_) => Ok(()),
+            Err(refusal) => Err(refusal),
         }
     }
 
-    /// Both sides go on over a new channel, in the next epoch, and the destination is told.
-    pub(super) fn resume(&mut self) -> Result<Effect, Refusal>
-        requires { IsWorld (world_of self.old) }
-        ensures { Happens (world_of self.old) Step.Resume result (world_of self.new) }
+    /// The epoch in which both sides can go on.
+    fn resumed_epoch(&self) -> Result<u32, Refusal>
+        ensures { result ≡ resume_answer (world_of self.now) }
     {
         if !self.is_paused(Side::Source) {
             return Err(Refusal::Phase);
@@ -70,14 +111,7 @@ impl Parts {
         if self.up {
             return Err(Refusal::NotBroken);
         }
-        let epoch = next_epoch(&self.source)?;
-        let Ok(()) = self.forward.reserve(1) else {
-            return Err(Refusal::NoMemory);
-        };
-        self.source.set_epoch(epoch);
-        self.forward.push(epoch, Frame::Resume);
-        self.up = true;
-        Ok(Effect::Resumed { epoch })
+        next_epoch(&self.source)
     }
 
     /// Whether a migration has begun, and is not complete.
@@ -101,7 +135,7 @@ impl Parts {
     }
 }
 
-/// The epoch that a resumption begins.
+/// The epoch that a Resume begins. `CountUsed` if it would not fit 32 bits.
 fn next_epoch(source: &Source) -> Result<u32, Refusal>
     ensures { result ≡ next_count source.now.epoch }
 {

@@ -1,4 +1,4 @@
-//! Commands of the guest's processors, where the guest runs.
+//! Commands of the guest's processors, at the node where the guest runs.
 
 ghost use Rattle.std.specs.Prelude.{◌≡◌, ◌++◌, option_to_list};
 ghost use Rattle.std.specs.Vec.{vec_capacity};
@@ -15,7 +15,7 @@ use mig_base::refusal::Refusal;
 use mig_base::{Command, Entry};
 
 impl Parts {
-    /// A processor begins a command. What takes effect is entered in the transcript.
+    /// A processor begins a command. If it takes effect, it is entered in the transcript.
     pub(super) fn issue(&mut self, cpu: u8, command: Command) -> Result<Effect, Refusal>
         requires { IsWorld (world_of self.old) }
         ensures { Happens (world_of self.old) (Step.Issue cpu command) result (world_of self.new) }
@@ -53,8 +53,8 @@ impl Parts {
         Ok(again.effect)
     }
 
-    /// Whether a processor can begin a command, want of memory aside.
-    fn check_issue(&self, cpu: u8) -> Result<(), Refusal>
+    /// Whether a processor can begin a command; memory is not considered.
+    pub(super) fn check_issue(&self, cpu: u8) -> Result<(), Refusal>
         ensures { (command : Command) → IsAnswered (world_of self.now) (Step.Issue cpu command) result }
     {
         self.cpus().ensure_idle(cpu)?;
@@ -64,8 +64,8 @@ impl Parts {
         Ok(())
     }
 
-    /// Whether a processor can try its load or store again, want of memory aside.
-    fn check_retry(&self, cpu: u8) -> Result<(), Refusal>
+    /// Whether a processor can try its load or store again; memory is not considered.
+    pub(super) fn check_retry(&self, cpu: u8) -> Result<(), Refusal>
         ensures { IsAnswered (world_of self.now) (Step.Retry cpu) result }
     {
         let _command = self.cpus().woken(cpu)?;
@@ -76,7 +76,7 @@ impl Parts {
     }
 }
 
-/// Enters what took effect in a transcript that has room.
+/// Enters a command that took effect, if any, in a transcript that has room.
 fn enter(transcript: &mut Vec<Entry>, entry: Option<Entry>)
     requires { length transcript.old.items < vec_capacity transcript.old }
     ensures { transcript.new.items ≡ transcript.old.items ++ option_to_list entry }

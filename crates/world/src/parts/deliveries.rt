@@ -1,4 +1,4 @@
-//! Deliveries: bytes reach a node, which takes the frame that they complete, and answers.
+//! Deliveries: bytes reach a node, which takes the frame that they complete, and sends its answers.
 
 ghost use Rattle.std.specs.Prelude.{◌≡◌};
 ghost use Rattle.mig_base.specs.declared.schedule.Step.{Step};
@@ -13,7 +13,7 @@ use mig_base::phase::SourcePhase;
 use mig_base::refusal::Refusal;
 
 impl Parts {
-    /// Bytes of the wire to the destination arrive, which takes the frame that they complete.
+    /// `n` bytes of the wire to the destination arrive, and the destination takes the frame that they complete.
     pub(super) fn deliver(&mut self, n: u64) -> Result<Effect, Refusal>
         requires { IsWorld (world_of self.old) }
         ensures { Happens (world_of self.old) (Step.Deliver n) result (world_of self.new) }
@@ -28,13 +28,13 @@ impl Parts {
         let Some(sent) = arrived else {
             return Ok(Effect::Moved { bytes: n });
         };
-        // A frame that is refused stays the first, with as many of its bytes arrived as before.
+        // A frame that is refused stays the first, with the same number of its bytes arrived as before.
         let effect = receive(self.alloc, &mut self.destination, &mut self.back, sent)?;
         self.forward.drop_first();
         Ok(effect)
     }
 
-    /// Bytes of the wire back arrive at the source, which takes the frame that they complete.
+    /// `n` bytes of the wire back arrive at the source, which takes the frame that they complete.
     pub(super) fn deliver_back(&mut self, n: u64) -> Result<Effect, Refusal>
         requires { IsWorld (world_of self.old) }
         ensures { Happens (world_of self.old) (Step.DeliverBack n) result (world_of self.new) }
@@ -49,7 +49,7 @@ impl Parts {
         let Some(sent) = arrived else {
             return Ok(Effect::Moved { bytes: n });
         };
-        // A source that owes everything anew sends two frames, a Discard and a Package.
+        // A source that sends all its pages anew sends two frames, a Discard and a Package.
         let Ok(()) = self.forward.reserve(2) else {
             return Err(Refusal::NoMemory);
         };
@@ -61,7 +61,7 @@ impl Parts {
         Ok(told(&sent.frame))
     }
 
-    /// Bytes of the urgent wire arrive at the destination, which takes the frame that they complete.
+    /// `n` bytes of the urgent wire arrive at the destination, which takes the frame that they complete.
     pub(super) fn deliver_urgent(&mut self, n: u64) -> Result<Effect, Refusal>
         requires { IsWorld (world_of self.old) }
         ensures { Happens (world_of self.old) (Step.DeliverUrgent n) result (world_of self.new) }
@@ -88,8 +88,8 @@ impl Parts {
         Ok(effect)
     }
 
-    /// Whether a migration has begun, and then whether the link is up.
-    fn ensure_moving(&self) -> Result<(), Refusal>
+    /// `Phase` unless a migration has begun, and then `Broken` unless the link is up.
+    pub(super) fn ensure_moving(&self) -> Result<(), Refusal>
         ensures { result ≡ moving_answer (world_of self.now) }
     {
         if self.source.phase() == SourcePhase::Idle {

@@ -35,7 +35,7 @@ impl Parts {
     }
 
     /// The handler of the destination resolves the first fault that it holds. A request that it sends is lost while the link is down; the
-    /// destination remembers it, and asks again after a Resume.
+    /// destination remembers it, and repeats it after a Resume.
     pub(super) fn destination_act(&mut self) -> Result<Effect, Refusal>
         requires { IsWorld (world_of self.old) }
         ensures { Happens (world_of self.old) Step.DestAct result (world_of self.new) }
@@ -49,7 +49,7 @@ impl Parts {
         Ok(effect)
     }
 
-    /// The first copy that has arrived is installed, or given up.
+    /// The first arrival is installed, or dropped.
     pub(super) fn install(&mut self) -> Result<Effect, Refusal>
         requires { IsWorld (world_of self.old) }
         ensures { Happens (world_of self.old) Step.Install result (world_of self.new) }

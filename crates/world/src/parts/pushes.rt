@@ -1,4 +1,4 @@
-//! Post-copy at the source: what is owed is sent, in the background or because it was asked for.
+//! Post-copy at the source: owed pages are sent, in the background or because they were requested.
 
 ghost use Rattle.std.specs.Prelude.{◌≡◌, ◌<◌, ◌∷◌, []};
 ghost use Rattle.mig_base.specs.declared.schedule.Step.{Step};
@@ -50,7 +50,7 @@ impl Parts {
         Ok(effect)
     }
 
-    /// The source takes the first request of the destination. It takes no memory.
+    /// The source dequeues the oldest request of the destination; it sends nothing. It takes no memory.
     pub(super) fn serve(&mut self) -> Result<Effect, Refusal>
         requires { IsWorld (world_of self.old) }
         ensures { Happens (world_of self.old) Step.Serve result (world_of self.new) }
@@ -59,7 +59,7 @@ impl Parts {
         self.source.serve()
     }
 
-    /// The source tells the destination that nothing more is sent.
+    /// The source sends End: nothing more is sent.
     pub(super) fn end(&mut self) -> Result<Effect, Refusal>
         requires { IsWorld (world_of self.old) }
         ensures { Happens (world_of self.old) Step.End result (world_of self.new) }
@@ -73,8 +73,8 @@ impl Parts {
         Ok(effect)
     }
 
-    /// Whether the source has stopped and is not paused, and then whether the link is up.
-    fn ensure_stopped_up(&self) -> Result<(), Refusal>
+    /// `Phase` unless the source has stopped and is not paused, and then `Broken` unless the link is up.
+    pub(super) fn ensure_stopped_up(&self) -> Result<(), Refusal>
         ensures { result ≡ stopped_answer (world_of self.now) }
     {
         if self.source.phase() != SourcePhase::Stopped {
@@ -87,7 +87,7 @@ impl Parts {
     }
 }
 
-/// Puts a page that the source sends on a wire that has room for it. Its bytes go there from where they stand.
+/// Puts a page that the source sends on a wire that has room for it. Its bytes are written from where they stand.
 pub(super) fn send_page(wire: &mut Wire, epoch: u32, page: PageNo, sent: Sent)
     requires well_formed { IsFrame (frame_sent page sent) }
     requires room { 0 < wire.old.room }

@@ -1,4 +1,4 @@
-//! Pre-copy and the switch: steps of the source that send, and put what is sent on the wire to the destination.
+//! Pre-copy and the switch: steps of the source, which send on the wire to the destination.
 
 ghost use Rattle.mig_base.specs.declared.schedule.Step.{Step};
 ghost use Rattle.mig_model.specs.Runs.{Happens};
@@ -12,7 +12,7 @@ use mig_base::effect::Effect;
 use mig_base::refusal::Refusal;
 
 impl Parts {
-    /// A migration begins, and the destination is told.
+    /// A migration begins: the source sends Advise.
     pub(super) fn start(&mut self) -> Result<Effect, Refusal>
         requires { IsWorld (world_of self.old) }
         ensures { Happens (world_of self.old) Step.Start result (world_of self.new) }
@@ -63,7 +63,7 @@ impl Parts {
         Ok(effect)
     }
 
-    /// The source stops its processors, and hands them over.
+    /// The source stops its processors for good, and sends Discard and Package.
     pub(super) fn switch(&mut self) -> Result<Effect, Refusal>
         requires { IsWorld (world_of self.old) }
         ensures { Happens (world_of self.old) Step.Switch result (world_of self.new) }
@@ -79,8 +79,7 @@ impl Parts {
         Ok(effect)
     }
 
-    /// How a step that sends is refused, by how its source would refuse it: a wrong phase comes before a broken link, and all else
-    /// behind it.
+    /// The refusal of a step that sends, from that of its source: a wrong phase counts before a broken link, all else behind it.
     pub(super) fn unless_down(&self, checked: Result<(), Refusal>) -> Result<(), Refusal>
         ensures { result ≡ unless_down self.now.up checked }
     {

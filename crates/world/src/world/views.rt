@@ -1,20 +1,24 @@
-//! What a world tells of itself.
+//! The getters of a world.
 
-ghost use Rattle.std.specs.Prelude.{◌≡◌, ◌≤◌, length};
+ghost use Rattle.std.specs.Prelude.{◌≡◌, ◌≤◌, length, IfOk};
+ghost use Rattle.std.specs.Option.{option_map};
 ghost use Rattle.mig_base.specs.declared.phase.WorldPhase.{WorldPhase};
+ghost use Rattle.mig_model.specs.Source.{not_clean};
+ghost use Rattle.mig_model.specs.Userfault.{changing, next_message};
 ghost use Rattle.mig_model.specs.Views as views;
+ghost use Rattle.world.specs.Answers.{has_told};
 ghost use Rattle.world.specs.Headline.{IsMoved};
 
 use super::World;
 use mig_base::counts::Counts;
 use mig_base::cpu_state::CpuState;
-use mig_base::phase::SourcePhase;
+use mig_base::phase::{DestPhase, SourcePhase};
 use mig_base::refusal::Refusal;
-use mig_base::{MAX_CPUS, PageSet, WorldPhase};
+use mig_base::{MAX_CPUS, Message, NoMemory, PageNo, PageSet, WorldPhase};
 use wires::Wire;
 
 impl World {
-    /// How far the migration has come, whether its channel is broken or not.
+    /// How far the migration has come, whether or not its channel is broken.
     pub fn phase(&self) -> WorldPhase
         ensures phase { result ≡ views.phase_of self.now }
         ensures complete { result ≡ WorldPhase.Complete → IsMoved self.now }
@@ -28,8 +32,8 @@ impl World {
         }
     }
 
-    /// How many pages are owed: once the destination has run, those that it still needs; before, those that the last Package owed, and
-    /// none before the switch.
+    /// The number of owed pages: once the destination has run, those that it still needs; before, those that the last Package owed, and 0
+    /// before the switch.
     pub fn owed_left(&self) -> u32
         ensures { result ≡ views.owed_left self.now }
     {
@@ -40,7 +44,7 @@ impl World {
         }
     }
 
-    /// The rounds made, the pages sent, the copies installed and given up, and the messages of page faults read, at both nodes.
+    /// The rounds made, the pages sent, the copies installed and dropped, and the page faults read at both nodes.
     pub fn counts(&self) -> Counts
         ensures { result ≡ views.counts_of self.now }
     {
@@ -55,7 +59,7 @@ impl World {
         }
     }
 
-    /// The epoch of the source: a push belongs to the one in which it is made.
+    /// The epoch of the source. A push names the epoch for which it was decided.
     pub fn epoch(&self) -> u32
         ensures { result ≡ self.now.source.epoch }
     {
@@ -69,7 +73,7 @@ impl World {
         self.parts.source.remaining()
     }
 
-    /// How far the source is.
+    /// The phase of the source.
     pub fn source_phase(&self) -> SourcePhase
         ensures { result ≡ self.now.source.phase }
     {
@@ -90,14 +94,99 @@ impl World {
         &self.parts.back
     }
 
-    /// The wire to the destination for pages that were asked for.
+    /// The urgent wire to the destination, for pages that were requested.
     pub fn urgent(&self) -> &Wire
         ensures { result.now.wire ≡ self.now.urgent }
     {
         &self.parts.urgent
     }
 
-    /// How many processors the guest has.
+    /// Whether the link between the nodes is up.
+    pub fn is_up(&self) -> bool
+        ensures { result ≡ self.now.up }
+    {
+        self.parts.up
+    }
+
+    /// How far the destination is.
+    pub fn destination_phase(&self) -> DestPhase
+        ensures { result ≡ self.now.destination.phase }
+    {
+        self.parts.destination.phase()
+    }
+
+    /// Whether the source has stopped, and has sent End in its epoch.
+    pub fn has_sent_end(&self) -> bool
+        ensures { result ≡ has_told self.now.source }
+    {
+        self.parts.has_sent_end()
+    }
+
+    /// How many events of map calls the source's handler has not read yet. While there are any, steps are refused as `Changing`.
+    pub fn source_events(&self) -> usize
+        ensures { result ≡ changing self.now.source.guest.space.object }
+    {
+        self.parts.source.space().changing()
+    }
+
+    /// The same at the destination.
+    pub fn destination_events(&self) -> usize
+        ensures { result ≡ changing self.now.destination.guest.space.object }
+    {
+        self.parts.destination.space().changing()
+    }
+
+    /// The message that the source's handler reads next, a page fault or an event, if one waits.
+    pub fn source_message(&self) -> Option<Message>
+        ensures { result ≡ option_map (λ noted. noted.message) (next_message self.now.source.guest.space.object) }
+    {
+        self.parts.source.space().next_message()
+    }
+
+    /// The same at the destination.
+    pub fn destination_message(&self) -> Option<Message>
+        ensures { result ≡ option_map (λ noted. noted.message) (next_message self.now.destination.guest.space.object) }
+    {
+        self.parts.destination.space().next_message()
+    }
+
+    /// How many faults the source's handler has read and not resolved yet.
+    pub fn source_held(&self) -> usize
+        ensures { result ≡ length self.now.source.log.held }
+    {
+        self.parts.source.log().held()
+    }
+
+    /// How many copies wait at the destination to be installed.
+    pub fn arrivals(&self) -> usize
+        ensures { result ≡ length self.now.destination.arrivals }
+    {
+        self.parts.destination.arrivals()
+    }
+
+    /// The pages of the source that the destination has asked for and not got, in the order in which it first asked.
+    pub fn requests(&self) -> &[PageNo]
+        ensures { result.now ≡ self.now.destination.requests }
+    {
+        self.parts.destination.requests()
+    }
+
+    /// How many requests have reached the source and were not served yet.
+    pub fn asked(&self) -> usize
+        ensures { result ≡ length self.now.source.asked }
+    {
+        self.parts.source.asked()
+    }
+
+    /// The present pages of the source that are not clean, as a set of its own: those that a round would have to send, and a Switch
+    /// would owe. `NoMemory` where there is no room for the set.
+    pub fn dirty_pages(&self) -> Result<PageSet, NoMemory>
+        ensures { IfOk result (λ pages. pages ≡ not_clean self.now.source) }
+    {
+        self.parts.source.log().dirty(self.parts.source.space())
+    }
+
+    /// The number of processors of the guest.
     pub fn cpus(&self) -> u8
         ensures count { result ≡ length self.now.source.guest.cpus }
         ensures range { (1 ≤ result) × (result ≤ MAX_CPUS) }
@@ -105,7 +194,7 @@ impl World {
         self.parts.source.cpus().count()
     }
 
-    /// What a processor does, where the guest runs; while it runs nowhere, as at the switch. `NoCpu` where there is no such processor.
+    /// The state of a processor, at the destination once that has run, and at the source before. `NoCpu` if there is no such processor.
     pub fn cpu_state(&self, cpu: u8) -> Result<CpuState, Refusal>
         ensures { result ≡ views.cpu_state self.now cpu }
     {

@@ -1,4 +1,4 @@
-//! What a destination makes of each kind of frame. A frame for which memory is refused is handed back, and nothing is changed.
+//! How a destination takes each kind of frame. A frame for which memory is refused is handed back, and nothing changes.
 
 ghost use Rattle.std.specs.Prelude.{◌≡◌, ◌+◌, ◌<◌, ◌≤◌, true, false, length, None, IfErr, IfOk, OnOk, OnErr};
 ghost use Rattle.mig_base.specs.Bytes.{zero_page};
@@ -19,7 +19,7 @@ use mig_base::{NoMemory, PageBytes, PageNo, PageSet};
 use owed_pages::Owed;
 use page_stream::{Frame, Pages, Waiting};
 
-/// What is to be sent back at once, or the frame for which memory is refused.
+/// The frame to send back at once, if any, or the frame for which memory is refused.
 pub(super) type Taken = Result<Option<Frame>, Frame>;
 
 impl Destination {
@@ -32,7 +32,7 @@ impl Destination {
         self.urgent_taken = 0;
     }
 
-    /// The copy of a page has come: it is kept before the run, and waits to be installed from then on.
+    /// The copy of a page has come. Before the run it is kept; from then on it waits to be installed.
     pub(super) fn page_came(&mut self, page: PageNo, bytes: PageBytes) -> Taken
         requires { page < HIGH_PAGE }
         ensures ok { OnOk result (self.new ≡ copy_came self.old.has_run self.old (record { page = page; bytes = bytes })) }
@@ -49,7 +49,7 @@ impl Destination {
         }
     }
 
-    /// The copy of a page of zeros has come.
+    /// A page of zeros has come. Before the run it is kept; from then on it waits to be installed.
     pub(super) fn zero_came(&mut self, page: PageNo) -> Taken
         requires { page < HIGH_PAGE }
         ensures ok { OnOk result (self.new ≡ copy_came self.old.has_run self.old (record { page = page; bytes = zero_page })) }
@@ -74,14 +74,14 @@ impl Destination {
         let Ok(()) = self.arrivals.reserve(1) else {
             return Err(Frame::Page { page, bytes });
         };
-        // There is room, so that no copy is lost.
+        // The room is reserved, so no copy is lost.
         match self.arrivals.push_back(Arrival::new(page, Some(bytes))) {
             Ok(()) => Ok(()),
             Err(_) => unreachable!(),
         }
     }
 
-    /// The copy of a page of zeros waits to be installed.
+    /// A page of zeros waits to be installed.
     pub(super) fn zero_waits(&mut self, page: PageNo) -> Result<(), Frame>
         ensures ok { OnOk result (self.new ≡ arrived self.old (record { page = page; bytes = zero_page })) }
         ensures err { IfErr result (λ back. (back ≡ Frame.Zero page) × (self.new ≡ self.old)) }
@@ -92,7 +92,7 @@ impl Destination {
         }
     }
 
-    /// Copies of neighbouring pages have come, which is before the run alone.
+    /// Copies of neighbouring pages have come and are kept; a Run comes only before the run.
     pub(super) fn run_came(&mut self, first: PageNo, pages: Pages) -> Taken
         requires { first + length pages ≤ HIGH_PAGE }
         ensures ok { OnOk result (self.new ≡ record self.old { kept = wire.kept_after self.old.kept (wire.Frame.Run first pages) }) }
@@ -108,7 +108,7 @@ impl Destination {
         }
     }
 
-    /// Copies that are out of date are given up.
+    /// Discards the copies that are out of date.
     pub(super) fn discard(&mut self, pages: &PageSet)
         ensures { self.new ≡ record self.old { phase = DestPhase.Discarding; kept = wire.kept_after self.old.kept (wire.Frame.Discard pages.now) } }
     {
@@ -116,7 +116,7 @@ impl Destination {
         self.phase = DestPhase::Discarding;
     }
 
-    /// A Package has come, with which the destination runs.
+    /// A Package has come: the destination runs.
     pub(super) fn package_came(&mut self, areas: AreaMap, owed: PageSet, commands: Waiting) -> Taken
         requires mapping { IsMapping areas }
         requires few { AreFewPages owed }
@@ -136,7 +136,7 @@ impl Destination {
         }
     }
 
-    /// The destination runs: it has a space of these areas with the pages that were kept, and is owed these pages.
+    /// The destination runs, in a space of these areas with the kept pages, and is owed these pages. `NoMemory` changes nothing.
     fn run(&mut self, areas: &AreaMap, owed: &PageSet, commands: &Waiting) -> Result<(), NoMemory>
         requires mapping { IsMapping areas.now }
         requires few { AreFewPages owed.now }
@@ -164,7 +164,7 @@ impl Destination {
         self.ended = true;
     }
 
-    /// The channel is up again, in a new epoch. What was kept before the run is given up, since copies may have been lost.
+    /// The channel is up again, in a new epoch. A destination that has not run discards its kept copies, since copies may have been lost.
     pub(super) fn resume(&mut self, epoch: u32)
         ensures { self.new ≡ destination_took self.old epoch wire.Frame.Resume }
     {

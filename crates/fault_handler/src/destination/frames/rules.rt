@@ -1,4 +1,4 @@
-//! Which frames a destination takes, and why it does not take another one.
+//! The frames that a destination takes, and why it refuses another.
 
 ghost use Rattle.std.specs.Prelude.{◌≡◌};
 ghost use Rattle.mig_model.specs.Faults as machine;
@@ -11,7 +11,7 @@ use mig_base::phase::DestPhase;
 use page_stream::Frame;
 
 impl Destination {
-    /// Why [`Destination::take`] would not take a frame of the forward wire, if it would not, want of memory aside.
+    /// Why [`Destination::take`] would refuse a frame of the forward wire, if it would; memory is not considered.
     pub fn take_fault(&self, epoch: u32, frame: &Frame) -> Option<TakeFault>
         ensures { result ≡ machine.take_fault self.now epoch (frame_of frame.now) }
     {
@@ -21,7 +21,7 @@ impl Destination {
         }
     }
 
-    /// Why it does not take a frame of the urgent wire, if it does not.
+    /// Why it refuses a frame of the urgent wire, if it does; memory is not considered.
     pub(super) fn urgent_fault(&self, epoch: u32, frame: &Frame) -> Option<TakeFault>
         ensures { result ≡ machine.urgent_fault self.now epoch (frame_of frame.now) }
     {
@@ -34,7 +34,7 @@ impl Destination {
         }
     }
 
-    /// Why a frame is wrong, if it is.
+    /// Why a frame is at fault, if it is: out of place, of another epoch, or bad.
     fn frame_fault(&self, epoch: u32, frame: &Frame) -> Option<TakeFault>
         ensures { result ≡ machine.frame_fault self.now epoch (frame_of frame.now) }
     {
@@ -49,7 +49,7 @@ impl Destination {
         }
     }
 
-    /// Why a frame has to wait, if it has to.
+    /// Why a frame has to wait, if so.
     fn wait_fault(&self, frame: &Frame) -> Option<TakeFault>
         ensures { result ≡ machine.wait_fault self.now (frame_of frame.now) }
     {
@@ -62,7 +62,7 @@ impl Destination {
         }
     }
 
-    /// Whether its phase takes such a frame.
+    /// Whether the phase takes such a frame.
     fn is_in_place(&self, frame: &Frame) -> bool
         ensures { result ≡ machine.is_in_place self.now.phase (frame_of frame.now) }
     {
@@ -79,7 +79,7 @@ impl Destination {
         }
     }
 
-    /// Whether an End comes while pages are owed, and nothing that could bring them is still to come.
+    /// Whether it is an End that comes while pages are owed, no copy waits, and no urgent frame is still to come.
     fn is_too_soon(&self, frame: &Frame) -> bool
         ensures { result ≡ machine.is_too_soon self.now (frame_of frame.now) }
     {
@@ -104,7 +104,7 @@ impl Destination {
         }
     }
 
-    /// Whether what a frame carries does not fit what the destination has.
+    /// Whether the contents of a frame contradict the destination.
     fn is_bad(&self, frame: &Frame) -> bool
         ensures { result ≡ machine.is_bad self.now (frame_of frame.now) }
     {

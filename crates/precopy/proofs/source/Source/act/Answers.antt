@@ -18,7 +18,7 @@ returns-in_err-act-clause-refused c =
     let p = err_from_is_err_and c.from_residual-in_err-act.result c.from_residual-in_err-act.ensures.1 in
     rw (p.1, p.2) (act_stopped c.args.self.now _ (sym c.ensure_running.ensures ∙ c.in_ok-ensure_running.was) (rw (← c.self.view_is) c.in_err-act.ensures.refused))
 
--- the fault that was resolved, and what the machine makes of it
+-- the fault that was resolved, and how the machine resolves it
 held : (c : goal.After-told_act) → IsHeld c.self.inside.log c.self.inside.space
 held c = some_held c.self.inside.log c.self.inside.space _ refl c.in_ok-act.ensures.accepted
 

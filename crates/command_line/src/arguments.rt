@@ -1,0 +1,83 @@
+//! The command line: its subcommands and their arguments.
+
+use crate::VERSION;
+use clap::{Arg, ArgAction, Command, value_parser};
+use std::alloc::{AllocError, Global};
+
+/// `--cpus N`.
+fn cpus_argument<'a>(alloc: Global) -> Arg<'a> {
+    Arg::new(alloc, "cpus")
+        .long("cpus")
+        .value_name("N")
+        .help("How many processors the guest has")
+        .value_parser(value_parser!(u8).range(1..=16))
+        .default_value("2")
+}
+
+/// `[FILE]`.
+fn file_argument<'a>(alloc: Global) -> Arg<'a> {
+    Arg::new(alloc, "file")
+        .value_name("FILE")
+        .help("Is read in place of standard input")
+}
+
+/// `postmig run [--cpus N] [--transcript] [FILE]`.
+fn run_command<'a>(alloc: Global) -> Result<Command<'a>, AllocError> {
+    let transcript = Arg::new(alloc, "transcript")
+        .long("transcript")
+        .help("Writes the commands that took effect, with their replies")
+        .action(ArgAction::SetTrue);
+    Command::new(alloc, "run")
+        .about("Runs a script")
+        .arg(cpus_argument(alloc))?
+        .arg(transcript)?
+        .arg(file_argument(alloc))
+}
+
+/// `postmig check [FILE]`.
+fn check_command<'a>(alloc: Global) -> Result<Command<'a>, AllocError> {
+    Command::new(alloc, "check")
+        .about("Says whether a transcript is that of one flat memory")
+        .arg(file_argument(alloc))
+}
+
+/// `postmig frames [--cpus N] [FILE]`.
+fn frames_command<'a>(alloc: Global) -> Result<Command<'a>, AllocError> {
+    Command::new(alloc, "frames")
+        .about("Hands frames to a destination")
+        .arg(cpus_argument(alloc))?
+        .arg(file_argument(alloc))
+}
+
+/// `postmig threads [--cpus N] [--calls C] [--cut]`.
+fn threads_command<'a>(alloc: Global) -> Result<Command<'a>, AllocError> {
+    let calls = Arg::new(alloc, "calls")
+        .long("calls")
+        .value_name("C")
+        .help("How many stores each processor makes, and how many loads")
+        .value_parser(value_parser!(u16).range(1..=1000))
+        .default_value("8");
+    let cut = Arg::new(alloc, "cut")
+        .long("cut")
+        .help("Breaks the channel once, and resumes")
+        .action(ArgAction::SetTrue);
+    Command::new(alloc, "threads")
+        .about("Runs a migration with each processor in a thread of its own")
+        .arg(cpus_argument(alloc))?
+        .arg(calls)?
+        .arg(cut)
+}
+
+/// The command line: one of these subcommands, or `postmig --version`.
+pub(crate) fn command_line<'a>(alloc: Global) -> Result<Command<'a>, AllocError> {
+    // (the name in usage lines, whatever the file is called)
+    Command::new(alloc, "postmig")
+        .bin_name("postmig")?
+        .about("Runs scripts on a model of post-copy live migration")
+        .version(VERSION)
+        .subcommand_required(true)
+        .subcommand(run_command(alloc)?)?
+        .subcommand(check_command(alloc)?)?
+        .subcommand(frames_command(alloc)?)?
+        .subcommand(threads_command(alloc)?)
+}

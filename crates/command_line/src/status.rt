@@ -1,0 +1,44 @@
+//! The exit statuses of the program.
+
+ghost use Rattle.std.specs.Prelude.{◌≡◌, IfOk, IfErr, OnOk};
+ghost use Rattle.command_line.specs.Status.{answer_status, fault_status, frames_fault_status};
+
+use engine::RunFault;
+use frames::FramesFault;
+
+pub(crate) const ALL_DONE: u8 = 0;
+
+pub(crate) const BAD_COMMAND_OR_SCRIPT: u8 = 1;
+
+pub(crate) const READ_OR_WRITE_FAULT: u8 = 2;
+
+pub(crate) const NO_FLAT_RUN: u8 = 3;
+
+pub(crate) const NO_MEMORY: u8 = 4;
+
+/// The exit status of a run or a check: whether all is well, or the fault that ended it.
+pub(crate) fn status_of(outcome: Result<bool, RunFault>) -> u8
+    ensures answer { IfOk outcome (λ answer. result ≡ answer_status answer) }
+    ensures fault { IfErr outcome (λ fault. result ≡ fault_status fault) }
+{
+    match outcome {
+        Ok(true) => ALL_DONE,
+        Ok(false) => NO_FLAT_RUN,
+        Err(RunFault::Line(_)) => BAD_COMMAND_OR_SCRIPT,
+        Err(RunFault::ReadFault | RunFault::WriteFault) => READ_OR_WRITE_FAULT,
+        Err(RunFault::NoMemory) => NO_MEMORY,
+    }
+}
+
+/// The exit status of frames that were handed to a destination.
+pub(crate) fn frames_status_of(outcome: Result<(), FramesFault>) -> u8
+    ensures ok { OnOk outcome (result ≡ 0) }
+    ensures fault { IfErr outcome (λ fault. result ≡ frames_fault_status fault) }
+{
+    match outcome {
+        Ok(()) => ALL_DONE,
+        Err(FramesFault::Stream(_) | FramesFault::Truncated) => BAD_COMMAND_OR_SCRIPT,
+        Err(FramesFault::ReadFault | FramesFault::WriteFault) => READ_OR_WRITE_FAULT,
+        Err(FramesFault::NoMemory) => NO_MEMORY,
+    }
+}

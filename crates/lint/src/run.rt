@@ -1,0 +1,45 @@
+//! Reading a script or a transcript from a reader, and writing the listing of its wrong lines to a writer.
+
+ghost use Rattle.std.specs.Prelude.{◌≡◌, IfOk, IfErr, IfSome};
+ghost use Rattle.lint.specs.Listing.{ListsAll, Stops};
+
+use crate::linter::Linter;
+use engine::RunFault;
+use grammar::Language;
+use std::alloc::Global;
+use std::io::{Read, Write};
+
+/// The most bytes that are read at once.
+const PIECE: usize = 16_384;
+
+/// Reads a whole script or transcript, as the language says, and lists its wrong lines: for each, in order, it writes
+/// `NAME:LINE:COLUMN: reason` and a line feed. LINE is the number of the line and COLUMN that of the byte where the reason stands,
+/// both counted from 1. True where no line is wrong.
+///
+/// Of a line of more than 256 bytes no more than these are kept, and it is listed once. The listing of the lines that end in one read is
+/// gathered, and is written before the next read and before any fault is answered. At most 4,294,967,295 reads are made; an input that
+/// needs more ends with a read fault. That is the bound of the loop: no clause counts reads. An interrupted read or write is a fault. No
+/// fault is [`RunFault::Line`].
+pub fn lint_lines<R: Read, W: Write>(
+    alloc: Global,
+    reader: &mut R,
+    writer: &mut W,
+    name: &str,
+    language: Language,
+) -> Result<bool, RunFault>
+    ensures ok { IfOk result (λ answer. IfSome (R.remaining reader.old) (λ input.
+        ListsAll language name.now input answer (W.contents writer.old) (W.contents writer.new))) }
+    ensures fault { IfErr result (λ fault. IfSome (R.remaining reader.old) (λ input.
+        Stops language name.now input (R.remaining reader.new) fault (W.contents writer.old) (W.contents writer.new))) }
+{
+    let mut linter = Linter::new(alloc, language);
+    let mut buffer = [0u8; PIECE];
+    for _ in 0..u32::MAX {
+        match reader.read(&mut buffer) {
+            Ok(0) => return linter.finish(writer, name),
+            Ok(count) => linter.run_piece(writer, name, &buffer[..count])?,
+            Err(_) => return Err(RunFault::ReadFault),
+        }
+    }
+    Err(RunFault::ReadFault)
+}
