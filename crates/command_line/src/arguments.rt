@@ -41,6 +41,18 @@ fn check_command<'a>(alloc: Global) -> Result<Command<'a>, AllocError> {
         .arg(file_argument(alloc))
 }
 
+/// `postmig lint [--transcript] [FILE]`.
+fn lint_command<'a>(alloc: Global) -> Result<Command<'a>, AllocError> {
+    let transcript = Arg::new(alloc, "transcript")
+        .long("transcript")
+        .help("Reads a transcript instead of a script")
+        .action(ArgAction::SetTrue);
+    Command::new(alloc, "lint")
+        .about("Lists the wrong lines of a script, and what is wrong with each")
+        .arg(transcript)?
+        .arg(file_argument(alloc))
+}
+
 /// `postmig frames [--cpus N] [FILE]`.
 fn frames_command<'a>(alloc: Global) -> Result<Command<'a>, AllocError> {
     Command::new(alloc, "frames")
@@ -70,7 +82,7 @@ fn threads_command<'a>(alloc: Global) -> Result<Command<'a>, AllocError> {
 
 /// The command line: one of these subcommands, or `postmig --version`.
 pub(crate) fn command_line<'a>(alloc: Global) -> Result<Command<'a>, AllocError> {
-    // (the name in usage lines, whatever the file is called)
+    // The name in usage lines, whatever the file is called.
     Command::new(alloc, "postmig")
         .bin_name("postmig")?
         .about("Runs scripts on a model of post-copy live migration")
@@ -78,6 +90,7 @@ pub(crate) fn command_line<'a>(alloc: Global) -> Result<Command<'a>, AllocError>
         .subcommand_required(true)
         .subcommand(run_command(alloc)?)?
         .subcommand(check_command(alloc)?)?
+        .subcommand(lint_command(alloc)?)?
         .subcommand(frames_command(alloc)?)?
         .subcommand(threads_command(alloc)?)
 }

@@ -2,6 +2,7 @@
 //!
 //! `postmig run` reads a script from standard input and writes one line for each step to standard output, or with `--transcript` one for
 //! each command that took effect. `postmig check` reads such a transcript, and says whether it is that of one flat memory.
+//! `postmig lint` lists the wrong lines of a script or a transcript.
 //! `postmig frames` reads frames, and writes a destination's answer to each. `postmig threads` reads nothing, runs a migration in
 //! threads, and writes a report. `docs/SCRIPT.md` defines scripts, `docs/FORMATS.md` frames, and `docs/THREADS.md` a run in threads.
 //!
@@ -19,12 +20,15 @@ mod status;
 use crate::arguments::command_line;
 use crate::input::{Input, reason};
 use crate::status::{
-    ALL_DONE, BAD_COMMAND_OR_SCRIPT, NO_MEMORY, READ_OR_WRITE_FAULT, frames_status_of, status_of,
+    ALL_DONE, BAD_COMMAND_OR_SCRIPT, NO_MEMORY, READ_OR_WRITE_FAULT, frames_status_of, lint_status_of,
+    status_of,
 };
 use clap::ArgMatches;
 use clap::error::ErrorKind;
 use engine::{Mode, RunFault, check_script, run_script};
 use frames::run_frames;
+use grammar::Language;
+use lint::lint_lines;
 use std::env::{Env, FillError};
 use std::fs::File;
 use std::process::ExitCode;
@@ -96,6 +100,24 @@ fn check_input(rt: &HostRuntime, matches: &ArgMatches) -> u8 {
     explain(rt, outcome)
 }
 
+/// Lists the wrong lines of a script or a transcript, by the name of their file, or `-`.
+fn lint(rt: &HostRuntime, matches: &ArgMatches) -> u8 {
+    let language = if matches.get_flag("transcript") {
+        Language::Transcript
+    } else {
+        Language::Script
+    };
+    let name = matches.get_str("file").unwrap_or("-");
+    let Some(mut input) = open(rt, matches) else {
+        return READ_OR_WRITE_FAULT;
+    };
+    let outcome = lint_lines(rt.alloc(), &mut input, &mut rt.stdout(), name, language);
+    if let Err(fault) = outcome {
+        let _ = eprintln!(rt; "{fault}");
+    }
+    lint_status_of(outcome)
+}
+
 /// Hands frames to a destination. Says on standard error why they ended early.
 fn take_frames(rt: &HostRuntime, matches: &ArgMatches) -> u8 {
     let Some(cpus @ 1..=16) = matches.get_one::<u8>("cpus") else {
@@ -133,6 +155,7 @@ fn do_command<T: Threads + Wait + Sync>(rt: &HostRuntime, handle: &T, matches: &
     match matches.subcommand() {
         Some(("run", matches)) => run(rt, matches),
         Some(("check", matches)) => check_input(rt, matches),
+        Some(("lint", matches)) => lint(rt, matches),
         Some(("frames", matches)) => take_frames(rt, matches),
         Some(("threads", matches)) => run_in_threads(rt, handle, matches),
         _ => BAD_COMMAND_OR_SCRIPT,
