@@ -1,6 +1,6 @@
 //! Bytes that no line has, or that look like others.
 
-/// A byte that no word has.
+/// A byte that no word of a line has.
 #[derive(Clone, Copy, PartialEq, Eq)]
 pub(crate) enum ByteFault {
     Tab,
@@ -12,7 +12,7 @@ pub(crate) enum ByteFault {
     Other(u8),
 }
 
-/// What is wrong with the first byte of these, if it is no printable ASCII.
+/// What is wrong with the first byte of these, if it is not printable ASCII.
 fn fault_at(bytes: &[u8]) -> Option<ByteFault> {
     match bytes {
         [0xef, 0xbb, 0xbf, ..] => Some(ByteFault::ByteOrderMark),
@@ -34,7 +34,7 @@ fn is_utf16(line: &[u8]) -> bool {
     }
 }
 
-/// The first byte of a line that is no printable ASCII, and its column. A comment behind the line is not looked at.
+/// The first byte of a line that is not printable ASCII, and its column. A comment behind the line is not looked at.
 pub(crate) fn byte_fault(line: &[u8]) -> Option<(usize, ByteFault)> {
     if is_utf16(line) {
         return Some((1, ByteFault::Utf16));
