@@ -20,8 +20,8 @@ mod status;
 use crate::arguments::command_line;
 use crate::input::{Input, reason};
 use crate::status::{
-    ALL_DONE, BAD_COMMAND_OR_SCRIPT, NO_MEMORY, READ_OR_WRITE_FAULT, frames_status_of, lint_status_of,
-    status_of,
+    ALL_DONE, BAD_COMMAND_OR_SCRIPT, NO_MEMORY, READ_OR_WRITE_FAULT, frames_status_of,
+    lint_status_of, status_of,
 };
 use clap::ArgMatches;
 use clap::error::ErrorKind;
