@@ -17,7 +17,7 @@ use wires::Wire;
 const END_LEN: u64 = 12 + 4;
 
 impl Parts {
-    /// Whether a step would be made, want of memory aside. It takes no memory, and walks over no pages.
+    /// Whether a step would be made, memory aside. It takes no memory, and walks over no pages.
     pub(crate) fn would(&self, step: Step) -> Result<(), Refusal>
         requires { IsWorld (world_of self.now) }
         ensures { IsAnswered (world_of self.now) step result }
@@ -220,7 +220,7 @@ fn is_out_of_phase(checked: Result<(), Refusal>) -> bool
     }
 }
 
-/// Whether a wire has at most so many bytes in flight. It looks at no more pieces than it has to.
+/// Whether a wire has at most this number of bytes in flight. It looks at no more pieces than it has to.
 fn has_at_most(wire: &Wire, most: u64) -> bool
     ensures { result ≡ not (nat_lt most (in_flight_len wire.now.wire.frames)) }
 {
