@@ -83,7 +83,7 @@ end_due world other none is =
 
 -- Deliveries
 
--- so many bytes complete any frame
+-- these bytes complete any frame
 enough : (length held : ℕ) → length < 2 ^ 32 → ltb all_bytes (length - held) ≡ false
 enough length held short = grind (arith, nat_tests)
 
@@ -213,7 +213,7 @@ dest_read_due world event events unquiet draining =
     let less = read_unread world.destination.guest found.0 found.1 in
     due_by world new Step.DestRead _ (dest_read_answer world found.0 (has_run world draining) found.1) (omega (arith, old_left, new_left, less)) (λ _. goes_up new at.up (ap is_source_idle at.phase))
 
--- a copy that is installed or given up waits no longer, and no message is read by it
+-- a copy that is installed or dropped waits no longer, and no message is read by it
 record IsInstalled (old new : Destination) (rest : List Copy) : Type 0 where
   arrivals : new.arrivals ≡ rest
   object : new.guest.space.object ≡ old.guest.space.object

@@ -56,11 +56,12 @@ told_step DestPhase.Ended world = Step.DeliverBack all_bytes
 told_step DestPhase.Running world = running_step world
 told_step phase world = Step.Deliver all_bytes
 
--- the source has stopped: the least page that remains is pushed, and then End is sent
+-- by the least page that remains: it is pushed, and where there is none End is sent
 abbrev pub stopped_by : Option ℕ → World → Step
 stopped_by (Some page) world = Step.Push (record { epoch = world.source.epoch; page = page })
 stopped_by None world = if world.source.end_epoch == world.source.epoch then told_step world.destination.phase world else Step.End
 
+-- the source has stopped
 abbrev pub stopped_step : World → Step
 stopped_step world = stopped_by (least_of world.source.remaining) world
 
@@ -118,6 +119,7 @@ stopped_left world =
     3 * (len world.source.remaining + one_if (not (world.source.end_epoch == world.source.epoch)))
     + (2 * (length world.forward.frames + length world.urgent.frames) + (waiting world + length world.back.frames))
 
+-- the link is up
 abbrev pub up_left : SourcePhase → World → ℕ
 up_left SourcePhase.Idle world = before_push world + 11
 up_left SourcePhase.Precopy world = before_push world + 2 * length world.forward.frames + 8
@@ -125,6 +127,7 @@ up_left SourcePhase.Stopped world = stopped_left world
 up_left SourcePhase.Paused world = paused_left world
 up_left SourcePhase.Released world = 0
 
+-- the link is down
 abbrev pub down_left : World → ℕ
 down_left world =
     reported world + (11 + (one_if (not (is_source_paused world.source.phase)) + one_if (not (is_dest_paused world.destination.phase))))
