@@ -4,6 +4,24 @@ use crate::VERSION;
 use clap::{Arg, ArgAction, Command, value_parser};
 use std::alloc::{AllocError, Global};
 
+const WHY_IT_FAILED: &str = "Says on standard error why a read or a write failed";
+
+const WHY_IT_ENDED: &str =
+    "Says on standard error what is wrong with a line of FILE, and why a read or a write failed";
+
+const WHY_IT_IS_WRONG: &str =
+    "Says which entries decide the reply of a wrong one, and why a read or a write failed";
+
+/// How a command ends.
+const STATUSES: &str = "Exit status:
+  0  all was done, or a check wrote ok
+  1  a line, a frame or the command line is wrong
+  2  a read or a write failed
+  3  a check wrote wrong, or threads ended with a fault
+  4  memory ran out, or a thread could not be started
+
+docs/SCRIPT.md has the lines of scripts and transcripts.";
+
 /// `--cpus N`.
 fn cpus_argument<'a>(alloc: Global) -> Arg<'a> {
     Arg::new(alloc, "cpus")
@@ -21,7 +39,15 @@ fn file_argument<'a>(alloc: Global) -> Arg<'a> {
         .help("Is read in place of standard input")
 }
 
-/// `postmig run [--cpus N] [--transcript] [FILE]`.
+/// `--explain`, which also says why reading or writing fails.
+fn explain_argument<'a>(alloc: Global, help: &'a str) -> Arg<'a> {
+    Arg::new(alloc, "explain")
+        .long("explain")
+        .help(help)
+        .action(ArgAction::SetTrue)
+}
+
+/// `postmig run [--cpus N] [--transcript] [--explain] [FILE]`.
 fn run_command<'a>(alloc: Global) -> Result<Command<'a>, AllocError> {
     let transcript = Arg::new(alloc, "transcript")
         .long("transcript")
@@ -31,17 +57,24 @@ fn run_command<'a>(alloc: Global) -> Result<Command<'a>, AllocError> {
         .about("Runs a script")
         .arg(cpus_argument(alloc))?
         .arg(transcript)?
+        .arg(explain_argument(alloc, WHY_IT_ENDED))?
         .arg(file_argument(alloc))
 }
 
-/// `postmig check [FILE]`.
+/// `postmig check [--all] [--explain] [FILE]`.
 fn check_command<'a>(alloc: Global) -> Result<Command<'a>, AllocError> {
+    let all = Arg::new(alloc, "all")
+        .long("all")
+        .help("Lists each wrong entry, and not the first alone")
+        .action(ArgAction::SetTrue);
     Command::new(alloc, "check")
         .about("Says whether a transcript is that of one flat memory")
+        .arg(all)?
+        .arg(explain_argument(alloc, WHY_IT_IS_WRONG))?
         .arg(file_argument(alloc))
 }
 
-/// `postmig lint [--transcript] [FILE]`.
+/// `postmig lint [--transcript] [--explain] [FILE]`.
 fn lint_command<'a>(alloc: Global) -> Result<Command<'a>, AllocError> {
     let transcript = Arg::new(alloc, "transcript")
         .long("transcript")
@@ -50,18 +83,20 @@ fn lint_command<'a>(alloc: Global) -> Result<Command<'a>, AllocError> {
     Command::new(alloc, "lint")
         .about("Lists the wrong lines of a script, and what is wrong with each")
         .arg(transcript)?
+        .arg(explain_argument(alloc, WHY_IT_FAILED))?
         .arg(file_argument(alloc))
 }
 
-/// `postmig frames [--cpus N] [FILE]`.
+/// `postmig frames [--cpus N] [--explain] [FILE]`.
 fn frames_command<'a>(alloc: Global) -> Result<Command<'a>, AllocError> {
     Command::new(alloc, "frames")
         .about("Hands frames to a destination")
         .arg(cpus_argument(alloc))?
+        .arg(explain_argument(alloc, WHY_IT_FAILED))?
         .arg(file_argument(alloc))
 }
 
-/// `postmig threads [--cpus N] [--calls C] [--cut]`.
+/// `postmig threads [--cpus N] [--calls C] [--cut] [--explain]`.
 fn threads_command<'a>(alloc: Global) -> Result<Command<'a>, AllocError> {
     let calls = Arg::new(alloc, "calls")
         .long("calls")
@@ -77,7 +112,8 @@ fn threads_command<'a>(alloc: Global) -> Result<Command<'a>, AllocError> {
         .about("Runs a migration with each processor in a thread of its own")
         .arg(cpus_argument(alloc))?
         .arg(calls)?
-        .arg(cut)
+        .arg(cut)?
+        .arg(explain_argument(alloc, WHY_IT_FAILED))
 }
 
 /// The command line: one of these subcommands, or `postmig --version`.
@@ -87,6 +123,7 @@ pub(crate) fn command_line<'a>(alloc: Global) -> Result<Command<'a>, AllocError>
         .bin_name("postmig")?
         .about("Runs scripts on a model of post-copy live migration")
         .version(VERSION)
+        .after_help(STATUSES)
         .subcommand_required(true)
         .subcommand(run_command(alloc)?)?
         .subcommand(check_command(alloc)?)?
