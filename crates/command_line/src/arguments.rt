@@ -116,6 +116,64 @@ fn threads_command<'a>(alloc: Global) -> Result<Command<'a>, AllocError> {
         .arg(explain_argument(alloc, WHY_IT_FAILED))
 }
 
+/// The names of the profiles of `postmig explore`, in the order of `Profile::ALL`.
+const PROFILES: &[&str] = &[
+    "commands", "precopy", "postcopy", "moves", "breaks", "urgent", "bytes", "runs", "all",
+];
+
+/// `--seed S` and `--steps N` of `postmig explore`.
+fn size_arguments<'a>(alloc: Global) -> [Arg<'a>; 2] {
+    let seed = Arg::new(alloc, "seed")
+        .long("seed")
+        .value_name("S")
+        .help("The seed of the draws")
+        .value_parser(value_parser!(u64))
+        .required(true);
+    let steps = Arg::new(alloc, "steps")
+        .long("steps")
+        .value_name("N")
+        .help("The number of lines behind the first, which is a comment")
+        .value_parser(value_parser!(u32))
+        .default_value("200");
+    [seed, steps]
+}
+
+/// `--profile P`, `--pages M` and `--answers` of `postmig explore`.
+fn content_arguments<'a>(alloc: Global) -> [Arg<'a>; 3] {
+    let profile = Arg::new(alloc, "profile")
+        .long("profile")
+        .value_name("P")
+        .help("Of which steps there are more")
+        .value_parser(PROFILES)
+        .default_value("all");
+    let pages = Arg::new(alloc, "pages")
+        .long("pages")
+        .value_name("M")
+        .help("The number of pages that the commands touch")
+        .value_parser(value_parser!(u16).range(1..=4096))
+        .default_value("8");
+    let answers = Arg::new(alloc, "answers")
+        .long("answers")
+        .help("Writes the answer of each line behind it")
+        .action(ArgAction::SetTrue);
+    [profile, pages, answers]
+}
+
+/// `postmig explore --seed S [--steps N] [--cpus N] [--profile P] [--pages M] [--answers] [--explain]`.
+fn explore_command<'a>(alloc: Global) -> Result<Command<'a>, AllocError> {
+    let [seed, steps] = size_arguments(alloc);
+    let [profile, pages, answers] = content_arguments(alloc);
+    Command::new(alloc, "explore")
+        .about("Writes a random script of a migration")
+        .arg(seed)?
+        .arg(steps)?
+        .arg(cpus_argument(alloc))?
+        .arg(profile)?
+        .arg(pages)?
+        .arg(answers)?
+        .arg(explain_argument(alloc, WHY_IT_FAILED))
+}
+
 /// The command line: one of these subcommands, or `postmig --version`.
 pub(crate) fn command_line<'a>(alloc: Global) -> Result<Command<'a>, AllocError> {
     // The name in usage lines, whatever the file is called.
@@ -129,5 +187,6 @@ pub(crate) fn command_line<'a>(alloc: Global) -> Result<Command<'a>, AllocError>
         .subcommand(check_command(alloc)?)?
         .subcommand(lint_command(alloc)?)?
         .subcommand(frames_command(alloc)?)?
+        .subcommand(explore_command(alloc)?)?
         .subcommand(threads_command(alloc)?)
 }

@@ -5,7 +5,7 @@
 //! `--explain` or `--all` what is wrong with it.
 //! `postmig lint` lists the wrong lines of a script or a transcript.
 //! `postmig frames` reads frames, and writes a destination's answer to each. `postmig threads` reads nothing, runs a migration in
-//! threads, and writes a report. `docs/SCRIPT.md` defines scripts, `docs/FORMATS.md` frames, and `docs/THREADS.md` a run in threads.
+//! threads, and writes a report. `postmig explore` writes a random script. `docs/SCRIPT.md` defines scripts, `docs/FORMATS.md` frames, and `docs/THREADS.md` a run in threads.
 //!
 //! [`answer`] is the body of the program's `main`; the exit statuses are those of `specs/Status.antt`. Reading and writing is done by
 //! `engine` for scripts and transcripts, by `explain` for explanations, by `lint` for wrong lines, by `frames` for frames, and by `threads` for a run in threads.
@@ -24,6 +24,7 @@ use clap::ArgMatches;
 use clap::error::ErrorKind;
 use engine::{Mode, RunFault, check_script, run_script};
 use explain::{Asks, Noting, explain_script};
+use explore::{Plan, Profile, run_explore};
 use frames::run_frames;
 use grammar::Language;
 use lint::lint_lines;
@@ -110,6 +111,34 @@ fn take_frames(rt: &HostRuntime, matches: &ArgMatches) -> u8 {
     end_frames(rt, matches, &input, &output, outcome)
 }
 
+/// The exploration that the arguments of `postmig explore` ask for.
+fn plan_of(matches: &ArgMatches) -> Option<Plan> {
+    Some(Plan {
+        seed: matches.get_one::<u64>("seed")?,
+        steps: matches.get_one::<u32>("steps")?,
+        cpus: matches.get_one::<u8>("cpus")?,
+        profile: Profile::named(matches.get_str("profile")?)?,
+        pages: matches.get_one::<u16>("pages")?,
+        answers: matches.get_flag("answers"),
+    })
+}
+
+/// Writes a random script.
+fn explore(rt: &HostRuntime, matches: &ArgMatches) -> u8 {
+    let Some(plan) = plan_of(matches) else {
+        return BAD_COMMAND_OR_SCRIPT;
+    };
+    if plan.cpus == 0 || plan.cpus > 16 || plan.pages == 0 || plan.pages > 4096 {
+        return BAD_COMMAND_OR_SCRIPT;
+    }
+    let Some(input) = open_input(rt, matches) else {
+        return READ_OR_WRITE_FAULT;
+    };
+    let mut output = open_output(rt);
+    let outcome = run_explore(rt.alloc(), &mut output, &plan);
+    end(rt, matches, &input, &output, outcome.map(|()| true))
+}
+
 /// Runs a migration in threads.
 fn run_in_threads<T: Threads + Wait + Sync>(
     rt: &HostRuntime,
@@ -138,6 +167,7 @@ fn do_command<T: Threads + Wait + Sync>(rt: &HostRuntime, handle: &T, matches: &
         Some(("check", matches)) => check_input(rt, matches),
         Some(("lint", matches)) => lint(rt, matches),
         Some(("frames", matches)) => take_frames(rt, matches),
+        Some(("explore", matches)) => explore(rt, matches),
         Some(("threads", matches)) => run_in_threads(rt, handle, matches),
         _ => BAD_COMMAND_OR_SCRIPT,
     }
