@@ -1,14 +1,18 @@
 //! The command line of `postmig`, and its exit statuses.
 //!
-//! `postmig run` reads a script and writes one line for each step to standard output, or with `--transcript` one for
-//! each command that took effect. `postmig check` reads such a transcript, and says whether it is that of one flat memory, or with
-//! `--explain` or `--all` what is wrong with it.
-//! `postmig lint` lists the wrong lines of a script or a transcript.
-//! `postmig frames` reads frames, and writes a destination's answer to each. `postmig threads` reads nothing, runs a migration in
-//! threads, and writes a report. `postmig explore` writes a random script. `docs/SCRIPT.md` defines scripts, `docs/FORMATS.md` frames, and `docs/THREADS.md` a run in threads.
+//! - `postmig run` reads a script and writes one line for each step, or with `--transcript` one for each command that took effect.
+//! - `postmig check` reads such a transcript, and says whether it is that of one flat memory, or with `--explain` or `--all` what is
+//!   wrong with it.
+//! - `postmig lint` lists the wrong lines of a script or a transcript.
+//! - `postmig frames` reads frames, and writes a destination's answer to each.
+//! - `postmig explore` writes a random script.
+//! - `postmig threads` reads nothing, runs a migration in threads, and writes a report.
+//!
+//! `docs/SCRIPT.md` defines scripts and transcripts, `docs/FORMATS.md` frames, `docs/EXPLORE.md` random scripts, and `docs/THREADS.md` a
+//! run in threads.
 //!
 //! [`answer`] is the body of the program's `main`; the exit statuses are those of `specs/Status.antt`. Reading and writing is done by
-//! `engine` for scripts and transcripts, by `explain` for explanations, by `lint` for wrong lines, by `frames` for frames, and by `threads` for a run in threads.
+//! `engine` for scripts and transcripts, and by the crate of the same name for each other program.
 #![tactic(auto)]
 
 mod arguments;
