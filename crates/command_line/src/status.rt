@@ -1,7 +1,7 @@
 //! The exit statuses of the program.
 
 ghost use Rattle.std.specs.Prelude.{◌≡◌, IfOk, IfErr, OnOk};
-ghost use Rattle.command_line.specs.Status.{answer_status, fault_status, frames_fault_status, lint_status};
+ghost use Rattle.command_line.specs.Status.{answer_status, fault_status, frames_fault_status};
 
 use engine::RunFault;
 use frames::FramesFault;
@@ -27,17 +27,6 @@ pub(crate) fn status_of(outcome: Result<bool, RunFault>) -> u8
         Err(RunFault::Line(_)) => BAD_COMMAND_OR_SCRIPT,
         Err(RunFault::ReadFault | RunFault::WriteFault) => READ_OR_WRITE_FAULT,
         Err(RunFault::NoMemory) => NO_MEMORY,
-    }
-}
-
-/// The exit status of a listing of wrong lines: whether there is none, or the fault that ended it.
-pub(crate) fn lint_status_of(outcome: Result<bool, RunFault>) -> u8
-    ensures answer { IfOk outcome (λ answer. result ≡ lint_status answer) }
-    ensures fault { IfErr outcome (λ fault. result ≡ fault_status fault) }
-{
-    match outcome {
-        Ok(false) => BAD_COMMAND_OR_SCRIPT,
-        _ => status_of(outcome),
     }
 }
 

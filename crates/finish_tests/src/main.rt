@@ -7,6 +7,9 @@
 //! be read. Runs have two processors.
 #![tactic(auto)]
 
+#[cfg(test)]
+mod edges;
+
 use finish::{finish, next_to_finish};
 use grammar::parse::parse;
 use grammar::{Language, Line, Token};
@@ -117,7 +120,10 @@ fn play(rt: &HostRuntime, name: &str) -> io::Result<bool> {
             return Ok(false);
         }
     }
-    println!(rt; "{name}: finished after 0 to {} lines", prefixes.saturating_sub(1))?;
+    println!(rt;
+        "{name}: finished after 0 to {} lines",
+        prefixes.saturating_sub(1)
+    )?;
     Ok(true)
 }
 

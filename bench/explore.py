@@ -1,0 +1,273 @@
+#!/usr/bin/env python3
+"""Explores with many seeds, judges each script by the other commands, and counts what happened in them.
+
+python3 bench/explore.py [SEEDS] [--first SEED] [--steps N] [--cpus C] [--pages M] [--program PATH] [--scripts FILE] [--write]
+
+For each seed from SEED on (1), SEEDS of them (20), and for each profile: `postmig explore` writes a script with its answers. The same
+without answers has the same lines; `postmig run` prints the answers; `postmig check` accepts the transcript of the run. Its status is 1
+where one of these does not hold. Then it prints tables of what happened. Run it once ./postmig prove has built the program. With
+--scripts it judges scripts with answers that stand in a file, one behind the other, and runs no `postmig explore`. With --write the tables
+go to docs/EXPLORE.md.
+"""
+
+import argparse
+import collections
+import concurrent.futures
+import os
+import re
+import subprocess
+import sys
+
+import page
+from bench import PROGRAM
+
+FILE = page.TOP / "docs" / "EXPLORE.md"
+PROFILES = ("commands", "precopy", "postcopy", "moves", "breaks", "urgent", "bytes", "runs", "all")
+PHASES = ("precopy", "switching", "postcopy")
+GIVES = " => "
+NUMBER = re.compile(r"0x[0-9a-f]+|\b\d+\b")
+
+
+def ran(program, words, given=b""):
+    """What a command writes, which has to succeed."""
+    ended = subprocess.run([program, *words], input=given, stdout=subprocess.PIPE, stderr=subprocess.PIPE)
+    if ended.returncode != 0:
+        raise ValueError(f"{' '.join(words)}: status {ended.returncode}, {ended.stdout[-200:]}{ended.stderr[-200:]}")
+    return ended.stdout.decode()
+
+
+def split(text):
+    """The comment of a script, its lines, and its answers."""
+    comment, *rest = text.splitlines()
+    pairs = [line.split(GIVES, 1) for line in rest]
+    return comment, [pair[0] for pair in pairs], [pair[1] for pair in pairs]
+
+
+def argument(comment, name):
+    return comment.split(f"--{name} ")[1].split()[0]
+
+
+def judge(program, text):
+    """Raises ValueError unless the other commands agree with a script and its answers."""
+    comment, lines, answers = split(text)
+    script = "".join(f"{line}\n" for line in [comment, *lines]).encode()
+    cpus = ["--cpus", argument(comment, "cpus")]
+    if ran(program, ["run", *cpus], script).splitlines() != answers:
+        raise ValueError(f"{comment}: run prints other answers")
+    transcript = ran(program, ["run", *cpus, "--transcript"], script).encode()
+    verdict = ran(program, ["check"], transcript)
+    if not verdict.startswith("ok "):
+        raise ValueError(f"{comment}: check says {verdict}")
+
+
+def explored(program, seed, profile, options):
+    """A script with its answers, whose lines are those that are written without answers."""
+    words = ["explore", "--seed", str(seed), "--profile", profile, *options]
+    text = ran(program, [*words, "--answers"])
+    plain = ran(program, words).splitlines()
+    if plain[1:] != split(text)[1]:
+        raise ValueError(f"{' '.join(words)}: other lines with answers")
+    return text
+
+
+class Course:
+    """Follows the answers of one script, and counts what happened."""
+
+    def __init__(self):
+        self.events, self.effects, self.refusals = collections.Counter(), collections.Counter(), collections.Counter()
+        self.phase, self.resuming, self.order = "idle", set(), 0
+        self.forward, self.urgent, self.pushed = [], [], set()
+
+    def send(self, wire, frames=1):
+        for _ in range(frames):
+            wire.append(self.order)
+            self.order += 1
+
+    def take(self, line, answer):
+        words = line.split()
+        step = f"{words[0]} {words[2]}" if words[0] == "cpu" else words[0]
+        self.events["lines"] += 1
+        if answer.startswith("refused "):
+            self.refusals[step, answer.split()[1]] += 1
+            return
+        self.events["made"] += 1
+        shape = re.sub(r"^progress .*", "progress ..", NUMBER.sub("N", answer))
+        self.effects[step, shape] += 1
+        self.follow(words[0], answer)
+
+    def follow(self, step, answer):
+        known = {
+            "start": self.start, "switch": self.switch, "break": self.break_link, "resume": self.resume, "send": self.sent, "sendrun": self.sent,
+            "push": self.push, "upush": self.push_urgent, "end": self.sent, "deliver": self.deliver, "udeliver": self.deliver_urgent,
+            "back": self.back, "serve": self.serve, "install": self.install, "dact": self.resolve,
+        }
+        if step in known:
+            known[step](answer)
+
+    def start(self, answer):
+        self.phase = "precopy"
+        self.send(self.forward)
+
+    def switch(self, answer):
+        self.phase = "switching"
+        self.send(self.forward, 2)
+
+    def sent(self, answer):
+        self.send(self.forward)
+
+    def push(self, answer):
+        self.pushed.add(answer.split()[2])
+        self.send(self.forward)
+
+    def push_urgent(self, answer):
+        self.pushed.add(answer.split()[2])
+        self.send(self.urgent)
+
+    def break_link(self, answer):
+        self.events[f"breaks in {self.phase}"] += 1
+        if self.resuming:
+            self.events["breaks while resuming"] += 1
+        self.forward, self.urgent = [], []
+
+    def resume(self, answer):
+        self.events["resumptions"] += 1
+        self.resuming = {"source", "dest"}
+        self.pushed = set()
+        self.send(self.forward)
+
+    def deliver(self, answer):
+        if not answer.startswith("took "):
+            self.events["deliveries of a part"] += 1
+            return
+        self.forward.pop(0)
+        if answer.startswith("took package"):
+            self.phase = "postcopy"
+        if answer == "took resume":
+            self.resuming.discard("dest")
+
+    def deliver_urgent(self, answer):
+        if not answer.startswith("took "):
+            self.events["deliveries of a part"] += 1
+            return
+        order = self.urgent.pop(0)
+        if self.forward and self.forward[0] < order:
+            self.events["urgent frames that overtook"] += 1
+
+    def back(self, answer):
+        if answer.startswith("took recv"):
+            self.resuming.discard("source")
+            if answer.startswith("took recv notrun") and self.phase == "switching":
+                self.send(self.forward, 2)
+        if answer == "took done":
+            self.phase = "complete"
+            self.events["migrations that completed"] += 1
+
+    def serve(self, answer):
+        if answer.split()[1] in self.pushed:
+            self.events["requests of pages that were pushed meanwhile"] += 1
+
+    def install(self, answer):
+        words = answer.split()
+        if words[0] == "dropped":
+            self.events["copies dropped: their page was unmapped or cleared"] += 1
+        elif words[1] != words[3]:
+            self.events["copies installed where their page had moved"] += 1
+
+    def resolve(self, answer):
+        if answer.startswith("requested "):
+            self.events["faults at owed pages"] += 1
+
+
+def counted(text):
+    """What happened in a script."""
+    course = Course()
+    _, lines, answers = split(text)
+    for line, answer in zip(lines, answers):
+        course.take(line, answer)
+    course.events["scripts"] += 1
+    return course
+
+
+def add(total, course):
+    for mine, its in ((total.events, course.events), (total.effects, course.effects), (total.refusals, course.refusals)):
+        mine.update(its)
+
+
+def rows(head, body):
+    yield f"| {' | '.join(head)} |"
+    yield f"|{'---|' * len(head)}"
+    for row in body:
+        yield f"| {' | '.join(map(str, row))} |"
+
+
+EVENTS = (
+    "scripts", "lines", "made", "migrations that completed", *(f"breaks in {phase}" for phase in PHASES), "breaks while resuming", "resumptions",
+    "deliveries of a part", "faults at owed pages", "urgent frames that overtook", "copies installed where their page had moved",
+    "copies dropped: their page was unmapped or cleared", "requests of pages that were pushed meanwhile",
+)
+
+
+def tables(totals):
+    """The tables: what happened by profile, then each refusal and each effect of each step."""
+    whole = Course()
+    for total in totals.values():
+        add(whole, total)
+    names = [name for name in PROFILES if name in totals]
+    yield from rows(("", *names), ((event, *(totals[name].events[event] for name in names)) for event in EVENTS))
+    yield ""
+    steps = sorted({step for step, _ in whole.refusals})
+    refusals = collections.defaultdict(list)
+    for (step, name), count in sorted(whole.refusals.items()):
+        refusals[step].append(f"{name} {count}")
+    yield from rows(("Step", "Refused"), ((f"`{step}`", ", ".join(refusals[step])) for step in steps))
+    yield ""
+    effects = collections.defaultdict(list)
+    for (step, shape), count in sorted(whole.effects.items()):
+        effects[step].append(f"`{shape}` {count}")
+    yield from rows(("Step", "Made"), ((f"`{step}`", ", ".join(shapes)) for step, shapes in effects.items()))
+
+
+def texts_of(file):
+    """The scripts of a file, each of which begins with its comment."""
+    for text in re.split(r"^(?=# )", open(file).read(), flags=re.MULTILINE):
+        if text:
+            yield text
+
+
+def main():
+    asked = argparse.ArgumentParser(description=__doc__, formatter_class=argparse.RawDescriptionHelpFormatter)
+    asked.add_argument("seeds", nargs="?", type=int, default=20)
+    asked.add_argument("--first", type=int, default=1)
+    asked.add_argument("--program", default=str(PROGRAM))
+    asked.add_argument("--scripts")
+    asked.add_argument("--write", action="store_true")
+    for name in ("steps", "cpus", "pages"):
+        asked.add_argument(f"--{name}", type=int)
+    given = asked.parse_args()
+    options = [word for name in ("steps", "cpus", "pages") if getattr(given, name) for word in (f"--{name}", str(getattr(given, name)))]
+
+    def one(case):
+        text = case if given.scripts else explored(given.program, *case, options)
+        judge(given.program, text)
+        return argument(text, "profile"), counted(text)
+
+    cases = texts_of(given.scripts) if given.scripts else [(seed, profile) for profile in PROFILES for seed in range(given.first, given.first + given.seeds)]
+    totals = collections.defaultdict(Course)
+    wrong = 0
+    with concurrent.futures.ThreadPoolExecutor(os.cpu_count()) as pool:
+        for future in [pool.submit(one, case) for case in cases]:
+            try:
+                profile, course = future.result()
+                add(totals[profile], course)
+            except ValueError as error:
+                wrong += 1
+                print(error, file=sys.stderr)
+    text = "\n".join(tables(totals))
+    print(text)
+    if given.write and wrong == 0:
+        page.put("explored", text, FILE)
+    return 1 if wrong else 0
+
+
+if __name__ == "__main__":
+    sys.exit(main())

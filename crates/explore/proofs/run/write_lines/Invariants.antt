@@ -1,0 +1,5 @@
+use Rattle.explore.proofs.Going.{Going}
+use Rattle.explore.proofs.run.write_lines.Given as goal
+
+abbrev pub invariant-loop : goal.invariant-loop
+invariant-loop g l = Going l.fn.plan.answers l.fn.world l.counter l.world (g.W.Write.contents l.fn.writer) (g.W.Write.contents l.writer) l.sheet.output.items

@@ -1,0 +1,218 @@
+//! One line of a script after the other.
+
+ghost use Rattle.std.specs.Prelude.{◌≡◌, ◌<◌, ◌≤◌, ◌++◌, length, IfOk, OnOk, string_bytes};
+ghost use Rattle.engine.specs.declared.line_runner.Mode.TheVariants.{Lines};
+ghost use Rattle.engine.specs.Script.{Makes, Obeys, told};
+ghost use Rattle.grammar.specs.Lines.{HasNoFeed};
+ghost use Rattle.std.specs.Str.Lines.{strip_carriage_return};
+ghost use Rattle.explore.specs.Explorations.{IsLine, IsComment, Adds, tail};
+
+use crate::course::Memo;
+use crate::plan::{Plan, VERSION};
+use crate::print::OrderText;
+use engine::{RunFault, progress};
+use grammar::parse::parse;
+use grammar::{Language, Line, Order, Token, print_line, print_progress};
+use memchr::memchr;
+use mig_base::effect::Effect;
+use mig_base::refusal::Refusal;
+use mig_base::schedule::Step;
+use mig_base::{HIGH_PAGE, LOW_PAGE, PAGE_SIZE, PageNo};
+use std::alloc::Global;
+use world::World;
+
+/// The most bytes of a line.
+const MAX_LINE: usize = 256;
+
+/// The text that was printed and not written yet, and room that is used again from line to line.
+#[derive(Drop)]
+pub(crate) struct Sheet {
+    /// The line that is made.
+    line: String,
+    /// The line that `postmig run` prints for it.
+    answer: String,
+    tokens: Vec<Token>,
+    /// The lines that are not written yet, each with its line feed.
+    pub output: Vec<u8>,
+}
+
+/// Checks that a text can be one line.
+fn check_cut(text: &[u8], number: u64) -> Result<(), RunFault>
+    ensures one { OnOk result (HasNoFeed text.now) }
+    ensures short { OnOk result (length text.now ≤ 256) }
+{
+    if text.len() > MAX_LINE {
+        return Err(RunFault::Line(number));
+    }
+    match memchr(b'\n', text) {
+        None => Ok(()),
+        Some(_) => Err(RunFault::Line(number)),
+    }
+}
+
+/// A line before its line feed, without a carriage return at its end.
+fn without_return(raw: &[u8]) -> &[u8]
+    ensures { result.now ≡ strip_carriage_return raw.now }
+{
+    match raw {
+        [text @ .., b'\r'] => text,
+        _ => raw,
+    }
+}
+
+/// What the text of a line says, read as `postmig run` reads it.
+fn read_back(tokens: &mut Vec<Token>, text: &[u8], number: u64) -> Result<Line, RunFault>
+    ensures { IfOk result (λ line. IsLine text.now line) }
+{
+    check_cut(text, number)?;
+    match parse(Language::Script, tokens, without_return(text))? {
+        Some(line) => Ok(line),
+        None => Err(RunFault::Line(number)),
+    }
+}
+
+/// Gathers a line, and with `answers` what a run prints for it.
+fn gather(
+    output: &mut Vec<u8>,
+    line: &str,
+    answers: bool,
+    answer: &str,
+) -> Result<(), RunFault>
+    ensures { OnOk result (output.new.items ≡ output.old.items ++ (line.now ++ tail answers answer.now)) }
+{
+    output.extend_from_slice(line.as_bytes())?;
+    if answers {
+        output.extend_from_slice(b" => ")?;
+        output.extend_from_slice(answer.as_bytes())?;
+    } else {
+        output.push(b'\n')?;
+    }
+    Ok(())
+}
+
+/// Replaces a text by that of an order, as a line of a script has it.
+fn print_order(text: &mut String, order: Order) -> Result<(), RunFault> {
+    text.clear();
+    let order = OrderText(order);
+    write!(text, "{order}")?;
+    Ok(())
+}
+
+/// Replaces a text by the comment that says how a script is made.
+fn print_comment(text: &mut String, plan: &Plan) -> Result<(), RunFault> {
+    text.clear();
+    let plan = *plan;
+    write!(text, "# postmig {VERSION} explore {plan}")?;
+    Ok(())
+}
+
+impl Sheet {
+    /// A sheet without text.
+    pub(crate) fn new(alloc: Global) -> Sheet
+        ensures { result.output.items ≡ [] }
+    {
+        Sheet {
+            line: String::new(alloc),
+            answer: String::new(alloc),
+            tokens: Vec::new(alloc),
+            output: Vec::new(alloc),
+        }
+    }
+
+    /// Gathers the comment that says how the script is made.
+    pub(crate) fn add_comment(&mut self, plan: &Plan) -> Result<(), RunFault>
+        ensures { OnOk result (IsComment self.old.output.items self.new.output.items) }
+    {
+        print_comment(&mut self.line, plan)?;
+        match read_back(&mut self.tokens, self.line.as_bytes(), 1)? {
+            Line::Skipped => gather(&mut self.output, &self.line, false, ""),
+            Line::Do(_) | Line::Enter(_) => Err(RunFault::Line(1)),
+        }
+    }
+
+    /// Prints an order as a line, makes what the line asks for, and gathers the line. What is remembered of the step goes to `memo`.
+    pub(crate) fn add_order(
+        &mut self,
+        world: &mut World,
+        memo: &mut Memo,
+        order: Order,
+        answers: bool,
+    ) -> Result<(), RunFault>
+        ensures { OnOk result (Adds answers world.old world.new self.old.output.items self.new.output.items) }
+    {
+        let number = memo.line.saturating_add(2);
+        print_order(&mut self.line, order)?;
+        match read_back(&mut self.tokens, self.line.as_bytes(), number)? {
+            Line::Do(order) => {
+                let effect = obey(world, order, &mut self.answer)?;
+                remember(memo, effect);
+                gather(&mut self.output, &self.line, answers, &self.answer)
+            }
+            Line::Skipped | Line::Enter(_) => Err(RunFault::Line(number)),
+        }
+    }
+}
+
+/// Carries out an order, and replaces a text by the line that `postmig run` prints for it. It returns the effect of a step that was made.
+fn obey(world: &mut World, order: Order, answer: &mut String) -> Result<Option<Effect>, RunFault>
+    ensures { OnOk result (Obeys Lines world.old order world.new (string_bytes answer.new)) }
+{
+    match order.step(world.epoch()) {
+        Some(step) => make_step(world, step, answer),
+        None => {
+            tell_progress(world, answer)?;
+            Ok(None)
+        }
+    }
+}
+
+/// Makes a step, and replaces a text by the line of its outcome.
+fn make_step(world: &mut World, step: Step, answer: &mut String) -> Result<Option<Effect>, RunFault>
+    ensures { OnOk result (Makes Lines world.old step world.new (string_bytes answer.new)) }
+{
+    answer.clear();
+    let outcome = world.step(step);
+    if let Err(Refusal::NoMemory) = outcome {
+        return Err(RunFault::NoMemory);
+    }
+    print_line(answer, &outcome)?;
+    Ok(outcome.ok())
+}
+
+/// Replaces a text by the report of a world's progress.
+fn tell_progress(world: &World, answer: &mut String) -> Result<(), RunFault>
+    ensures { OnOk result (string_bytes answer.new ≡ told Lines world.now) }
+{
+    answer.clear();
+    print_progress(answer, progress(world))?;
+    Ok(())
+}
+
+/// The page at an address, and the lowest for an address above the address space.
+fn page_at(addr: u64) -> PageNo
+    ensures { result < 0x10_0000 }
+{
+    let page = addr / PAGE_SIZE;
+    if page < u64::from(HIGH_PAGE) {
+        page as PageNo
+    } else {
+        LOW_PAGE
+    }
+}
+
+/// Remembers one line more, and which page was sent or dequeued.
+fn remember(memo: &mut Memo, effect: Option<Effect>) {
+    memo.line = memo.line.saturating_add(1);
+    match effect {
+        Some(Effect::SentPage { addr } | Effect::SentZero { addr }) => {
+            memo.sent = page_at(addr);
+            if memo.asked == Some(memo.sent) {
+                memo.asked = None;
+            }
+        }
+        Some(Effect::SentRun { addr, .. }) => memo.sent = page_at(addr),
+        Some(Effect::Asked { addr }) => memo.asked = Some(page_at(addr)),
+        Some(Effect::Broken) => memo.asked = None,
+        _ => {}
+    }
+}

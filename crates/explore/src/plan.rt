@@ -1,0 +1,98 @@
+//! What the caller of an exploration chooses.
+
+use std::fmt;
+
+/// The version that the first line of a script names.
+pub const VERSION: &str = "0.1.0";
+
+/// Of which steps a script has more.
+#[derive(Clone, Copy, Debug, PartialEq, Eq)]
+pub enum Profile {
+    /// Loads, stores and map calls; no migration is started.
+    Commands,
+    /// Rounds, sends and faults at the source; the switch comes late or not at all.
+    Precopy,
+    /// An early switch, faults at owed pages, and pushes.
+    Postcopy,
+    /// Map calls that move, unmap and clear pages, also while they are owed and in flight.
+    Moves,
+    /// Lost channels, and resumptions.
+    Breaks,
+    /// Requests, and pushes on the urgent wire.
+    Urgent,
+    /// Deliveries of a few bytes.
+    Bytes,
+    /// Several pages in one frame.
+    Runs,
+    /// Some of each.
+    All,
+}
+
+impl Profile {
+    /// The profiles, in the order in which help lists them.
+    pub const ALL: [Profile; 9] = [
+        Profile::Commands,
+        Profile::Precopy,
+        Profile::Postcopy,
+        Profile::Moves,
+        Profile::Breaks,
+        Profile::Urgent,
+        Profile::Bytes,
+        Profile::Runs,
+        Profile::All,
+    ];
+
+    /// The name on the command line.
+    pub fn name(self) -> &'static str {
+        match self {
+            Profile::Commands => "commands",
+            Profile::Precopy => "precopy",
+            Profile::Postcopy => "postcopy",
+            Profile::Moves => "moves",
+            Profile::Breaks => "breaks",
+            Profile::Urgent => "urgent",
+            Profile::Bytes => "bytes",
+            Profile::Runs => "runs",
+            Profile::All => "all",
+        }
+    }
+
+    /// The profile of this name.
+    pub fn named(name: &str) -> Option<Profile> {
+        for profile in Profile::ALL {
+            if profile.name() == name {
+                return Some(profile);
+            }
+        }
+        None
+    }
+}
+
+/// An exploration. Its text is that of the arguments that ask for it.
+#[derive(Clone, Copy, Debug, PartialEq, Eq)]
+pub struct Plan {
+    /// The seed of the draws.
+    pub seed: u64,
+    /// The number of lines behind the first, which is a comment.
+    pub steps: u32,
+    /// The processors of the guest, 1 to 16.
+    pub cpus: u8,
+    pub profile: Profile,
+    /// The number of pages from which commands draw their addresses, 1 to 4,096. They lie from 0x10000 on.
+    pub pages: u16,
+    /// Whether ` => ` and the line that `postmig run` would print stand behind each line.
+    pub answers: bool,
+}
+
+impl fmt::Display for Plan {
+    fn fmt<W: fmt::Write>(&self, f: &mut fmt::Formatter<W>) -> fmt::Result {
+        let seed = self.seed;
+        let steps = self.steps;
+        let cpus = self.cpus;
+        let profile = self.profile.name();
+        let pages = self.pages;
+        let answers = if self.answers { " --answers" } else { "" };
+        write!(f, "--seed {seed} --steps {steps} --cpus {cpus} ")?;
+        write!(f, "--profile {profile} --pages {pages}{answers}")
+    }
+}

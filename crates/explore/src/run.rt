@@ -1,0 +1,110 @@
+//! Writing a whole script.
+
+ghost use Rattle.std.specs.Prelude.{◌≡◌, ◌<◌, ◌≤◌, [], OnOk, OnErr};
+ghost use Rattle.std.specs.Io.KnownBytes.{Appends};
+ghost use Rattle.engine.specs.Engine.{Front};
+ghost use Rattle.engine.specs.WorldState.{first_state};
+ghost use Rattle.explore.specs.Explorations.{Explored, Gone, Writes, Stops};
+
+use crate::course::{Course, Memo, draw_course};
+use crate::lines::Sheet;
+use crate::plan::Plan;
+use crate::steps::draw_order;
+use engine::RunFault;
+use engine::line_runner::write_out;
+use rand_core::Rng;
+use rand_pcg::Pcg32;
+use std::alloc::Global;
+use std::io::Write;
+use world::World;
+
+/// The stream of the generator, one of the 2^63 that each seed has.
+const STREAM: u64 = 1;
+
+/// Gathered lines are written once they have this many bytes.
+const PIECE: usize = 16_384;
+
+/// Writes a random script: a comment that says how it was made, and one line for each of the plan's steps. About nine lines of ten are
+/// steps that the world of that script makes, and the others are steps that it refuses. The same plan has the same text.
+///
+/// `WriteFault` comes if a write fails or takes no byte; the first part of the text is written then. `NoMemory` comes if an allocation
+/// fails; some lines from the first on are written then, each in full. `Line` would come for a line that `postmig run` does not read,
+/// and no plan is known that has one.
+pub fn run_explore<W: Write>(alloc: Global, writer: &mut W, plan: &Plan) -> Result<(), RunFault>
+    requires low { 1 ≤ plan.now.cpus }
+    requires high { plan.now.cpus ≤ 16 }
+    requires some { 1 ≤ plan.now.pages }
+    requires few { plan.now.pages ≤ 4096 }
+    ensures ok { OnOk result (Writes plan.now.answers (first_state plan.now.cpus) plan.now.steps (W.contents writer.old) (W.contents writer.new)) }
+    ensures fault { OnErr result (Stops plan.now.answers (first_state plan.now.cpus) plan.now.steps (W.contents writer.old) (W.contents writer.new)) }
+{
+    let Ok(mut world) = World::new(alloc, plan.cpus) else {
+        return Err(RunFault::NoMemory);
+    };
+    let mut sheet = Sheet::new(alloc);
+    sheet.add_comment(plan)?;
+    write_script(writer, &mut world, &mut sheet, plan)
+}
+
+/// Draws the course of a script, and writes its lines behind the comment.
+fn write_script<W: Write>(
+    writer: &mut W,
+    world: &mut World,
+    sheet: &mut Sheet,
+    plan: &Plan,
+) -> Result<(), RunFault>
+    requires cpus { 1 ≤ plan.now.cpus }
+    requires some { 1 ≤ plan.now.pages }
+    requires few { plan.now.pages ≤ 4096 }
+    requires start { Explored plan.now.answers world.old 0 world.old sheet.old.output.items }
+    ensures ok { OnOk result (Writes plan.now.answers world.old plan.now.steps (W.contents writer.old) (W.contents writer.new)) }
+    ensures fault { OnErr result (Stops plan.now.answers world.old plan.now.steps (W.contents writer.old) (W.contents writer.new)) }
+{
+    let mut rng = Pcg32::new(plan.seed, STREAM);
+    let course = draw_course(&mut rng, plan);
+    write_lines(writer, world, &mut rng, sheet, &course, plan)
+}
+
+/// Writes what was gathered.
+fn flush<W: Write>(writer: &mut W, sheet: &mut Sheet) -> Result<(), RunFault>
+    ensures ok { OnOk result (Appends (W.contents writer.old) (W.contents writer.new) sheet.old.output.items) }
+    ensures none { OnOk result (sheet.new.output.items ≡ []) }
+    ensures front { OnErr result (Front sheet.old.output.items (W.contents writer.old) (W.contents writer.new)) }
+{
+    write_out(writer, &sheet.output)?;
+    sheet.output.clear();
+    Ok(())
+}
+
+/// Writes what was gathered if that is much.
+fn flush_much<W: Write>(writer: &mut W, sheet: &mut Sheet) -> Result<(), RunFault>
+    ensures ok { OnOk result (Gone sheet.old.output.items sheet.new.output.items (W.contents writer.old) (W.contents writer.new)) }
+    ensures front { OnErr result (Front sheet.old.output.items (W.contents writer.old) (W.contents writer.new)) }
+{
+    if sheet.output.len() < PIECE {
+        return Ok(());
+    }
+    flush(writer, sheet)
+}
+
+/// Writes the lines behind the comment, which was gathered.
+fn write_lines<W: Write, R: Rng>(
+    writer: &mut W,
+    world: &mut World,
+    rng: &mut R,
+    sheet: &mut Sheet,
+    course: &Course,
+    plan: &Plan,
+) -> Result<(), RunFault>
+    requires { Explored plan.now.answers world.old 0 world.old sheet.old.output.items }
+    ensures ok { OnOk result (Writes plan.now.answers world.old plan.now.steps (W.contents writer.old) (W.contents writer.new)) }
+    ensures fault { OnErr result (Stops plan.now.answers world.old plan.now.steps (W.contents writer.old) (W.contents writer.new)) }
+{
+    let mut memo = Memo::new();
+    for _ in 0..plan.steps {
+        let order = draw_order(rng, course, &memo, world);
+        sheet.add_order(world, &mut memo, order, plan.answers)?;
+        flush_much(writer, sheet)?;
+    }
+    flush(writer, sheet)
+}

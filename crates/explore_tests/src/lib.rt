@@ -1,0 +1,7 @@
+//! Tests of `explore`: its scripts run, and their answers are those of the run.
+#![tactic(auto)]
+
+#[cfg(test)]
+mod lines;
+#[cfg(test)]
+mod scripts;

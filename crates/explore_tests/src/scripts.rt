@@ -1,0 +1,273 @@
+use engine::{Mode, RunFault, check_script, run_script};
+use explore::{Plan, Profile, run_explore};
+use std::alloc::{AllocError, Global};
+use std::io;
+use std::io::Write;
+use std::process::Abort;
+use std::test::Fail;
+
+/// No script of these tests has more bytes, and no output of one.
+const MOST: usize = 200_000;
+
+/// A short script with all kinds of steps.
+const PLAN: Plan = Plan {
+    seed: 7,
+    steps: 100,
+    cpus: 2,
+    profile: Profile::All,
+    pages: 8,
+    answers: false,
+};
+
+/// Takes at most so many bytes at a time, and fails at one of its writes.
+#[derive(Drop)]
+struct Slow {
+    bytes: Vec<u8>,
+    size: usize,
+    fails_at: u32,
+    writes: u32,
+}
+
+impl Write for Slow {
+    fn write(&mut self, buf: &[u8]) -> io::Result<usize> {
+        self.writes = self.writes.wrapping_add(1);
+        if self.writes == self.fails_at {
+            return Err(io::Error::from(io::ErrorKind::Other));
+        }
+        let count = self.size.min(buf.len());
+        self.bytes.extend_from_slice(&buf[..count])?;
+        Ok(count)
+    }
+
+    fn flush(&mut self) -> io::Result<()> {
+        Ok(())
+    }
+}
+
+/// Room for what is written, on the second try if the first is refused memory: then no write is refused any.
+fn room(alloc: Global) -> Result<Vec<u8>, AllocError> {
+    match Vec::with_capacity(alloc, MOST) {
+        Ok(room) => Ok(room),
+        Err(AllocError) => Vec::with_capacity(alloc, MOST),
+    }
+}
+
+/// What an exploration writes, and how it ends. One that is refused memory is made again.
+fn explored(alloc: Global, plan: &Plan) -> Result<(Option<RunFault>, Vec<u8>), AllocError> {
+    let (fault, bytes) = explored_once(alloc, plan)?;
+    if fault == Some(RunFault::NoMemory) {
+        return explored_once(alloc, plan);
+    }
+    Ok((fault, bytes))
+}
+
+/// The same, made once. Nothing is written for a plan that is out of range.
+fn explored_once(alloc: Global, plan: &Plan) -> Result<(Option<RunFault>, Vec<u8>), AllocError> {
+    let mut writer = room(alloc)?;
+    if plan.cpus < 1 || plan.cpus > 16 || plan.pages < 1 || plan.pages > 4096 {
+        return Ok((None, writer));
+    }
+    let fault = run_explore(alloc, &mut writer, plan).err();
+    Ok((fault, writer))
+}
+
+/// What a run of a script writes.
+fn run(alloc: Global, script: &[u8], mode: Mode) -> Result<(Option<RunFault>, Vec<u8>), AllocError> {
+    let mut reader = script;
+    let mut writer = room(alloc)?;
+    let mut fault = run_script(alloc, &mut reader, &mut writer, 2, mode).err();
+    if fault == Some(RunFault::NoMemory) {
+        reader = script;
+        writer.clear();
+        fault = run_script(alloc, &mut reader, &mut writer, 2, mode).err();
+    }
+    Ok((fault, writer))
+}
+
+/// Whether a transcript is that of one flat memory.
+fn check(alloc: Global, transcript: &[u8]) -> Result<Result<bool, RunFault>, AllocError> {
+    let mut reader = transcript;
+    let mut writer = room(alloc)?;
+    let mut verdict = check_script(alloc, &mut reader, &mut writer);
+    if verdict == Err(RunFault::NoMemory) {
+        reader = transcript;
+        verdict = check_script(alloc, &mut reader, &mut writer);
+    }
+    Ok(verdict)
+}
+
+/// The lines of a script with answers, with ` => ` cut away and what is behind it, and the answers.
+fn split_answers(alloc: Global, text: &[u8]) -> Result<(Vec<u8>, Vec<u8>), AllocError> {
+    let mut lines = room(alloc)?;
+    let mut answers = room(alloc)?;
+    for line in text.split(|byte| *byte == b'\n') {
+        let end = line.windows(4).position(|word| word == b" => ");
+        let Some(end) = end else {
+            continue;
+        };
+        if end + 4 > line.len() {
+            continue;
+        }
+        lines.extend_from_slice(&line[..end])?;
+        lines.push(b'\n')?;
+        answers.extend_from_slice(&line[end + 4..])?;
+        answers.push(b'\n')?;
+    }
+    Ok((lines, answers))
+}
+
+#[test]
+fn the_comment_has_the_arguments(rt: HostRuntime) -> Result<(), Fail> {
+    let (fault, text) = explored(rt.alloc(), &PLAN)?;
+    assert_eq!(rt; fault, None);
+    assert!(rt;
+        text.starts_with(
+            b"# postmig 0.1.0 explore --seed 7 --steps 100 --cpus 2 --profile all --pages 8\n"
+        )
+    );
+    let count = text.iter().filter(|byte| **byte == b'\n').count();
+    assert_eq!(rt; count, 101);
+    let plan = Plan {
+        answers: true,
+        steps: 0,
+        ..PLAN
+    };
+    let (fault, text) = explored(rt.alloc(), &plan)?;
+    assert_eq!(rt; fault, None);
+    assert_eq!(rt;
+        text.as_slice(),
+        b"# postmig 0.1.0 explore --seed 7 --steps 0 --cpus 2 --profile all --pages 8 --answers\n".as_slice()
+    );
+    Ok(())
+}
+
+#[test]
+fn the_same_plan_has_the_same_text(rt: HostRuntime) -> Result<(), Fail> {
+    let one = explored(rt.alloc(), &PLAN)?;
+    let again = explored(rt.alloc(), &PLAN)?;
+    assert_eq!(rt; one.0, None);
+    assert_eq!(rt; one.1.as_slice(), again.1.as_slice());
+    let other = Plan { seed: 8, ..PLAN };
+    let (fault, text) = explored(rt.alloc(), &other)?;
+    assert_eq!(rt; fault, None);
+    assert!(rt; text.as_slice() != one.1.as_slice());
+    Ok(())
+}
+
+/// The answers of a script are what a run of its lines prints, and the transcript of that run is that of one flat memory.
+fn answers_are_those_of_a_run(rt: &impl Abort, alloc: Global, plan: &Plan) -> Result<(), Fail> {
+    let (fault, text) = explored(alloc, plan)?;
+    assert_eq!(rt; fault, None);
+    let (lines, answers) = split_answers(alloc, &text)?;
+    let (fault, printed) = run(alloc, &lines, Mode::Lines)?;
+    assert_eq!(rt; fault, None);
+    assert_eq!(rt; printed.as_slice(), answers.as_slice());
+    let (fault, transcript) = run(alloc, &lines, Mode::Transcript)?;
+    assert_eq!(rt; fault, None);
+    assert_eq!(rt; check(alloc, &transcript)?, Ok(true));
+    Ok(())
+}
+
+#[test]
+fn each_profile_runs(rt: HostRuntime) -> Result<(), Fail> {
+    for profile in Profile::ALL {
+        assert_eq!(rt; Profile::named(profile.name()), Some(profile));
+        for seed in 1u64..4 {
+            let plan = Plan {
+                seed,
+                profile,
+                steps: 200,
+                answers: true,
+                ..PLAN
+            };
+            answers_are_those_of_a_run(&rt, rt.alloc(), &plan)?;
+        }
+    }
+    assert_eq!(rt; Profile::named("All"), None);
+    Ok(())
+}
+
+/// Without answers the lines are the same.
+#[test]
+fn answers_change_no_line(rt: HostRuntime) -> Result<(), Fail> {
+    let (fault, text) = explored(rt.alloc(), &PLAN)?;
+    assert_eq!(rt; fault, None);
+    let plan = Plan {
+        answers: true,
+        ..PLAN
+    };
+    let (fault, answered) = explored(rt.alloc(), &plan)?;
+    assert_eq!(rt; fault, None);
+    let (lines, _) = split_answers(rt.alloc(), &answered)?;
+    assert!(rt; text.ends_with(&lines));
+    assert!(rt; !lines.is_empty());
+    Ok(())
+}
+
+#[test]
+fn each_limit_runs(rt: HostRuntime) -> Result<(), Fail> {
+    for (seed, cpus, pages) in [
+        (0u64, 1u8, 1u16),
+        (u64::MAX, 16, 4096),
+        (1, 16, 1),
+        (2, 1, 4096),
+    ] {
+        let plan = Plan {
+            seed,
+            cpus,
+            pages,
+            ..PLAN
+        };
+        let (fault, text) = explored(rt.alloc(), &plan)?;
+        assert_eq!(rt; fault, None);
+        let count = text.iter().filter(|byte| **byte == b'\n').count();
+        assert_eq!(rt; count, 101);
+    }
+    Ok(())
+}
+
+/// A write that fails ends an exploration, and the bytes before it are written.
+#[test]
+fn each_write_fails(rt: HostRuntime) -> Result<(), Fail> {
+    let plan = Plan {
+        steps: 1500,
+        ..PLAN
+    };
+    let (fault, text) = explored(rt.alloc(), &plan)?;
+    assert_eq!(rt; fault, None);
+    for before in 0u32..8 {
+        let mut writer = Slow {
+            bytes: room(rt.alloc())?,
+            size: 5000,
+            fails_at: before + 1,
+            writes: 0,
+        };
+        let mut outcome = run_explore(rt.alloc(), &mut writer, &plan);
+        if outcome == Err(RunFault::NoMemory) {
+            writer.bytes.clear();
+            writer.writes = 0;
+            outcome = run_explore(rt.alloc(), &mut writer, &plan);
+        }
+        assert_eq!(rt; outcome, Err(RunFault::WriteFault), "{before}");
+        assert_eq!(rt; writer.writes, before + 1);
+        assert!(rt; text.starts_with(&writer.bytes));
+        assert!(rt; writer.bytes.len() <= 5000 * before as usize);
+    }
+    Ok(())
+}
+
+/// A text that is refused memory has whole lines.
+#[test]
+fn out_of_memory_leaves_whole_lines(rt: HostRuntime) -> Result<(), Fail> {
+    let mut writer = room(rt.alloc())?;
+    let outcome = run_explore(rt.alloc(), &mut writer, &PLAN);
+    if outcome == Err(RunFault::NoMemory) {
+        let (fault, text) = explored(rt.alloc(), &PLAN)?;
+        assert_eq!(rt; fault, None);
+        assert!(rt; text.starts_with(&writer));
+        assert!(rt; writer.is_empty() || writer.ends_with(b"\n"));
+    } else {
+        assert_eq!(rt; outcome, Ok(()));
+    }
+    Ok(())
+}
