@@ -38,7 +38,7 @@ abbrev pub listed : Bool → List Wrong → List Wrong
 listed true wrongs = wrongs
 listed false wrongs = take 1 wrongs
 
--- what is written of so many entries of which these are wrong, and whether all is well
+-- what is written of `count` entries of which these are wrong, and whether all is well
 abbrev pub Answers : Asks → ℕ → List Wrong → Bool → List ℕ → Type 0
 Answers asks count [] answer text = (answer ≡ true) × (text ≡ ok_line count)
 Answers asks count (wrong ∷ wrongs) answer text = (answer ≡ false) × Lists asks.reasons (listed asks.all (wrong ∷ wrongs)) text

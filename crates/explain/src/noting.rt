@@ -63,11 +63,6 @@ impl<R: Read> Noting<R> {
         Noting { reader, notes }
     }
 
-    /// The reader.
-    pub fn get_ref(&self) -> &R {
-        &self.reader
-    }
-
     /// The numbers of the lines with an entry, in order. None where one was lost for lack of memory.
     pub(crate) fn lines(&self) -> Result<&[u64], NoMemory> {
         if self.notes.is_short {

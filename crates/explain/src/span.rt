@@ -10,7 +10,7 @@ pub(crate) struct Span {
 }
 
 impl Span {
-    /// So many bytes.
+    /// `len` bytes from an address on.
     pub(crate) fn bytes(start: Addr, len: u64) -> Span {
         Span {
             start,
@@ -18,7 +18,7 @@ impl Span {
         }
     }
 
-    /// So many bytes, rounded up to whole pages.
+    /// `len` bytes from an address on, rounded up to whole pages.
     pub(crate) fn pages(start: Addr, len: u64) -> Span {
         Span::bytes(start, len.saturating_add(PAGE_SIZE - 1) & !(PAGE_SIZE - 1))
     }
