@@ -1,9 +1,11 @@
 -- An exploration that goes on: its text grows at its end, and fronts of it are written.
 use Rattle.std.proofs.Common.{◌≡◌, ℕ, ◌+◌, ◌≤◌, List, [], ◌∷◌, ◌++◌, length, Bool, true, false, Option, refl, sym, ap, subst, ◌∙◌, append_assoc, append-nil, length-append, arith, inl}
+use Rattle.std.specs.Prelude.{Result, Ok, Err, OnOk, OnErr}
 use Rattle.std.specs.Io.KnownBytes.{Appends}
 use Rattle.std.proofs.KnownBytes.{Appends-nil, Appends-trans}
 use Rattle.grammar.specs.declared.line.Line.TheVariants.{Skipped, Do}
 use Rattle.engine.specs.Engine.{Front}
+use Rattle.engine.specs.declared.fault.RunFault.{RunFault}
 use Rattle.engine.specs.WorldState.{WorldState}
 use Rattle.explore.specs.Explorations.{IsLine, IsComment, Adds, Explores, Explored, Gone, IsScript, Writes, Stops, tail}
 
@@ -42,7 +44,7 @@ explored_first a s out q = record {
 
 -- ---- what was written, and what is gathered
 
--- so many lines were made: the front of the text was written, and `output` is the rest
+-- `n` lines were made: the front of the text was written, and `output` is the rest
 pub record Going (a : Bool) (s : WorldState) (n : ℕ) (world : WorldState) (w0 w1 : Option (List ℕ)) (output : List ℕ) : Type 0 where
   pub written : List ℕ
   pub appends : Appends w0 w1 written
@@ -127,7 +129,7 @@ explores_reads s (x ∷ xs) e t p =
     record {
       lines = Do p.1 ∷ r.lines;
       out = p.2 ++ r.out;
-      number = ap (λ (k : ℕ). k + 1) r.number;
+      number = omega (arith, r.number);
       reads =
           (p.3, inl (record { raw = x; whole = p.6 ∙ append_assoc x (10 ∷ []) p.3; one = p.4.one; short = p.4.short; spells = p.4.spells }), r.reads);
       runs = (p.0, p.2, r.out, p.5, refl, r.runs);
@@ -139,8 +141,22 @@ explored_reads s e n t p =
     record {
       lines = Skipped ∷ r.lines;
       out = r.out;
-      number = ap (λ (k : ℕ). k + 1) (r.number ∙ p.number);
+      number = omega (arith, r.number, p.number);
       reads =
           (p.more, inl (record { raw = p.comment; whole = p.whole ∙ append_assoc p.comment (10 ∷ []) p.more; one = p.first.one; short = p.first.short; spells = p.first.spells }), r.reads);
       runs = r.runs;
     }
+
+-- ---- results
+
+pub on_err : (r : Result (Unit {0}) RunFault) (P : Type 0) → P → OnErr r P
+on_err (Ok done) P p = tt
+on_err (Err fault) P p = p
+
+pub on_err_then : (r : Result (Unit {0}) RunFault) (P Q : Type 0) → (P → Q) → OnErr r P → OnErr r Q
+on_err_then (Ok done) P Q f p = tt
+on_err_then (Err fault) P Q f p = f p
+
+pub on_ok_then : (r : Result (Unit {0}) RunFault) (P Q : Type 0) → (P → Q) → OnOk r P → OnOk r Q
+on_ok_then (Ok done) P Q f p = f p
+on_ok_then (Err fault) P Q f p = tt

@@ -44,7 +44,7 @@ Explores answers old [] new text = (new ≡ old) × (text ≡ [])
 Explores answers old (raw ∷ raws) new text = (mid : WorldState) × (order : Order) × (out : List ℕ) × (more : List ℕ)
     × IsLine raw (Do order) × Obeys Lines old order mid out × (text ≡ (raw ++ tail answers out) ++ more) × Explores answers mid raws new more
 
--- the text is a comment and so many lines, which lead from the first state to the last
+-- the text is a comment and this number of lines, which lead from the first state to the last
 pub record Explored (answers : Bool) (start : WorldState) (count : ℕ) (end : WorldState) (text : List ℕ) : Type 0 where
   pub comment : List ℕ
   pub raws : List (List ℕ)
@@ -67,7 +67,7 @@ pub record Writes (answers : Bool) (start : WorldState) (count : ℕ) (before af
   pub explored : Explored answers start count end text
   pub appends : Appends before after text
 
--- a front of a text was written, which has at most so many lines
+-- a front of a text was written, which has at most this number of lines
 pub record Stops (answers : Bool) (start : WorldState) (most : ℕ) (before after : Option (List ℕ)) : Type 0 where
   pub end : WorldState
   pub count : ℕ
@@ -77,7 +77,7 @@ pub record Stops (answers : Bool) (start : WorldState) (most : ℕ) (before afte
   pub explored : Explored answers start count end (written ++ more)
   pub appends : Appends before after written
 
--- the text is a script of so many lines, whose run leads from the first state to the last
+-- the text is a script of this number of lines, whose run leads from the first state to the last
 pub record IsScript (start end : WorldState) (count : ℕ) (text : List ℕ) : Type 0 where
   pub lines : List Line
   pub out : List ℕ

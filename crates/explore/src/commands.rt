@@ -11,7 +11,6 @@ use rand_core::Rng;
 pub(crate) fn draw_page<R: Rng>(rng: &mut R, course: &Course) -> PageNo
     ensures { result < 0x10_0000 }
 {
-    let _ = course.cpus;
     LOW_PAGE + below(rng, u32::from(course.pages))
 }
 
@@ -29,7 +28,9 @@ pub(crate) fn draw_of<R: Rng>(rng: &mut R, course: &Course, pages: &PageSet) -> 
 }
 
 /// The first address of a page that a command names: often one that is owed, or that is in flight.
-fn draw_address<R: Rng>(rng: &mut R, course: &Course, memo: &Memo, owed: &PageSet) -> Addr {
+fn draw_address<R: Rng>(rng: &mut R, course: &Course, memo: &Memo, owed: &PageSet) -> Addr
+    ensures { result < 0x1_0000_0000 }
+{
     let page = match below(rng, 8) {
         0..=1 => memo.sent,
         2..=4 => draw_of(rng, course, owed),

@@ -36,9 +36,9 @@ pub(crate) struct Memo {
     ghost sent_below: { sent < 0x10_0000 },
 }
 
-/// The line at which so many sixteenths of a script are over.
+/// The line at which `parts` sixteenths of a script are over.
 fn sixteenths(steps: u32, parts: u32) -> u64 {
-    u64::from(steps) * u64::from(parts) / 16
+    u64::from(steps).saturating_mul(u64::from(parts)) / 16
 }
 
 /// Draws the course of a script.

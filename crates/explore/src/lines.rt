@@ -1,6 +1,6 @@
 //! One line of a script after the other.
 
-ghost use Rattle.std.specs.Prelude.{◌≡◌, ◌<◌, ◌≤◌, ◌++◌, length, IfOk, OnOk, string_bytes};
+ghost use Rattle.std.specs.Prelude.{◌≡◌, ◌<◌, ◌≤◌, ◌++◌, [], length, IfOk, OnOk, string_bytes};
 ghost use Rattle.engine.specs.declared.line_runner.Mode.TheVariants.{Lines};
 ghost use Rattle.engine.specs.Script.{Makes, Obeys, told};
 ghost use Rattle.grammar.specs.Lines.{HasNoFeed};

@@ -2,7 +2,7 @@
 
 use grammar::Order;
 use mig_base::schedule::{Side, Step};
-use mig_base::{Addr, Command, PAGE_SIZE, Place, Prot};
+use mig_base::{Addr, Command, Place, Prot, page_address};
 use std::fmt;
 
 /// An order, as a line of a script has it, without a line feed.
@@ -22,7 +22,7 @@ impl fmt::Display for OrderText {
                 epoch,
             } => {
                 let word = if urgent { "upush" } else { "push" };
-                let addr = u64::from(page) * PAGE_SIZE;
+                let addr = page_address(page);
                 write!(f, "{word} 0x{addr:x}")?;
                 match epoch {
                     None => Ok(()),
@@ -62,12 +62,12 @@ impl fmt::Display for StepText {
             Step::Notice(Side::Source) => write!(f, "notice source"),
             Step::Notice(Side::Destination) => write!(f, "notice dest"),
             Step::Push(ticket) => {
-                let addr = u64::from(ticket.page) * PAGE_SIZE;
+                let addr = page_address(ticket.page);
                 let epoch = ticket.epoch;
                 write!(f, "push 0x{addr:x} {epoch}")
             }
             Step::PushUrgent(ticket) => {
-                let addr = u64::from(ticket.page) * PAGE_SIZE;
+                let addr = page_address(ticket.page);
                 let epoch = ticket.epoch;
                 write!(f, "upush 0x{addr:x} {epoch}")
             }

@@ -100,9 +100,10 @@ impl Profile {
             Profile::Urgent => {
                 weights.guest = 150;
                 weights.dest_handler = 110;
-                weights.urgent = 13;
+                weights.urgent = 9;
                 weights.sender = 20;
-                weights.background = 2;
+                weights.background = 5;
+                weights.wires = 60;
                 weights.switch_from = 4;
                 weights.switch_to = 7;
             }

@@ -19,7 +19,7 @@ const PLAN: Plan = Plan {
     answers: false,
 };
 
-/// Takes at most so many bytes at a time, and fails at one of its writes.
+/// Takes at most `size` bytes at a time, and fails at one of its writes.
 #[derive(Drop)]
 struct Slow {
     bytes: Vec<u8>,
