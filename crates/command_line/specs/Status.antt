@@ -10,6 +10,11 @@ abbrev pub answer_status : Bool → ℕ
 answer_status true = 0
 answer_status false = 3
 
+-- the status of a listing: whether no line is wrong
+abbrev pub lint_status : Bool → ℕ
+lint_status true = 0
+lint_status false = 1
+
 -- the status of a run or a check that ended with a fault
 abbrev pub fault_status : RunFault → ℕ
 fault_status (Line n) = 1

@@ -4,6 +4,24 @@ use crate::VERSION;
 use clap::{Arg, ArgAction, Command, value_parser};
 use std::alloc::{AllocError, Global};
 
+const WHY_IT_FAILED: &str = "Says on standard error why a read or a write failed";
+
+const WHY_IT_ENDED: &str =
+    "Says on standard error what is wrong with a line of FILE, and why a read or a write failed";
+
+const WHY_IT_IS_WRONG: &str =
+    "Says which entries decide the reply of a wrong one, and why a read or a write failed";
+
+/// How a command ends.
+const STATUSES: &str = "Exit status:
+  0  all was done, or a check wrote ok
+  1  a line, a frame or the command line is wrong
+  2  a read or a write failed
+  3  a check wrote wrong, or threads ended with a fault
+  4  memory ran out, or a thread could not be started
+
+docs/SCRIPT.md has the lines of scripts and transcripts.";
+
 /// `--cpus N`.
 fn cpus_argument<'a>(alloc: Global) -> Arg<'a> {
     Arg::new(alloc, "cpus")
@@ -21,7 +39,15 @@ fn file_argument<'a>(alloc: Global) -> Arg<'a> {
         .help("Is read in place of standard input")
 }
 
-/// `postmig run [--cpus N] [--transcript] [FILE]`.
+/// `--explain`, which also says why reading or writing fails.
+fn explain_argument<'a>(alloc: Global, help: &'a str) -> Arg<'a> {
+    Arg::new(alloc, "explain")
+        .long("explain")
+        .help(help)
+        .action(ArgAction::SetTrue)
+}
+
+/// `postmig run [--cpus N] [--transcript] [--explain] [FILE]`.
 fn run_command<'a>(alloc: Global) -> Result<Command<'a>, AllocError> {
     let transcript = Arg::new(alloc, "transcript")
         .long("transcript")
@@ -31,25 +57,46 @@ fn run_command<'a>(alloc: Global) -> Result<Command<'a>, AllocError> {
         .about("Runs a script")
         .arg(cpus_argument(alloc))?
         .arg(transcript)?
+        .arg(explain_argument(alloc, WHY_IT_ENDED))?
         .arg(file_argument(alloc))
 }
 
-/// `postmig check [FILE]`.
+/// `postmig check [--all] [--explain] [FILE]`.
 fn check_command<'a>(alloc: Global) -> Result<Command<'a>, AllocError> {
+    let all = Arg::new(alloc, "all")
+        .long("all")
+        .help("Lists each wrong entry, and not the first alone")
+        .action(ArgAction::SetTrue);
     Command::new(alloc, "check")
         .about("Says whether a transcript is that of one flat memory")
+        .arg(all)?
+        .arg(explain_argument(alloc, WHY_IT_IS_WRONG))?
         .arg(file_argument(alloc))
 }
 
-/// `postmig frames [--cpus N] [FILE]`.
+/// `postmig lint [--transcript] [--explain] [FILE]`.
+fn lint_command<'a>(alloc: Global) -> Result<Command<'a>, AllocError> {
+    let transcript = Arg::new(alloc, "transcript")
+        .long("transcript")
+        .help("Reads a transcript instead of a script")
+        .action(ArgAction::SetTrue);
+    Command::new(alloc, "lint")
+        .about("Lists the wrong lines of a script, and what is wrong with each")
+        .arg(transcript)?
+        .arg(explain_argument(alloc, WHY_IT_FAILED))?
+        .arg(file_argument(alloc))
+}
+
+/// `postmig frames [--cpus N] [--explain] [FILE]`.
 fn frames_command<'a>(alloc: Global) -> Result<Command<'a>, AllocError> {
     Command::new(alloc, "frames")
         .about("Hands frames to a destination")
         .arg(cpus_argument(alloc))?
+        .arg(explain_argument(alloc, WHY_IT_FAILED))?
         .arg(file_argument(alloc))
 }
 
-/// `postmig threads [--cpus N] [--calls C] [--cut]`.
+/// `postmig threads [--cpus N] [--calls C] [--cut] [--explain]`.
 fn threads_command<'a>(alloc: Global) -> Result<Command<'a>, AllocError> {
     let calls = Arg::new(alloc, "calls")
         .long("calls")
@@ -65,19 +112,81 @@ fn threads_command<'a>(alloc: Global) -> Result<Command<'a>, AllocError> {
         .about("Runs a migration with each processor in a thread of its own")
         .arg(cpus_argument(alloc))?
         .arg(calls)?
-        .arg(cut)
+        .arg(cut)?
+        .arg(explain_argument(alloc, WHY_IT_FAILED))
+}
+
+/// The names of the profiles of `postmig explore`, in the order of `Profile::ALL`.
+const PROFILES: &[&str] = &[
+    "commands", "precopy", "postcopy", "moves", "breaks", "urgent", "bytes", "runs", "all",
+];
+
+/// `--seed S` and `--steps N` of `postmig explore`.
+fn size_arguments<'a>(alloc: Global) -> [Arg<'a>; 2] {
+    let seed = Arg::new(alloc, "seed")
+        .long("seed")
+        .value_name("S")
+        .help("The seed of the draws")
+        .value_parser(value_parser!(u64))
+        .required(true);
+    let steps = Arg::new(alloc, "steps")
+        .long("steps")
+        .value_name("N")
+        .help("The number of lines behind the first, which is a comment")
+        .value_parser(value_parser!(u32))
+        .default_value("200");
+    [seed, steps]
+}
+
+/// `--profile P`, `--pages M` and `--answers` of `postmig explore`.
+fn content_arguments<'a>(alloc: Global) -> [Arg<'a>; 3] {
+    let profile = Arg::new(alloc, "profile")
+        .long("profile")
+        .value_name("P")
+        .help("Of which steps there are more")
+        .value_parser(PROFILES)
+        .default_value("all");
+    let pages = Arg::new(alloc, "pages")
+        .long("pages")
+        .value_name("M")
+        .help("The number of pages that the commands touch")
+        .value_parser(value_parser!(u16).range(1..=4096))
+        .default_value("8");
+    let answers = Arg::new(alloc, "answers")
+        .long("answers")
+        .help("Writes the answer of each line behind it")
+        .action(ArgAction::SetTrue);
+    [profile, pages, answers]
+}
+
+/// `postmig explore --seed S [--steps N] [--cpus N] [--profile P] [--pages M] [--answers] [--explain]`.
+fn explore_command<'a>(alloc: Global) -> Result<Command<'a>, AllocError> {
+    let [seed, steps] = size_arguments(alloc);
+    let [profile, pages, answers] = content_arguments(alloc);
+    Command::new(alloc, "explore")
+        .about("Writes a random script of a migration")
+        .arg(seed)?
+        .arg(steps)?
+        .arg(cpus_argument(alloc))?
+        .arg(profile)?
+        .arg(pages)?
+        .arg(answers)?
+        .arg(explain_argument(alloc, WHY_IT_FAILED))
 }
 
 /// The command line: one of these subcommands, or `postmig --version`.
 pub(crate) fn command_line<'a>(alloc: Global) -> Result<Command<'a>, AllocError> {
-    // (the name in usage lines, whatever the file is called)
+    // The name in usage lines, whatever the file is called.
     Command::new(alloc, "postmig")
         .bin_name("postmig")?
         .about("Runs scripts on a model of post-copy live migration")
         .version(VERSION)
+        .after_help(STATUSES)
         .subcommand_required(true)
         .subcommand(run_command(alloc)?)?
         .subcommand(check_command(alloc)?)?
+        .subcommand(lint_command(alloc)?)?
         .subcommand(frames_command(alloc)?)?
+        .subcommand(explore_command(alloc)?)?
         .subcommand(threads_command(alloc)?)
 }

@@ -1,32 +1,38 @@
 //! The command line of `postmig`, and its exit statuses.
 //!
-//! `postmig run` reads a script from standard input and writes one line for each step to standard output, or with `--transcript` one for
-//! each command that took effect. `postmig check` reads such a transcript, and says whether it is that of one flat memory.
-//! `postmig frames` reads frames, and writes a destination's answer to each. `postmig threads` reads nothing, runs a migration in
-//! threads, and writes a report. `docs/SCRIPT.md` defines scripts, `docs/FORMATS.md` frames, and `docs/THREADS.md` a run in threads.
+//! - `postmig run` reads a script and writes one line for each step, or with `--transcript` one for each command that took effect.
+//! - `postmig check` reads such a transcript, and says whether it is that of one flat memory, or with `--explain` or `--all` what is
+//!   wrong with it.
+//! - `postmig lint` lists the wrong lines of a script or a transcript.
+//! - `postmig frames` reads frames, and writes a destination's answer to each.
+//! - `postmig explore` writes a random script.
+//! - `postmig threads` reads nothing, runs a migration in threads, and writes a report.
+//!
+//! `docs/SCRIPT.md` defines scripts and transcripts, `docs/FORMATS.md` frames, `docs/EXPLORE.md` random scripts, and `docs/THREADS.md` a
+//! run in threads.
 //!
 //! [`answer`] is the body of the program's `main`; the exit statuses are those of `specs/Status.antt`. Reading and writing is done by
-//! `engine` for scripts and transcripts, by `frames` for frames, and by `threads` for a run in threads.
+//! `engine` for scripts and transcripts, and by the crate of the same name for each other program.
 #![tactic(auto)]
-
-ghost use Rattle.std.specs.Prelude.{◌≡◌, IfOk, IfErr};
-ghost use Rattle.command_line.specs.Status.{answer_status, fault_status};
 
 mod arguments;
 mod input;
 mod status;
+mod streams;
+mod watched;
 
 use crate::arguments::command_line;
-use crate::input::{Input, reason};
-use crate::status::{
-    ALL_DONE, BAD_COMMAND_OR_SCRIPT, NO_MEMORY, READ_OR_WRITE_FAULT, frames_status_of, status_of,
-};
+use crate::status::{ALL_DONE, BAD_COMMAND_OR_SCRIPT, NO_MEMORY, READ_OR_WRITE_FAULT};
+use crate::streams::{end, end_frames, end_lint, open_input, open_output, say_wrong_lines};
 use clap::ArgMatches;
 use clap::error::ErrorKind;
 use engine::{Mode, RunFault, check_script, run_script};
+use explain::{Asks, Noting, explain_script};
+use explore::{Plan, Profile, run_explore};
 use frames::run_frames;
+use grammar::Language;
+use lint::lint_lines;
 use std::env::{Env, FillError};
-use std::fs::File;
 use std::process::ExitCode;
 use std::sync::Wait;
 use std::thread::Threads;
@@ -39,37 +45,6 @@ const VERSION: &str = "0.1.0";
 /// The most bytes of an argument that a message shows.
 const LONGEST_SHOWN: usize = 4096;
 
-/// Says on standard error why a run or a check ended early, and gives its exit status.
-fn explain(rt: &HostRuntime, outcome: Result<bool, RunFault>) -> u8
-    ensures answer { IfOk outcome (λ answer. result ≡ answer_status answer) }
-    ensures fault { IfErr outcome (λ fault. result ≡ fault_status fault) }
-{
-    if let Err(fault) = outcome {
-        let _ = eprintln!(rt; "{fault}");
-    }
-    status_of(outcome)
-}
-
-/// Says on standard error why a file cannot be read.
-fn explain_file(rt: &HostRuntime, name: &str, error: &io::Error) -> io::Result<()> {
-    let reason = reason(rt.alloc(), error)?;
-    eprintln!(rt; "{}\n{name}: {reason}", RunFault::ReadFault)
-}
-
-/// Opens what a command reads: the FILE of its arguments, or standard input. Says on standard error why it cannot be opened.
-fn open(rt: &HostRuntime, matches: &ArgMatches) -> Option<Input> {
-    let Some(name) = matches.get_str("file") else {
-        return Some(Input::Standard(rt.stdin()));
-    };
-    match File::open(rt, name) {
-        Ok(file) => Some(Input::File(file)),
-        Err(error) => {
-            let _ = explain_file(rt, name, &error);
-            None
-        }
-    }
-}
-
 /// Runs a script.
 fn run(rt: &HostRuntime, matches: &ArgMatches) -> u8 {
     let Some(cpus @ 1..=16) = matches.get_one::<u8>("cpus") else {
@@ -80,35 +55,92 @@ fn run(rt: &HostRuntime, matches: &ArgMatches) -> u8 {
     } else {
         Mode::Lines
     };
-    let Some(mut input) = open(rt, matches) else {
+    let Some(mut input) = open_input(rt, matches) else {
         return READ_OR_WRITE_FAULT;
     };
-    let outcome = run_script(rt.alloc(), &mut input, &mut rt.stdout(), cpus, mode);
-    explain(rt, outcome.map(|()| true))
+    let mut output = open_output(rt);
+    let outcome = run_script(rt.alloc(), &mut input, &mut output, cpus, mode).map(|()| true);
+    let status = end(rt, matches, &input, &output, outcome);
+    say_wrong_lines(rt, matches, Language::Script, &outcome);
+    status
 }
 
-/// Checks a transcript.
+/// Checks a transcript: for its verdict, or for what is asked for beyond that.
 fn check_input(rt: &HostRuntime, matches: &ArgMatches) -> u8 {
-    let Some(mut input) = open(rt, matches) else {
+    let asks = Asks {
+        all: matches.get_flag("all"),
+        reasons: matches.get_flag("explain"),
+    };
+    let Some(mut input) = open_input(rt, matches) else {
         return READ_OR_WRITE_FAULT;
     };
-    let outcome = check_script(rt.alloc(), &mut input, &mut rt.stdout());
-    explain(rt, outcome)
+    let mut output = open_output(rt);
+    let outcome = if asks.all || asks.reasons {
+        let mut reader = Noting::new(rt.alloc(), &mut input);
+        explain_script(rt.alloc(), &mut reader, &mut output, asks)
+    } else {
+        check_script(rt.alloc(), &mut input, &mut output)
+    };
+    let status = end(rt, matches, &input, &output, outcome);
+    say_wrong_lines(rt, matches, Language::Transcript, &outcome);
+    status
 }
 
-/// Hands frames to a destination. Says on standard error why they ended early.
+/// Lists the wrong lines of a script or a transcript, by the name of their file, or `-`.
+fn lint(rt: &HostRuntime, matches: &ArgMatches) -> u8 {
+    let language = if matches.get_flag("transcript") {
+        Language::Transcript
+    } else {
+        Language::Script
+    };
+    let name = matches.get_str("file").unwrap_or("-");
+    let Some(mut input) = open_input(rt, matches) else {
+        return READ_OR_WRITE_FAULT;
+    };
+    let mut output = open_output(rt);
+    let outcome = lint_lines(rt.alloc(), &mut input, &mut output, name, language);
+    end_lint(rt, matches, &input, &output, outcome)
+}
+
+/// Hands frames to a destination.
 fn take_frames(rt: &HostRuntime, matches: &ArgMatches) -> u8 {
     let Some(cpus @ 1..=16) = matches.get_one::<u8>("cpus") else {
         return BAD_COMMAND_OR_SCRIPT;
     };
-    let Some(mut input) = open(rt, matches) else {
+    let Some(mut input) = open_input(rt, matches) else {
         return READ_OR_WRITE_FAULT;
     };
-    let outcome = run_frames(rt.alloc(), &mut input, &mut rt.stdout(), cpus);
-    if let Err(fault) = outcome {
-        let _ = eprintln!(rt; "{fault}");
+    let mut output = open_output(rt);
+    let outcome = run_frames(rt.alloc(), &mut input, &mut output, cpus);
+    end_frames(rt, matches, &input, &output, outcome)
+}
+
+/// The exploration that the arguments of `postmig explore` ask for.
+fn plan_of(matches: &ArgMatches) -> Option<Plan> {
+    Some(Plan {
+        seed: matches.get_one::<u64>("seed")?,
+        steps: matches.get_one::<u32>("steps")?,
+        cpus: matches.get_one::<u8>("cpus")?,
+        profile: Profile::named(matches.get_str("profile")?)?,
+        pages: matches.get_one::<u16>("pages")?,
+        answers: matches.get_flag("answers"),
+    })
+}
+
+/// Writes a random script.
+fn explore(rt: &HostRuntime, matches: &ArgMatches) -> u8 {
+    let Some(plan) = plan_of(matches) else {
+        return BAD_COMMAND_OR_SCRIPT;
+    };
+    if plan.cpus == 0 || plan.cpus > 16 || plan.pages == 0 || plan.pages > 4096 {
+        return BAD_COMMAND_OR_SCRIPT;
     }
-    frames_status_of(outcome)
+    let Some(input) = open_input(rt, matches) else {
+        return READ_OR_WRITE_FAULT;
+    };
+    let mut output = open_output(rt);
+    let outcome = run_explore(rt.alloc(), &mut output, &plan);
+    end(rt, matches, &input, &output, outcome.map(|()| true))
 }
 
 /// Runs a migration in threads.
@@ -123,9 +155,13 @@ fn run_in_threads<T: Threads + Wait + Sync>(
     let Some(calls) = matches.get_one::<u16>("calls") else {
         return BAD_COMMAND_OR_SCRIPT;
     };
+    let Some(input) = open_input(rt, matches) else {
+        return READ_OR_WRITE_FAULT;
+    };
+    let mut output = open_output(rt);
     let cut = matches.get_flag("cut");
-    let outcome = run_threads(handle, rt.alloc(), &mut rt.stdout(), cpus, calls, cut);
-    explain(rt, outcome)
+    let outcome = run_threads(handle, rt.alloc(), &mut output, cpus, calls, cut);
+    end(rt, matches, &input, &output, outcome)
 }
 
 /// Carries out the parsed command line, and returns the exit status.
@@ -133,7 +169,9 @@ fn do_command<T: Threads + Wait + Sync>(rt: &HostRuntime, handle: &T, matches: &
     match matches.subcommand() {
         Some(("run", matches)) => run(rt, matches),
         Some(("check", matches)) => check_input(rt, matches),
+        Some(("lint", matches)) => lint(rt, matches),
         Some(("frames", matches)) => take_frames(rt, matches),
+        Some(("explore", matches)) => explore(rt, matches),
         Some(("threads", matches)) => run_in_threads(rt, handle, matches),
         _ => BAD_COMMAND_OR_SCRIPT,
     }

@@ -8,11 +8,20 @@
 //! The crate names no file, no command line and no exit status: readers and writers are its callers'.
 #![tactic(auto)]
 
+mod bytes;
 mod cut;
+mod form;
 pub mod laws;
 mod linter;
+mod near;
+mod number;
+mod output;
+mod problem;
 mod reason;
 mod run;
+mod walk;
+mod wanted;
+mod words;
 
 pub use crate::reason::{Reason, reason_of};
 pub use crate::run::lint_lines;

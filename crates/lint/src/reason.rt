@@ -1,38 +1,18 @@
-//! Why a line is wrong.
+//! Why a line is wrong, and where.
 
+use crate::bytes::byte_fault;
+use crate::output::is_output;
+use crate::problem::Problem;
+use crate::walk::{entry_reason, order_reason};
 use grammar::Language;
 use std::fmt;
 
-/// Why a line is wrong, and where.
-#[derive(Clone, Copy, Debug)]
+/// Why a line is wrong, and where. It is printed without a line feed.
+#[derive(Clone, Copy)]
 pub struct Reason<'a> {
-    /// Where the reason stands in the line, in bytes, counted from 1.
+    /// The column of the byte where the reason stands, counted in bytes from 1.
     pub column: usize,
     pub(crate) problem: Problem<'a>,
-}
-
-/// What is wrong.
-#[derive(Clone, Copy, Debug)]
-pub(crate) enum Problem<'a> {
-    /// The line has this number of bytes.
-    TooLong(u64),
-    /// This word.
-    Word(&'a [u8]),
-    /// No rule is known to be broken.
-    Unknown,
-}
-
-impl fmt::Display for Problem<'_> {
-    fn fmt<W: fmt::Write>(&self, f: &mut fmt::Formatter<W>) -> fmt::Result {
-        match *self {
-            Problem::TooLong(len) => write!(
-                f,
-                "a line has at most 256 bytes, and this one has {len}"
-            ),
-            Problem::Word(_) => write!(f, "word"),
-            Problem::Unknown => write!(f, "not a line"),
-        }
-    }
 }
 
 impl fmt::Display for Reason<'_> {
@@ -42,8 +22,13 @@ impl fmt::Display for Reason<'_> {
     }
 }
 
-impl Reason<'_> {
-    /// The reason for a line of more than 256 bytes.
+impl<'a> Reason<'a> {
+    /// A problem at a column.
+    pub(crate) fn at(column: usize, problem: Problem<'a>) -> Reason<'a> {
+        Reason { column, problem }
+    }
+
+    /// The reason for a line of this number of bytes, more than 256.
     pub(crate) fn too_long(len: u64) -> Reason<'static> {
         Reason {
             column: 257,
@@ -52,16 +37,45 @@ impl Reason<'_> {
     }
 }
 
-/// Why a line, which has no line feed, is not a line of a language.
+/// Why a line is not one of a script.
+fn script_reason(line: &[u8]) -> Reason<'_> {
+    if is_output(line) {
+        return Reason::at(1, Problem::OutputInScript);
+    }
+    if entry_reason(line).is_none() {
+        return Reason::at(1, Problem::TranscriptInScript);
+    }
+    match order_reason(line) {
+        Some(reason) => reason,
+        None => Reason::at(1, Problem::Unknown),
+    }
+}
+
+/// Why a line is not one of a transcript.
+fn transcript_reason(line: &[u8]) -> Reason<'_> {
+    if is_output(line) {
+        return Reason::at(1, Problem::OutputInTranscript);
+    }
+    if order_reason(line).is_none() {
+        return Reason::at(1, Problem::ScriptInTranscript);
+    }
+    match entry_reason(line) {
+        Some(reason) => reason,
+        None => Reason::at(1, Problem::Unknown),
+    }
+}
+
+/// Why a line is not one of a language. The line has no line feed, and no carriage return before one. Of a line of the language the
+/// answer says nothing.
 pub fn reason_of(line: &[u8], language: Language) -> Reason<'_> {
+    if line.len() > 256 {
+        return Reason::too_long(line.len() as u64);
+    }
+    if let Some((column, fault)) = byte_fault(line) {
+        return Reason::at(column, Problem::Byte(fault));
+    }
     match language {
-        Language::Script => Reason {
-            column: 1,
-            problem: Problem::Unknown,
-        },
-        Language::Transcript => Reason {
-            column: 1,
-            problem: Problem::Word(line),
-        },
+        Language::Script => script_reason(line),
+        Language::Transcript => transcript_reason(line),
     }
 }

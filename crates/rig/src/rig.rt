@@ -26,6 +26,9 @@ use std::sync::{Condvar, Mutex, Wait};
 use std::thread;
 use world::World;
 
+/// The most times that a worker yields between two rounds of its steps, which takes some tens of microseconds.
+const LONGEST_REST: u32 = 64;
+
 /// Why the seats or claims with which a rig was closed do not agree with its world.
 #[derive(Clone, Copy, Debug, PartialEq, Eq)]
 pub enum CloseFault {
@@ -285,18 +288,18 @@ impl Rig {
         )
     }
 
-    /// Makes the steps over and over, each turn as the gate says. Yields after each round of them in which it made none.
+    /// Makes the steps over and over, each turn as the gate says. After a round in which it made none it yields once, after the next
+    /// such round twice, and so on, up to [`LONGEST_REST`] times.
     fn work<R: Wait, G: Gate>(&self, rt: &R, gate: &G, who: Worker, steps: &[Step])
         requires { 0 < length steps.now }
     {
         let mut at = 0;
         let mut is_idle = true;
+        let mut rest = 1;
         for turn in 0..u64::MAX {
             if at >= steps.len() {
                 at = 0;
-                if is_idle {
-                    thread::yield_now();
-                }
+                rest = if is_idle { rest_after(rest) } else { 1 };
                 is_idle = true;
             }
             let next = steps[at];
@@ -397,4 +400,12 @@ fn none_handed(alloc: Global, cpus: u8) -> Result<Vec<bool>, NoMemory>
     let mut handed = Vec::new(alloc);
     handed.resize(usize::from(cpus), false)?;
     Ok(handed)
+}
+
+/// Yields `rest` times. Returns how often to yield after the next round without a step: twice as often, up to [`LONGEST_REST`].
+fn rest_after(rest: u32) -> u32 {
+    for _ in 0..rest {
+        thread::yield_now();
+    }
+    rest.saturating_mul(2).min(LONGEST_REST)
 }

@@ -6,6 +6,8 @@
 #![tactic(auto)]
 
 use engine::{Mode, RunFault, check_script, run_script};
+use grammar::Language;
+use lint::lint_lines;
 use std::alloc::{AllocError, Global};
 use std::process::ExitCode;
 use std::{fs, io};
@@ -29,6 +31,10 @@ enum Kind {
     Lines,
     /// Each line of `NAME.entries` is a transcript of its own. Their checks print `NAME.out`.
     Entries,
+    /// No line of `NAME.script` is listed as wrong.
+    Lint,
+    /// No line of `NAME.transcript` is listed as wrong.
+    LintTranscript,
 }
 
 impl Kind {
@@ -39,6 +45,8 @@ impl Kind {
             "check" => Some(Kind::Check),
             "lines" => Some(Kind::Lines),
             "entries" => Some(Kind::Entries),
+            "lint" => Some(Kind::Lint),
+            "lint-transcript" => Some(Kind::LintTranscript),
             _ => None,
         }
     }
@@ -46,8 +54,8 @@ impl Kind {
     /// What the name of the file ends with that is read.
     fn input(self) -> &'static str {
         match self {
-            Kind::Run | Kind::Print => "script",
-            Kind::Check => "transcript",
+            Kind::Run | Kind::Print | Kind::Lint => "script",
+            Kind::Check | Kind::LintTranscript => "transcript",
             Kind::Lines => "lines",
             Kind::Entries => "entries",
         }
@@ -94,6 +102,18 @@ fn print_check(alloc: Global, text: &mut Vec<u8>, transcript: &[u8]) -> Result<(
     print_fault(alloc, text, outcome.err())
 }
 
+/// Prints the listing of a script or a transcript behind a text, and then its fault.
+fn print_listing(
+    alloc: Global,
+    text: &mut Vec<u8>,
+    input: &[u8],
+    language: Language,
+) -> Result<(), AllocError> {
+    let mut reader = input;
+    let outcome = lint_lines(alloc, &mut reader, text, "-", language);
+    print_fault(alloc, text, outcome.err())
+}
+
 /// Prints what a story of a kind prints, from what its file has.
 fn printed(alloc: Global, kind: Kind, input: &[u8]) -> Result<Vec<u8>, AllocError> {
     let mut text = Vec::new(alloc);
@@ -101,6 +121,8 @@ fn printed(alloc: Global, kind: Kind, input: &[u8]) -> Result<Vec<u8>, AllocErro
         Kind::Run => print_run(alloc, &mut text, input, Mode::Lines)?,
         Kind::Print => print_run(alloc, &mut text, input, Mode::Transcript)?,
         Kind::Check => print_check(alloc, &mut text, input)?,
+        Kind::Lint => print_listing(alloc, &mut text, input, Language::Script)?,
+        Kind::LintTranscript => print_listing(alloc, &mut text, input, Language::Transcript)?,
         Kind::Lines => {
             for line in input.split(|byte| *byte == b'\n') {
                 print_run(alloc, &mut text, line, Mode::Lines)?;
@@ -134,7 +156,10 @@ fn read(rt: &HostRuntime, name: &str, ending: &str) -> io::Result<Vec<u8>> {
 /// Plays a story, and says whether it printed what is stored.
 fn play(rt: &HostRuntime, kind: Kind, name: &str) -> io::Result<bool> {
     let input = read(rt, name, kind.input())?;
-    let stored = read(rt, name, kind.output())?;
+    let stored = match kind {
+        Kind::Lint | Kind::LintTranscript => Vec::new(rt.alloc()),
+        _ => read(rt, name, kind.output())?,
+    };
     Ok(printed(rt.alloc(), kind, &input)? == stored)
 }
 

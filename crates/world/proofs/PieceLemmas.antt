@@ -1,10 +1,11 @@
 -- The bytes in flight on a wire, piece by piece.
-use Rattle.std.proofs.Common.{◌≡◌, ℕ, ◌+◌, ◌<◌, ◌≤◌, true, false, not, ltb, List, [], ◌∷◌, ◌++◌, length, take, get_or, length-append, append-nil, refl, sym, ap, ◌∙◌, arith}
+use Rattle.std.proofs.Common.{min, ◌≡◌, ℕ, ◌+◌, ◌<◌, ◌≤◌, true, false, not, ltb, List, [], ◌∷◌, ◌++◌, length, take, get_or, length-append, append-nil, refl, sym, ap, ◌∙◌, arith}
 use Rattle.std.specs.Prelude.{drop}
 use Rattle.std.specs.List.{concat, AllByRecursion}
 use Rattle.std.proofs.lemmas.Bool.Decides.{nat_tests}
 use Rattle.std.proofs.lemmas.List.{take-append-drop, take_more}
 use Rattle.std.proofs.lemmas.List.Folds.{concat-append}
+use Rattle.mig_model.specs.Guest.{counted}
 use Rattle.mig_model.specs.Wire.{Sent}
 use Rattle.frame_decoder.specs.Streams.{IsSent, texts}
 use Rattle.frame_decoder.specs.declared.version.Version.TheVariants.{Two}
@@ -27,8 +28,8 @@ joined_most pieces i =
     omega (arith, all)
 
 -- one piece more
-pub counted : (pieces : List (List ℕ)) (i left more most len : ℕ) → i < length pieces → len ≡ length (get_or pieces i []) → more + len ≡ left → length (concat (take i pieces)) + left ≡ most → length (concat (take (i + 1) pieces)) + more ≡ most
-counted pieces i left more most len below is taken count = let longer = joined_more pieces i below in omega (arith, longer, is, taken, count)
+pub left_more : (pieces : List (List ℕ)) (i left more most len : ℕ) → i < length pieces → len ≡ length (get_or pieces i []) → more + len ≡ left → length (concat (take i pieces)) + left ≡ most → length (concat (take (i + 1) pieces)) + more ≡ most
+left_more pieces i left more most len below is taken count = let longer = joined_more pieces i below in omega (arith, longer, is, taken, count)
 
 above_by : (most bytes : ℕ) → most < bytes → not (ltb most bytes) ≡ false
 above_by most bytes h = grind (arith, nat_tests)
@@ -47,3 +48,15 @@ pub within : (pieces : List (List ℕ)) (frames : List Sent) (left most : ℕ) �
 within pieces frames left most each whole count =
     let bytes = ap length whole ∙ in_flight frames each in
     sym (within_by most (in_flight_len frames) (omega (arith, bytes, count)))
+
+more_counted : (joined len : ℕ) → min (counted 0 joined + len) 18446744073709551615 ≡ counted 0 (joined + len)
+more_counted joined len = grind (arith, nat_tests)
+
+-- one piece more is counted
+pub summed : (pieces : List (List ℕ)) (i bytes len : ℕ) → i < length pieces → len ≡ length (get_or pieces i []) → bytes ≡ counted 0 (length (concat (take i pieces))) → min (bytes + len) 18446744073709551615 ≡ counted 0 (length (concat (take (i + 1) pieces)))
+summed pieces i bytes len below is sum =
+    ap (λ (n : ℕ). min (n + len) 18446744073709551615) sum ∙ ap (λ (n : ℕ). min (counted 0 (length (concat (take i pieces))) + n) 18446744073709551615) is
+    ∙ more_counted (length (concat (take i pieces))) (length (get_or pieces i [])) ∙ ap (counted 0) (sym (joined_more pieces i below))
+
+pub summed_all : (pieces : List (List ℕ)) (frames : List Sent) (bytes : ℕ) → AllByRecursion (IsSent Two) frames → concat pieces ≡ texts Two frames → bytes ≡ counted 0 (length (concat pieces)) → bytes ≡ counted 0 (in_flight_len frames)
+summed_all pieces frames bytes each whole sum = sum ∙ ap (counted 0) (ap length whole ∙ in_flight frames each)

@@ -1,7 +1,7 @@
 //! The world of a migration: the two nodes, the three wires between them, and the transcript.
 //!
 //! [`World::step`] makes one step: of a processor, a fault handler or a pusher, a delivery, a break or a resume. [`World::run`] makes
-//! steps in turn. The caller chooses the schedule; a world never chooses. Each node changes by its own calls alone, and the nodes
+//! steps in turn, and [`World::would`] says how a step would be refused. The caller chooses the schedule; a world never chooses. Each node changes by its own calls alone, and the nodes
 //! communicate over the wires alone. A step first asks its node whether it would be made, then reserves room on the wire, then has the
 //! node make it, and puts on the wire what the node sends, which then takes no memory.
 //!

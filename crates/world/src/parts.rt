@@ -13,6 +13,7 @@ mod pushes;
 mod rounds;
 mod would;
 
+pub(crate) use self::would::bytes_on;
 use fault_handler::Destination;
 use mig_base::Entry;
 use mig_base::effect::Effect;

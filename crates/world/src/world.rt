@@ -105,7 +105,7 @@ impl World {
     }
 
     /// How [`World::step`] would refuse a step, memory aside: the refusal exactly where the machine refuses the step with it, and `Ok`
-    /// else. It changes nothing, takes no memory, and walks over no pages and no frames.
+    /// else. It changes nothing, takes no memory, and takes constant time, whatever the number of pages and of frames in flight.
     pub fn would(&self, step: Step) -> Result<(), Refusal>
         ensures { IsAnswered self.now step result }
     {

@@ -2,6 +2,7 @@
 
 ghost use Rattle.std.specs.Prelude.{◌≡◌, ◌∷◌, List, not, nat_lt, true};
 ghost use Rattle.mig_base.specs.declared.schedule.Step.{Step};
+ghost use Rattle.mig_model.specs.Guest.{counted};
 ghost use Rattle.mig_model.specs.Migration.{is_end};
 ghost use Rattle.mig_model.specs.Wire.{Sent};
 ghost use Rattle.world.specs.Answers.{IsAnswered, has_told, in_flight_len, is_out_of_phase, source_runs_answer};
@@ -17,7 +18,7 @@ use wires::Wire;
 const END_LEN: u64 = 12 + 4;
 
 impl Parts {
-    /// Whether a step would be made; memory is not considered. Takes no memory, and walks over no pages.
+    /// Whether a step would be made; memory is not considered. Takes no memory.
     pub(crate) fn would(&self, step: Step) -> Result<(), Refusal>
         requires { IsWorld (world_of self.now) }
         ensures { IsAnswered (world_of self.now) step result }
@@ -200,7 +201,7 @@ impl Parts {
     }
 
     /// Whether the source has stopped, and has sent End in its epoch.
-    fn has_sent_end(&self) -> bool
+    pub(crate) fn has_sent_end(&self) -> bool
         ensures { result ≡ has_told self.now.source }
     {
         match self.source.phase() {
@@ -233,4 +234,15 @@ fn has_at_most(wire: &Wire, most: u64) -> bool
         left -= len;
     }
     true
+}
+
+/// How many bytes the frames in flight on a wire have. It goes over the pieces in which they lie, and stops at the greatest count.
+pub(crate) fn bytes_on(wire: &Wire) -> u64
+    ensures { result ≡ counted 0 (in_flight_len wire.now.wire.frames) }
+{
+    let mut bytes = 0u64;
+    for index in 0..wire.pieces() {
+        bytes = bytes.saturating_add(wire.piece(index).len() as u64);
+    }
+    bytes
 }

@@ -3,12 +3,15 @@
 ghost use Rattle.std.specs.Prelude.{◌≡◌, ◌≤◌, length, IfOk};
 ghost use Rattle.std.specs.Option.{option_map};
 ghost use Rattle.mig_base.specs.declared.phase.WorldPhase.{WorldPhase};
+ghost use Rattle.mig_model.specs.Guest.{counted};
 ghost use Rattle.mig_model.specs.Source.{not_clean};
 ghost use Rattle.mig_model.specs.Userfault.{changing, next_message};
 ghost use Rattle.mig_model.specs.Views as views;
+ghost use Rattle.world.specs.Answers.{has_told, in_flight_len};
 ghost use Rattle.world.specs.Headline.{IsMoved};
 
 use super::World;
+use crate::parts::bytes_on;
 use mig_base::counts::Counts;
 use mig_base::cpu_state::CpuState;
 use mig_base::phase::{DestPhase, SourcePhase};
@@ -114,6 +117,13 @@ impl World {
         self.parts.destination.phase()
     }
 
+    /// Whether the source has stopped, and has sent End in its epoch.
+    pub fn has_sent_end(&self) -> bool
+        ensures { result ≡ has_told self.now.source }
+    {
+        self.parts.has_sent_end()
+    }
+
     /// How many events of map calls the source's handler has not read yet. While there are any, steps are refused as `Changing`.
     pub fn source_events(&self) -> usize
         ensures { result ≡ changing self.now.source.guest.space.object }
@@ -176,6 +186,28 @@ impl World {
         ensures { IfOk result (λ pages. pages ≡ not_clean self.now.source) }
     {
         self.parts.source.log().dirty(self.parts.source.space())
+    }
+
+    /// The number of bytes of the frames in flight to the destination, those of the first that have come among them: a header of 12
+    /// bytes and a body each. The count stops at its greatest value.
+    pub fn forward_bytes(&self) -> u64
+        ensures { result ≡ counted 0 (in_flight_len self.now.forward.frames) }
+    {
+        bytes_on(&self.parts.forward)
+    }
+
+    /// The same of the wire back.
+    pub fn back_bytes(&self) -> u64
+        ensures { result ≡ counted 0 (in_flight_len self.now.back.frames) }
+    {
+        bytes_on(&self.parts.back)
+    }
+
+    /// The same of the urgent wire.
+    pub fn urgent_bytes(&self) -> u64
+        ensures { result ≡ counted 0 (in_flight_len self.now.urgent.frames) }
+    {
+        bytes_on(&self.parts.urgent)
     }
 
     /// The number of processors of the guest.

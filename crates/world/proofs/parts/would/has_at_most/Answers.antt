@@ -1,7 +1,7 @@
 use Rattle.std.proofs.Common.{◌≡◌, ◌+◌, ap, arith, length, subst}
 use Rattle.std.specs.List.{concat}
 use Rattle.std.proofs.lemmas.List.{take_all}
-use Rattle.world.proofs.PieceLemmas.{above, counted, within}
+use Rattle.world.proofs.PieceLemmas.{above, left_more, within}
 use Rattle.world.proofs.parts.would.has_at_most.Goals as goal
 
 pub returns-then-len-left : goal.returns-then-len-left
@@ -18,7 +18,7 @@ loop-index-preserved c =
     let many = c.pieces-index-end.ensures.count in
     let some = c.if-len-left.false in
     record {
-      count = counted c.args.wire.now.pieces c.loop-index.index c.loop-index.left _ c.args.most (length c.piece.result.now) (omega (arith, test, end, many)) (ap length c.piece.ensures) (omega (arith, some)) c.loop-index.invariant.count;
+      count = left_more c.args.wire.now.pieces c.loop-index.index c.loop-index.left _ c.args.most (length c.piece.result.now) (omega (arith, test, end, many)) (ap length c.piece.ensures) (omega (arith, some)) c.loop-index.invariant.count;
     }
 
 pub returns : goal.returns

@@ -1,0 +1,1 @@
+"""The replay of migration scripts on a real kernel: ../README.md."""

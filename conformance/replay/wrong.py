@@ -1,0 +1,207 @@
+"""Wrong replays: in each, one step of a node does the wrong thing on the kernel. A comparison has to find each of them.
+
+Each function changes the classes of a replay, for the rest of the process."""
+
+from . import destination as destinations
+from .destination import Destination
+from .guest import Guest
+from .host import Host
+from .source import Source
+
+
+def change_lines(start, change):
+    """Changes each host command that begins so; None is not made, and answered `ok`."""
+    old = Host.ask
+
+    def ask(host, line):
+        changed = change(line) if line.startswith(start) else line
+        return "ok" if changed is None else old(host, changed)
+
+    Host.ask = ask
+
+
+def protects_nothing(source):
+    pass
+
+
+def sends_unprotected():
+    """A page is sent without being protected."""
+    change_lines("writeprotect", lambda line: None if line.endswith(" 1") else line)
+    Source.check_clean = protects_nothing
+
+
+def stays_protected():
+    """A store's fault is answered by a wake alone."""
+    change_lines("writeprotect", lambda line: "wake " + " ".join(line.split()[1:3]) if line.endswith(" 0") else line)
+
+
+def change_registration(change):
+    old = Host.register
+
+    def register(host, mode):
+        changed = change(mode)
+        if changed:
+            old(host, changed)
+
+    Host.register = register
+
+
+def source_without_missing():
+    """The source registers for write-protect faults alone."""
+    change_registration(lambda mode: 2 if mode == 3 else mode)
+
+
+def source_without_protection():
+    """The source registers for missing faults alone."""
+    change_registration(lambda mode: 1)
+
+
+def rounds_register_nothing():
+    """New pages are never registered."""
+    old_round, old_register = Source.round, Host.register
+
+    def round_without(source):
+        Host.register = lambda host, mode: None
+        try:
+            return old_round(source)
+        finally:
+            Host.register = old_register
+
+    Source.round = round_without
+
+
+def destination_registers_nothing():
+    """A missing page at the destination reads as zeros."""
+    change_registration(lambda mode: None if mode == 1 else mode)
+
+
+def installs_at_the_origin():
+    """A copy is put where its page was at the source."""
+    Destination.put_arrival = lambda node, page, copy: node.guest.host.put(copy.page, copy.data)
+
+
+def change_table(kind):
+    old = destinations.followed
+    destinations.followed = lambda owed, event: owed if event.kind == kind else old(owed, event)
+
+
+def table_without_remap():
+    """The owed table does not follow REMAP."""
+    change_table("remap")
+
+
+def table_without_remove():
+    """The owed table does not follow REMOVE."""
+    change_table("remove")
+
+
+def table_without_unmap():
+    """The owed table does not follow UNMAP."""
+    change_table("unmap")
+
+
+def clean_over_events():
+    """The dirty log does not follow events."""
+    Source.follow = lambda source, event: None
+    Source.check_clean = protects_nothing
+
+
+def installs_while_changing():
+    """Nothing waits for an unread event."""
+    Source.require_unchanging = Destination.require_unchanging = lambda node, ioctl=None: None
+
+
+def wakes_nobody():
+    """A copy is installed with UFFDIO_COPY_MODE_DONTWAKE."""
+    old = Destination.put_arrival
+
+    def put_arrival(node, page, copy):
+        old_ask = Host.ask
+        Host.ask = lambda host, line: old_ask(host, line.replace(" 0 ", " 1 ", 1) if line.startswith("copy") else line)
+        try:
+            old(node, page, copy)
+        finally:
+            Host.ask = old_ask
+
+    Destination.put_arrival = put_arrival
+
+
+def zeros_for_bytes():
+    """Each copy is installed as zeros."""
+    change_lines("copy", lambda line: f"zeropage {line.split()[1]} 4096 0")
+
+
+def one_byte_is_wrong():
+    """The last byte of each copy is another."""
+    change_lines("copy", lambda line: line[:-2] + ("01" if line.endswith("00") else "00"))
+
+
+def discards_nothing():
+    """The destination keeps copies that the source has changed since."""
+    old = Destination.discard
+
+    def discard(node, frame):
+        kept, line = dict(node.kept), old(node, frame)
+        node.kept = kept
+        return line
+
+    Destination.discard = discard
+
+
+def trusts_what_was_sent():
+    """After a lost channel the source does not take the destination's report."""
+    old = Source.take_report
+
+    def take_report(source, frame):
+        remaining, line = source.remaining, old(source, frame)
+        if frame.state == "running":
+            source.remaining = remaining
+        return line
+
+    Source.take_report = take_report
+
+
+def end_does_not_wait():
+    """End is taken before the urgent frames that it announces."""
+    Destination.require_all_came = lambda node, end: None
+
+
+def events_wake_nobody():
+    """Whoever sleeps in a range that is gone sleeps on."""
+    Guest.wake_gone = lambda guest, start, end: None
+
+
+def protects_after_reading():
+    """A page is read first and protected then. A store between is lost, which only a race shows."""
+
+    def read_protected(source, pages):
+        copies = [source.guest.host.page(page) for page in pages]
+        source.guest.host.must(f"writeprotect 0x{pages[0] * 4096:x} {len(pages) * 4096} 1")
+        return copies
+
+    Source.read_protected = read_protected
+
+
+FOUND_BY_REPLAYS = (
+    sends_unprotected,
+    stays_protected,
+    source_without_missing,
+    source_without_protection,
+    rounds_register_nothing,
+    destination_registers_nothing,
+    installs_at_the_origin,
+    table_without_remap,
+    table_without_remove,
+    table_without_unmap,
+    clean_over_events,
+    installs_while_changing,
+    wakes_nobody,
+    zeros_for_bytes,
+    one_byte_is_wrong,
+    discards_nothing,
+    trusts_what_was_sent,
+    end_does_not_wait,
+    events_wake_nobody,
+)
+# What no replay shows, since it makes one step after the other; races/protect_order.c shows it.
+RACES = (protects_after_reading,)

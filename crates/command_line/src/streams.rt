@@ -1,0 +1,139 @@
+//! What a command reads and writes, and how it says why it ended early.
+
+ghost use Rattle.std.specs.Prelude.{◌≡◌, IfOk, IfErr, OnOk};
+ghost use Rattle.command_line.specs.Status.{answer_status, fault_status, frames_fault_status, lint_status};
+
+use crate::input::Input;
+use crate::status::{BAD_COMMAND_OR_SCRIPT, frames_status_of, status_of};
+use crate::watched::{Watched, say_reason};
+use clap::ArgMatches;
+use engine::RunFault;
+use frames::FramesFault;
+use grammar::Language;
+use lint::lint_lines;
+use std::fs::File;
+use std::io::{IsTerminal, Stdout};
+
+/// Opens the FILE of a command, or standard input. Says on standard error why a file cannot be opened.
+pub(crate) fn open_input<'a>(
+    rt: &HostRuntime,
+    matches: &ArgMatches<'a>,
+) -> Option<Watched<'a, Input>> {
+    let Some(name) = matches.get_str("file") else {
+        return Some(Watched::new("standard input", Input::Standard(rt.stdin())));
+    };
+    match File::open(rt, name) {
+        Ok(file) => Some(Watched::new(name, Input::File(file))),
+        Err(error) => {
+            let _ = eprintln!(rt; "{}", RunFault::ReadFault);
+            let _ = say_reason(rt, name, &error);
+            None
+        }
+    }
+}
+
+/// Standard output.
+pub(crate) fn open_output(rt: &HostRuntime) -> Watched<'static, Stdout> {
+    Watched::new("standard output", rt.stdout())
+}
+
+/// Whether the reasons of faults are said: with `--explain`, or at a terminal. Programs compare all of standard error.
+fn gives_reasons(rt: &HostRuntime, matches: &ArgMatches) -> bool {
+    matches.get_flag("explain") || rt.stderr().is_terminal()
+}
+
+/// Says on standard error what is wrong with the lines of FILE, where a run or a check ended at one. Standard input cannot be read again.
+pub(crate) fn say_wrong_lines(
+    rt: &HostRuntime,
+    matches: &ArgMatches,
+    language: Language,
+    outcome: &Result<bool, RunFault>,
+) {
+    let Err(RunFault::Line(_)) = outcome else {
+        return;
+    };
+    let Some(name) = matches.get_str("file") else {
+        return;
+    };
+    if !gives_reasons(rt, matches) {
+        return;
+    }
+    if let Ok(mut file) = File::open(rt, name) {
+        let _ = lint_lines(rt.alloc(), &mut file, &mut rt.stderr(), name, language);
+    }
+}
+
+/// Says on standard error why no more could be read.
+fn say_input(rt: &HostRuntime, matches: &ArgMatches, input: &Watched<'_, Input>) {
+    if gives_reasons(rt, matches) {
+        let _ = input.say_why(rt, "more than 4294967295 reads");
+    }
+}
+
+/// Says on standard error why no more could be written.
+fn say_output(rt: &HostRuntime, matches: &ArgMatches, output: &Watched<'_, Stdout>) {
+    if gives_reasons(rt, matches) {
+        let _ = output.say_why(rt, "no byte was taken");
+    }
+}
+
+/// Says on standard error why a run or a check ended early, and gives its exit status.
+pub(crate) fn end(
+    rt: &HostRuntime,
+    matches: &ArgMatches,
+    input: &Watched<'_, Input>,
+    output: &Watched<'_, Stdout>,
+    outcome: Result<bool, RunFault>,
+) -> u8
+    ensures answer { IfOk outcome (λ answer. result ≡ answer_status answer) }
+    ensures fault { IfErr outcome (λ fault. result ≡ fault_status fault) }
+{
+    if let Err(fault) = outcome {
+        let _ = eprintln!(rt; "{fault}");
+        match fault {
+            RunFault::ReadFault => say_input(rt, matches, input),
+            RunFault::WriteFault => say_output(rt, matches, output),
+            RunFault::Line(_) | RunFault::NoMemory => {}
+        }
+    }
+    status_of(outcome)
+}
+
+/// The same of a listing of wrong lines.
+pub(crate) fn end_lint(
+    rt: &HostRuntime,
+    matches: &ArgMatches,
+    input: &Watched<'_, Input>,
+    output: &Watched<'_, Stdout>,
+    outcome: Result<bool, RunFault>,
+) -> u8
+    ensures answer { IfOk outcome (λ answer. result ≡ lint_status answer) }
+    ensures fault { IfErr outcome (λ fault. result ≡ fault_status fault) }
+{
+    match outcome {
+        Ok(false) => BAD_COMMAND_OR_SCRIPT,
+        _ => end(rt, matches, input, output, outcome),
+    }
+}
+
+/// The same of frames.
+pub(crate) fn end_frames(
+    rt: &HostRuntime,
+    matches: &ArgMatches,
+    input: &Watched<'_, Input>,
+    output: &Watched<'_, Stdout>,
+    outcome: Result<(), FramesFault>,
+) -> u8
+    ensures ok { OnOk outcome (result ≡ 0) }
+    ensures fault { IfErr outcome (λ fault. result ≡ frames_fault_status fault) }
+{
+    if let Err(fault) = outcome {
+        let _ = eprintln!(rt; "{fault}");
+        match fault {
+            FramesFault::ReadFault => say_input(rt, matches, input),
+            FramesFault::WriteFault => say_output(rt, matches, output),
+            FramesFault::Stream(_) | FramesFault::Truncated | FramesFault::NoMemory => {}
+        }
+    }
+    frames_status_of(outcome)
+}

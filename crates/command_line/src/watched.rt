@@ -1,0 +1,73 @@
+//! Streams that remember why they failed.
+
+use std::alloc::{AllocError, Global};
+use std::io;
+use std::io::{Read, Write};
+
+/// A reader or a writer with the last error that it has answered.
+#[derive(Drop)]
+pub(crate) struct Watched<'a, S> {
+    stream: S,
+    /// What messages call it.
+    name: &'a str,
+    error: Option<io::Error>,
+}
+
+impl<'a, S> Watched<'a, S> {
+    pub(crate) fn new(name: &'a str, stream: S) -> Watched<'a, S> {
+        Watched {
+            stream,
+            name,
+            error: None,
+        }
+    }
+
+    fn note(&mut self, answer: &io::Result<usize>) {
+        if let Err(error) = answer {
+            self.error = Some(*error);
+        }
+    }
+
+    /// Says on standard error why it has failed, or this, where it has answered no error.
+    pub(crate) fn say_why(&self, rt: &HostRuntime, otherwise: &str) -> io::Result<()> {
+        match &self.error {
+            Some(error) => say_reason(rt, self.name, error),
+            None => eprintln!(rt; "{}: {otherwise}", self.name),
+        }
+    }
+}
+
+impl<S: Read> Read for Watched<'_, S> {
+    fn read(&mut self, buf: &mut [u8]) -> io::Result<usize> {
+        let answer = self.stream.read(buf);
+        self.note(&answer);
+        answer
+    }
+}
+
+impl<S: Write> Write for Watched<'_, S> {
+    fn write(&mut self, buf: &[u8]) -> io::Result<usize> {
+        let answer = self.stream.write(buf);
+        self.note(&answer);
+        answer
+    }
+
+    fn flush(&mut self) -> io::Result<()> {
+        self.stream.flush()
+    }
+}
+
+/// Why a call of the system failed, in the words of the C library alone: std puts the number of the error behind them.
+fn reason(alloc: Global, error: &io::Error) -> Result<String, AllocError> {
+    let text = format!(in alloc; "{error}")?;
+    match text.split_once(" (os error ") {
+        Some((words, _)) => words.to_string(alloc),
+        None => Ok(text),
+    }
+}
+
+/// Says on standard error why a stream of this name has failed.
+pub(crate) fn say_reason(rt: &HostRuntime, name: &str, error: &io::Error) -> io::Result<()> {
+    let reason = reason(rt.alloc(), error)?;
+    eprintln!(rt; "{name}: {reason}")
+}

@@ -1,0 +1,129 @@
+//! Which entries decide what an address holds, and whether it is mapped.
+
+use crate::span::Span;
+use mig_base::{Addr, Command, Entry, Errno, NoMemory, Reply};
+use std::alloc::Global;
+
+/// The most entries that are named for an address: the last ones.
+const MOST: usize = 8;
+
+/// What an entry does to one address.
+#[derive(Clone, Copy, Debug, PartialEq, Eq)]
+enum Touch {
+    Stored,
+    /// It reads as zeros again.
+    Cleared,
+    /// It is mapped, with zeros.
+    Mapped,
+    Unmapped,
+    /// An mremap has moved here what `from` held.
+    Moved { from: Addr },
+    /// An mremap has added it, with zeros, to the range that began at `from`.
+    Grown { from: Addr },
+}
+
+/// What an mremap of a range that now stands at another one does to an address.
+fn moved(old: Span, new: Span, addr: Addr) -> Option<Touch> {
+    if !new.contains(addr) {
+        return old.contains(addr).then_some(Touch::Unmapped);
+    }
+    let from = old.start.saturating_add(addr.saturating_sub(new.start));
+    if !old.contains(from) {
+        return Some(Touch::Grown { from: old.start });
+    }
+    (from != addr).then_some(Touch::Moved { from })
+}
+
+/// What an entry that was answered so does to an address, if anything.
+fn touch_of(entry: &Entry, addr: Addr) -> Option<Touch> {
+    match (entry.command, entry.reply) {
+        (
+            Command::Store {
+                addr: at,
+                width,
+                ..
+            },
+            Reply::Done,
+        ) => {
+            Span::bytes(at, u64::from(width))
+                .contains(addr)
+                .then_some(Touch::Stored)
+        }
+        (Command::Mmap { addr_len, .. }, Reply::At(start)) => {
+            Span::pages(start, addr_len)
+                .contains(addr)
+                .then_some(Touch::Mapped)
+        }
+        (Command::Munmap { addr: at, len }, Reply::Done) => {
+            Span::pages(at, len)
+                .contains(addr)
+                .then_some(Touch::Unmapped)
+        }
+        (Command::DontNeed { addr: at, len }, Reply::Done | Reply::Refused(Errno::Enomem)) => {
+            Span::pages(at, len)
+                .contains(addr)
+                .then_some(Touch::Cleared)
+        }
+        (
+            Command::Mremap {
+                addr: at,
+                old_len,
+                new_len,
+                ..
+            },
+            Reply::At(start),
+        ) => { moved(Span::pages(at, old_len), Span::pages(start, new_len), addr) }
+        _ => None,
+    }
+}
+
+/// The indexes of the entries that decide what an address holds, in order: the last store to it, and those that cleared, mapped, unmapped
+/// or moved it since.
+pub(crate) fn holders(alloc: Global, past: &[Entry], addr: Addr) -> Result<Vec<usize>, NoMemory> {
+    let mut found = Vec::new(alloc);
+    let mut addr = addr;
+    for (index, entry) in past.iter().enumerate().rev() {
+        let Some(touch) = touch_of(entry, addr) else {
+            continue;
+        };
+        found.push(index)?;
+        if let Touch::Moved { from } = touch {
+            addr = from;
+        }
+        if touch == Touch::Stored || found.len() == MOST {
+            break;
+        }
+    }
+    found.reverse();
+    Ok(found)
+}
+
+/// The indexes of the entries that decide whether an address is mapped, and with which protection, in order: the one that mapped or unmapped it, and
+/// those that moved it since.
+pub(crate) fn mappers(alloc: Global, past: &[Entry], addr: Addr) -> Result<Vec<usize>, NoMemory> {
+    let mut found = Vec::new(alloc);
+    let mut addr = addr;
+    for (index, entry) in past.iter().enumerate().rev() {
+        match touch_of(entry, addr) {
+            None | Some(Touch::Stored | Touch::Cleared) => continue,
+            Some(Touch::Moved { from } | Touch::Grown { from }) => {
+                found.push(index)?;
+                addr = from;
+            }
+            Some(Touch::Mapped | Touch::Unmapped) => {
+                found.push(index)?;
+                break;
+            }
+        }
+        if found.len() == MOST {
+            break;
+        }
+    }
+    found.reverse();
+    Ok(found)
+}
+
+/// Whether an entry that decides whether an address is mapped has unmapped it.
+pub(crate) fn has_unmapped(entry: &Entry, addr: Addr) -> bool {
+    touch_of(entry, addr) == Some(Touch::Unmapped)
+}

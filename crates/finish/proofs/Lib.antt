@@ -1,0 +1,4 @@
+pub mod DueSteps
+pub mod StoppedSteps
+pub mod Strategy
+pub mod LeadLemmas
