@@ -103,10 +103,7 @@ fn draw_bad_access<R: Rng>(rng: &mut R, page: Addr) -> Command
             width: 1,
             value: 256,
         },
-        _ => Command::Load {
-            addr: 0,
-            width: 8,
-        },
+        _ => Command::Load { addr: 0, width: 8 },
     }
 }
 

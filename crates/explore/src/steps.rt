@@ -78,13 +78,7 @@ fn draw_guest<R: Rng>(rng: &mut R, course: &Course, memo: &Memo, world: &World) 
 }
 
 /// A command of a processor.
-fn draw_issue<R: Rng>(
-    rng: &mut R,
-    course: &Course,
-    memo: &Memo,
-    world: &World,
-    cpu: u8,
-) -> Step {
+fn draw_issue<R: Rng>(rng: &mut R, course: &Course, memo: &Memo, world: &World, cpu: u8) -> Step {
     let maps = match world.phase() {
         WorldPhase::Idle | WorldPhase::Precopy => course.weights.maps,
         WorldPhase::Switching | WorldPhase::Postcopy => course.weights.moves,

@@ -140,7 +140,12 @@ const COMMANDS: [(Command, &str); 11] = [
 const PUSHES: [(bool, u32, Option<u32>, &str); 4] = [
     (false, 0x10, None, "push 0x10000"),
     (true, 0x11, None, "upush 0x11000"),
-    (true, 0xf_ffff, Some(u32::MAX), "upush 0xfffff000 4294967295"),
+    (
+        true,
+        0xf_ffff,
+        Some(u32::MAX),
+        "upush 0xfffff000 4294967295",
+    ),
     (false, 0, Some(0), "push 0x0 0"),
 ];
 

@@ -72,7 +72,11 @@ fn explored_once(alloc: Global, plan: &Plan) -> Result<(Option<RunFault>, Vec<u8
 }
 
 /// What a run of a script writes.
-fn run(alloc: Global, script: &[u8], mode: Mode) -> Result<(Option<RunFault>, Vec<u8>), AllocError> {
+fn run(
+    alloc: Global,
+    script: &[u8],
+    mode: Mode,
+) -> Result<(Option<RunFault>, Vec<u8>), AllocError> {
     let mut reader = script;
     let mut writer = room(alloc)?;
     let mut fault = run_script(alloc, &mut reader, &mut writer, 2, mode).err();
