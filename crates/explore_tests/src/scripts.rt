@@ -105,7 +105,7 @@ fn split_answers(alloc: Global, text: &[u8]) -> Result<(Vec<u8>, Vec<u8>), Alloc
     let mut lines = room(alloc)?;
     let mut answers = room(alloc)?;
     for line in text.split(|byte| *byte == b'\n') {
-        let end = line.windows(4).position(|word| word == b" => ");
+        let end = line.windows(4).position(|word| word == b" => ".as_slice());
         let Some(end) = end else {
             continue;
         };
