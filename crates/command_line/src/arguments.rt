@@ -121,55 +121,59 @@ const PROFILES: &[&str] = &[
     "commands", "precopy", "postcopy", "moves", "breaks", "urgent", "bytes", "runs", "all",
 ];
 
-/// `--seed S` and `--steps N` of `postmig explore`.
-fn size_arguments<'a>(alloc: Global) -> [Arg<'a>; 2] {
-    let seed = Arg::new(alloc, "seed")
+/// `--seed S`.
+fn seed_argument<'a>(alloc: Global) -> Arg<'a> {
+    Arg::new(alloc, "seed")
         .long("seed")
         .value_name("S")
         .help("The seed of the draws")
         .value_parser(value_parser!(u64))
-        .required(true);
-    let steps = Arg::new(alloc, "steps")
+        .required(true)
+}
+
+/// `--steps N`.
+fn steps_argument<'a>(alloc: Global) -> Arg<'a> {
+    Arg::new(alloc, "steps")
         .long("steps")
         .value_name("N")
         .help("The number of lines behind the first, which is a comment")
         .value_parser(value_parser!(u32))
-        .default_value("200");
-    [seed, steps]
+        .default_value("200")
 }
 
-/// `--profile P`, `--pages M` and `--answers` of `postmig explore`.
-fn content_arguments<'a>(alloc: Global) -> [Arg<'a>; 3] {
-    let profile = Arg::new(alloc, "profile")
+/// `--profile P`.
+fn profile_argument<'a>(alloc: Global) -> Arg<'a> {
+    Arg::new(alloc, "profile")
         .long("profile")
         .value_name("P")
         .help("Of which steps there are more")
         .value_parser(PROFILES)
-        .default_value("all");
-    let pages = Arg::new(alloc, "pages")
+        .default_value("all")
+}
+
+/// `--pages M`.
+fn pages_argument<'a>(alloc: Global) -> Arg<'a> {
+    Arg::new(alloc, "pages")
         .long("pages")
         .value_name("M")
         .help("The number of pages that the commands touch")
         .value_parser(value_parser!(u16).range(1..=4096))
-        .default_value("8");
-    let answers = Arg::new(alloc, "answers")
-        .long("answers")
-        .help("Writes the answer of each line behind it")
-        .action(ArgAction::SetTrue);
-    [profile, pages, answers]
+        .default_value("8")
 }
 
 /// `postmig explore --seed S [--steps N] [--cpus N] [--profile P] [--pages M] [--answers] [--explain]`.
 fn explore_command<'a>(alloc: Global) -> Result<Command<'a>, AllocError> {
-    let [seed, steps] = size_arguments(alloc);
-    let [profile, pages, answers] = content_arguments(alloc);
+    let answers = Arg::new(alloc, "answers")
+        .long("answers")
+        .help("Writes the answer of each line behind it")
+        .action(ArgAction::SetTrue);
     Command::new(alloc, "explore")
         .about("Writes a random script of a migration")
-        .arg(seed)?
-        .arg(steps)?
+        .arg(seed_argument(alloc))?
+        .arg(steps_argument(alloc))?
         .arg(cpus_argument(alloc))?
-        .arg(profile)?
-        .arg(pages)?
+        .arg(profile_argument(alloc))?
+        .arg(pages_argument(alloc))?
         .arg(answers)?
         .arg(explain_argument(alloc, WHY_IT_FAILED))
 }
