@@ -138,7 +138,7 @@ printed_transcript cpus lines end text p = sym (printed_lines (first_state cpus)
 
 -- ---- and the last state is one that a list of steps leads to
 
-any_reached : (mode : Mode) (old : WorldState) (made : Option Step) (new : WorldState) (out : List ℕ) → IsReached old → MakesAny mode old made new out → IsReached new
+pub any_reached : (mode : Mode) (old : WorldState) (made : Option Step) (new : WorldState) (out : List ℕ) → IsReached old → MakesAny mode old made new out → IsReached new
 any_reached mode old None new out reached p = subst IsReached (sym p.0) reached
 any_reached mode old (Some step) new out reached p = subst IsReached (sym (is_next old step p.0 new p.1)) (reached-next old step reached)
 
@@ -149,7 +149,7 @@ run_reached mode old (Do order ∷ lines) new text reached p =
     run_reached mode p.0 lines new p.2 (any_reached mode old (step_of order (epoch_in old)) p.0 p.1 reached p.3) p.5
 run_reached mode old (Enter entry ∷ lines) new text reached p = absurd p
 
-first_reached : (cpus : ℕ) → IsReached (first_state cpus)
+pub first_reached : (cpus : ℕ) → IsReached (first_state cpus)
 first_reached cpus = record { cpus = cpus; epoch = 0; rounds = 0; steps = []; is = refl }
 
 pub run_promised : (mode : Mode) (cpus : ℕ) (lines : List Line) (end : WorldState) (text : List ℕ) → Runs mode (first_state cpus) lines end text → Promised end

@@ -113,8 +113,8 @@ fn tell_progress(world: &World, mode: Mode, text: &mut String) -> Result<(), Run
     Ok(())
 }
 
-/// Carries out an order, and replaces a text by the mode's output for it.
-fn carry_out(world: &mut World, mode: Mode, order: Order, text: &mut String) -> Result<(), RunFault>
+/// Carries out an order, and replaces a text by the mode's output for it. `NoMemory` may leave a part of it done.
+pub fn carry_out(world: &mut World, mode: Mode, order: Order, text: &mut String) -> Result<(), RunFault>
     ensures ok { OnOk result (Obeys mode world.old order world.new (string_bytes text.new)) }
     ensures fault { IfErr result (λ fault. fault ≡ OutOfMemory) }
 {

@@ -14,10 +14,10 @@ use std::io::Write;
 use std::marker::Model;
 
 /// The most bytes of a line, without its line feed.
-const MAX_LINE: usize = 256;
+pub const MAX_LINE: usize = 256;
 
 /// A line before its line feed, without a carriage return at its end.
-fn without_return(raw: &[u8]) -> &[u8]
+pub fn without_return(raw: &[u8]) -> &[u8]
     ensures { result.now ≡ strip_carriage_return raw.now }
 {
     match raw {
@@ -27,7 +27,7 @@ fn without_return(raw: &[u8]) -> &[u8]
 }
 
 /// The bytes before the first line feed, and those after it.
-fn split_line(bytes: &[u8]) -> Option<(&[u8], &[u8])>
+pub fn split_line(bytes: &[u8]) -> Option<(&[u8], &[u8])>
     ensures front { IfSome result (λ parts. HasNoFeed parts.0.now) }
     ensures whole { IfSome result (λ parts. bytes.now ≡ parts.0.now ++ 10 ∷ parts.1.now) }
     ensures none { IfNone result (HasNoFeed bytes.now) }
