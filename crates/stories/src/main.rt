@@ -1,11 +1,13 @@
 //! Plays stories: scripts and transcripts that lie in `data/`, each with what it must print beside it.
 //!
 //! The file `stories` names one a line, by a [`Kind`] and the name of its files. For each story one line goes to standard output,
-//! which says whether the story printed what is stored, and of a script also what a check says of its transcript. The exit status
-//! is 1 where one did not, and 2 where a file cannot be read. A further story is a line and its files. Runs have two processors.
+//! which says whether the story printed what is stored, and of a script also what a check says of its transcript, and what comes of the
+//! test that is made of it, as it is and with its last answer changed. The exit status is 1 where a story printed something else, and 2
+//! where a file cannot be read. A further story is a line and its files. Runs have two processors.
 #![tactic(auto)]
 
 use engine::{Mode, RunFault, check_script, run_script};
+use expected::{Outcome, answer_script, test_script};
 use std::alloc::{AllocError, Global};
 use std::process::ExitCode;
 use std::{fs, io};
@@ -126,6 +128,50 @@ fn verdict(alloc: Global, script: &[u8]) -> io::Result<String> {
     Ok(text.trim_end().to_string(alloc)?)
 }
 
+/// What a test named `test` prints, and then how it ends.
+fn print_test(alloc: Global, text: &mut Vec<u8>, test: &[u8]) -> Result<(), AllocError> {
+    let mut reader = test;
+    match test_script(alloc, &mut reader, text, "test", CPUS) {
+        Ok(Outcome::Same) => text.extend_from_slice(b"same\n"),
+        Ok(Outcome::Differs) => Ok(()),
+        Err(fault) => print_fault(alloc, text, Some(fault)),
+    }
+}
+
+/// Where the last arrow of a test stands, and the number of its line.
+fn last_arrow(test: &[u8]) -> Option<(usize, usize)> {
+    let at = test.windows(4).rposition(|bytes| bytes == b" => ")?;
+    let before = test[..at].iter().filter(|byte| **byte == b'\n').count();
+    Some((at, before + 1))
+}
+
+/// Whether the test that is made of a script prints that all is the same, and, with its last answer changed, names that line.
+fn test_of(alloc: Global, script: &[u8]) -> Result<&'static str, AllocError> {
+    let mut test = Vec::new(alloc);
+    let mut reader = script;
+    if answer_script(alloc, &mut reader, &mut test, CPUS).is_err() {
+        return Ok("has a wrong line");
+    }
+    let mut text = Vec::new(alloc);
+    print_test(alloc, &mut text, &test)?;
+    if text.as_slice() != b"same\n".as_slice() {
+        return Ok("DIFFERS");
+    }
+    let Some((at, line)) = last_arrow(&test) else {
+        return Ok("same, no answer");
+    };
+    let mut changed = test[..at].to_vec(alloc)?;
+    changed.extend_from_slice(b" => not ")?;
+    changed.extend_from_slice(&test[at + 4..])?;
+    text.clear();
+    print_test(alloc, &mut text, &changed)?;
+    let wanted = format!(in alloc; "test:{line}: expected not ")?;
+    if text.starts_with(wanted.as_bytes()) {
+        return Ok("same, and changed differs");
+    }
+    Ok("CHANGED IS SAME")
+}
+
 fn read(rt: &HostRuntime, name: &str, ending: &str) -> io::Result<Vec<u8>> {
     let path = format!(in rt.alloc(); "{name}.{ending}")?;
     fs::read(rt, path.as_str())
@@ -151,8 +197,10 @@ fn play_line(rt: &HostRuntime, line: &str) -> io::Result<bool> {
     let same = play(rt, kind, name)?;
     let says = if same { "as stored" } else { "DIFFERS" };
     if kind == Kind::Run {
-        let verdict = verdict(rt.alloc(), &read(rt, name, kind.input())?)?;
-        println!(rt; "{line}: {says}, transcript {verdict}")?;
+        let script = read(rt, name, kind.input())?;
+        let verdict = verdict(rt.alloc(), &script)?;
+        let test = test_of(rt.alloc(), &script)?;
+        println!(rt; "{line}: {says}, transcript {verdict}, test {test}")?;
     } else {
         println!(rt; "{line}: {says}")?;
     }
