@@ -1,5 +1,5 @@
 -- Where an order ends and its answer begins, and which texts say nothing.
-use Rattle.std.proofs.Common.{◌≡◌, ℕ, ◌<◌, ◌≤◌, List, [], ◌∷◌, take, sym, ap, ◌∙◌, arith, Option, Some, None, subst}
+use Rattle.std.proofs.Common.{◌≡◌, ℕ, ◌<◌, ◌≤◌, List, take, sym, ap, ◌∙◌, arith, Some, None, subst, inl, inr}
 use Rattle.std.proofs.lemmas.Bool.{cases_lt}
 use Rattle.memchr.specs.Find.{OccursAt, Nowhere}
 use Rattle.grammar.specs.declared.line.Language.TheVariants.{Script}

@@ -37,11 +37,13 @@ pub fn test_script<R: Read, W: Write>(
         Stops name.now cpus input (R.remaining reader.new) fault (W.contents writer.old) (W.contents writer.new))) }
 {
     let mut tester = Tester::new(alloc, cpus)?;
-    let outcome = test_lines(reader, name, &mut tester)?;
-    if let Outcome::Differs = outcome {
-        write_out(writer, &tester.player.report)?;
+    match test_lines(reader, name, &mut tester)? {
+        Outcome::Same => Ok(Outcome::Same),
+        Outcome::Differs => {
+            write_out(writer, &tester.player.report)?;
+            Ok(Outcome::Differs)
+        }
     }
-    Ok(outcome)
 }
 
 /// Reads all lines to the end of the input, or up to the first that differs, and does each.
@@ -60,11 +62,10 @@ fn test_lines<R: Read>(
     for _ in 0..u32::MAX {
         match reader.read(&mut buffer) {
             Ok(0) => return tester.finish(name),
-            Ok(count) => {
-                if let Outcome::Differs = tester.feed(name, &buffer[..count])? {
-                    return Ok(Outcome::Differs);
-                }
-            }
+            Ok(count) => match tester.feed(name, &buffer[..count])? {
+                Outcome::Same => {}
+                Outcome::Differs => return Ok(Outcome::Differs),
+            },
             Err(_) => return Err(RunFault::ReadFault),
         }
     }

@@ -78,10 +78,10 @@ impl Tester {
     {
         let mut rest = bytes;
         while let Some((front, behind)) = split_line(rest) {
-            if let Outcome::Differs = self.end_line(name, front)? {
-                return Ok(Outcome::Differs);
+            match self.end_line(name, front)? {
+                Outcome::Same => rest = behind,
+                Outcome::Differs => return Ok(Outcome::Differs),
             }
-            rest = behind;
         }
         self.hold(rest)?;
         Ok(Outcome::Same)
