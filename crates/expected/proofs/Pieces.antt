@@ -1,6 +1,6 @@
 -- The bytes of a piece, line by line.
 use Rattle.std.proofs.Common.{◌≡◌, ℕ, ◌+◌, ◌<◌, ◌≤◌, List, [], ◌∷◌, ◌++◌, length, refl, sym, ap, subst, ◌∙◌, arith, append_assoc, append-nil, length-append, inr}
-use Rattle.std.specs.Prelude.{Some}
+use Rattle.std.specs.Prelude.{Some, IfOk, IfErr, Result, Ok, Err}
 use Rattle.std.specs.Str.Lines.{strip_carriage_return}
 use Rattle.grammar.specs.Lines.{HasNoFeed}
 use Rattle.grammar.proofs.Cuts.{no_feed-append}
@@ -176,6 +176,10 @@ fed_rest cpus front bytes rest a b fed ran = subst (λ (t : List ℕ). Ran cpus 
 pub fed_rest_fault : (cpus : ℕ) (front bytes rest : List ℕ) (a : Tester) (fault : RunFault) (fed : Fed cpus front bytes rest a) → FaultIn cpus ((front ++ fed.read) ++ rest) fault → FaultIn cpus (front ++ bytes) fault
 fed_rest_fault cpus front bytes rest a fault fed f = fault_at cpus _ _ fault (whole_rest front bytes fed.read rest fed.parts) f
 
+-- the outcome of the same bytes
+pub after_at : (name : List ℕ) (cpus : ℕ) (x y : List ℕ) (outcome : Outcome) (t : Tester) → x ≡ y → After name cpus x outcome t → After name cpus y outcome t
+after_at name cpus x y outcome t e p = subst (λ (z : List ℕ). After name cpus z outcome t) e p
+
 -- ---- the last line
 
 pub none_comes : (name : List ℕ) (cpus : ℕ) (input : List ℕ) (a : Tester) (report : List ℕ) → a.line.items ≡ [] → Ran cpus input a → Comes name cpus input Same report
@@ -215,3 +219,14 @@ last_fault cpus input a (faults.Line n) some ran f =
 last_fault cpus input a faults.ReadFault some ran f = absurd f
 last_fault cpus input a faults.WriteFault some ran f = absurd f
 last_fault cpus input a faults.NoMemory some ran f = subst (λ (t : List ℕ). SomeMet cpus t) (append-nil input) (some_met cpus input [] a ran)
+
+pub last_ok : (result : Result Outcome RunFault) (name : List ℕ) (a : Tester) (new : WorldState) (out report : List ℕ) → 0 < length a.line.items
+    → IfOk result (λ outcome. Leads name (a.number + 1) a.player.world a.line.items outcome new out report)
+    → IfOk result (λ outcome. (cpus : ℕ) (input : List ℕ) → Ran cpus input a → Comes name cpus input outcome report)
+last_ok (Err x) name a new out report some p = tt
+last_ok (Ok outcome) name a new out report some p = λ cpus input ran. last_comes name cpus input a new out report outcome some ran p
+
+pub last_err : (result : Result Outcome RunFault) (a : Tester) → 0 < length a.line.items → IfErr result (λ fault. LineFault (a.number + 1) a.line.items fault)
+    → IfErr result (λ fault. (cpus : ℕ) (input : List ℕ) → Ran cpus input a → FaultAtEnd cpus input fault)
+last_err (Ok x) a some p = tt
+last_err (Err fault) a some p = λ cpus input ran. last_fault cpus input a fault some ran p

@@ -6,5 +6,5 @@ use Rattle.expected.proofs.player.order_of.Goals as goal
 
 pub returns-in-None-clause-none : goal.returns-in-None-clause-none
 returns-in-None-clause-none c =
-    let none : (line : LineOf) → Spells AScript c.args.text.now line → ⊥ = rw c.in-None.is at c.in_ok-parse.ensures.none in
+    let none : (line : LineOf) → Spells AScript c.args.text.now line → ⊥ = rw c.in-None.is at c.in_ok-order.ensures.none in
     λ order spells. none (Do order) spells

@@ -29,7 +29,7 @@ returns-clause-fault g c = λ cpus ran. from_read_fault cpus _ _ _ c.loop.tester
 
 pub loop-preserved : goal.loop-preserved
 loop-preserved g c = record {
-  ran = λ cpus ran. from_then cpus _ _ _ _ c.loop.tester c.feed.new.tester (c.loop.invariant.ran cpus ran) c.in-Ok.ensures.bytes.0 ((rw c.in-Same.is at c.in_ok-feed-in-Ok.ensures.ok) cpus);
+  ran = λ cpus ran. from_then cpus _ _ _ _ c.loop.tester c.feed.new.self (c.loop.invariant.ran cpus ran) c.in-Ok.ensures.bytes.0 ((rw c.in-Same.is at c.in_ok-feed-in-Ok.ensures.ok) cpus);
   number =
       let size : length c.read.new.buf ≡ 16384 = search rules in
       omega (arith, c.loop.invariant.number, c.in_ok-feed-in-Ok.ensures.number, c.in-Ok.ensures.bound.0, c.in-Ok.ensures.bound.1, size);

@@ -1,8 +1,7 @@
-use Rattle.std.proofs.Common.{◌≡◌, ◌++◌, ◌∷◌, [], List, ℕ, ap, sym, ◌∙◌, subst, append_assoc}
+use Rattle.std.proofs.Common.{◌≡◌, ◌++◌, ◌∷◌, [], refl, ap, ◌∙◌, append_assoc}
 use Rattle.std.specs.Str.Lines.{strip_carriage_return}
 use Rattle.std.proofs.lemmas.Result.{err_from_is_err_and}
-use Rattle.expected.specs.Parts.{After, FaultIn, Leads, LineFault}
-use Rattle.expected.proofs.Pieces.{line_after, line_fault, fault_more, fault_at}
+use Rattle.expected.proofs.Pieces.{line_after, line_fault, after_at, fault_more, fault_at}
 use Rattle.expected.proofs.tester.Tester.end_line.Goals as goal
 
 pub returns-in_err-hold-clause-fault : goal.returns-in_err-hold-clause-fault
@@ -22,5 +21,5 @@ returns-in_err-outcome-clause-fault c =
 pub returns-clause-ok : goal.returns-clause-ok
 returns-clause-ok c = λ cpus front ran.
     let text = c.without_return-text.ensures ∙ ap strip_carriage_return c.deref.ensures.value in
-    subst (λ (t : List ℕ). After c.args.name.now cpus t _ _) (append_assoc front c.args.bytes.now (10 ∷ []))
-    (line_after c.args.name.now cpus (front ++ c.args.bytes.now) c.hold.new.self _ _ _ c.clear.ensures.items (ap (λ (n : ℕ). n) _) (c.in_ok-hold.ensures.ok cpus front ran) (rw text at c.in_ok-outcome.ensures.ok))
+    after_at c.args.name.now cpus ((front ++ c.args.bytes.now) ++ 10 ∷ []) (front ++ (c.args.bytes.now ++ 10 ∷ [])) _ _ (append_assoc front c.args.bytes.now (10 ∷ []))
+    (line_after c.args.name.now cpus (front ++ c.args.bytes.now) c.hold.new.self _ _ _ c.clear.ensures.items refl (c.in_ok-hold.ensures.ok cpus front ran) (rw text at c.in_ok-outcome.ensures.ok))
