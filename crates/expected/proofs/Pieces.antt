@@ -1,0 +1,232 @@
+-- The bytes of a piece, line by line.
+use Rattle.std.proofs.Common.{◌≡◌, ℕ, ◌+◌, ◌<◌, ◌≤◌, List, [], ◌∷◌, ◌++◌, length, refl, sym, ap, subst, ◌∙◌, arith, append_assoc, append-nil, length-append, inr}
+use Rattle.std.specs.Prelude.{Some, IfOk, IfErr, Result, Ok, Err}
+use Rattle.std.specs.Str.Lines.{strip_carriage_return}
+use Rattle.grammar.specs.Lines.{HasNoFeed}
+use Rattle.grammar.proofs.Cuts.{no_feed-append}
+use Rattle.engine.specs.declared.fault.RunFault.{RunFault}
+use Rattle.engine.specs.declared.fault.RunFault.TheVariants as faults
+use Rattle.engine.specs.WorldState.{WorldState, first_state}
+use Rattle.expected.specs.declared.outcome.Outcome.{Outcome}
+use Rattle.expected.specs.declared.outcome.Outcome.TheVariants.{Same, Differs}
+use Rattle.expected.specs.declared.tester.Tester.{Tester}
+use Rattle.expected.specs.Cases.{Case, Asks, IsCase, ReadsCase, ReadsCases, BeginsWrong, Agrees}
+use Rattle.expected.specs.Tests.{difference_line, Met, SomeMet, Unmet, WrongAt, Comes}
+use Rattle.expected.specs.Parts.{Passed, Failed, Leads, LineFault, Ran, After, FaultIn, FaultAtEnd}
+use Rattle.expected.proofs.Reached.{agrees_promised, does_promised}
+use Rattle.expected.proofs.Lines.{reads_then, agrees_then, ended_reads, ended_wrong, last_wrong, long_wrong}
+
+-- nothing was read
+pub ran_none : (cpus : ℕ) (t : Tester) → t.line.items ≡ [] → t.number ≡ 0 → t.player.world ≡ first_state cpus → Ran cpus [] t
+ran_none cpus t line number world = record {
+  cases = [];
+  reads = λ more. sym (ap (λ (l : List ℕ). l ++ more) line);
+  agrees = world;
+  number = number;
+  one = subst HasNoFeed (sym line) tt;
+  short = omega (arith, ap length line);
+}
+
+-- bytes of the open line
+pub ran_hold : (cpus : ℕ) (front bytes : List ℕ) (a b : Tester) → HasNoFeed bytes → b.line.items ≡ a.line.items ++ bytes → b.player.world ≡ a.player.world → b.number ≡ a.number
+    → length a.line.items + length bytes ≤ 256 → Ran cpus front a → Ran cpus (front ++ bytes) b
+ran_hold cpus front bytes a b one line world number short ran = record {
+  cases = ran.cases;
+  reads = λ more.
+      subst (λ (t : List ℕ). ReadsCases 1 t ran.cases (b.line.items ++ more)) (sym (append_assoc front bytes more))
+      (subst (λ (t : List ℕ). ReadsCases 1 (front ++ (bytes ++ more)) ran.cases t) (sym (ap (λ (l : List ℕ). l ++ more) line ∙ append_assoc a.line.items bytes more)) (ran.reads (bytes ++ more)));
+  agrees = subst (λ (w : WorldState). Agrees (first_state cpus) ran.cases w) (sym world) ran.agrees;
+  number = number ∙ ran.number;
+  one = subst HasNoFeed (sym line) (no_feed-append a.line.items bytes ran.one one);
+  short = omega (arith, short, ap length line, length-append a.line.items bytes);
+}
+
+-- the lines so far meet their answers, whatever comes after them
+pub met_of : (cpus : ℕ) (bytes : List ℕ) (t : Tester) (ran : Ran cpus bytes t) (more : List ℕ) → Met cpus (bytes ++ more) ran.cases t.player.world (t.line.items ++ more)
+met_of cpus bytes t ran more = record { reads = ran.reads more; agrees = ran.agrees; promised = agrees_promised cpus ran.cases t.player.world ran.agrees }
+
+-- a line that ended, and met its answer
+ran_line : (cpus : ℕ) (bytes : List ℕ) (a b : Tester) (out : List ℕ) → b.line.items ≡ [] → b.number ≡ a.number + 1 → Ran cpus bytes a → Passed (a.number + 1) a.player.world (strip_carriage_return a.line.items) b.player.world out → Ran cpus (bytes ++ 10 ∷ []) b
+ran_line cpus bytes a b out line number ran p = record {
+  cases = ran.cases ++ p.case ∷ [];
+  reads = λ more.
+      let here : ReadsCases (a.number + 1) (a.line.items ++ 10 ∷ more) (p.case ∷ []) more = (more, ended_reads (a.number + 1) a.line.items more p.case ran.one ran.short p.says, refl) in
+      subst (λ (t : List ℕ). ReadsCases 1 t (ran.cases ++ p.case ∷ []) (b.line.items ++ more)) (sym (append_assoc bytes (10 ∷ []) more))
+      (subst (λ (t : List ℕ). ReadsCases 1 (bytes ++ 10 ∷ more) (ran.cases ++ p.case ∷ []) t) (sym (ap (λ (l : List ℕ). l ++ more) line))
+      (reads_then 1 (a.number + 1) (bytes ++ 10 ∷ more) ran.cases (a.line.items ++ 10 ∷ more) (p.case ∷ []) more (ran.reads (10 ∷ more)) (omega (arith, ran.number)) here));
+  agrees = agrees_then (first_state cpus) ran.cases a.player.world (p.case ∷ []) b.player.world ran.agrees (b.player.world, out, p.does, p.meets, refl);
+  number = omega (arith, number, ran.number, length-append ran.cases (p.case ∷ []));
+  one = subst HasNoFeed (sym line) tt;
+  short = omega (arith, ap length line);
+}
+
+-- a line that does not meet its answer
+unmet_at : (name : List ℕ) (cpus : ℕ) (bytes : List ℕ) (a : Tester) (text report more after : List ℕ) (ran : Ran cpus bytes a) → ((case : Case) → IsCase (a.number + 1) text case → ReadsCase (a.number + 1) (a.line.items ++ more) case after)
+    → Failed name (a.number + 1) a.player.world text report → Unmet name cpus (bytes ++ more) report
+unmet_at name cpus bytes a text report more after ran reads f =
+    let same : a.number + 1 ≡ length ran.cases + 1 = omega (arith, ran.number) in
+    record {
+      cases = ran.cases;
+      old = a.player.world;
+      rest = a.line.items ++ more;
+      met = met_of cpus bytes a ran more;
+      order = f.order;
+      answer = f.answer;
+      after = after;
+      reads = subst (λ (n : ℕ). ReadsCase n (a.line.items ++ more) (Asks f.order (Some f.answer)) after) same (reads (Asks f.order (Some f.answer)) f.says);
+      new = f.new;
+      out = f.out;
+      obeys = f.obeys;
+      promised = does_promised cpus ran.cases a.player.world (Asks f.order (Some f.answer)) f.new f.out ran.agrees f.obeys;
+      differs = f.differs;
+      says = subst (λ (n : ℕ). report ≡ difference_line name n f.answer f.out) same f.reports;
+    }
+
+pub line_after : (name : List ℕ) (cpus : ℕ) (bytes : List ℕ) (a b : Tester) (out : List ℕ) (outcome : Outcome) → b.line.items ≡ [] → b.number ≡ a.number + 1 → Ran cpus bytes a
+    → Leads name (a.number + 1) a.player.world (strip_carriage_return a.line.items) outcome b.player.world out b.player.report.items → After name cpus (bytes ++ 10 ∷ []) outcome b
+line_after name cpus bytes a b out Same line number ran p = ran_line cpus bytes a b out line number ran p
+line_after name cpus bytes a b out Differs line number ran p = λ more.
+    subst (λ (t : List ℕ). Unmet name cpus t b.player.report.items) (sym (append_assoc bytes (10 ∷ []) more))
+    (unmet_at name cpus bytes a (strip_carriage_return a.line.items) b.player.report.items (10 ∷ more) more ran (λ case says. ended_reads (a.number + 1) a.line.items more case ran.one ran.short says) p)
+
+-- ---- faults
+
+some_met : (cpus : ℕ) (bytes more : List ℕ) (a : Tester) → Ran cpus bytes a → SomeMet cpus (bytes ++ more)
+some_met cpus bytes more a ran = (ran.cases, a.player.world, a.line.items ++ more, met_of cpus bytes a ran more)
+
+wrong_at : (cpus : ℕ) (bytes more : List ℕ) (a : Tester) (n : ℕ) → Ran cpus bytes a → n ≡ a.number + 1 → BeginsWrong (a.number + 1) (a.line.items ++ more) → WrongAt cpus (bytes ++ more) n
+wrong_at cpus bytes more a n ran number wrong =
+    let same : n ≡ length ran.cases + 1 = omega (arith, number, ran.number) in
+    record {
+      cases = ran.cases;
+      world = a.player.world;
+      rest = a.line.items ++ more;
+      met = met_of cpus bytes a ran more;
+      number = same;
+      wrong = subst (λ (k : ℕ). BeginsWrong k (a.line.items ++ more)) (sym number) wrong;
+    }
+
+pub line_fault : (cpus : ℕ) (bytes : List ℕ) (a : Tester) (fault : RunFault) → Ran cpus bytes a → LineFault (a.number + 1) (strip_carriage_return a.line.items) fault → FaultIn cpus (bytes ++ 10 ∷ []) fault
+line_fault cpus bytes a (faults.Line n) ran f = λ more.
+    subst (λ (t : List ℕ). WrongAt cpus t n) (sym (append_assoc bytes (10 ∷ []) more)) (wrong_at cpus bytes (10 ∷ more) a n ran f.0 (ended_wrong (a.number + 1) a.line.items more ran.one f.1))
+line_fault cpus bytes a faults.ReadFault ran f = absurd f
+line_fault cpus bytes a faults.WriteFault ran f = absurd f
+line_fault cpus bytes a faults.NoMemory ran f = λ more. subst (λ (t : List ℕ). SomeMet cpus t) (sym (append_assoc bytes (10 ∷ []) more)) (some_met cpus bytes (10 ∷ more) a ran)
+
+pub long_fault : (cpus : ℕ) (front bytes : List ℕ) (a : Tester) → HasNoFeed bytes → 256 < length a.line.items + length bytes → Ran cpus front a → FaultIn cpus (front ++ bytes) (faults.Line (a.number + 1))
+long_fault cpus front bytes a one long ran = λ more.
+    subst (λ (t : List ℕ). WrongAt cpus t (a.number + 1)) (sym (append_assoc front bytes more))
+    (wrong_at cpus front (bytes ++ more) a (a.number + 1) ran refl
+    (subst (λ (t : List ℕ). BeginsWrong (a.number + 1) t) (append_assoc a.line.items bytes more)
+    (long_wrong (a.number + 1) (a.line.items ++ bytes) more (no_feed-append a.line.items bytes ran.one one) (omega (arith, long, length-append a.line.items bytes)))))
+
+pub memory_fault : (cpus : ℕ) (front bytes : List ℕ) (a : Tester) → Ran cpus front a → FaultIn cpus (front ++ bytes) faults.NoMemory
+memory_fault cpus front bytes a ran = λ more. subst (λ (t : List ℕ). SomeMet cpus t) (sym (append_assoc front bytes more)) (some_met cpus front (bytes ++ more) a ran)
+
+-- the same with more bytes behind
+pub fault_more : (cpus : ℕ) (x y : List ℕ) (fault : RunFault) → FaultIn cpus x fault → FaultIn cpus (x ++ y) fault
+fault_more cpus x y (faults.Line n) f = λ more. subst (λ (t : List ℕ). WrongAt cpus t n) (sym (append_assoc x y more)) (f (y ++ more))
+fault_more cpus x y faults.ReadFault f = f
+fault_more cpus x y faults.WriteFault f = f
+fault_more cpus x y faults.NoMemory f = λ more. subst (λ (t : List ℕ). SomeMet cpus t) (sym (append_assoc x y more)) (f (y ++ more))
+
+pub fault_at : (cpus : ℕ) (x y : List ℕ) (fault : RunFault) → x ≡ y → FaultIn cpus x fault → FaultIn cpus y fault
+fault_at cpus x y fault e f = subst (λ (t : List ℕ). FaultIn cpus t fault) e f
+
+pub unmet_more : (name : List ℕ) (cpus : ℕ) (x y report : List ℕ) → ((more : List ℕ) → Unmet name cpus (x ++ more) report) → (more : List ℕ) → Unmet name cpus ((x ++ y) ++ more) report
+unmet_more name cpus x y report f more = subst (λ (t : List ℕ). Unmet name cpus t report) (sym (append_assoc x y more)) (f (y ++ more))
+
+-- ---- a piece
+
+-- some of the bytes were read, and rest is left
+pub record Fed (cpus : ℕ) (front bytes rest : List ℕ) (b : Tester) : Type 0 where
+  pub read : List ℕ
+  pub parts : bytes ≡ read ++ rest
+  pub ran : Ran cpus (front ++ read) b
+
+-- one line more
+pub whole_line : (front bytes read rest line behind : List ℕ) → bytes ≡ read ++ rest → rest ≡ line ++ 10 ∷ behind → front ++ bytes ≡ ((front ++ read) ++ (line ++ 10 ∷ [])) ++ behind
+whole_line front bytes read rest line behind parts cut =
+    ap (λ (t : List ℕ). front ++ t) (parts ∙ ap (λ (t : List ℕ). read ++ t) (cut ∙ sym (append_assoc line (10 ∷ []) behind)))
+    ∙ sym (append_assoc front read ((line ++ 10 ∷ []) ++ behind))
+    ∙ sym (append_assoc (front ++ read) (line ++ 10 ∷ []) behind)
+
+pub fed_line : (cpus : ℕ) (front bytes rest line behind : List ℕ) (a b : Tester) (fed : Fed cpus front bytes rest a) → rest ≡ line ++ 10 ∷ behind → Ran cpus ((front ++ fed.read) ++ (line ++ 10 ∷ [])) b → Fed cpus front bytes behind b
+fed_line cpus front bytes rest line behind a b fed cut ran = record {
+  read = fed.read ++ (line ++ 10 ∷ []);
+  parts = fed.parts ∙ ap (λ (t : List ℕ). fed.read ++ t) (cut ∙ sym (append_assoc line (10 ∷ []) behind)) ∙ sym (append_assoc fed.read (line ++ 10 ∷ []) behind);
+  ran = subst (λ (t : List ℕ). Ran cpus t b) (append_assoc front fed.read (line ++ 10 ∷ [])) ran;
+}
+
+pub fed_fault : (cpus : ℕ) (front bytes rest line behind : List ℕ) (a : Tester) (fault : RunFault) (fed : Fed cpus front bytes rest a) → rest ≡ line ++ 10 ∷ behind → FaultIn cpus ((front ++ fed.read) ++ (line ++ 10 ∷ [])) fault → FaultIn cpus (front ++ bytes) fault
+fed_fault cpus front bytes rest line behind a fault fed cut f =
+    fault_at cpus _ _ fault (sym (whole_line front bytes fed.read rest line behind fed.parts cut)) (fault_more cpus ((front ++ fed.read) ++ (line ++ 10 ∷ [])) behind fault f)
+
+pub fed_unmet : (name : List ℕ) (cpus : ℕ) (front bytes rest line behind report : List ℕ) (a : Tester) (fed : Fed cpus front bytes rest a) → rest ≡ line ++ 10 ∷ behind
+    → ((more : List ℕ) → Unmet name cpus (((front ++ fed.read) ++ (line ++ 10 ∷ [])) ++ more) report) → (more : List ℕ) → Unmet name cpus ((front ++ bytes) ++ more) report
+fed_unmet name cpus front bytes rest line behind report a fed cut f more =
+    subst (λ (t : List ℕ). Unmet name cpus (t ++ more) report) (sym (whole_line front bytes fed.read rest line behind fed.parts cut)) (unmet_more name cpus ((front ++ fed.read) ++ (line ++ 10 ∷ [])) behind report f more)
+
+whole_rest : (front bytes read rest : List ℕ) → bytes ≡ read ++ rest → (front ++ read) ++ rest ≡ front ++ bytes
+whole_rest front bytes read rest parts = append_assoc front read rest ∙ ap (λ (t : List ℕ). front ++ t) (sym parts)
+
+pub fed_rest : (cpus : ℕ) (front bytes rest : List ℕ) (a b : Tester) (fed : Fed cpus front bytes rest a) → Ran cpus ((front ++ fed.read) ++ rest) b → Ran cpus (front ++ bytes) b
+fed_rest cpus front bytes rest a b fed ran = subst (λ (t : List ℕ). Ran cpus t b) (whole_rest front bytes fed.read rest fed.parts) ran
+
+pub fed_rest_fault : (cpus : ℕ) (front bytes rest : List ℕ) (a : Tester) (fault : RunFault) (fed : Fed cpus front bytes rest a) → FaultIn cpus ((front ++ fed.read) ++ rest) fault → FaultIn cpus (front ++ bytes) fault
+fed_rest_fault cpus front bytes rest a fault fed f = fault_at cpus _ _ fault (whole_rest front bytes fed.read rest fed.parts) f
+
+-- the outcome of the same bytes
+pub after_at : (name : List ℕ) (cpus : ℕ) (x y : List ℕ) (outcome : Outcome) (t : Tester) → x ≡ y → After name cpus x outcome t → After name cpus y outcome t
+after_at name cpus x y outcome t e p = subst (λ (z : List ℕ). After name cpus z outcome t) e p
+
+-- ---- the last line
+
+pub none_comes : (name : List ℕ) (cpus : ℕ) (input : List ℕ) (a : Tester) (report : List ℕ) → a.line.items ≡ [] → Ran cpus input a → Comes name cpus input Same report
+none_comes name cpus input a report line ran = (
+  ran.cases,
+  a.player.world,
+  subst (λ (t : List ℕ). Met cpus t ran.cases a.player.world []) (append-nil input)
+      (subst (λ (t : List ℕ). Met cpus (input ++ []) ran.cases a.player.world t) (ap (λ (t : List ℕ). t ++ []) line) (met_of cpus input a ran [])),
+)
+
+last_reads : (n : ℕ) (raw : List ℕ) (case : Case) → 0 < length raw → HasNoFeed raw → length raw ≤ 256 → IsCase n raw case → ReadsCase n (raw ++ []) case []
+last_reads n raw case some one short says =
+    subst (λ (t : List ℕ). ReadsCase n t case []) (sym (append-nil raw)) (inr (record { some = some; one = one; short = short; says = says; none = refl }))
+
+pub last_comes : (name : List ℕ) (cpus : ℕ) (input : List ℕ) (a : Tester) (new : WorldState) (out report : List ℕ) (outcome : Outcome) → 0 < length a.line.items → Ran cpus input a
+    → Leads name (a.number + 1) a.player.world a.line.items outcome new out report → Comes name cpus input outcome report
+last_comes name cpus input a new out report Same some ran p =
+    let here : ReadsCases (a.number + 1) (a.line.items ++ []) (p.case ∷ []) [] = ([], last_reads (a.number + 1) a.line.items p.case some ran.one ran.short p.says, refl) in
+    let agrees : Agrees (first_state cpus) (ran.cases ++ p.case ∷ []) new = agrees_then (first_state cpus) ran.cases a.player.world (p.case ∷ []) new ran.agrees (new, out, p.does, p.meets, refl) in (
+      ran.cases ++ p.case ∷ [],
+      new,
+      record {
+        reads = subst (λ (t : List ℕ). ReadsCases 1 t (ran.cases ++ p.case ∷ []) []) (append-nil input)
+            (reads_then 1 (a.number + 1) (input ++ []) ran.cases (a.line.items ++ []) (p.case ∷ []) [] (ran.reads []) (omega (arith, ran.number)) here);
+        agrees = agrees;
+        promised = agrees_promised cpus (ran.cases ++ p.case ∷ []) new agrees;
+      },
+    )
+last_comes name cpus input a new out report Differs some ran p =
+    subst (λ (t : List ℕ). Unmet name cpus t report) (append-nil input)
+    (unmet_at name cpus input a a.line.items report [] [] ran (λ case says. last_reads (a.number + 1) a.line.items case some ran.one ran.short says) p)
+
+pub last_fault : (cpus : ℕ) (input : List ℕ) (a : Tester) (fault : RunFault) → 0 < length a.line.items → Ran cpus input a → LineFault (a.number + 1) a.line.items fault → FaultAtEnd cpus input fault
+last_fault cpus input a (faults.Line n) some ran f =
+    subst (λ (t : List ℕ). WrongAt cpus t n) (append-nil input)
+    (wrong_at cpus input [] a n ran f.0 (subst (λ (t : List ℕ). BeginsWrong (a.number + 1) t) (sym (append-nil a.line.items)) (last_wrong (a.number + 1) a.line.items some ran.one f.1)))
+last_fault cpus input a faults.ReadFault some ran f = absurd f
+last_fault cpus input a faults.WriteFault some ran f = absurd f
+last_fault cpus input a faults.NoMemory some ran f = subst (λ (t : List ℕ). SomeMet cpus t) (append-nil input) (some_met cpus input [] a ran)
+
+pub last_ok : (result : Result Outcome RunFault) (name : List ℕ) (a : Tester) (new : WorldState) (out report : List ℕ) → 0 < length a.line.items
+    → IfOk result (λ outcome. Leads name (a.number + 1) a.player.world a.line.items outcome new out report)
+    → IfOk result (λ outcome. (cpus : ℕ) (input : List ℕ) → Ran cpus input a → Comes name cpus input outcome report)
+last_ok (Err x) name a new out report some p = tt
+last_ok (Ok outcome) name a new out report some p = λ cpus input ran. last_comes name cpus input a new out report outcome some ran p
+
+pub last_err : (result : Result Outcome RunFault) (a : Tester) → 0 < length a.line.items → IfErr result (λ fault. LineFault (a.number + 1) a.line.items fault)
+    → IfErr result (λ fault. (cpus : ℕ) (input : List ℕ) → Ran cpus input a → FaultAtEnd cpus input fault)
+last_err (Ok x) a some p = tt
+last_err (Err fault) a some p = λ cpus input ran. last_fault cpus input a fault some ran p

@@ -1,0 +1,93 @@
+-- What a test comes to: each answer is met, or the first that is not, or a fault.
+use Rattle.std.specs.Prelude.{◌≡◌, ◌≢◌, ℕ, ◌+◌, List, [], ◌∷◌, ◌++◌, length, codes, Option, Some, IfSome}
+use Rattle.std.specs.Fmt.{decimal}
+use Rattle.std.specs.Io.KnownBytes.{Appends}
+use Rattle.grammar.specs.declared.order.Order.{Order}
+use Rattle.grammar.specs.Lines.{HasNoFeed}
+use Rattle.engine.specs.declared.line_runner.Mode.TheVariants.{Lines}
+use Rattle.engine.specs.declared.fault.RunFault.{RunFault}
+use Rattle.engine.specs.declared.fault.RunFault.TheVariants as faults
+use Rattle.engine.specs.Engine.{Front}
+use Rattle.engine.specs.Script.{Obeys}
+use Rattle.engine.specs.WorldState.{WorldState, first_state, Promised}
+use Rattle.expected.specs.declared.outcome.Outcome.{Outcome}
+use Rattle.expected.specs.declared.outcome.Outcome.TheVariants.{Same, Differs}
+use Rattle.expected.specs.Cases.{Case, Asks, ReadsCase, ReadsCases, BeginsWrong, Agrees}
+
+-- the first lines of the input lead to this world and meet their answers, and rest comes after them; the promises hold for the world
+pub record Met (cpus : ℕ) (input : List ℕ) (cases : List Case) (world : WorldState) (rest : List ℕ) : Type 0 where
+  pub reads : ReadsCases 1 input cases rest
+  pub agrees : Agrees (first_state cpus) cases world
+  pub promised : Promised world
+
+-- all lines of the input meet their answers
+abbrev pub AllMet : ℕ → List ℕ → Type 0
+AllMet cpus input = (cases : List Case) × (world : WorldState) × Met cpus input cases world []
+
+-- some lines from the first on meet their answers
+abbrev pub SomeMet : ℕ → List ℕ → Type 0
+SomeMet cpus input = (cases : List Case) × (world : WorldState) × (rest : List ℕ) × Met cpus input cases world rest
+
+-- the line of a report: the file, the line's number, its answer, and its output, which ends in a line feed
+abbrev pub difference_line : List ℕ → ℕ → List ℕ → List ℕ → List ℕ
+difference_line name number answer out = name ++ codes ":" ++ decimal number ++ codes ": expected " ++ answer ++ codes ", got " ++ out
+
+-- the lines before one meet their answers, and this one does not; the report says so
+pub record Unmet (name : List ℕ) (cpus : ℕ) (input report : List ℕ) : Type 0 where
+  pub cases : List Case
+  pub old : WorldState
+  pub rest : List ℕ
+  pub met : Met cpus input cases old rest
+  pub order : Order
+  pub answer : List ℕ
+  pub after : List ℕ
+  pub reads : ReadsCase (length cases + 1) rest (Asks order (Some answer)) after
+  pub new : WorldState
+  pub out : List ℕ
+  pub obeys : Obeys Lines old order new out
+  pub promised : Promised new
+  pub differs : out ≢ answer ++ 10 ∷ []
+  pub says : report ≡ difference_line name (length cases + 1) answer out
+
+-- the lines before line n meet their answers, and line n is wrong
+pub record WrongAt (cpus : ℕ) (input : List ℕ) (n : ℕ) : Type 0 where
+  pub cases : List Case
+  pub world : WorldState
+  pub rest : List ℕ
+  pub met : Met cpus input cases world rest
+  pub number : n ≡ length cases + 1
+  pub wrong : BeginsWrong n rest
+
+-- each line that was read to its line feed meets its answer, and held is left of what was read
+pub record ReadTo (cpus : ℕ) (input : List ℕ) (unread : Option (List ℕ)) : Type 0 where
+  pub cases : List Case
+  pub world : WorldState
+  pub rest : List ℕ
+  pub met : Met cpus input cases world rest
+  pub held : List ℕ
+  pub one : HasNoFeed held
+  pub read : IfSome unread (λ bytes. rest ≡ held ++ bytes)
+
+-- the outcome of a test of a whole input, and its report, if it has one
+abbrev pub Comes : List ℕ → ℕ → List ℕ → Outcome → List ℕ → Type 0
+Comes name cpus input Same report = AllMet cpus input
+Comes name cpus input Differs report = Unmet name cpus input report
+
+-- a test ends with a fault before anything is written
+abbrev pub Halts : ℕ → List ℕ → Option (List ℕ) → RunFault → Type 0
+Halts cpus input unread (faults.Line n) = WrongAt cpus input n
+Halts cpus input unread faults.ReadFault = ReadTo cpus input unread
+Halts cpus input unread faults.WriteFault = ⊥
+Halts cpus input unread faults.NoMemory = SomeMet cpus input
+
+-- the outcome of a test, and what it wrote: nothing, or the report
+abbrev pub Tests : List ℕ → ℕ → List ℕ → Outcome → Option (List ℕ) → Option (List ℕ) → Type 0
+Tests name cpus input Same before after = AllMet cpus input × Appends before after []
+Tests name cpus input Differs before after = (report : List ℕ) × Unmet name cpus input report × Appends before after report
+
+-- how a test ends with a fault. Only a write fault comes after a part of the report was written
+abbrev pub Stops : List ℕ → ℕ → List ℕ → Option (List ℕ) → RunFault → Option (List ℕ) → Option (List ℕ) → Type 0
+Stops name cpus input unread (faults.Line n) before after = WrongAt cpus input n × Appends before after []
+Stops name cpus input unread faults.ReadFault before after = ReadTo cpus input unread × Appends before after []
+Stops name cpus input unread faults.WriteFault before after = (report : List ℕ) × Unmet name cpus input report × Front report before after
+Stops name cpus input unread faults.NoMemory before after = SomeMet cpus input × Appends before after []

@@ -1,0 +1,18 @@
+//! Where the answer of a line begins.
+
+ghost use Rattle.std.specs.Prelude.{ℕ, List, IfSome, IfNone};
+ghost use Rattle.expected.specs.Cases.{Cut};
+
+use memchr::memmem;
+
+/// What stands between an order and its answer.
+pub(crate) const ARROW: &[u8] = b" => ";
+
+/// What stands before the first arrow of a text, and what stands behind it.
+pub(crate) fn split_answer(text: &[u8]) -> Option<(&[u8], &[u8])>
+    ensures found { IfSome result (λ parts. Cut text.now parts.0.now parts.1.now) }
+    ensures none { IfNone result ((front answer : List ℕ) → Cut text.now front answer → ⊥) }
+{
+    let at = memmem::find(text, ARROW)?;
+    Some((&text[..at], &text[at + ARROW.len()..]))
+}

@@ -1,0 +1,69 @@
+//! Reading a test from a reader, and writing what differs to a writer.
+
+ghost use Rattle.std.specs.Prelude.{◌≡◌, ◌≤◌, ℕ, [], IfOk, IfErr, IfSome};
+ghost use Rattle.expected.specs.Tests.{Comes, Halts, Tests, Stops};
+ghost use Rattle.expected.specs.Parts.{Ran};
+
+use crate::outcome::Outcome;
+use crate::tester::Tester;
+use engine::RunFault;
+use engine::line_runner::write_out;
+use std::alloc::Global;
+use std::io::{Read, Write};
+
+/// The most bytes that are read at once.
+const PIECE: usize = 16_384;
+
+/// Runs a script on a new world, and compares the output of each line with its answer, if it has one: the text behind ` => `. The world has
+/// as many processors as the first line says, and otherwise `cpus`, 1 to 16.
+///
+/// At the first answer that differs it writes `NAME:LINE: expected ANSWER, got OUTPUT` and a line feed, and stops: LINE is counted from 1.
+/// Nothing else is written. A wrong line before that is the fault [`RunFault::Line`]. The promises of `world` hold for each world of a test.
+///
+/// At most 4,294,967,295 reads are made; a test that needs more ends with a read fault. This bounds the loop: no clause counts reads. An
+/// interrupted read or write is a fault.
+pub fn test_script<R: Read, W: Write>(
+    alloc: Global,
+    reader: &mut R,
+    writer: &mut W,
+    name: &str,
+    cpus: u8,
+) -> Result<Outcome, RunFault>
+    requires low { 1 ≤ cpus }
+    requires high { cpus ≤ 16 }
+    ensures ok { IfOk result (λ outcome. IfSome (R.remaining reader.old) (λ input.
+        Tests name.now cpus input outcome (W.contents writer.old) (W.contents writer.new))) }
+    ensures fault { IfErr result (λ fault. IfSome (R.remaining reader.old) (λ input.
+        Stops name.now cpus input (R.remaining reader.new) fault (W.contents writer.old) (W.contents writer.new))) }
+{
+    let mut tester = Tester::new(alloc, cpus)?;
+    match test_lines(reader, name, &mut tester)? {
+        Outcome::Same => Ok(Outcome::Same),
+        Outcome::Differs => {
+            write_out(writer, &tester.player.report)?;
+            Ok(Outcome::Differs)
+        }
+    }
+}
+
+/// Reads all lines to the end of the input, or up to the first that differs, and does each.
+fn test_lines<R: Read>(reader: &mut R, name: &str, tester: &mut Tester) -> Result<Outcome, RunFault>
+    requires { tester.old.number ≡ 0 }
+    ensures ok { IfOk result (λ outcome. (cpus : ℕ) → Ran cpus [] tester.old → IfSome (R.remaining reader.old) (λ input.
+        Comes name.now cpus input outcome tester.new.player.report.items)) }
+    ensures fault { IfErr result (λ fault. (cpus : ℕ) → Ran cpus [] tester.old → IfSome (R.remaining reader.old) (λ input.
+        Halts cpus input (R.remaining reader.new) fault)) }
+{
+    let mut buffer = [0u8; PIECE];
+    for _ in 0..u32::MAX {
+        match reader.read(&mut buffer) {
+            Ok(0) => return tester.finish(name),
+            Ok(count) => match tester.feed(name, &buffer[..count])? {
+                Outcome::Same => {}
+                Outcome::Differs => return Ok(Outcome::Differs),
+            },
+            Err(_) => return Err(RunFault::ReadFault),
+        }
+    }
+    Err(RunFault::ReadFault)
+}

@@ -1,0 +1,117 @@
+//! Playing a test in pieces: how it ends, and what it wrote.
+
+use crate::pieces::{OneByte, Pieces};
+use engine::RunFault;
+use expected::{Outcome, answer_script, test_script};
+use std::alloc::{AllocError, Global};
+use std::process::Abort;
+use std::test::Fail;
+
+/// No case writes more bytes.
+pub const MOST: usize = 4_000;
+
+/// How a test is read and written.
+#[derive(Clone, Copy)]
+pub struct How {
+    /// The bytes of one read.
+    pub size: usize,
+    /// The read that fails, counted from 1, if one does.
+    pub read_fails_at: u32,
+    pub write_fails_at: u32,
+}
+
+/// In one read, where none fails.
+pub const WHOLE: How = How {
+    size: MOST,
+    read_fails_at: 0,
+    write_fails_at: 0,
+};
+
+/// Room for what is written, on the second try if the first is refused memory: then no write is refused any.
+pub fn room(alloc: Global) -> Result<Vec<u8>, AllocError> {
+    match Vec::with_capacity(alloc, MOST) {
+        Ok(room) => Ok(room),
+        Err(AllocError) => Vec::with_capacity(alloc, MOST),
+    }
+}
+
+/// How a test named `t` of two processors ends, and what it wrote.
+fn tested_once(
+    alloc: Global,
+    script: &[u8],
+    how: How,
+) -> Result<(Result<Outcome, RunFault>, Vec<u8>), AllocError> {
+    let mut reader = Pieces {
+        bytes: script,
+        size: how.size,
+        fails_at: how.read_fails_at,
+        reads: 0,
+    };
+    let mut writer = OneByte {
+        bytes: room(alloc)?,
+        fails_at: how.write_fails_at,
+        writes: 0,
+        most: MOST,
+    };
+    let outcome = test_script(alloc, &mut reader, &mut writer, "t", 2);
+    Ok((outcome, writer.bytes))
+}
+
+/// The same. It is played again if memory is refused; nothing was written then.
+pub fn tested(
+    rt: &impl Abort,
+    alloc: Global,
+    script: &[u8],
+    how: How,
+) -> Result<(Result<Outcome, RunFault>, Vec<u8>), Fail> {
+    let (outcome, written) = tested_once(alloc, script, how)?;
+    if outcome == Err(RunFault::NoMemory) {
+        assert!(rt; written.is_empty());
+        return Ok(tested_once(alloc, script, how)?);
+    }
+    Ok((outcome, written))
+}
+
+/// How the making of a test ends, and what it wrote. It is made again if memory is refused.
+pub fn answered(
+    alloc: Global,
+    script: &[u8],
+    how: How,
+) -> Result<(Result<(), RunFault>, Vec<u8>), AllocError> {
+    let mut writer = OneByte {
+        bytes: room(alloc)?,
+        fails_at: how.write_fails_at,
+        writes: 0,
+        most: MOST,
+    };
+    let mut reader = Pieces {
+        bytes: script,
+        size: how.size,
+        fails_at: how.read_fails_at,
+        reads: 0,
+    };
+    let mut outcome = answer_script(alloc, &mut reader, &mut writer, 2);
+    if outcome == Err(RunFault::NoMemory) {
+        reader.bytes = script;
+        reader.reads = 0;
+        outcome = answer_script(alloc, &mut reader, &mut writer, 2);
+    }
+    Ok((outcome, writer.bytes))
+}
+
+/// Plays a test in one read, and a byte at a time: it ends so, and writes this.
+pub fn look(
+    rt: &impl Abort,
+    alloc: Global,
+    script: &[u8],
+    wanted: Result<Outcome, RunFault>,
+    written: &[u8],
+) -> Result<(), Fail> {
+    for size in [MOST, 1] {
+        let how = How { size, ..WHOLE };
+        let (outcome, text) = tested(rt, alloc, script, how)?;
+        assert_eq!(rt; outcome, wanted);
+        assert_eq!(rt; text.as_slice(), written);
+    }
+    Ok(())
+}
