@@ -1,4 +1,4 @@
--- What a test comes to: each answer is met, or the first that is not, or a fault.
+-- How a test ends: each answer is met, or the first that is not, or a fault.
 use Rattle.std.specs.Prelude.{◌≡◌, ◌≢◌, ℕ, ◌+◌, List, [], ◌∷◌, ◌++◌, length, codes, Option, Some, IfSome}
 use Rattle.std.specs.Fmt.{decimal}
 use Rattle.std.specs.Io.KnownBytes.{Appends}

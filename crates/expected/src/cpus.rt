@@ -14,7 +14,7 @@ use mig_base::NoMemory;
 pub(crate) enum Setting {
     /// Nothing.
     Absent,
-    /// There are as many as this, 1 to 16.
+    /// There are this many, 1 to 16.
     Count(u8),
     /// It begins with `# cpus`, and goes on otherwise.
     Wrong,

@@ -2,7 +2,7 @@
 //!
 //! [`test_script`] runs such a script on a world, and compares the output of each line with its answer, if it has one. It writes the
 //! first that differs. [`answer_script`] writes a script with an answer behind each of its lines. `specs/Cases.antt` defines the lines of
-//! a test, and `specs/Tests.antt` what a test comes to. `docs/SCRIPT.md` says how a test is written.
+//! a test, and `specs/Tests.antt` how a test ends. `docs/SCRIPT.md` says how a test is written.
 //!
 //! The crate names no file, no command line and no exit status: readers and writers are its callers'.
 #![tactic(auto)]

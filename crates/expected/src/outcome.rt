@@ -1,6 +1,6 @@
-//! What a test comes to.
+//! How a test ends.
 
-/// What a test comes to.
+/// How a test ends that has no fault.
 #[derive(Clone, Copy, Debug, PartialEq, Eq)]
 pub enum Outcome {
     /// Each answer is the output of its line.

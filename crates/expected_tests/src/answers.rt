@@ -1,4 +1,4 @@
-//! Tests that are made of scripts.
+//! Tests that `answer_script` writes.
 
 use crate::play::{WHOLE, answered, look};
 use engine::RunFault;
@@ -9,7 +9,7 @@ use std::test::Fail;
 const LONG: &[u8] =
     b"start                                                                                                                                                                                                                                         \n";
 
-/// Scripts, and the tests that are made of them.
+/// Scripts, and the tests that are written for them.
 static MADE: &[(&[u8], &[u8])] = &[
     (b"", b""),
     (b"start", b"start => started epoch 1\n"),
@@ -28,7 +28,7 @@ static MADE: &[(&[u8], &[u8])] = &[
     (LONG, LONG),
 ];
 
-/// Scripts with a wrong line, its number, and what is made of the lines before it.
+/// Scripts with a wrong line, its number, and what is written for the lines before it.
 static WRONG: &[(&[u8], u64, &[u8])] = &[
     (b"go", 1, b""),
     (b"start\n => nothing\n", 2, b"start => started epoch 1\n"),
