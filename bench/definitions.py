@@ -51,7 +51,7 @@ def contracts(text):
     """The contracts of public functions, and the types that callers see."""
     inside = False
     for line in text.splitlines():
-        if re.match(r"\s*pub (const )?fn ", line):
+        if re.match(r'\s*pub (const )?(extern "C" )?fn ', line):
             inside = True
         if inside or "ghost Value" in line:
             # (a clause may have a name of its own, which is no definition)

@@ -17,7 +17,7 @@ import page
 
 CRATES = page.TOP / "crates"
 PROVED = page.TOP / "docs" / "PROVED.md"
-FN = re.compile(r"\s*(pub(?:\(crate\))? )?(?:const )?fn (\w+)")
+FN = re.compile(r'\s*(pub(?:\(crate\))? )?(?:const )?(?:extern "C" )?fn (\w+)')
 CLAUSE = re.compile(r"\s*ensures\*?(?: (\w+))? \{")
 IMPL = re.compile(r"impl(?:<[^{]*>)? (?:.* for )?(\w+)")
 NAME = re.compile(r"`(?:(\w+)::)?(\w+)(?:\.(\w+))?`")

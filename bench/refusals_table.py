@@ -145,8 +145,9 @@ def rests_on(crate, file, name):
 def allows_no_memory(call):
     """Whether what a contract says of a refusal, with all the definitions that it rests on, has the name NoMemory."""
     said = "\n".join(it for it in call.clauses if speaks_of_refusal(it))
-    # (a contract that says nothing of refusals allows each; where another fault comes exactly somewhere, elsewhere it is memory's)
-    if not said or re.search(r"NoMemory|OutOfMemory|↔", said):
+    # (a contract that says nothing of refusals allows each; where another fault comes exactly somewhere, elsewhere it is memory's; and what
+    # one named fault implies excludes no other)
+    if not said or re.search(r"NoMemory|OutOfMemory|↔|≡ Err [\w.]+ →", said):
         return True
     waiting, seen = [it[1:] for it in imports(call.file.read_text()) if names(it[0], said)], set()
     while waiting:

@@ -1,9 +1,11 @@
 -- The exit statuses of the program.
-use Rattle.std.specs.Prelude.{ℕ, Bool, true, false}
+use Rattle.std.specs.Prelude.{ℕ, Bool, true, false, if◌then◌else◌, nat_lt}
 use Rattle.engine.specs.declared.fault.RunFault.{RunFault}
 use Rattle.engine.specs.declared.fault.RunFault.TheVariants.{Line, ReadFault, WriteFault, NoMemory}
 use Rattle.frames.specs.declared.fault.FramesFault.{FramesFault}
 use Rattle.frames.specs.declared.fault.FramesFault.TheVariants as frames
+use Rattle.wiretap.specs.declared.fault.TapFault.{TapFault}
+use Rattle.wiretap.specs.declared.fault.TapFault.TheVariants as taps
 
 -- the status of a run to its end, or of a check with this answer
 abbrev pub answer_status : Bool → ℕ
@@ -22,6 +24,10 @@ fault_status ReadFault = 2
 fault_status WriteFault = 2
 fault_status NoMemory = 4
 
+-- the status of tests, by the number of files that differ, and by the status of the first fault, or 0
+abbrev pub tally_status : ℕ → ℕ → ℕ
+tally_status differ fault = if nat_lt 0 differ then 3 else fault
+
 -- the status of a stream of frames that ended with a fault
 abbrev pub frames_fault_status : FramesFault → ℕ
 frames_fault_status (frames.Stream fault) = 1
@@ -29,3 +35,8 @@ frames_fault_status frames.Truncated = 1
 frames_fault_status frames.ReadFault = 2
 frames_fault_status frames.WriteFault = 2
 frames_fault_status frames.NoMemory = 4
+
+-- the status of a run with files for its wires that ended with a fault
+abbrev pub tap_fault_status : TapFault → ℕ
+tap_fault_status (taps.Run fault) = fault_status fault
+tap_fault_status (taps.Wire channel) = 2

@@ -17,7 +17,7 @@ const STATUSES: &str = "Exit status:
   0  all was done, or a check wrote ok
   1  a line, a frame or the command line is wrong
   2  a read or a write failed
-  3  a check wrote wrong, or threads ended with a fault
+  3  a check wrote wrong, a test differs, or threads ended with a fault
   4  memory ran out, or a thread could not be started
 
 docs/SCRIPT.md has the lines of scripts and transcripts.";
@@ -47,7 +47,15 @@ fn explain_argument<'a>(alloc: Global, help: &'a str) -> Arg<'a> {
         .action(ArgAction::SetTrue)
 }
 
-/// `postmig run [--cpus N] [--transcript] [--explain] [FILE]`.
+/// `--NAME FILE`, which is made, or emptied if it exists.
+fn wire_argument<'a>(alloc: Global, name: &'static str, help: &'a str) -> Arg<'a> {
+    Arg::new(alloc, name)
+        .long(name)
+        .value_name("FILE")
+        .help(help)
+}
+
+/// `postmig run [--cpus N] [--transcript] [--wire FILE] [--back FILE] [--urgent FILE] [--explain] [FILE]`.
 fn run_command<'a>(alloc: Global) -> Result<Command<'a>, AllocError> {
     let transcript = Arg::new(alloc, "transcript")
         .long("transcript")
@@ -57,6 +65,30 @@ fn run_command<'a>(alloc: Global) -> Result<Command<'a>, AllocError> {
         .about("Runs a script")
         .arg(cpus_argument(alloc))?
         .arg(transcript)?
+        .arg(wire_argument(
+            alloc,
+            "wire",
+            "Gets the bytes that are put on the wire to the destination",
+        ))?
+        .arg(wire_argument(
+            alloc,
+            "back",
+            "Gets the bytes that are put on the wire back",
+        ))?
+        .arg(wire_argument(
+            alloc,
+            "urgent",
+            "Gets the bytes that are put on the urgent wire",
+        ))?
+        .arg(explain_argument(alloc, WHY_IT_ENDED))?
+        .arg(file_argument(alloc))
+}
+
+/// `postmig finish [--cpus N] [--explain] [FILE]`.
+fn finish_command<'a>(alloc: Global) -> Result<Command<'a>, AllocError> {
+    Command::new(alloc, "finish")
+        .about("Writes the lines that complete the migration of a script")
+        .arg(cpus_argument(alloc))?
         .arg(explain_argument(alloc, WHY_IT_ENDED))?
         .arg(file_argument(alloc))
 }
@@ -116,6 +148,15 @@ fn threads_command<'a>(alloc: Global) -> Result<Command<'a>, AllocError> {
         .arg(explain_argument(alloc, WHY_IT_FAILED))
 }
 
+/// `postmig draw [--cpus N] [--explain] [FILE]`.
+fn draw_command<'a>(alloc: Global) -> Result<Command<'a>, AllocError> {
+    Command::new(alloc, "draw")
+        .about("Runs a script, and writes a picture of the run as SVG")
+        .arg(cpus_argument(alloc))?
+        .arg(explain_argument(alloc, WHY_IT_ENDED))?
+        .arg(file_argument(alloc))
+}
+
 /// The names of the profiles of `postmig explore`, in the order of `Profile::ALL`.
 const PROFILES: &[&str] = &[
     "commands", "precopy", "postcopy", "moves", "breaks", "urgent", "bytes", "runs", "all",
@@ -161,8 +202,12 @@ fn pages_argument<'a>(alloc: Global) -> Arg<'a> {
         .default_value("8")
 }
 
-/// `postmig explore --seed S [--steps N] [--cpus N] [--profile P] [--pages M] [--answers] [--explain]`.
+/// `postmig explore --seed S [--steps N] [--cpus N] [--profile P] [--pages M] [--finish] [--answers] [--explain]`.
 fn explore_command<'a>(alloc: Global) -> Result<Command<'a>, AllocError> {
+    let finish = Arg::new(alloc, "finish")
+        .long("finish")
+        .help("Ends the script with the lines that complete its migration")
+        .action(ArgAction::SetTrue);
     let answers = Arg::new(alloc, "answers")
         .long("answers")
         .help("Writes the answer of each line behind it")
@@ -174,8 +219,21 @@ fn explore_command<'a>(alloc: Global) -> Result<Command<'a>, AllocError> {
         .arg(cpus_argument(alloc))?
         .arg(profile_argument(alloc))?
         .arg(pages_argument(alloc))?
+        .arg(finish)?
         .arg(answers)?
         .arg(explain_argument(alloc, WHY_IT_FAILED))
+}
+
+/// `postmig test [--cpus N] [FILE ..]`.
+fn test_command<'a>(alloc: Global) -> Result<Command<'a>, AllocError> {
+    let files = Arg::new(alloc, "file")
+        .value_name("FILE")
+        .help("Scripts with answers; standard input where none is given")
+        .num_args(0..);
+    Command::new(alloc, "test")
+        .about("Runs scripts whose lines have answers, and names what differs")
+        .arg(cpus_argument(alloc))?
+        .arg(files)
 }
 
 /// The command line: one of these subcommands, or `postmig --version`.
@@ -188,9 +246,12 @@ pub(crate) fn command_line<'a>(alloc: Global) -> Result<Command<'a>, AllocError>
         .after_help(STATUSES)
         .subcommand_required(true)
         .subcommand(run_command(alloc)?)?
+        .subcommand(finish_command(alloc)?)?
         .subcommand(check_command(alloc)?)?
         .subcommand(lint_command(alloc)?)?
         .subcommand(frames_command(alloc)?)?
+        .subcommand(draw_command(alloc)?)?
         .subcommand(explore_command(alloc)?)?
+        .subcommand(test_command(alloc)?)?
         .subcommand(threads_command(alloc)?)
 }

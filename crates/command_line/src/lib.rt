@@ -1,11 +1,15 @@
 //! The command line of `postmig`, and its exit statuses.
 //!
-//! - `postmig run` reads a script and writes one line for each step, or with `--transcript` one for each command that took effect.
+//! - `postmig run` reads a script and writes one line for each step, or with `--transcript` one for each command that took effect. With
+//!   `--wire`, `--back` and `--urgent` files get what is put on the wires.
+//! - `postmig finish` reads a script, and writes the lines that complete its migration.
 //! - `postmig check` reads such a transcript, and says whether it is that of one flat memory, or with `--explain` or `--all` what is
 //!   wrong with it.
 //! - `postmig lint` lists the wrong lines of a script or a transcript.
 //! - `postmig frames` reads frames, and writes a destination's answer to each.
+//! - `postmig draw` runs a script, and writes a picture of the run.
 //! - `postmig explore` writes a random script.
+//! - `postmig test` runs scripts whose lines have answers, and names the answers that differ.
 //! - `postmig threads` reads nothing, runs a migration in threads, and writes a report.
 //!
 //! `docs/SCRIPT.md` defines scripts and transcripts, `docs/FORMATS.md` frames, `docs/EXPLORE.md` random scripts, and `docs/THREADS.md` a
@@ -15,29 +19,43 @@
 //! `engine` for scripts and transcripts, and by the crate of the same name for each other program.
 #![tactic(auto)]
 
+ghost use Rattle.std.specs.Prelude.{◌≤◌};
+
 mod arguments;
 mod input;
 mod status;
 mod streams;
+mod tally;
+mod tap;
 mod watched;
 
 use crate::arguments::command_line;
+use crate::input::Input;
 use crate::status::{ALL_DONE, BAD_COMMAND_OR_SCRIPT, NO_MEMORY, READ_OR_WRITE_FAULT};
-use crate::streams::{end, end_frames, end_lint, open_input, open_output, say_wrong_lines};
+use crate::streams::{
+    end, end_frames, end_lint, end_tapped, open_input, open_output, say_wrong_lines,
+};
+use crate::tally::test;
+use crate::tap::{has_taps, make_taps};
+use crate::watched::Watched;
 use clap::ArgMatches;
 use clap::error::ErrorKind;
+use draw::run_draw;
 use engine::{Mode, RunFault, check_script, run_script};
 use explain::{Asks, Noting, explain_script};
 use explore::{Plan, Profile, run_explore};
+use finishing::{Ending, finish_script};
 use frames::run_frames;
 use grammar::Language;
 use lint::lint_lines;
 use std::env::{Env, FillError};
+use std::io::Stdout;
 use std::process::ExitCode;
 use std::sync::Wait;
 use std::thread::Threads;
 use std::{env, io};
 use threads::run_threads;
+use wiretap::run_tapped;
 
 /// What `--version` prints behind the program's name.
 const VERSION: &str = "0.1.0";
@@ -59,7 +77,45 @@ fn run(rt: &HostRuntime, matches: &ArgMatches) -> u8 {
         return READ_OR_WRITE_FAULT;
     };
     let mut output = open_output(rt);
+    if has_taps(matches) {
+        return run_with_taps(rt, matches, &mut input, &mut output, cpus, mode);
+    }
     let outcome = run_script(rt.alloc(), &mut input, &mut output, cpus, mode).map(|()| true);
+    let status = end(rt, matches, &input, &output, outcome);
+    say_wrong_lines(rt, matches, Language::Script, &outcome);
+    status
+}
+
+/// Runs a script, with files for what is put on its wires.
+fn run_with_taps(
+    rt: &HostRuntime,
+    matches: &ArgMatches,
+    input: &mut Watched<'_, Input>,
+    output: &mut Watched<'_, Stdout>,
+    cpus: u8,
+    mode: Mode,
+) -> u8
+    requires low { 1 ≤ cpus }
+    requires high { cpus ≤ 16 }
+{
+    let Some(mut taps) = make_taps(rt, matches) else {
+        return READ_OR_WRITE_FAULT;
+    };
+    let outcome = run_tapped(rt.alloc(), input, output, &mut taps, cpus, mode);
+    end_tapped(rt, matches, input, output, &taps, outcome)
+}
+
+/// Writes the lines that finish a script.
+fn finish(rt: &HostRuntime, matches: &ArgMatches) -> u8 {
+    let Some(cpus @ 1..=16) = matches.get_one::<u8>("cpus") else {
+        return BAD_COMMAND_OR_SCRIPT;
+    };
+    let Some(mut input) = open_input(rt, matches) else {
+        return READ_OR_WRITE_FAULT;
+    };
+    let mut output = open_output(rt);
+    let outcome = finish_script(rt.alloc(), &mut input, &mut output, cpus).map(|ending| ending
+        == Ending::Complete);
     let status = end(rt, matches, &input, &output, outcome);
     say_wrong_lines(rt, matches, Language::Script, &outcome);
     status
@@ -115,6 +171,22 @@ fn take_frames(rt: &HostRuntime, matches: &ArgMatches) -> u8 {
     end_frames(rt, matches, &input, &output, outcome)
 }
 
+/// Draws the run of a script, by the name of its file, or `-`.
+fn draw_script(rt: &HostRuntime, matches: &ArgMatches) -> u8 {
+    let Some(cpus @ 1..=16) = matches.get_one::<u8>("cpus") else {
+        return BAD_COMMAND_OR_SCRIPT;
+    };
+    let name = matches.get_str("file").unwrap_or("-");
+    let Some(mut input) = open_input(rt, matches) else {
+        return READ_OR_WRITE_FAULT;
+    };
+    let mut output = open_output(rt);
+    let outcome = run_draw(rt.alloc(), &mut input, &mut output, name, cpus).map(|()| true);
+    let status = end(rt, matches, &input, &output, outcome);
+    say_wrong_lines(rt, matches, Language::Script, &outcome);
+    status
+}
+
 /// The exploration that the arguments of `postmig explore` ask for.
 fn plan_of(matches: &ArgMatches) -> Option<Plan> {
     Some(Plan {
@@ -123,6 +195,7 @@ fn plan_of(matches: &ArgMatches) -> Option<Plan> {
         cpus: matches.get_one::<u8>("cpus")?,
         profile: Profile::named(matches.get_str("profile")?)?,
         pages: matches.get_one::<u16>("pages")?,
+        finish: matches.get_flag("finish"),
         answers: matches.get_flag("answers"),
     })
 }
@@ -168,10 +241,13 @@ fn run_in_threads<T: Threads + Wait + Sync>(
 fn do_command<T: Threads + Wait + Sync>(rt: &HostRuntime, handle: &T, matches: &ArgMatches) -> u8 {
     match matches.subcommand() {
         Some(("run", matches)) => run(rt, matches),
+        Some(("finish", matches)) => finish(rt, matches),
         Some(("check", matches)) => check_input(rt, matches),
         Some(("lint", matches)) => lint(rt, matches),
         Some(("frames", matches)) => take_frames(rt, matches),
+        Some(("draw", matches)) => draw_script(rt, matches),
         Some(("explore", matches)) => explore(rt, matches),
+        Some(("test", matches)) => test(rt, matches),
         Some(("threads", matches)) => run_in_threads(rt, handle, matches),
         _ => BAD_COMMAND_OR_SCRIPT,
     }

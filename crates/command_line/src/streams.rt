@@ -1,10 +1,11 @@
 //! What a command reads and writes, and how it says why it ended early.
 
 ghost use Rattle.std.specs.Prelude.{◌≡◌, IfOk, IfErr, OnOk};
-ghost use Rattle.command_line.specs.Status.{answer_status, fault_status, frames_fault_status, lint_status};
+ghost use Rattle.command_line.specs.Status.{answer_status, fault_status, frames_fault_status, lint_status, tap_fault_status};
 
 use crate::input::Input;
-use crate::status::{BAD_COMMAND_OR_SCRIPT, frames_status_of, status_of};
+use crate::status::{BAD_COMMAND_OR_SCRIPT, READ_OR_WRITE_FAULT, frames_status_of, status_of};
+use crate::tap::Tap;
 use crate::watched::{Watched, say_reason};
 use clap::ArgMatches;
 use engine::RunFault;
@@ -13,15 +14,26 @@ use grammar::Language;
 use lint::lint_lines;
 use std::fs::File;
 use std::io::{IsTerminal, Stdout};
+use wiretap::{Channel, TapFault, Taps};
 
 /// Opens the FILE of a command, or standard input. Says on standard error why a file cannot be opened.
 pub(crate) fn open_input<'a>(
     rt: &HostRuntime,
     matches: &ArgMatches<'a>,
 ) -> Option<Watched<'a, Input>> {
-    let Some(name) = matches.get_str("file") else {
-        return Some(Watched::new("standard input", Input::Standard(rt.stdin())));
-    };
+    match matches.get_str("file") {
+        None => Some(standard_input(rt)),
+        Some(name) => open_file(rt, name),
+    }
+}
+
+/// Standard input.
+pub(crate) fn standard_input(rt: &HostRuntime) -> Watched<'static, Input> {
+    Watched::new("standard input", Input::Standard(rt.stdin()))
+}
+
+/// Opens a file. Says on standard error why it cannot be opened.
+pub(crate) fn open_file<'a>(rt: &HostRuntime, name: &'a str) -> Option<Watched<'a, Input>> {
     match File::open(rt, name) {
         Ok(file) => Some(Watched::new(name, Input::File(file))),
         Err(error) => {
@@ -63,10 +75,13 @@ pub(crate) fn say_wrong_lines(
     }
 }
 
+/// Why reading ended where no read failed.
+pub(crate) const TOO_MANY_READS: &str = "more than 4294967295 reads";
+
 /// Says on standard error why no more could be read.
 fn say_input(rt: &HostRuntime, matches: &ArgMatches, input: &Watched<'_, Input>) {
     if gives_reasons(rt, matches) {
-        let _ = input.say_why(rt, "more than 4294967295 reads");
+        let _ = input.say_why(rt, TOO_MANY_READS);
     }
 }
 
@@ -136,4 +151,36 @@ pub(crate) fn end_frames(
         }
     }
     frames_status_of(outcome)
+}
+
+/// The same of a run with files for its wires. Says which of them could not be written, and why.
+pub(crate) fn end_tapped(
+    rt: &HostRuntime,
+    matches: &ArgMatches,
+    input: &Watched<'_, Input>,
+    output: &Watched<'_, Stdout>,
+    taps: &Taps<Watched<'_, Tap>>,
+    outcome: Result<(), TapFault>,
+) -> u8
+    ensures ok { OnOk outcome (result ≡ 0) }
+    ensures fault { IfErr outcome (λ fault. result ≡ tap_fault_status fault) }
+{
+    match outcome {
+        Ok(()) => end(rt, matches, input, output, Ok(true)),
+        Err(TapFault::Run(fault)) => {
+            let status = end(rt, matches, input, output, Err(fault));
+            say_wrong_lines(rt, matches, Language::Script, &Err(fault));
+            status
+        }
+        Err(TapFault::Wire(channel)) => {
+            let tap = match channel {
+                Channel::Forward => &taps.forward,
+                Channel::Back => &taps.back,
+                Channel::Urgent => &taps.urgent,
+            };
+            let _ = eprintln!(rt; "{}", RunFault::WriteFault);
+            let _ = tap.say_why(rt, "no byte was taken");
+            READ_OR_WRITE_FAULT
+        }
+    }
 }

@@ -1,20 +1,19 @@
 -- The pages that were sent may be mapped.
-use Rattle.std.proofs.Common.{◌≡◌, ℕ, true, not, None, sym, ◌∙◌, ⊎_elim, arith}
+use Rattle.std.proofs.Common.{◌≡◌, ℕ, true, None, sym, ◌∙◌, ⊎_elim, arith}
 use Rattle.std.specs.Ordering.{nat_cmp}
 use Rattle.std.specs.FinSet.{FinSet, contains}
-use Rattle.std.proofs.lemmas.Bool.{and_parts, or_cases}
+use Rattle.std.proofs.lemmas.Bool.{or_cases}
 use Rattle.mig_base.specs.Ranges.{in_range}
 use Rattle.mig_base.specs.Sets.{with_range}
 use Rattle.mig_base.proofs.SetLemmas.{member_with_range}
 use Rattle.mig_model.specs.Bounds.{ArePages}
-use Rattle.mig_model.specs.Log.{less, no_pages}
+use Rattle.mig_model.specs.Log.{no_pages}
 use Rattle.mig_model.specs.Space.{Space, IsSoundSpace}
 use Rattle.mig_model.proofs.SourceKept.{no_page_absurd}
 use Rattle.guest.specs.Lent.{IsLent}
 use Rattle.dirty_log.specs.Answers.{send_refusal}
 use Rattle.dirty_log.specs.Rounds.{HasComeTo}
 use Rattle.dirty_log.proofs.KeptLemmas.{in_from, in_to}
-use Rattle.dirty_log.proofs.PageLemmas.{member_kept}
 use Rattle.dirty_log.proofs.SendLemmas.{page_of_present, page_there}
 
 -- nothing was sent, and a round begins
@@ -26,7 +25,3 @@ pub run_sent : (space : Space) (sent : FinSet nat_cmp) (first count : ℕ) → I
 run_sent space sent first count lent sound told old page h =
     ⊎_elim (λ (here : in_range first count page ≡ true). page_of_present space page lent sound (page_there space first count page told (in_from first count page here) (in_to first count page here))) (old page)
     (or_cases (in_range first count page) (contains sent page) (sym (member_with_range sent first count page) ∙ h))
-
--- a part of what was sent
-pub less_sent : (sent other : FinSet nat_cmp) → ArePages sent → ArePages (less sent other)
-less_sent sent other old page h = old page (and_parts (contains sent page) (not (contains other page)) (sym (member_kept sent (contains other) page) ∙ h)).0

@@ -1,3 +1,4 @@
+pub mod Lacking
 pub mod Lines
 pub mod OneRun
 pub mod Outcomes

@@ -38,7 +38,7 @@ works_print mode cpus lines new text p =
     (ran.0, ran.1, run_promised mode cpus lines ran.0 text ran.1)
 
 -- the work on kept entries keeps those of the lines, and prints nothing
-works_kept : (entries : List Entry) (lines : List Line) (new : Work) (text : List ℕ) → Works (Keeping entries) lines new text → (new ≡ Keeping (entries ++ entries_of lines)) × (text ≡ [])
+pub works_kept : (entries : List Entry) (lines : List Line) (new : Work) (text : List ℕ) → Works (Keeping entries) lines new text → (new ≡ Keeping (entries ++ entries_of lines)) × (text ≡ [])
 works_kept entries [] new text p = (p.0 ∙ ap (λ (es : List Entry). Keeping es) (sym (append-nil entries)), p.1)
 works_kept entries (Skipped ∷ lines) new text p =
     let rest = works_kept entries lines new p.2 (subst (λ (w : Work). Works w lines new p.2) p.3.0 p.5) in
@@ -124,7 +124,7 @@ run_stopped (Err fault) work mode cpus r u v w is s = run_stops mode cpus r u fa
 silent : (lines : List Line) (text : List ℕ) → Outputs nothing_kept lines text → Silent lines text
 silent lines text p = (works_kept [] lines p.0 text p.1).1
 
-missing_some : (written more : List ℕ) → written ++ more ≡ [] → 0 < length more → ⊥
+pub missing_some : (written more : List ℕ) → written ++ more ≡ [] → 0 < length more → ⊥
 missing_some written more e some =
     let none : length (written ++ more) ≡ 0 = ap length e in
     absurd (omega (arith, none, some, length-append written more))
@@ -143,7 +143,7 @@ check_stopped (Some input) u fault v w s = stopped input u fault v w s
 kept_all : (input : List ℕ) (end : Work) (u v w : Option (List ℕ)) (a : ReadsAll nothing_kept input end u v w) → kept_entries end ≡ entries_of a.lines
 kept_all input end u v w a = ap kept_entries (works_kept [] a.lines end a.text a.works).0
 
-read_silently : (input : List ℕ) (end : Work) (u v w : Option (List ℕ)) → ReadsAll nothing_kept input end u v w → Appends v w []
+pub read_silently : (input : List ℕ) (end : Work) (u v w : Option (List ℕ)) → ReadsAll nothing_kept input end u v w → Appends v w []
 read_silently input end u v w a = subst (λ (t : List ℕ). Appends v w t) (works_kept [] a.lines end a.text a.works).1 a.appends
 
 pub check_memory : (r : Option (List ℕ)) (end : Work) (u v w : Option (List ℕ)) → IfSome r (λ input. ReadsAll nothing_kept input end u v w) → IfSome r (λ input. CheckStops input u faults.NoMemory v w)

@@ -20,7 +20,7 @@ pub record Feeds (a : Place) (bytes rest : List ℕ) (b : Place) : Type 0 where
   pub parts : bytes ≡ front ++ rest
   pub fed : Fed a front b
 
-parts_then : (bytes front rest line behind : List ℕ) → bytes ≡ front ++ rest → rest ≡ line ++ 10 ∷ behind → bytes ≡ (front ++ (line ++ 10 ∷ [])) ++ behind
+pub parts_then : (bytes front rest line behind : List ℕ) → bytes ≡ front ++ rest → rest ≡ line ++ 10 ∷ behind → bytes ≡ (front ++ (line ++ 10 ∷ [])) ++ behind
 parts_then bytes front rest line behind e cut =
     e ∙ ap (λ (t : List ℕ). front ++ t) (cut ∙ sym (append_assoc line (10 ∷ []) behind)) ∙ sym (append_assoc front (line ++ 10 ∷ []) behind)
 

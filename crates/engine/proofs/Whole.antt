@@ -110,7 +110,7 @@ ran_read_fault start p (Some x) r1 (Some y) w0 w1 ran kept one = (
 -- ---- the end of the input
 
 -- at the end of the input, what was read is the input
-input_is : (x consumed : List ℕ) (r1 r2 : Option (List ℕ)) → Consumes (Some x) r1 consumed → Consumes r1 r2 [] → IsAtEnd r2 → (x ≡ consumed) × (r2 ≡ Some [])
+pub input_is : (x consumed : List ℕ) (r1 r2 : Option (List ℕ)) → Consumes (Some x) r1 consumed → Consumes r1 r2 [] → IsAtEnd r2 → (x ≡ consumed) × (r2 ≡ Some [])
 input_is x consumed None r2 p q e = absurd p
 input_is x consumed (Some y) None p q e = absurd q
 input_is x consumed (Some y) (Some z) p q e = (p ∙ ap (λ (t : List ℕ). consumed ++ t) (q ∙ e) ∙ append-nil consumed, ap (λ (t : List ℕ). Some t) e)

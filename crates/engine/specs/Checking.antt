@@ -5,7 +5,7 @@ use Rattle.std.specs.Io.KnownBytes.{Appends}
 use Rattle.mig_base.specs.declared.command.Entry.{Entry}
 use Rattle.mig_base.specs.declared.command.Reply.{Reply}
 use Rattle.mig_base.specs.Flat.{IsFlatRun}
-use Rattle.report.specs.Texts.{reply_text}
+use Rattle.mig_base.specs.Texts.{reply_text}
 use Rattle.report.specs.Checks.{FirstWrong}
 use Rattle.grammar.specs.declared.line.Language.TheVariants as language
 use Rattle.grammar.specs.declared.line.Line.{Line}

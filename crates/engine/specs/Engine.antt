@@ -1,5 +1,5 @@
 -- The parts of the engine, and their effect for the bytes of one piece.
-use Rattle.std.specs.Prelude.{◌≡◌, ℕ, ◌+◌, ◌<◌, ◌⊎◌, Bool, true, false, List, [], ◌∷◌, ◌++◌, length, Option, IfSome, ⊤, refl}
+use Rattle.std.specs.Prelude.{◌≡◌, ℕ, ◌+◌, ◌<◌, ◌⊎◌, Bool, true, false, List, [], ◌∷◌, ◌++◌, length, Option, Some, None, IfSome, ⊤, refl}
 use Rattle.std.proofs.Common.{inl, inr}
 use Rattle.std.specs.Coded.{Coded, code_by, coded×, coded⊎, coded_ℕ, coded_bool, coded_list}
 use Rattle.std.specs.Io.KnownBytes.{Appends}
@@ -86,6 +86,11 @@ abbrev pub kept_entries : Work → List Entry
 kept_entries (Running mode state) = []
 kept_entries (Keeping entries) = entries
 
+-- the world that is run; none if entries are kept
+abbrev pub world_of : Work → Option WorldState
+world_of (Running mode state) = Some state
+world_of (Keeping entries) = None
+
 -- no entry is kept yet
 abbrev pub nothing_kept : Work
 nothing_kept = Keeping []
@@ -156,6 +161,18 @@ MakeFault language number text (faults.Line n) = (n ≡ number) × ((line : Line
 MakeFault language number text faults.ReadFault = ⊥
 MakeFault language number text faults.WriteFault = ⊥
 MakeFault language number text faults.NoMemory = ⊤
+
+-- nothing changed, or the line was done and its output is lost
+abbrev pub Loses : Gathered → Line → Gathered → Type 0
+Loses old line new = (new ≡ old) ⊎ ((out : List ℕ) × Does old.work line new.work out × (new.output ≡ old.output))
+
+-- what a text leaves that ended with this fault: nothing changed if it is not a line of the language; nothing changed either if memory ran
+-- out, or the line was done and its output is lost
+abbrev pub Leaves : Gathered → List ℕ → RunFault → Gathered → Type 0
+Leaves old text (faults.Line n) new = new ≡ old
+Leaves old text faults.ReadFault new = ⊥
+Leaves old text faults.WriteFault new = ⊥
+Leaves old text faults.NoMemory new = (new ≡ old) ⊎ ((line : Line) × Spells (language_of old.work) text line × Loses old line new)
 
 -- Pieces
 

@@ -1,5 +1,5 @@
 -- The output of a run of a script, and how reading ends.
-use Rattle.std.specs.Prelude.{◌≡◌, ℕ, ◌+◌, ◌<◌, List, [], ◌∷◌, ◌++◌, length, drop, Option, Some, None, IfSome}
+use Rattle.std.specs.Prelude.{◌≡◌, ℕ, ◌+◌, ◌<◌, ◌⊎◌, List, [], ◌∷◌, ◌++◌, length, drop, Option, Some, None, IfSome}
 use Rattle.std.specs.Io.KnownBytes.{Appends}
 use Rattle.mig_base.specs.declared.command.Entry.{Entry}
 use Rattle.report.specs.Texts.{entry_line}
@@ -48,9 +48,17 @@ abbrev pub MakesAny : Mode → WorldState → Option Step → WorldState → Lis
 MakesAny mode old (Some step) new text = Makes mode old step new text
 MakesAny mode old None new text = (new ≡ old) × (text ≡ told mode old)
 
+-- nothing changed, or the step was made
+abbrev pub MakesOrNot : Mode → WorldState → Step → WorldState → Type 0
+MakesOrNot mode old step new = (new ≡ old) ⊎ ((text : List ℕ) × Makes mode old step new text)
+
 -- an order's effect on a world, and its output
 abbrev pub Obeys : Mode → WorldState → Order → WorldState → List ℕ → Type 0
 Obeys mode old order new text = MakesAny mode old (step_of order (epoch_in old)) new text
+
+-- nothing changed, or the order was carried out
+abbrev pub ObeysOrNot : Mode → WorldState → Order → WorldState → Type 0
+ObeysOrNot mode old order new = (new ≡ old) ⊎ ((text : List ℕ) × Obeys mode old order new text)
 
 -- these lines lead from one state to the other, with this output
 abbrev pub Runs : Mode → WorldState → List Line → WorldState → List ℕ → Type 0

@@ -10,8 +10,8 @@ use crate::line_runner::{LineRunner, write_out};
 use crate::run::read_lines;
 use crate::script_reader::ScriptReader;
 use mig_base::Entry;
+use report::CheckFault;
 use report::check::check;
-use report::{CheckFault, ReplyText};
 use std::alloc::Global;
 use std::io::{Read, Write};
 
@@ -70,7 +70,6 @@ fn judge(alloc: Global, entries: &[Entry], text: &mut String) -> Result<bool, Ru
             Ok(true)
         }
         Err(CheckFault::Wrong { index, expected }) => {
-            let expected = ReplyText(expected);
             write!(text, "wrong {index} expected {expected}\n")?;
             Ok(false)
         }

@@ -1,12 +1,12 @@
 //! Doing one line: carrying out an order of a script on a world, or keeping an entry of a transcript.
 
-ghost use Rattle.std.specs.Prelude.{◌≡◌, ◌<◌, ◌≤◌, ◌++◌, [], OnOk, OnErr, IfErr, IfOk, string_bytes};
+ghost use Rattle.std.specs.Prelude.{◌≡◌, ◌<◌, ◌≤◌, ◌++◌, [], Some, None, OnOk, OnErr, IfErr, IfOk, IfSome, IfNone, string_bytes};
 ghost use Rattle.std.specs.Io.KnownBytes.{Appends};
 ghost use Rattle.engine.specs.declared.fault.RunFault.TheVariants.{WriteFault, NoMemory as OutOfMemory};
 ghost use Rattle.grammar.specs.declared.line.Language.TheVariants.{Script as AScript, Transcript as ATranscript};
 ghost use Rattle.grammar.specs.declared.line.Line.TheVariants.{Do, Enter};
-ghost use Rattle.engine.specs.Script.{entry_lines, told, Makes, Obeys};
-ghost use Rattle.engine.specs.Engine.{Running, Keeping, Gathered, coded_gathered, work_of, language_of as language_of_work, kept_entries, Takes, Made, MakeFault, Front};
+ghost use Rattle.engine.specs.Script.{entry_lines, told, Makes, Obeys, MakesOrNot, ObeysOrNot};
+ghost use Rattle.engine.specs.Engine.{Running, Keeping, Gathered, coded_gathered, work_of, language_of as language_of_work, kept_entries, world_of, Takes, Made, MakeFault, Leaves, Loses, Front};
 ghost use Rattle.engine.specs.WorldState.{first_state, progress_in};
 
 use crate::fault::RunFault;
@@ -69,6 +69,7 @@ fn print_entries(text: &mut String, entries: &[Entry]) -> Result<(), NoMemory>
 fn make_step(world: &mut World, mode: Mode, step: Step, text: &mut String) -> Result<(), RunFault>
     ensures ok { OnOk result (Makes mode world.old step world.new (string_bytes text.new)) }
     ensures fault { IfErr result (λ fault. fault ≡ OutOfMemory) }
+    ensures lost { OnErr result (MakesOrNot mode world.old step world.new) }
 {
     text.clear();
     let count = world.transcript().len();
@@ -113,7 +114,8 @@ fn tell_progress(world: &World, mode: Mode, text: &mut String) -> Result<(), Run
     Ok(())
 }
 
-/// Carries out an order, and replaces a text by the mode's output for it. `NoMemory` may leave a part of it done.
+/// Carries out an order, and replaces a text by the mode's output for it. At `NoMemory` nothing changed, or the order was carried out and
+/// its output is lost.
 pub fn carry_out(
     world: &mut World,
     mode: Mode,
@@ -122,6 +124,7 @@ pub fn carry_out(
 ) -> Result<(), RunFault>
     ensures ok { OnOk result (Obeys mode world.old order world.new (string_bytes text.new)) }
     ensures fault { IfErr result (λ fault. fault ≡ OutOfMemory) }
+    ensures lost { OnErr result (ObeysOrNot mode world.old order world.new) }
 {
     match order.step(world.epoch()) {
         Some(step) => make_step(world, mode, step, text),
@@ -163,6 +166,14 @@ impl LineRunner {
         }
     }
 
+    /// A runner that carries out orders on a world.
+    pub fn over(alloc: Global, world: World, mode: Mode) -> LineRunner
+        ensures work { result.work ≡ Running mode world }
+        ensures output { result.output ≡ [] }
+    {
+        LineRunner::new(alloc, Job::Run { world, mode })
+    }
+
     /// A runner that carries out orders on a new world of `cpus` processors. `NoMemory` comes if the world cannot be made.
     pub fn on_world(alloc: Global, cpus: u8, mode: Mode) -> Result<LineRunner, RunFault>
         requires low { 1 ≤ cpus }
@@ -173,7 +184,7 @@ impl LineRunner {
         let Ok(world) = World::new(alloc, cpus) else {
             return Err(RunFault::NoMemory);
         };
-        Ok(LineRunner::new(alloc, Job::Run { world, mode }))
+        Ok(LineRunner::over(alloc, world, mode))
     }
 
     /// A runner that keeps entries, with none yet.
@@ -205,12 +216,40 @@ impl LineRunner {
         }
     }
 
+    /// The world that is run; none if entries are kept.
+    pub fn world(&self) -> Option<&World>
+        ensures some { IfSome result (λ world. world_of self.now.work ≡ Some world.now) }
+        ensures none { IfNone result (world_of self.now.work ≡ None) }
+    {
+        match &self.job {
+            Job::Run { world, .. } => Some(world),
+            Job::Keep { .. } => None,
+        }
+    }
+
+    /// Hands over the world that is run; none if entries are kept.
+    pub fn into_world(self) -> Option<World>
+        ensures { result ≡ world_of self.work }
+    {
+        let LineRunner {
+            job,
+            tokens: _tokens,
+            printed: _printed,
+            output: _output,
+        } = self;
+        match job {
+            Job::Run { world, mode: _ } => Some(world),
+            Job::Keep { entries: _entries } => None,
+        }
+    }
+
     /// Carries out an order, and gathers its output.
     fn obey(&mut self, order: Order) -> Result<(), RunFault>
         requires { language_of_work self.old.work ≡ AScript }
         ensures ok { OnOk result (Takes self.old (Do order) self.new) }
         ensures fault { IfErr result (λ fault. fault ≡ OutOfMemory) }
         ensures kept { OnErr result (self.new.output ≡ self.old.output) }
+        ensures lost { OnErr result (Loses self.old (Do order) self.new) }
     {
         match &mut self.job {
             Job::Run { world, mode } => {
@@ -228,6 +267,7 @@ impl LineRunner {
         ensures ok { OnOk result (Takes self.old (Enter entry) self.new) }
         ensures fault { IfErr result (λ fault. fault ≡ OutOfMemory) }
         ensures kept { OnErr result (self.new.output ≡ self.old.output) }
+        ensures unchanged { OnErr result (self.new ≡ self.old) }
     {
         match &mut self.job {
             Job::Run { .. } => unreachable!(),
@@ -238,11 +278,13 @@ impl LineRunner {
         }
     }
 
-    /// Does the line with this number and text. After a fault the output has nothing of it.
+    /// Does the line with this number and text. After a fault the output has nothing of it. A text that is not a line changes nothing. At
+    /// `NoMemory` nothing changed either, or the line was done and its output is lost.
     pub fn run_line(&mut self, number: u64, text: &[u8]) -> Result<(), RunFault>
         ensures ok { OnOk result (Made self.old text.now self.new) }
         ensures fault { IfErr result (λ fault. MakeFault (language_of_work self.old.work) number text.now fault) }
         ensures kept { OnErr result (self.new.output ≡ self.old.output) }
+        ensures left { IfErr result (λ fault. Leaves self.old text.now fault self.new) }
     {
         match parse(self.language(), &mut self.tokens, text)? {
             None => Err(RunFault::Line(number)),
@@ -250,6 +292,20 @@ impl LineRunner {
             Some(Line::Do(order)) => self.obey(order),
             Some(Line::Enter(entry)) => self.enter(entry),
         }
+    }
+
+    /// The gathered output.
+    pub fn output(&self) -> &[u8]
+        ensures { result.now ≡ self.now.output }
+    {
+        &self.output
+    }
+
+    /// Drops the gathered output.
+    pub fn drop_output(&mut self)
+        ensures { self.new ≡ record self.old { output = [] } }
+    {
+        self.output.clear();
     }
 
     /// Writes the gathered output. After a fault the first part of it was written.
@@ -260,7 +316,7 @@ impl LineRunner {
         ensures front { OnErr result (Front self.old.output (W.contents writer.old) (W.contents writer.new)) }
     {
         write_out(writer, &self.output)?;
-        self.output.clear();
+        self.drop_output();
         Ok(())
     }
 }

@@ -1,9 +1,9 @@
 //! Reading a script or a transcript: where its lines end, and their numbers.
 
-ghost use Rattle.std.specs.Prelude.{◌≡◌, ◌+◌, ◌<◌, ◌≤◌, ◌^◌, ◌++◌, ℕ, List, [], ◌∷◌, length, OnOk, IfErr, IfSome, IfNone, vec_len};
+ghost use Rattle.std.specs.Prelude.{◌≡◌, ◌+◌, ◌<◌, ◌≤◌, ◌^◌, ◌++◌, ◌↔◌, ◌≢◌, IsTrue, ℕ, List, [], ◌∷◌, length, Some, None, OnOk, IfErr, IfSome, IfNone, vec_len};
 ghost use Rattle.std.specs.Str.Lines.{strip_carriage_return};
 ghost use Rattle.grammar.specs.Lines.{HasNoFeed};
-ghost use Rattle.engine.specs.Engine.{Place, coded_place, kept_entries, start_of, Fed, FedUntil, Passes, Halts, Closes, CloseFault};
+ghost use Rattle.engine.specs.Engine.{Place, coded_place, kept_entries, world_of, start_of, Fed, FedUntil, Passes, Halts, Closes, CloseFault};
 
 use crate::fault::RunFault;
 use crate::line_runner::LineRunner;
@@ -12,6 +12,7 @@ use mig_base::Entry;
 use std::alloc::Global;
 use std::io::Write;
 use std::marker::Model;
+use world::World;
 
 /// The most bytes of a line, without its line feed.
 pub const MAX_LINE: usize = 256;
@@ -74,6 +75,28 @@ impl ScriptReader {
         ensures { result.now ≡ kept_entries self.now.work }
     {
         self.runner.entries()
+    }
+
+    /// The world that is run; none if entries are kept.
+    pub fn world(&self) -> Option<&World>
+        ensures some { IfSome result (λ world. world_of self.now.work ≡ Some world.now) }
+        ensures none { IfNone result (world_of self.now.work ≡ None) }
+    {
+        self.runner.world()
+    }
+
+    /// Hands over the world that is run; none if entries are kept.
+    pub fn into_world(self) -> Option<World>
+        ensures { result ≡ world_of self.work }
+    {
+        self.runner.into_world()
+    }
+
+    /// Whether the last line has no line feed.
+    pub fn is_open(&self) -> bool
+        ensures { IsTrue result ↔ (self.now.line ≢ []) }
+    {
+        !self.line.is_empty()
     }
 
     /// Takes bytes of the open line, none of which is a line feed.

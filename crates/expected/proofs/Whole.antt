@@ -1,5 +1,5 @@
 -- A whole test, from the first read on.
-use Rattle.std.proofs.Common.{◌≡◌, ℕ, ◌<◌, List, [], ◌++◌, length, take, Option, None, Some, refl, sym, ap, subst, ◌∙◌, append-nil}
+use Rattle.std.proofs.Common.{◌≡◌, ℕ, List, [], ◌++◌, Option, None, Some, refl, sym, subst}
 use Rattle.std.specs.Prelude.{IfSome, IfErr, IfOk, Result, Ok, Err}
 use Rattle.std.specs.Io.KnownBytes.{Appends, Keeps, Consumes, IsAtEnd}
 use Rattle.std.proofs.KnownBytes.{Appends-nil, Consumes-nil, Consumes-trans, Consumes-kept}
@@ -13,6 +13,7 @@ use Rattle.expected.specs.Tests.{SomeMet, Unmet, WrongAt, ReadTo, Comes, Halts, 
 use Rattle.expected.specs.Parts.{Ran, FaultIn, FaultAtEnd}
 use Rattle.expected.proofs.Reached.{none_met}
 use Rattle.expected.proofs.Pieces.{met_of}
+use Rattle.engine.proofs.Whole.{input_is}
 
 -- what was read so far meets its answers
 pub record RanFrom (cpus : ℕ) (r0 r1 : Option (List ℕ)) (t : Tester) : Type 0 where
@@ -64,17 +65,11 @@ from_read_fault cpus (Some x) r1 (Some y) a so_far kept =
 
 -- ---- the end of the input
 
--- at the end of the input, what was read is the input
-input_is : (x consumed : List ℕ) (r1 r2 : Option (List ℕ)) → Consumes (Some x) r1 consumed → Consumes r1 r2 [] → IsAtEnd r2 → consumed ≡ x
-input_is x consumed None r2 p q e = absurd p
-input_is x consumed (Some y) None p q e = absurd q
-input_is x consumed (Some y) (Some z) p q e = sym (p ∙ ap (λ (t : List ℕ). consumed ++ t) (q ∙ e) ∙ append-nil consumed)
-
 comes_in : (name : List ℕ) (cpus : ℕ) (report : List ℕ) (outcome : Outcome) (r0 r1 r2 : Option (List ℕ)) (a : Tester) → RanFrom cpus r0 r1 a → Consumes r1 r2 [] → IsAtEnd r2
     → ((input : List ℕ) → Ran cpus input a → Comes name cpus input outcome report) → IfSome r0 (λ input. Comes name cpus input outcome report)
 comes_in name cpus report outcome None r1 r2 a so_far last e f = tt
 comes_in name cpus report outcome (Some x) r1 r2 a so_far last e f =
-    subst (λ (t : List ℕ). Comes name cpus t outcome report) (input_is x so_far.consumed r1 r2 so_far.consumes last e) (f so_far.consumed so_far.ran)
+    subst (λ (t : List ℕ). Comes name cpus t outcome report) (sym (input_is x so_far.consumed r1 r2 so_far.consumes last e).0) (f so_far.consumed so_far.ran)
 
 pub finished : (result : Result Outcome RunFault) (name report : List ℕ) (r0 r1 r2 : Option (List ℕ)) (a b : Tester) → ((cpus : ℕ) → Ran cpus [] a → RanFrom cpus r0 r1 b) → Consumes r1 r2 [] × IsAtEnd r2
     → IfOk result (λ outcome. (cpus : ℕ) (input : List ℕ) → Ran cpus input b → Comes name cpus input outcome report)
@@ -92,16 +87,12 @@ halts_at_end : (cpus : ℕ) (fault : RunFault) (r0 r1 r2 : Option (List ℕ)) (a
     → IfSome r0 (λ input. Halts cpus input r2 fault)
 halts_at_end cpus fault None r1 r2 a so_far last e f = tt
 halts_at_end cpus fault (Some x) r1 r2 a so_far last e f =
-    at_end_halts cpus fault x r2 (subst (λ (t : List ℕ). FaultAtEnd cpus t fault) (input_is x so_far.consumed r1 r2 so_far.consumes last e) (f so_far.consumed so_far.ran))
+    at_end_halts cpus fault x r2 (subst (λ (t : List ℕ). FaultAtEnd cpus t fault) (sym (input_is x so_far.consumed r1 r2 so_far.consumes last e).0) (f so_far.consumed so_far.ran))
 
 pub finish_halts : (result : Result Outcome RunFault) (r0 r1 r2 : Option (List ℕ)) (a b : Tester) → ((cpus : ℕ) → Ran cpus [] a → RanFrom cpus r0 r1 b) → Consumes r1 r2 [] × IsAtEnd r2
     → IfErr result (λ fault. (cpus : ℕ) (input : List ℕ) → Ran cpus input b → FaultAtEnd cpus input fault) → IfErr result (λ fault. (cpus : ℕ) → Ran cpus [] a → IfSome r0 (λ input. Halts cpus input r2 fault))
 finish_halts (Ok x) r0 r1 r2 a b so_far end f = tt
 finish_halts (Err fault) r0 r1 r2 a b so_far end f = λ cpus ran. halts_at_end cpus fault r0 r1 r2 b (so_far cpus ran) end.0 end.1 (f cpus)
-
--- a read that gave nothing was at the end
-pub at_end : (r1 r2 : Option (List ℕ)) (n : ℕ) (buf : List ℕ) → n ≡ 0 → 0 < length buf → Consumes r1 r2 (take n buf) × (n ≡ 0 → 0 < length buf → IsAtEnd r2) → Consumes r1 r2 [] × IsAtEnd r2
-at_end r1 r2 n buf none some p = (subst (λ (k : ℕ). Consumes r1 r2 (take k buf)) none p.0, p.1 none some)
 
 -- ---- what is written
 

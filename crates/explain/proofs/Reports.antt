@@ -1,48 +1,27 @@
 -- What reading means for the report on a transcript, and lists of wrong entries that go on by one.
-use Rattle.std.proofs.Common.{◌≡◌, ℕ, ◌+◌, ◌<◌, Bool, List, [], ◌∷◌, ◌++◌, length, take, get_or, Option, None, Some, refl, sym, ap, subst, ◌∙◌, append_assoc, append-nil, arith, length-append}
+use Rattle.std.proofs.Common.{◌≡◌, ℕ, ◌+◌, ◌<◌, Bool, List, [], ◌∷◌, ◌++◌, length, take, get_or, Option, None, Some, refl, sym, ap, subst, ◌∙◌, append_assoc, append-nil}
 use Rattle.std.specs.Prelude.{IfSome}
 use Rattle.std.specs.Io.KnownBytes.{Appends}
 use Rattle.std.proofs.KnownBytes.{Appends-trans}
 use Rattle.std.proofs.lemmas.List.{take_more}
-use Rattle.mig_base.specs.declared.command.Entry.{Entry}
 use Rattle.grammar.specs.declared.line.Language.TheVariants as language
 use Rattle.grammar.specs.declared.line.Line.{Line}
-use Rattle.grammar.specs.declared.line.Line.TheVariants.{Skipped, Do, Enter}
 use Rattle.engine.specs.declared.fault.RunFault.{RunFault}
 use Rattle.engine.specs.declared.fault.RunFault.TheVariants as faults
 use Rattle.engine.specs.Script.{StopsBy}
-use Rattle.engine.specs.Checking.{entries_of, wrong_line, IsTranscript, CheckStops}
-use Rattle.engine.specs.Engine.{Work, Keeping, kept_entries, nothing_kept, Works, Outputs, Front, ReadsAll}
-use Rattle.engine.proofs.Outcomes.{check_stopped, check_memory}
+use Rattle.engine.specs.Checking.{wrong_line, IsTranscript}
+use Rattle.engine.specs.Engine.{Work, kept_entries, nothing_kept, Outputs, Front, ReadsAll}
+use Rattle.engine.proofs.Outcomes.{check_stopped, check_memory, works_kept, missing_some, read_silently}
 use Rattle.explain.specs.declared.explain.Asks.{Asks}
 use Rattle.explain.specs.declared.wrong.Wrong.{Wrong}
 use Rattle.explain.specs.Explaining.{IsReason, IsReport, Lists, Explains, ExplainStops}
 
 -- ---- reading
 
--- the work on kept entries keeps those of the lines, and prints nothing
-works_kept : (entries : List Entry) (lines : List Line) (new : Work) (text : List ℕ) → Works (Keeping entries) lines new text → (new ≡ Keeping (entries ++ entries_of lines)) × (text ≡ [])
-works_kept entries [] new text p = (p.0 ∙ ap (λ (es : List Entry). Keeping es) (sym (append-nil entries)), p.1)
-works_kept entries (Skipped ∷ lines) new text p =
-    let rest = works_kept entries lines new p.2 (subst (λ (w : Work). Works w lines new p.2) p.3.0 p.5) in
-    (rest.0, p.4 ∙ ap (λ (t : List ℕ). t ++ p.2) p.3.1 ∙ rest.1)
-works_kept entries (Do order ∷ lines) new text p = absurd p.3
-works_kept entries (Enter entry ∷ lines) new text p =
-    let rest = works_kept (entries ++ entry ∷ []) lines new p.2 (subst (λ (w : Work). Works w lines new p.2) p.3.0 p.5) in
-    (rest.0 ∙ ap (λ (es : List Entry). Keeping es) (append_assoc entries (entry ∷ []) (entries_of lines)), p.4 ∙ ap (λ (t : List ℕ). t ++ p.2) p.3.1 ∙ rest.1)
-
 kept_all : (input : List ℕ) (end : Work) (u v w : Option (List ℕ)) (a : ReadsAll nothing_kept input end u v w) → IsTranscript input (kept_entries end)
 kept_all input end u v w a = (a.lines, a.reads, ap kept_entries (works_kept [] a.lines end a.text a.works).0)
 
-read_silently : (input : List ℕ) (end : Work) (u v w : Option (List ℕ)) → ReadsAll nothing_kept input end u v w → Appends v w []
-read_silently input end u v w a = subst (λ (t : List ℕ). Appends v w t) (works_kept [] a.lines end a.text a.works).1 a.appends
-
 -- ---- faults
-
-missing_some : (written more : List ℕ) → written ++ more ≡ [] → 0 < length more → ⊥
-missing_some written more e some =
-    let none : length (written ++ more) ≡ 0 = ap length e in
-    absurd (omega (arith, none, some, length-append written more))
 
 -- a check that ends before its verdict ends as a report before its text
 as_stopped : (asks : Asks) (input : List ℕ) (u : Option (List ℕ)) (fault : RunFault) (v w : Option (List ℕ)) → StopsBy language.Transcript (Outputs nothing_kept) input u fault v w → ExplainStops asks input u fault v w

@@ -14,7 +14,6 @@ use engine::line_runner::write_out;
 use engine::run::read_lines;
 use engine::{LineRunner, RunFault, ScriptReader};
 use mig_base::{Entry, NoMemory};
-use report::ReplyText;
 use std::alloc::Global;
 use std::io::{Read, Write};
 
@@ -123,7 +122,7 @@ fn write_wrong(
     ensures { OnOk result ((reason : List ℕ) × IsReason reasons reason × (string_bytes text.new ≡ string_bytes text.old ++ wrong_line wrong.index wrong.expected ++ reason)) }
 {
     let index = wrong.index;
-    let expected = ReplyText(wrong.expected);
+    let expected = wrong.expected;
     write!(text, "wrong {index} expected {expected}\n")?;
     if reasons {
         let reason = reason_of(alloc, account, wrong)?;

@@ -1,13 +1,21 @@
 -- An exploration that goes on: its text grows at its end, and fronts of it are written.
-use Rattle.std.proofs.Common.{◌≡◌, ℕ, ◌+◌, ◌≤◌, List, [], ◌∷◌, ◌++◌, length, Bool, true, false, Option, refl, sym, ap, subst, ◌∙◌, append_assoc, append-nil, length-append, arith, inl}
+use Rattle.std.proofs.Common.{◌≡◌, ℕ, ◌+◌, ◌<◌, ◌≤◌, List, [], ◌∷◌, ◌++◌, length, Bool, true, false, Option, ◌⊎◌, refl, sym, ap, subst, ◌∙◌, append_assoc, append-nil, length-append, arith, inl, inr}
 use Rattle.std.specs.Prelude.{Result, Ok, Err, OnOk, OnErr}
 use Rattle.std.specs.Io.KnownBytes.{Appends}
 use Rattle.std.proofs.KnownBytes.{Appends-nil, Appends-trans}
 use Rattle.grammar.specs.declared.line.Line.TheVariants.{Skipped, Do}
+use Rattle.grammar.specs.declared.order.Order.{Order}
+use Rattle.engine.specs.declared.line_runner.Mode.TheVariants.{Lines}
 use Rattle.engine.specs.Engine.{Front}
+use Rattle.engine.specs.Script.{MakesAny, Obeys}
 use Rattle.engine.specs.declared.fault.RunFault.{RunFault}
-use Rattle.engine.specs.WorldState.{WorldState}
-use Rattle.explore.specs.Explorations.{IsLine, IsComment, Adds, Explores, Explored, Gone, IsScript, Writes, Stops, tail}
+use Rattle.engine.specs.WorldState.{WorldState, epoch_in}
+use Rattle.mig_base.specs.declared.schedule.Step.{Step}
+use Rattle.mig_model.specs.Migration.{next}
+use Rattle.mig_model.specs.Promises.{IsComplete}
+use Rattle.finish.specs.Finishing.{needs_epoch, IsDue, steps_left}
+use Rattle.finishing.specs.Finished.{HasStep}
+use Rattle.explore.specs.Explorations.{IsComment, Adds, Explores, Explored, Gone, Going, GoesOn, StopsOn, IsCount, IsFinished, AreFew, IsScript, MakesIt, Writes, Stops, tail}
 
 -- ---- lines one after the other
 
@@ -44,12 +52,6 @@ explored_first a s out q = record {
 
 -- ---- what was written, and what is gathered
 
--- `n` lines were made: the front of the text was written, and `output` is the rest
-pub record Going (a : Bool) (s : WorldState) (n : ℕ) (world : WorldState) (w0 w1 : Option (List ℕ)) (output : List ℕ) : Type 0 where
-  pub written : List ℕ
-  pub appends : Appends w0 w1 written
-  pub explored : Explored a s n world (written ++ output)
-
 pub going_first : (a : Bool) (s : WorldState) (w : Option (List ℕ)) (output : List ℕ) → Explored a s 0 s output → Going a s 0 s w w output
 going_first a s w output p = record { written = []; appends = Appends-nil w; explored = p }
 
@@ -76,17 +78,19 @@ going_gone a s n m w0 w1 w2 b c p q = record {
   explored = subst (λ (z : List ℕ). Explored a s n m z) (ap (λ (z : List ℕ). p.written ++ z) q.whole ∙ sym (append_assoc p.written q.written c)) p.explored;
 }
 
-pub going_done : (a : Bool) (s : WorldState) (n : ℕ) (m : WorldState) (w0 w1 w2 : Option (List ℕ)) (b : List ℕ) → Going a s n m w0 w1 b → Appends w1 w2 b → Writes a s n w0 w2
-going_done a s n m w0 w1 w2 b p q = record {
+pub going_done : (a f : Bool) (s : WorldState) (steps n : ℕ) (m : WorldState) (w0 w1 w2 : Option (List ℕ)) (b : List ℕ) → Going a s n m w0 w1 b → IsCount f steps n m → Appends w1 w2 b → Writes a f s steps w0 w2
+going_done a f s steps n m w0 w1 w2 b p is q = record {
   end = m;
+  count = n;
   text = p.written ++ b;
+  number = is;
   explored = p.explored;
   appends = Appends-trans w0 w1 w2 p.written b p.appends q;
 }
 
 -- a write ended it
-pub going_cut : (a : Bool) (s : WorldState) (n most : ℕ) (m : WorldState) (w0 w1 w2 : Option (List ℕ)) (b : List ℕ) → Going a s n m w0 w1 b → n ≤ most → Front b w1 w2 → Stops a s most w0 w2
-going_cut a s n most m w0 w1 w2 b p few q = record {
+pub going_cut : (a f : Bool) (s : WorldState) (n most : ℕ) (m : WorldState) (w0 w1 w2 : Option (List ℕ)) (b : List ℕ) → Going a s n m w0 w1 b → AreFew f most n → Front b w1 w2 → Stops a f s most w0 w2
+going_cut a f s n most m w0 w1 w2 b p few q = record {
   end = m;
   count = n;
   written = p.written ++ q.0;
@@ -97,17 +101,22 @@ going_cut a s n most m w0 w1 w2 b p few q = record {
 }
 
 -- something else ended it
-pub going_stops : (a : Bool) (s : WorldState) (n most : ℕ) (m : WorldState) (w0 w1 : Option (List ℕ)) (b : List ℕ) → Going a s n m w0 w1 b → n ≤ most → Stops a s most w0 w1
-going_stops a s n most m w0 w1 b p few = record { end = m; count = n; written = p.written; more = b; few = few; explored = p.explored; appends = p.appends }
+pub going_stops : (a f : Bool) (s : WorldState) (n most : ℕ) (m : WorldState) (w0 w1 : Option (List ℕ)) (b : List ℕ) → Going a s n m w0 w1 b → AreFew f most n → Stops a f s most w0 w1
+going_stops a f s n most m w0 w1 b p few = record { end = m; count = n; written = p.written; more = b; few = few; explored = p.explored; appends = p.appends }
+
+-- a number of lines that is small enough is so in each plan
+pub are_few : (f : Bool) (most n : ℕ) → n ≤ most → AreFew f most n
+are_few false most n few = few
+are_few true most n few = tt
 
 -- nothing was written
-pub stops_first : (a : Bool) (s : WorldState) (most : ℕ) (w : Option (List ℕ)) → Stops a s most w w
-stops_first a s most w = record {
+pub stops_first : (a f : Bool) (s : WorldState) (most : ℕ) (w : Option (List ℕ)) → Stops a f s most w w
+stops_first a f s most w = record {
   end = s;
   count = 0;
   written = [];
   more = 10 ∷ [];
-  few = omega arith;
+  few = are_few f most 0 (omega arith);
   explored = record {
     comment = [];
     raws = [];
@@ -119,6 +128,50 @@ stops_first a s most w = record {
   };
   appends = Appends-nil w;
 }
+
+-- ---- the lines that complete a migration
+
+pub goes_first : (a : Bool) (m : WorldState) (w : Option (List ℕ)) (b : List ℕ) → GoesOn a m w b m w b
+goes_first a m w b = λ start count before p. (count, omega arith, p)
+
+pub goes_line : (a : Bool) (o m e : WorldState) (w0 w1 w2 : Option (List ℕ)) (b0 b c d : List ℕ) → GoesOn a o w0 b0 m w1 b → Adds a m e b c → Gone c d w1 w2 → GoesOn a o w0 b0 e w2 d
+goes_line a o m e w0 w1 w2 b0 b c d on added gone = λ start count before p.
+    let so_far = on start count before p in
+    (so_far.0 + 1, omega (arith, so_far.1), going_gone a start (so_far.0 + 1) e before w1 w2 c d (going_added a start so_far.0 m e before w1 b c so_far.2 added) gone)
+
+pub goes_stops : (a : Bool) (o m : WorldState) (w0 w1 : Option (List ℕ)) (b0 b : List ℕ) → GoesOn a o w0 b0 m w1 b → StopsOn a o w0 b0 w1
+goes_stops a o m w0 w1 b0 b on = λ start count before p.
+    let so_far = on start count before p in
+    going_stops a true start so_far.0 count m before w1 b so_far.2 tt
+
+pub goes_cut : (a : Bool) (o m e : WorldState) (w0 w1 w2 : Option (List ℕ)) (b0 b c : List ℕ) → GoesOn a o w0 b0 m w1 b → Adds a m e b c → Front c w1 w2 → StopsOn a o w0 b0 w2
+goes_cut a o m e w0 w1 w2 b0 b c on added front = λ start count before p.
+    let so_far = on start count before p in
+    going_cut a true start (so_far.0 + 1) count e before w1 w2 c (going_added a start so_far.0 m e before w1 b c so_far.2 added) tt front
+
+-- ---- what comes behind the steps
+
+abbrev pub DoneOn : Bool → Bool → ℕ → WorldState → Option (List ℕ) → List ℕ → Option (List ℕ) → Type 0
+DoneOn a f steps m w0 b w1 = (start : WorldState) (before : Option (List ℕ)) → Going a start steps m before w0 b → Writes a f start steps before w1
+
+abbrev pub CutOn : Bool → Bool → ℕ → WorldState → Option (List ℕ) → List ℕ → Option (List ℕ) → Type 0
+CutOn a f steps m w0 b w1 = (start : WorldState) (before : Option (List ℕ)) → Going a start steps m before w0 b → Stops a f start steps before w1
+
+pub end_done : (a : Bool) (steps : ℕ) (m : WorldState) (w0 w1 : Option (List ℕ)) (b : List ℕ) → Appends w0 w1 b → DoneOn a false steps m w0 b w1
+end_done a steps m w0 w1 b appends = λ start before p. going_done a false start steps steps m before w0 w1 b p refl appends
+
+pub end_cut : (a : Bool) (steps : ℕ) (m : WorldState) (w0 w1 : Option (List ℕ)) (b : List ℕ) → Front b w0 w1 → CutOn a false steps m w0 b w1
+end_cut a steps m w0 w1 b front = λ start before p. going_cut a false start steps steps m before w0 w1 b p (omega arith) front
+
+pub finish_done : (a : Bool) (steps : ℕ) (m e : WorldState) (w0 w1 w2 : Option (List ℕ)) (b c : List ℕ) → GoesOn a m w0 b e w1 c → IsComplete e ⊎ (needs_epoch e ≡ true) → Appends w1 w2 c → DoneOn a true steps m w0 b w2
+finish_done a steps m e w0 w1 w2 b c on ended appends = λ start before p.
+    let gone = on start steps before p in
+    going_done a true start steps gone.0 e before w1 w2 c gone.2 (gone.1, ended) appends
+
+pub finish_cut : (a : Bool) (steps : ℕ) (m e : WorldState) (w0 w1 w2 : Option (List ℕ)) (b c : List ℕ) → GoesOn a m w0 b e w1 c → Front c w1 w2 → CutOn a true steps m w0 b w2
+finish_cut a steps m e w0 w1 w2 b c on front = λ start before p.
+    let gone = on start steps before p in
+    going_cut a true start gone.0 steps e before w1 w2 c gone.2 tt front
 
 -- ---- without answers, the text is a script
 
@@ -153,10 +206,47 @@ pub on_err : (r : Result (Unit {0}) RunFault) (P : Type 0) → P → OnErr r P
 on_err (Ok done) P p = tt
 on_err (Err fault) P p = p
 
-pub on_err_then : (r : Result (Unit {0}) RunFault) (P Q : Type 0) → (P → Q) → OnErr r P → OnErr r Q
-on_err_then (Ok done) P Q f p = tt
-on_err_then (Err fault) P Q f p = f p
+-- ---- how a script ends, by the outcome of its last call
 
-pub on_ok_then : (r : Result (Unit {0}) RunFault) (P Q : Type 0) → (P → Q) → OnOk r P → OnOk r Q
-on_ok_then (Ok done) P Q f p = f p
-on_ok_then (Err fault) P Q f p = tt
+pub ended_ok : (r : Result (Unit {0}) RunFault) (a f : Bool) (steps : ℕ) (start m : WorldState) (before w0 w1 : Option (List ℕ)) (b : List ℕ)
+    → Going a start steps m before w0 b → OnOk r (DoneOn a f steps m w0 b w1) → OnOk r (Writes a f start steps before w1)
+ended_ok (Ok done) a f steps start m before w0 w1 b going p = p start before going
+ended_ok (Err fault) a f steps start m before w0 w1 b going p = tt
+
+pub ended_fault : (r : Result (Unit {0}) RunFault) (a f : Bool) (steps : ℕ) (start m : WorldState) (before w0 w1 : Option (List ℕ)) (b : List ℕ)
+    → Going a start steps m before w0 b → OnErr r (CutOn a f steps m w0 b w1) → OnErr r (Stops a f start steps before w1)
+ended_fault (Ok done) a f steps start m before w0 w1 b going p = tt
+ended_fault (Err fault) a f steps start m before w0 w1 b going p = p start before going
+
+pub end_ok : (r : Result (Unit {0}) RunFault) (a f : Bool) (steps : ℕ) (m : WorldState) (w0 w1 : Option (List ℕ)) (b : List ℕ)
+    → f ≡ false → OnOk r (Appends w0 w1 b) → OnOk r (DoneOn a f steps m w0 b w1)
+end_ok (Ok done) a f steps m w0 w1 b is p = subst (λ (g : Bool). DoneOn a g steps m w0 b w1) (sym is) (end_done a steps m w0 w1 b p)
+end_ok (Err fault) a f steps m w0 w1 b is p = tt
+
+pub end_fault : (r : Result (Unit {0}) RunFault) (a f : Bool) (steps : ℕ) (m : WorldState) (w0 w1 : Option (List ℕ)) (b : List ℕ)
+    → f ≡ false → OnErr r (Front b w0 w1) → OnErr r (CutOn a f steps m w0 b w1)
+end_fault (Ok done) a f steps m w0 w1 b is p = tt
+end_fault (Err fault) a f steps m w0 w1 b is p = subst (λ (g : Bool). CutOn a g steps m w0 b w1) (sym is) (end_cut a steps m w0 w1 b p)
+
+pub finish_ok : (r : Result (Unit {0}) RunFault) (a f : Bool) (steps : ℕ) (m e : WorldState) (w0 w1 w2 : Option (List ℕ)) (b c : List ℕ)
+    → f ≡ true → GoesOn a m w0 b e w1 c → IsComplete e ⊎ (needs_epoch e ≡ true) → OnOk r (Appends w1 w2 c) → OnOk r (DoneOn a f steps m w0 b w2)
+finish_ok (Ok done) a f steps m e w0 w1 w2 b c is on ended p = subst (λ (g : Bool). DoneOn a g steps m w0 b w2) (sym is) (finish_done a steps m e w0 w1 w2 b c on ended p)
+finish_ok (Err fault) a f steps m e w0 w1 w2 b c is on ended p = tt
+
+pub finish_fault : (r : Result (Unit {0}) RunFault) (a f : Bool) (steps : ℕ) (m e : WorldState) (w0 w1 w2 : Option (List ℕ)) (b c : List ℕ)
+    → f ≡ true → GoesOn a m w0 b e w1 c → OnErr r (Front c w1 w2) → OnErr r (CutOn a f steps m w0 b w2)
+finish_fault (Ok done) a f steps m e w0 w1 w2 b c is on p = tt
+finish_fault (Err fault) a f steps m e w0 w1 w2 b c is on p = subst (λ (g : Bool). CutOn a g steps m w0 b w2) (sym is) (finish_cut a steps m e w0 w1 w2 b c on p)
+
+-- ---- a step that was made
+
+pub made_step : (old new : WorldState) (order : Order) (step : Step) (out : List ℕ) → HasStep order step → Obeys Lines old order new out → MakesIt old step new
+made_step old new order step out has obeys =
+    let p = subst (λ (made : Option Step). MakesAny Lines old made new out) (has (epoch_in old)) obeys in
+    elim p.1.1 [
+      | inl h ↦ h.1
+      | inr h ↦ absurd (p.1.0 h.0)
+    ]
+
+pub fewer_left : (old new : WorldState) (step : Step) → IsDue old step → MakesIt old step new → steps_left new < steps_left old
+fewer_left old new step due made = rw made due.fewer

@@ -1,22 +1,19 @@
 -- The text of an exploration: a comment, the lines of a script, and behind each what a run prints for it.
-use Rattle.std.specs.Prelude.{◌≡◌, ℕ, ◌≤◌, ◌+◌, List, [], ◌∷◌, ◌++◌, length, Bool, true, false, Option, codes}
+use Rattle.std.specs.Prelude.{◌≡◌, ℕ, ◌≤◌, ◌+◌, ◌⊎◌, ⊤, List, [], ◌∷◌, ◌++◌, length, Bool, true, false, Option, codes}
 use Rattle.std.specs.Io.KnownBytes.{Appends}
-use Rattle.std.specs.Str.Lines.{strip_carriage_return}
+use Rattle.mig_base.specs.declared.schedule.Step.{Step}
+use Rattle.mig_model.specs.Migration.{next}
+use Rattle.mig_model.specs.Promises.{IsComplete}
 use Rattle.grammar.specs.declared.line.Language.TheVariants.{Script}
 use Rattle.grammar.specs.declared.line.Line.{Line}
 use Rattle.grammar.specs.declared.line.Line.TheVariants.{Skipped, Do}
 use Rattle.grammar.specs.declared.order.Order.{Order}
-use Rattle.grammar.specs.Lines.{HasNoFeed, Reads}
-use Rattle.grammar.specs.Spelling.{Spells}
+use Rattle.grammar.specs.Lines.{Reads}
 use Rattle.engine.specs.declared.line_runner.Mode.TheVariants.{Lines}
 use Rattle.engine.specs.Script.{Obeys, Runs}
 use Rattle.engine.specs.WorldState.{WorldState}
-
--- the text, without a line feed, is a line of a script that says this
-pub record IsLine (raw : List ℕ) (line : Line) : Type 0 where
-  pub one : HasNoFeed raw
-  pub short : length raw ≤ 256
-  pub spells : Spells Script (strip_carriage_return raw) line
+use Rattle.finish.specs.Finishing.{needs_epoch}
+use Rattle.finishing.specs.Finished.{IsLine}
 
 -- what stands behind the text of a line: its line feed, or with answers => and the line that a run prints
 abbrev pub tail : Bool → List ℕ → List ℕ
@@ -60,22 +57,58 @@ pub record Gone (text rest : List ℕ) (before after : Option (List ℕ)) : Type
   pub whole : text ≡ written ++ rest
   pub appends : Appends before after written
 
+-- the lines lead from the start to this world; the front of their text was written, and `output` is the rest
+pub record Going (answers : Bool) (start : WorldState) (count : ℕ) (world : WorldState) (before after : Option (List ℕ)) (output : List ℕ) : Type 0 where
+  pub written : List ℕ
+  pub appends : Appends before after written
+  pub explored : Explored answers start count world (written ++ output)
+
+-- the world made this step
+abbrev pub MakesIt : WorldState → Step → WorldState → Type 0
+MakesIt old step new = new ≡ next old step
+
+-- this number of lines or more lead to a world where the migration is complete, or needs an epoch after the last
+abbrev pub IsFinished : ℕ → ℕ → WorldState → Type 0
+IsFinished steps count end = (steps ≤ count) × (IsComplete end ⊎ (needs_epoch end ≡ true))
+
+-- the number of lines behind the comment: that of the steps, and with `finish` the lines that complete the migration
+abbrev pub IsCount : Bool → ℕ → ℕ → WorldState → Type 0
+IsCount false steps count end = count ≡ steps
+IsCount true steps count end = IsFinished steps count end
+
+-- no more lines than these, or with `finish` any number
+abbrev pub AreFew : Bool → ℕ → ℕ → Type 0
+AreFew false most count = count ≤ most
+AreFew true most count = ⊤
+
+-- whatever lines led here, they go on to the second world
+abbrev pub GoesOn : Bool → WorldState → Option (List ℕ) → List ℕ → WorldState → Option (List ℕ) → List ℕ → Type 0
+GoesOn answers old gone output new now rest = (start : WorldState) (count : ℕ) (before : Option (List ℕ)) → Going answers start count old before gone output
+    → (more : ℕ) × (count ≤ more) × Going answers start more new before now rest
+
 -- a whole text was written
-pub record Writes (answers : Bool) (start : WorldState) (count : ℕ) (before after : Option (List ℕ)) : Type 0 where
+pub record Writes (answers finish : Bool) (start : WorldState) (steps : ℕ) (before after : Option (List ℕ)) : Type 0 where
   pub end : WorldState
+  pub count : ℕ
   pub text : List ℕ
+  pub number : IsCount finish steps count end
   pub explored : Explored answers start count end text
   pub appends : Appends before after text
 
--- a front of a text was written, which has at most this number of lines
-pub record Stops (answers : Bool) (start : WorldState) (most : ℕ) (before after : Option (List ℕ)) : Type 0 where
+-- a front of a text was written
+pub record Stops (answers finish : Bool) (start : WorldState) (most : ℕ) (before after : Option (List ℕ)) : Type 0 where
   pub end : WorldState
   pub count : ℕ
   pub written : List ℕ
   pub more : List ℕ
-  pub few : count ≤ most
+  pub few : AreFew finish most count
   pub explored : Explored answers start count end (written ++ more)
   pub appends : Appends before after written
+
+-- whatever lines led here, they end on the way to the completion
+abbrev pub StopsOn : Bool → WorldState → Option (List ℕ) → List ℕ → Option (List ℕ) → Type 0
+StopsOn answers old gone output now = (start : WorldState) (count : ℕ) (before : Option (List ℕ)) → Going answers start count old before gone output
+    → Stops answers true start count before now
 
 -- the text is a script of this number of lines, whose run leads from the first state to the last
 pub record IsScript (start end : WorldState) (count : ℕ) (text : List ℕ) : Type 0 where

@@ -6,7 +6,7 @@
 //! `docs/EXPLORE.md` explains it, `specs/Explorations.antt` defines what is written, and [`laws`] says that it is a script.
 //!
 //! The modules: `plan` (what the caller chooses), `weights` (what a profile means), `course` (what is fixed for one script), `commands` and
-//! `steps` (the draws), `print` (an order as a line), `lines` (one line after the other), `run` (the whole script).
+//! `steps` (the draws), `lines` (one line after the other), `run` (the whole script).
 #![tactic(auto)]
 
 mod commands;
@@ -14,12 +14,10 @@ mod course;
 pub mod laws;
 mod lines;
 mod plan;
-mod print;
 mod random;
 mod run;
 mod steps;
 mod weights;
 
 pub use crate::plan::{Plan, Profile, VERSION};
-pub use crate::print::OrderText;
 pub use crate::run::run_explore;

@@ -1,28 +1,21 @@
 //! One line of a script after the other.
 
-ghost use Rattle.std.specs.Prelude.{◌≡◌, ◌<◌, ◌≤◌, ◌++◌, [], length, IfOk, OnOk, string_bytes};
+ghost use Rattle.std.specs.Prelude.{◌≡◌, ◌<◌, ◌++◌, [], OnOk, string_bytes};
 ghost use Rattle.engine.specs.declared.line_runner.Mode.TheVariants.{Lines};
 ghost use Rattle.engine.specs.Script.{Makes, Obeys, told};
-ghost use Rattle.grammar.specs.Lines.{HasNoFeed};
-ghost use Rattle.std.specs.Str.Lines.{strip_carriage_return};
-ghost use Rattle.explore.specs.Explorations.{IsLine, IsComment, Adds, tail};
+ghost use Rattle.explore.specs.Explorations.{IsComment, Adds, MakesIt, tail};
 
 use crate::course::Memo;
 use crate::plan::{Plan, VERSION};
-use crate::print::OrderText;
 use engine::{RunFault, progress};
-use grammar::parse::parse;
-use grammar::{Language, Line, Order, Token, print_line, print_progress};
-use memchr::memchr;
+use finishing::{print_order, read_back, spell};
+use grammar::{Line, Order, Token, print_line, print_progress};
 use mig_base::effect::Effect;
 use mig_base::refusal::Refusal;
 use mig_base::schedule::Step;
 use mig_base::{HIGH_PAGE, LOW_PAGE, PAGE_SIZE, PageNo};
 use std::alloc::Global;
 use world::World;
-
-/// The most bytes of a line.
-const MAX_LINE: usize = 256;
 
 /// The text that was printed and not written yet, and room that is used again from line to line.
 #[derive(Drop)]
@@ -36,41 +29,6 @@ pub(crate) struct Sheet {
     pub output: Vec<u8>,
 }
 
-/// Checks that a text can be one line.
-fn check_cut(text: &[u8], number: u64) -> Result<(), RunFault>
-    ensures one { OnOk result (HasNoFeed text.now) }
-    ensures short { OnOk result (length text.now ≤ 256) }
-{
-    if text.len() > MAX_LINE {
-        return Err(RunFault::Line(number));
-    }
-    match memchr(b'\n', text) {
-        None => Ok(()),
-        Some(_) => Err(RunFault::Line(number)),
-    }
-}
-
-/// A line before its line feed, without a carriage return at its end.
-fn without_return(raw: &[u8]) -> &[u8]
-    ensures { result.now ≡ strip_carriage_return raw.now }
-{
-    match raw {
-        [text @ .., b'\r'] => text,
-        _ => raw,
-    }
-}
-
-/// What the text of a line says, read as `postmig run` reads it.
-fn read_back(tokens: &mut Vec<Token>, text: &[u8], number: u64) -> Result<Line, RunFault>
-    ensures { IfOk result (λ line. IsLine text.now line) }
-{
-    check_cut(text, number)?;
-    match parse(Language::Script, tokens, without_return(text))? {
-        Some(line) => Ok(line),
-        None => Err(RunFault::Line(number)),
-    }
-}
-
 /// Gathers a line, and with `answers` what a run prints for it.
 fn gather(output: &mut Vec<u8>, line: &str, answers: bool, answer: &str) -> Result<(), RunFault>
     ensures { OnOk result (output.new.items ≡ output.old.items ++ (line.now ++ tail answers answer.now)) }
@@ -82,14 +40,6 @@ fn gather(output: &mut Vec<u8>, line: &str, answers: bool, answer: &str) -> Resu
     } else {
         output.push(b'\n')?;
     }
-    Ok(())
-}
-
-/// Replaces a text by that of an order, as a line of a script has it.
-fn print_order(text: &mut String, order: Order) -> Result<(), RunFault> {
-    text.clear();
-    let order = OrderText(order);
-    write!(text, "{order}")?;
     Ok(())
 }
 
@@ -145,6 +95,21 @@ impl Sheet {
             }
             Line::Skipped | Line::Enter(_) => Err(RunFault::Line(number)),
         }
+    }
+
+    /// Prints a step as a line, makes it, and gathers the line.
+    pub(crate) fn add_step(
+        &mut self,
+        world: &mut World,
+        step: Step,
+        answers: bool,
+    ) -> Result<(), RunFault>
+        ensures added { OnOk result (Adds answers world.old world.new self.old.output.items self.new.output.items) }
+        ensures made { OnOk result (MakesIt world.old step world.new) }
+    {
+        let order = spell(step, &mut self.line, &mut self.tokens)?;
+        obey(world, order, &mut self.answer)?;
+        gather(&mut self.output, &self.line, answers, &self.answer)
     }
 }
 

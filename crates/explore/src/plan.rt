@@ -80,6 +80,8 @@ pub struct Plan {
     pub profile: Profile,
     /// The number of pages from which commands draw their addresses, 1 to 4,096. They lie from 0x10000 on.
     pub pages: u16,
+    /// Whether lines that complete the migration stand behind the steps.
+    pub finish: bool,
     /// Whether ` => ` and the line that `postmig run` would print stand behind each line.
     pub answers: bool,
 }
@@ -91,8 +93,9 @@ impl fmt::Display for Plan {
         let cpus = self.cpus;
         let profile = self.profile.name();
         let pages = self.pages;
+        let finish = if self.finish { " --finish" } else { "" };
         let answers = if self.answers { " --answers" } else { "" };
         write!(f, "--seed {seed} --steps {steps} --cpus {cpus} ")?;
-        write!(f, "--profile {profile} --pages {pages}{answers}")
+        write!(f, "--profile {profile} --pages {pages}{finish}{answers}")
     }
 }

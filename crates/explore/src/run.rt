@@ -1,10 +1,12 @@
 //! Writing a whole script.
 
-ghost use Rattle.std.specs.Prelude.{◌≡◌, ◌<◌, ◌≤◌, [], OnOk, OnErr};
+ghost use Rattle.std.specs.Prelude.{◌≡◌, ◌<◌, ◌≤◌, ◌⊎◌, ℕ, List, [], Option, true, OnOk, OnErr};
 ghost use Rattle.std.specs.Io.KnownBytes.{Appends};
 ghost use Rattle.engine.specs.Engine.{Front};
-ghost use Rattle.engine.specs.WorldState.{first_state};
-ghost use Rattle.explore.specs.Explorations.{Explored, Gone, Writes, Stops};
+ghost use Rattle.engine.specs.WorldState.{WorldState, first_state};
+ghost use Rattle.mig_model.specs.Promises.{IsComplete};
+ghost use Rattle.finish.specs.Finishing.{needs_epoch};
+ghost use Rattle.explore.specs.Explorations.{Explored, Gone, Going, GoesOn, StopsOn, Writes, Stops};
 
 use crate::course::{Course, Memo, draw_course};
 use crate::lines::Sheet;
@@ -12,6 +14,7 @@ use crate::plan::Plan;
 use crate::steps::draw_order;
 use engine::RunFault;
 use engine::line_runner::write_out;
+use finish::next_to_finish;
 use rand_core::Rng;
 use rand_pcg::Pcg32;
 use std::alloc::Global;
@@ -25,7 +28,9 @@ const STREAM: u64 = 1;
 const PIECE: usize = 16_384;
 
 /// Writes a random script: a comment that says how it was made, and one line for each of the plan's steps. About nine lines of ten are
-/// steps that the world of that script makes, and the others are steps that it refuses. The same plan has the same text.
+/// steps that the world of that script makes, and the others are steps that it refuses. Where the plan says so, lines that complete the
+/// migration stand behind them; they end before that only where a Start or a Resume is needed and the epoch is the last. The same plan
+/// has the same text.
 ///
 /// `WriteFault` comes if a write fails or takes no byte; the first part of the text is written then. `NoMemory` comes if an allocation
 /// fails; some lines from the first on are written then, each in full. `Line` would come for a line that `postmig run` does not read,
@@ -35,8 +40,8 @@ pub fn run_explore<W: Write>(alloc: Global, writer: &mut W, plan: &Plan) -> Resu
     requires high { plan.now.cpus ≤ 16 }
     requires some { 1 ≤ plan.now.pages }
     requires few { plan.now.pages ≤ 4096 }
-    ensures ok { OnOk result (Writes plan.now.answers (first_state plan.now.cpus) plan.now.steps (W.contents writer.old) (W.contents writer.new)) }
-    ensures fault { OnErr result (Stops plan.now.answers (first_state plan.now.cpus) plan.now.steps (W.contents writer.old) (W.contents writer.new)) }
+    ensures ok { OnOk result (Writes plan.now.answers plan.now.finish (first_state plan.now.cpus) plan.now.steps (W.contents writer.old) (W.contents writer.new)) }
+    ensures fault { OnErr result (Stops plan.now.answers plan.now.finish (first_state plan.now.cpus) plan.now.steps (W.contents writer.old) (W.contents writer.new)) }
 {
     let Ok(mut world) = World::new(alloc, plan.cpus) else {
         return Err(RunFault::NoMemory);
@@ -57,8 +62,8 @@ fn write_script<W: Write>(
     requires some { 1 ≤ plan.now.pages }
     requires few { plan.now.pages ≤ 4096 }
     requires start { Explored plan.now.answers world.old 0 world.old sheet.old.output.items }
-    ensures ok { OnOk result (Writes plan.now.answers world.old plan.now.steps (W.contents writer.old) (W.contents writer.new)) }
-    ensures fault { OnErr result (Stops plan.now.answers world.old plan.now.steps (W.contents writer.old) (W.contents writer.new)) }
+    ensures ok { OnOk result (Writes plan.now.answers plan.now.finish world.old plan.now.steps (W.contents writer.old) (W.contents writer.new)) }
+    ensures fault { OnErr result (Stops plan.now.answers plan.now.finish world.old plan.now.steps (W.contents writer.old) (W.contents writer.new)) }
 {
     let mut rng = Pcg32::new(plan.seed, STREAM);
     let course = draw_course(&mut rng, plan);
@@ -97,8 +102,8 @@ fn write_lines<W: Write, R: Rng>(
     plan: &Plan,
 ) -> Result<(), RunFault>
     requires { Explored plan.now.answers world.old 0 world.old sheet.old.output.items }
-    ensures ok { OnOk result (Writes plan.now.answers world.old plan.now.steps (W.contents writer.old) (W.contents writer.new)) }
-    ensures fault { OnErr result (Stops plan.now.answers world.old plan.now.steps (W.contents writer.old) (W.contents writer.new)) }
+    ensures ok { OnOk result (Writes plan.now.answers plan.now.finish world.old plan.now.steps (W.contents writer.old) (W.contents writer.new)) }
+    ensures fault { OnErr result (Stops plan.now.answers plan.now.finish world.old plan.now.steps (W.contents writer.old) (W.contents writer.new)) }
 {
     let mut memo = Memo::new();
     for _ in 0..plan.steps {
@@ -106,5 +111,42 @@ fn write_lines<W: Write, R: Rng>(
         sheet.add_order(world, &mut memo, order, plan.answers)?;
         flush_much(writer, sheet)?;
     }
+    write_end(writer, world, sheet, plan)
+}
+
+/// Writes what comes behind the steps: what was gathered, and the lines that complete the migration, if the plan has them.
+fn write_end<W: Write>(
+    writer: &mut W,
+    world: &mut World,
+    sheet: &mut Sheet,
+    plan: &Plan,
+) -> Result<(), RunFault>
+    ensures ok { OnOk result ((start : WorldState) (before : Option (List ℕ)) → Going plan.now.answers start plan.now.steps world.old before (W.contents writer.old) sheet.old.output.items
+        → Writes plan.now.answers plan.now.finish start plan.now.steps before (W.contents writer.new)) }
+    ensures fault { OnErr result ((start : WorldState) (before : Option (List ℕ)) → Going plan.now.answers start plan.now.steps world.old before (W.contents writer.old) sheet.old.output.items
+        → Stops plan.now.answers plan.now.finish start plan.now.steps before (W.contents writer.new)) }
+{
+    if !plan.finish {
+        return flush(writer, sheet);
+    }
+    write_finish(writer, world, sheet, plan.answers)?;
     flush(writer, sheet)
+}
+
+/// Writes the lines that complete the migration.
+fn write_finish<W: Write>(
+    writer: &mut W,
+    world: &mut World,
+    sheet: &mut Sheet,
+    answers: bool,
+) -> Result<(), RunFault>
+    ensures ok { OnOk result (GoesOn answers world.old (W.contents writer.old) sheet.old.output.items world.new (W.contents writer.new) sheet.new.output.items) }
+    ensures ended { OnOk result (IsComplete world.new ⊎ (needs_epoch world.new ≡ true)) }
+    ensures fault { OnErr result (StopsOn answers world.old (W.contents writer.old) sheet.old.output.items (W.contents writer.new)) }
+{
+    while let Some(step) = next_to_finish(world) {
+        sheet.add_step(world, step, answers)?;
+        flush_much(writer, sheet)?;
+    }
+    Ok(())
 }

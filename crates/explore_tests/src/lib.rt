@@ -2,6 +2,4 @@
 #![tactic(auto)]
 
 #[cfg(test)]
-mod lines;
-#[cfg(test)]
 mod scripts;

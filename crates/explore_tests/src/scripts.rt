@@ -16,6 +16,7 @@ const PLAN: Plan = Plan {
     cpus: 2,
     profile: Profile::All,
     pages: 8,
+    finish: false,
     answers: false,
 };
 
@@ -189,6 +190,38 @@ fn each_profile_runs(rt: HostRuntime) -> Result<(), Fail> {
     }
     assert_eq!(rt; Profile::named("All"), None);
     Ok(())
+}
+
+/// The lines of the script are the same, and those behind them complete the migration: `progress` is the last line of each.
+#[test]
+fn each_profile_is_finished(rt: HostRuntime) -> Result<(), Fail> {
+    for profile in Profile::ALL {
+        let short = Plan { profile, ..PLAN };
+        let plan = Plan {
+            finish: true,
+            ..short
+        };
+        let (fault, mut text) = explored(rt.alloc(), &plan)?;
+        assert_eq!(rt; fault, None);
+        text.extend_from_slice(b"progress\n")?;
+        let (fault, printed) = run(rt.alloc(), &text, Mode::Lines)?;
+        assert_eq!(rt; fault, None);
+        let last = printed.split(|byte| *byte == b'\n').rev().nth(1);
+        let is_complete = last.is_some_and(|line| line.starts_with(b"progress phase complete "));
+        assert!(rt; is_complete, "not complete");
+    }
+    Ok(())
+}
+
+/// With the lines that complete the migration, too, the answers are those of a run.
+#[test]
+fn a_finished_script_has_answers(rt: HostRuntime) -> Result<(), Fail> {
+    let plan = Plan {
+        finish: true,
+        answers: true,
+        ..PLAN
+    };
+    answers_are_those_of_a_run(&rt, rt.alloc(), &plan)
 }
 
 /// Without answers the lines are the same.

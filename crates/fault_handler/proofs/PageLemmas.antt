@@ -1,30 +1,26 @@
 -- The pages of the source that a destination names may be mapped.
 use Rattle.std.proofs.lemmas.Bool.Decides.{nat_tests}
-use Rattle.std.proofs.Common.{◌≡◌, ℕ, ◌+◌, ◌-◌, ◌≤◌, Bool, true, false, cond, eqb, Option, Some, None, List, [], ◌∷◌, ◌++◌, if◌then◌else◌, sym, ap, ◌∙◌, subst, arith}
+use Rattle.std.proofs.Common.{◌≡◌, ℕ, ◌-◌, ◌≤◌, Bool, true, false, cond, Option, Some, None, List, [], sym, ap, ◌∙◌, subst, arith}
 use Rattle.std.specs.Cmp.{nat_cmp_total}
 use Rattle.std.specs.Ordering.{nat_cmp}
 use Rattle.std.specs.FinMap as finmap
 use Rattle.std.specs.FinMap.{get, get-empty, get-remove}
-use Rattle.std.specs.FinSet.{FinSet, contains, len-empty}
+use Rattle.std.specs.FinSet.{FinSet, contains}
 use Rattle.std.proofs.lemmas.Bool.{false_from_ne_true}
 use Rattle.std.proofs.lemmas.Option.{none-some}
 use Rattle.mig_base.specs.declared.TheConstants.{HIGH_PAGE}
 use Rattle.mig_base.specs.declared.message.Message.{Message}
-use Rattle.mig_model.specs.Bounds.{AreFewPages, IsPage}
+use Rattle.mig_model.specs.Bounds.{AreFewPages, IsPage, AreListed}
 use Rattle.mig_model.specs.Destination.{destination_act_by}
 use Rattle.mig_model.specs.Guest.{Act}
 use Rattle.mig_model.specs.Log.{no_pages}
 use Rattle.mig_model.specs.Owed.{Owed, is_requested, origins, own_places, owed_table_after, requesting, without_request}
 use Rattle.mig_model.proofs.Delivery.{pair-origins}
-use Rattle.mig_model.proofs.Facts.{no_page}
 use Rattle.mig_model.proofs.PackageTaken.{own_place}
 use Rattle.mig_model.proofs.SetSizes.{len-part}
 use Rattle.mig_model.proofs.SettledLemmas.{get-owed_table_after, values-after}
 use Rattle.fault_handler.specs.Order.{HasPages}
-use Rattle.fault_handler.specs.Requests.{AreListed}
-
-few_none : AreFewPages no_pages
-few_none = (λ page h. no_page page h, let none = len-empty nat_cmp in omega (arith, none))
+use Rattle.mig_model.proofs.PageLists.{few_none, listed-without, listed_or_more}
 
 pub none_paged : HasPages finmap.empty []
 none_paged = record {
@@ -64,29 +60,15 @@ removed_one : (here : Bool) (o : Option ℕ) (origin : ℕ) → cond here None o
 removed_one true o origin h = absurd (cc)
 removed_one false o origin h = h
 
-without_first : (here : Bool) (request : ℕ) (requests less : List ℕ) → IsPage request → AreListed requests → AreListed less → AreListed (if here then requests else request ∷ less)
-without_first here request requests less is are left = grind (arith, nat_tests)
-
-listed_without : (requests : List ℕ) (origin : ℕ) → AreListed requests → AreListed (without_request requests origin)
-listed_without [] origin are = tt
-listed_without (request ∷ requests) origin are = without_first (eqb request origin) request requests (without_request requests origin) are.0 are.1 (listed_without requests origin are.1)
-
 pub installed_paged : (owed now : Owed) (page : ℕ) (requests asked : List ℕ) (origin : ℕ) → now ≡ finmap.remove owed page → asked ≡ without_request requests origin → HasPages owed requests → HasPages now asked
 installed_paged owed now page requests asked origin is ends old = record {
   first = old.first;
   few = old.few;
   among = λ q from h. old.among q from (removed_one _ (get owed q) from (sym (get-remove nat_cmp_total owed page q) ∙ ap (λ p. get p q) (sym is) ∙ h));
-  listed = subst AreListed (sym ends) (listed_without requests origin old.listed);
+  listed = subst AreListed (sym ends) (listed-without requests origin old.listed);
 }
 
 -- a page is asked for
-
-listed_push : (pages : List ℕ) (page : ℕ) → AreListed pages → IsPage page → AreListed (pages ++ page ∷ [])
-listed_push [] page are is = (is, tt)
-listed_push (first ∷ pages) page are is = (are.0, listed_push pages page are.1 is)
-
-listed_or_more : (asked : Bool) (requests : List ℕ) (origin : ℕ) → AreListed requests → IsPage origin → AreListed (if asked then requests else requests ++ origin ∷ [])
-listed_or_more asked requests origin are is = grind (arith, nat_tests, listed_push)
 
 pub requested_paged : (owed : Owed) (requests asked : List ℕ) (origin : ℕ) → asked ≡ requesting requests origin → IsPage origin → HasPages owed requests → HasPages owed asked
 requested_paged owed requests asked origin is page old =

@@ -6,7 +6,7 @@ use Rattle.std.specs.Ordering.{nat_cmp}
 use Rattle.mig_base.specs.declared.TheConstants.{PAGE_SIZE, HIGH_PAGE}
 use Rattle.mig_base.specs.declared.message.Message.{Message}
 use Rattle.mig_base.specs.declared.message.Message.TheVariants.{PageFault, Remap, Remove, Unmap}
-use Rattle.mig_model.specs.Bounds.{AreFewPages}
+use Rattle.mig_model.specs.Bounds.{AreFewPages, AreListed}
 use Rattle.mig_model.specs.Guest.{is_present}
 use Rattle.mig_model.specs.Promises.{AreFaults}
 use Rattle.mig_model.specs.Invariant.{AreRight}
@@ -14,7 +14,6 @@ use Rattle.mig_model.specs.Owed.{Owed, settled_by}
 use Rattle.mig_model.specs.Space.{Space}
 use Rattle.mig_model.specs.Userfault.{Noted}
 use Rattle.guest.specs.Lent.{IsLent}
-use Rattle.fault_handler.specs.Requests.{AreListed}
 
 -- the pages of an event lie in the address space, and the two ranges of a move do not overlap
 abbrev pub LiesInside : Message → Type 0

@@ -1,13 +1,7 @@
 -- The pages of the source that a destination has asked for.
-use Rattle.std.specs.Prelude.{ℕ, ◌==◌, List, [], ◌∷◌}
+use Rattle.std.specs.Prelude.{ℕ, ◌==◌, List}
 use Rattle.std.specs.List.{IsDistinct}
-use Rattle.mig_model.specs.Bounds.{IsPage}
 
 -- each page is in the list once
 abbrev pub StandOnce : List ℕ → Type 0
 StandOnce pages = IsDistinct (λ page other. page == other) pages
-
--- each page may be mapped
-abbrev pub AreListed : List ℕ → Type 0
-AreListed [] = Unit {0}
-AreListed (page ∷ pages) = IsPage page × AreListed pages

@@ -3,9 +3,9 @@
 ghost use Rattle.std.specs.Prelude.{◌≡◌, ◌↔◌, false, length, IfOk, Err};
 ghost use Rattle.mig_model.specs.Destination as machine;
 ghost use Rattle.vcpu.specs.Answers.{is_count};
-ghost use Rattle.mig_model.specs.Bounds.{AreFewPages};
+ghost use Rattle.mig_model.specs.Bounds.{AreFewPages, AreListed};
 ghost use Rattle.mig_model.specs.Owed.{origins};
-ghost use Rattle.fault_handler.specs.Requests.{AreListed, StandOnce};
+ghost use Rattle.fault_handler.specs.Requests.{StandOnce};
 
 mod commands;
 mod frames;

@@ -1,7 +1,7 @@
 -- Each step of the strategy until the source has stopped: it is made, and fewer steps are left after it.
 use Rattle.std.proofs.Common.{◌≡◌, ℕ, suc, ◌+◌, ◌<◌, ◌≤◌, ◌&&◌, ◌||◌, Bool, true, false, not, eqb, ltb, Some, List, [], ◌∷◌, ◌++◌, length, length-append, refl, sym, ap, ◌∙◌, subst, arith, if◌then◌else◌}
 use Rattle.std.specs.Option.{IfSome}
-use Rattle.std.specs.Prelude.{Err, IsOk, None, ◌≢◌}
+use Rattle.std.specs.Prelude.{IsOk, None, ◌≢◌}
 use Rattle.std.specs.FinMap.{contains_key}
 use Rattle.std.specs.FinSet.{len}
 use Rattle.std.proofs.lemmas.Bool.Decides.{nat_tests}
@@ -9,7 +9,6 @@ use Rattle.mig_base.specs.Sets.{pages_where}
 use Rattle.mig_base.specs.declared.effect.Effect.{Effect}
 use Rattle.mig_base.specs.declared.phase.DestPhase.{DestPhase}
 use Rattle.mig_base.specs.declared.phase.SourcePhase.{SourcePhase}
-use Rattle.mig_base.specs.declared.refusal.Refusal.{Refusal}
 use Rattle.mig_base.specs.declared.schedule.Side.{Side}
 use Rattle.mig_base.specs.declared.schedule.Step.{Step}
 use Rattle.mig_base.specs.declared.message.Message.{Message}
@@ -17,7 +16,7 @@ use Rattle.mig_model.specs.Bounds.{AreUrgentFew}
 use Rattle.mig_model.specs.Guest.{Guest, read_guest}
 use Rattle.mig_model.specs.Host.{Host}
 use Rattle.mig_model.specs.Log.{less, present}
-use Rattle.mig_model.specs.Migration.{World, Answer, answer, unless, made, next, next_by, outcome, outcome_by, is_changing, is_paused_at, is_used, read_effect, source_read_next, after_notice, after_resume, after_source_read, after_start, after_switch}
+use Rattle.mig_model.specs.Migration.{World, answer, made, next, next_by, outcome, outcome_by, is_changing, is_paused_at, is_used, read_effect, source_read_next, after_notice, after_resume, after_source_read, after_start, after_switch}
 use Rattle.mig_model.specs.Source.{Source, commands_of, is_precopy, is_released, is_source_idle, is_source_paused, is_stopped, not_clean, space_of}
 use Rattle.mig_model.specs.Destination.{Destination, is_dest_paused}
 use Rattle.mig_model.specs.Userfault.{Noted, Object, message_read, next_message}
@@ -29,8 +28,11 @@ use Rattle.mig_model.proofs.ReachedLemmas.{reached-next}
 use Rattle.mig_model.proofs.UrgentFew.{few-reached}
 use Rattle.mig_model.specs.Invariant.{IsSoundWorld, PrecopyWires, SwitchedAt}
 use Rattle.mig_model.proofs.CompletionStopped.{IsUpAt, next_some, read_object, wires_at}
-use Rattle.mig_model.proofs.StepLemmas.{NoneApplies}
 use Rattle.finish.specs.Finishing.{IsDue, before_push, down_left, down_step, lacks_epoch, one_if, precopy_step, reported, steps_left, unread, up_left, waiting}
+use Rattle.mig_model.proofs.AcceptedSteps.{not_refused}
+use Rattle.mig_model.proofs.SourceMapped.{read_host}
+use Rattle.mig_model.proofs.SetSizes.{only_where}
+use Rattle.mig_model.proofs.UrgentWire.{is_paused}
 
 -- the step is due that leads to a new world
 pub due_by : (world new : World) (step : Step) (effect : Effect) → answer world step ≡ made effect new → steps_left new < steps_left world → (lacks_epoch world ≡ false → lacks_epoch new ≡ false) → IsDue world step
@@ -42,12 +44,6 @@ due_by world new step effect is fewer goes =
       fewer = subst (λ w. steps_left w < steps_left world) (sym there) fewer;
       goes = λ h. subst (λ w. lacks_epoch w ≡ false) (sym there) (goes h);
     }
-
--- a step is made where no test of its list holds
-pub not_refused : (reasons : List (Bool × Refusal)) (rest : Answer) → NoneApplies reasons → unless reasons rest ≡ rest
-unfolding unless
-not_refused [] rest none = refl
-not_refused (reason ∷ reasons) rest none = ap (λ b. if b then Err reason.1 else unless reasons rest) none.0 ∙ not_refused reasons rest none.1
 
 -- How many steps are left in a phase
 
@@ -88,9 +84,6 @@ less_unread object noted is = grind (arith, nat_tests)
 
 pub read_unread : (guest : Guest) (noted : Noted) → next_message guest.space.object ≡ Some noted → unread (read_guest guest noted.cpu noted.message) + 1 ≡ unread guest
 read_unread guest noted is = ap (λ (object : Object). (length object.faults + length object.events) + 1) (read_object guest noted.cpu noted.message) ∙ less_unread guest.space.object noted is
-
-read_host : (guest : Guest) (cpu : ℕ) (message : Message) → (read_guest guest cpu message).space.host ≡ guest.space.host
-read_host guest cpu message = grind (arith, nat_tests)
 
 read_present : (guest : Guest) (cpu : ℕ) (message : Message) → len (present (read_guest guest cpu message).space) ≡ len (present guest.space)
 read_present guest cpu message = ap (λ (host : Host). len (pages_where (λ page. contains_key host.bytes page))) (read_host guest cpu message)
@@ -134,9 +127,6 @@ none_waits world kept ran =
     let messages = ap (λ (space : Space). length space.object.faults + length space.object.events) none.1 in
     omega (arith, copies, messages)
 
-ran_if : (ran switched : Bool) → (ran ≡ true → switched ≡ true) → switched ≡ false → ran ≡ false
-ran_if ran switched after h = grind (arith, nat_tests)
-
 -- what remains and what was sent urgently are pages of the source
 pub few_next : (world new : World) (step : Step) (effect : Effect) → IsReached world → answer world step ≡ made effect new → AreUrgentFew new
 unfolding next
@@ -151,7 +141,7 @@ switch_due world reached quiet at =
     let few = (few_next world new Step.Switch _ reached is).few refl refl in
     let unended = one_if-most (not (eqb world.source.end_epoch world.source.epoch)) in
     let urgent = ap length (at.order.urgent.stopped (ap is_stopped at.phase)) in
-    let waits = none_waits world at.order.kept (ran_if world.destination.has_run world.source.switched at.order.kept.phases.ran_after_switch (unswitched world at)) in
+    let waits = none_waits world at.order.kept (only_where world.destination.has_run world.source.switched at.order.kept.phases.ran_after_switch (unswitched world at)) in
     let back = ap length (precopy_back world.destination.phase (record world.source { phase = SourcePhase.Precopy }) world.destination world.forward.frames world.back.frames (wires_at SourcePhase.Precopy world.destination.phase world refl at)) in
     let one = sent_one world.forward.frames (record { epoch = world.source.epoch; frame = Discard (less world.source.log.sent world.source.log.clean) }) in
     let two = sent_one (world.forward.frames ++ record { epoch = world.source.epoch; frame = Discard (less world.source.log.sent world.source.log.clean) } ∷ []) (record { epoch = world.source.epoch; frame = Package (space_of world.source).host.areas (not_clean world.source) (commands_of world.source.guest.cpus) }) in
@@ -215,13 +205,10 @@ notice_destination_due world at unpaused =
 resume_answer : (world : World) → is_source_paused world.source.phase ≡ true → is_dest_paused world.destination.phase ≡ true → world.up ≡ false → is_used world.source.epoch ≡ false → answer world Step.Resume ≡ made (Effect.Resumed (world.source.epoch + 1)) (after_resume world)
 resume_answer world from to down free = not_refused _ _ (ap (λ b. not (b && is_dest_paused world.destination.phase)) from ∙ ap not to, (down, (free, tt)))
 
-phase_paused : (from : SourcePhase) → is_source_paused from ≡ true → from ≡ SourcePhase.Paused
-phase_paused from is = grind (arith, nat_tests)
-
 resume_due : (world : World) → IsDown world → is_source_paused world.source.phase ≡ true → is_dest_paused world.destination.phase ≡ true → is_used world.source.epoch ≡ false → IsDue world Step.Resume
 resume_due world at from to free =
     let new = after_resume world in
-    let phase = phase_paused world.source.phase from in
+    let phase = is_paused world.source.phase from in
     let old_left = left_down world at.down in
     let new_left = left_up new SourcePhase.Paused refl phase ∙ ap (λ b. if b then reported new + 10 else before_push new + (waiting new + length new.back.frames) + 8) to in
     due_by world new Step.Resume _ (resume_answer world from to at.down free) (omega (arith, old_left, new_left)) (λ _. goes_up new refl (ap is_source_idle phase))

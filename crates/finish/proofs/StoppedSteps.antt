@@ -1,10 +1,10 @@
 -- Each step of the strategy from a stopped source, and from one that waits for a report: it is made, and fewer steps are left after it.
-use Rattle.std.proofs.Common.{◌≡◌, ℕ, ◌+◌, ◌-◌, ◌^◌, ◌<◌, ◌≤◌, ◌&&◌, ◌||◌, Bool, true, false, not, eqb, ltb, Option, Some, None, is_some, List, [], ◌∷◌, ◌++◌, length, length-append, refl, sym, ap, ◌∙◌, subst, arith, if◌then◌else◌}
+use Rattle.std.proofs.Common.{◌≡◌, ℕ, ◌+◌, ◌-◌, ◌^◌, ◌<◌, ◌≤◌, ◌&&◌, ◌||◌, Bool, true, false, not, eqb, ltb, Option, Some, None, is_some, List, [], ◌∷◌, ◌++◌, length, refl, sym, ap, ◌∙◌, subst, arith, if◌then◌else◌}
 use Rattle.std.specs.Prelude.{◌≢◌}
 use Rattle.std.specs.Option.{option_and_then}
 use Rattle.std.specs.Ordering.{nat_cmp}
 use Rattle.std.specs.FinSet.{FinSet, contains, len}
-use Rattle.std.proofs.lemmas.Bool.{false≢true}
+use Rattle.std.proofs.lemmas.Bool.{false≢true, not-true, not-false}
 use Rattle.std.proofs.lemmas.Bool.Decides.{nat_tests}
 use Rattle.std.proofs.lemmas.List.{length-map}
 use Rattle.mig_base.specs.Tests.{is_empty}
@@ -16,10 +16,10 @@ use Rattle.mig_base.specs.declared.phase.SourcePhase.{SourcePhase}
 use Rattle.mig_base.specs.declared.refusal.Refusal.{Refusal}
 use Rattle.mig_base.specs.declared.schedule.Step.{Step}
 use Rattle.mig_base.proofs.RangeLemmas.{least_below_tells}
-use Rattle.mig_model.specs.Destination.{Destination, destination_answers, destination_took, install_by, is_dest_paused, received_of, recv_by, resumed_by, urgent_took}
+use Rattle.mig_model.specs.Destination.{Destination, destination_answers, destination_took, is_dest_paused, received_of, recv_by, resumed_by}
 use Rattle.mig_model.specs.Guest.{is_present}
-use Rattle.mig_model.specs.Invariant.{AreTold, Flow, are_requests_and_done, IsTold, RanAt, flow_after, flow_next, flow_of}
-use Rattle.mig_model.specs.Invariant.Flow.{AfterEnd, BeforeAdvise, BeforePackage, Copies, Pushed}
+use Rattle.mig_model.specs.Invariant.{AreTold, Flow, are_requests_and_done, RanAt, flow_after, flow_next, flow_of}
+use Rattle.mig_model.specs.Invariant.Flow.{AfterEnd, Pushed}
 use Rattle.mig_model.specs.Lengths.{text_len}
 use Rattle.mig_model.specs.Log.{forgotten, least_of, no_pages, present}
 use Rattle.mig_model.specs.Migration.{World, answer, deliver_back_first, deliver_first, deliver_urgent_first, destination_read_next, frame_effect, install_effect, install_first, is_changing, is_early, is_end, made, page_effect, read_effect, unless, after_deliver, after_deliver_back, after_deliver_urgent, after_dest_read, after_end, after_install, after_move, after_move_back, after_move_urgent, after_push}
@@ -30,7 +30,7 @@ use Rattle.mig_model.specs.Userfault.{Noted, Object, next_message}
 use Rattle.mig_model.specs.Whereabouts.{IsReceiving, is_request}
 use Rattle.mig_model.specs.Wire.{Copy, Frame, Sent, page_frame, sending, sending_if, wire_behind, wire_with}
 use Rattle.mig_model.specs.Wire.Frame.{Done, End, Recv, Request, Resume}
-use Rattle.mig_model.proofs.CompletionStopped.{IsUpAt, next_some, wires_at}
+use Rattle.mig_model.proofs.CompletionStopped.{IsUpAt, next_some, wires_at, running-has_run, one_more, none_more, pushed-next, urgent_took-next, install_by-next, none_early, not_at_end, is_waiting, waiting_flow, waiting-not_ended, waiting_wire}
 use Rattle.mig_model.proofs.Facts.{and_false, by_test, eqb-self}
 use Rattle.mig_model.proofs.FirstFrame.{comes}
 use Rattle.mig_model.proofs.SetSizes.{len-removed, len-some}
@@ -38,7 +38,8 @@ use Rattle.mig_model.proofs.UrgentWire.{placed}
 use Rattle.frame_texts.specs.Flight.{AreFrames, HasGoodFrames}
 use Rattle.frame_texts.proofs.LengthBounds.{text_short}
 use Rattle.finish.specs.Finishing.{IsDue, all_bytes, before_push, one_if, paused_step, reported, running_step, steps_left, stopped_by, stopped_step, told_step, unread, waiting}
-use Rattle.finish.proofs.DueSteps.{due_by, few_next, goes_up, left_up, not_refused, one_if-most, read_unread, sent_one}
+use Rattle.finish.proofs.DueSteps.{due_by, few_next, goes_up, left_up, one_if-most, read_unread, sent_one}
+use Rattle.mig_model.proofs.AcceptedSteps.{not_refused}
 
 -- what is known while the source has stopped
 pub record IsStopped (world : World) : Type 0 where
@@ -158,23 +159,6 @@ ended_due world ended is = ended_frames world.back.frames world refl (wires_at S
 
 -- The destination runs
 
--- a destination that took a frame: no more than one copy came, and it has read nothing
-record IsNext (old new : Destination) : Type 0 where
-  arrived : length new.arrivals ≤ length old.arrivals + 1
-  guest : new.guest ≡ old.guest
-
-one_more : (arrivals : List Copy) (copy : Copy) → length (arrivals ++ copy ∷ []) ≤ length arrivals + 1
-one_more arrivals copy = let more = length-append arrivals (copy ∷ []) in omega (arith, more)
-
-none_more : (arrivals : List Copy) → length arrivals ≤ length arrivals + 1
-none_more arrivals = omega arith
-
-pushed-next : (node : Destination) (epoch : ℕ) (frame : Frame) → is_some (flow_next Pushed frame) ≡ true → IsNext node (destination_took node epoch frame)
-pushed-next node epoch frame in_place = grind (arith, nat_tests, one_more, none_more)
-
-urgent-next : (node : Destination) (frame : Frame) → IsNext node (urgent_took node frame)
-urgent-next node frame = grind (arith, nat_tests, one_more)
-
 -- a copy came, or Done is answered
 pushed_few : (node : Destination) (epoch : ℕ) (frame : Frame) → is_some (flow_next Pushed frame) ≡ true → length (destination_took node epoch frame).arrivals + length (destination_answers node frame) ≤ length node.arrivals + 1
 pushed_few node epoch frame in_place = grind (arith, nat_tests, one_more, none_more)
@@ -185,20 +169,17 @@ record IsDraining (world : World) : Type 0 where
   told : eqb world.source.end_epoch world.source.epoch ≡ true
   runs : world.destination.phase ≡ DestPhase.Running
 
-has_run : (world : World) → IsDraining world → world.destination.has_run ≡ true
-has_run world draining = (subst (λ p. RanAt p world.destination.has_run world.destination.ended) draining.runs draining.is.at.order.kept.phases.destination_phase).0
-
 urgent_due : (world : World) (sent : Sent) (rest : List Sent) → world.urgent.frames ≡ sent ∷ rest → IsDraining world → IsDue world (Step.DeliverUrgent all_bytes)
 urgent_due world sent rest first draining =
     let at = draining.is.at in
     let new = after_deliver_urgent world sent rest in
     let old_left = left_up world SourcePhase.Stopped at.up at.phase in
     let new_left = left_up new SourcePhase.Stopped at.up at.phase in
-    let node = urgent-next world.destination sent.frame in
+    let node = urgent_took-next world.destination sent.frame in
     let taken = ap length first in
     let messages = ap unread node.guest in
     let arrived = node.arrived in
-    due_by world new (Step.DeliverUrgent all_bytes) _ (urgent_answer world sent rest first draining.is.good (has_run world draining) at.up) (omega (arith, old_left, new_left, taken, messages, arrived)) (λ _. goes_up new at.up (ap is_source_idle at.phase))
+    due_by world new (Step.DeliverUrgent all_bytes) _ (urgent_answer world sent rest first draining.is.good (running-has_run world draining.is.at.order draining.runs) at.up) (omega (arith, old_left, new_left, taken, messages, arrived)) (λ _. goes_up new at.up (ap is_source_idle at.phase))
 
 dest_read_answer : (world : World) (noted : Noted) → world.destination.has_run ≡ true → next_message world.destination.guest.space.object ≡ Some noted → answer world Step.DestRead ≡ made (read_effect world.destination.guest noted.cpu noted.message) (after_dest_read world noted)
 dest_read_answer world noted ran is = not_refused _ _ (ap not ran, tt) ∙ ap (destination_read_next world) is
@@ -211,15 +192,7 @@ dest_read_due world event events unquiet draining =
     let old_left = left_up world SourcePhase.Stopped at.up at.phase in
     let new_left = left_up new SourcePhase.Stopped at.up at.phase in
     let less = read_unread world.destination.guest found.0 found.1 in
-    due_by world new Step.DestRead _ (dest_read_answer world found.0 (has_run world draining) found.1) (omega (arith, old_left, new_left, less)) (λ _. goes_up new at.up (ap is_source_idle at.phase))
-
--- a copy that is installed or dropped waits no longer, and no message is read by it
-record IsInstalled (old new : Destination) (rest : List Copy) : Type 0 where
-  arrivals : new.arrivals ≡ rest
-  object : new.guest.space.object ≡ old.guest.space.object
-
-install_by-next : (page : Option ℕ) (node : Destination) (copy : Copy) (rest : List Copy) → IsInstalled node (install_by page node copy rest) rest
-install_by-next page node copy rest = grind (arith, nat_tests)
+    due_by world new Step.DestRead _ (dest_read_answer world found.0 (running-has_run world draining.is.at.order draining.runs) found.1) (omega (arith, old_left, new_left, less)) (λ _. goes_up new at.up (ap is_source_idle at.phase))
 
 install_answer : (world : World) (copy : Copy) (rest : List Copy) → world.destination.has_run ≡ true → world.destination.arrivals ≡ copy ∷ rest → is_changing world.destination.guest ≡ false →
     answer world Step.Install ≡ made (install_effect (home world.destination.owed copy.page) copy.page) (after_install world copy rest)
@@ -235,11 +208,7 @@ install_due world copy rest first quiet draining =
     let waited = ap length first in
     let waits = ap length node.arrivals in
     let messages = ap (λ (object : Object). length object.faults + length object.events) node.object in
-    due_by world new Step.Install _ (install_answer world copy rest (has_run world draining) first quiet) (omega (arith, old_left, new_left, waited, waits, messages)) (λ _. goes_up new at.up (ap is_source_idle at.phase))
-
--- End does not come before an urgent frame
-none_early : (node : Destination) (epoch end_epoch count : ℕ) (frame : Frame) → IsTold epoch end_epoch count frame → count ≡ node.urgent_taken + 0 → is_early node frame ≡ false
-none_early node epoch end_epoch count frame told all = grind (arith, nat_tests)
+    due_by world new Step.Install _ (install_answer world copy rest (running-has_run world draining.is.at.order draining.runs) first quiet) (omega (arith, old_left, new_left, waited, waits, messages)) (λ _. goes_up new at.up (ap is_source_idle at.phase))
 
 pushed_due : (world : World) (sent : Sent) (rest : List Sent) → world.forward.frames ≡ sent ∷ rest → world.urgent.frames ≡ [] → world.destination.arrivals ≡ [] → IsDraining world → IsDue world (Step.Deliver all_bytes)
 pushed_due world sent rest first none free draining =
@@ -262,12 +231,9 @@ pushed_due world sent rest first none free draining =
     (none_early world.destination world.source.epoch world.source.end_epoch world.source.urgent_sent sent.frame told.0 counted))
     (omega (arith, old_left, new_left, taken, messages, arrived, back, few)) (λ _. goes_up new at.up (ap is_source_idle at.phase))
 
--- the wire is not empty as long as End was not taken
+-- a source that has sent End is at the end of the flow
 flow_at_end : (source : Source) → eqb source.end_epoch source.epoch ≡ true → flow_of source ≡ AfterEnd
 flow_at_end source told = ap (λ b. if b then AfterEnd else Pushed) told
-
-not_at_end : (flow : Flow) (source : Source) (frames : List Sent) → flow ≢ AfterEnd → flow_of source ≡ AfterEnd → flow_after flow frames ≡ Some (flow_of source) → frames ≢ []
-not_at_end flow source frames other told h none = grind (arith, nat_tests)
 
 running_forward : (frames : List Sent) (world : World) → world.forward.frames ≡ frames → world.urgent.frames ≡ [] → world.destination.arrivals ≡ [] → IsDraining world → IsDue world (Step.Deliver all_bytes)
 running_forward [] world first none free draining =
@@ -297,18 +263,12 @@ event_of : (events : List Noted) → ltb 0 (length events) ≡ true → is_empty
 event_of [] some = absurd (grind (arith, nat_tests))
 event_of (event ∷ events) some = refl
 
-not_false : (test : Bool) → not test ≡ true → test ≡ false
-not_false test h = grind (arith, nat_tests)
-
-not_true : (test : Bool) → not test ≡ false → test ≡ true
-not_true test h = grind (arith, nat_tests)
-
 running_due : (world : World) → IsDraining world → IsDue world (running_step world)
 running_due world draining =
     by_if world (not (is_empty world.urgent.frames)) _ _
-    (λ some. let urgent = first_of world.urgent.frames (not_false _ some) in urgent_due world urgent.first urgent.rest urgent.is draining)
+    (λ some. let urgent = first_of world.urgent.frames (not-true _ some) in urgent_due world urgent.first urgent.rest urgent.is draining)
     (λ none.
-    let quiet = none_of world.urgent.frames (not_true _ none) in
+    let quiet = none_of world.urgent.frames (not-false _ none) in
     by_if world (is_empty world.destination.arrivals) _ _
     (λ free. running_forward world.forward.frames world refl quiet (none_of world.destination.arrivals free) draining)
     (λ waits.
@@ -318,25 +278,6 @@ running_due world draining =
     (λ settled. install_due world copy.first copy.rest copy.is settled draining)))
 
 -- The destination has not run: the frames up to the Package are taken
-
--- the phases before it runs
-abbrev is_waiting : DestPhase → Bool
-is_waiting DestPhase.Idle = true
-is_waiting DestPhase.Advised = true
-is_waiting DestPhase.Discarding = true
-is_waiting phase = false
-
--- where the wire to it begins
-abbrev waiting_flow : DestPhase → Flow
-waiting_flow DestPhase.Idle = BeforeAdvise
-waiting_flow DestPhase.Advised = Copies
-waiting_flow phase = BeforePackage
-
-waiting-not_ended : (to : DestPhase) → waiting_flow to ≢ AfterEnd
-waiting-not_ended to h = grind (arith, nat_tests)
-
-waiting_wire : (to : DestPhase) (world : World) → is_waiting to ≡ true → world.destination.phase ≡ to → IsUpAt SourcePhase.Stopped world → flow_after (waiting_flow to) world.forward.frames ≡ Some (flow_of world.source)
-waiting_wire to world waits is at = grind (arith, nat_tests, wires_at)
 
 ran_not : (to : DestPhase) (ran ended : Bool) → is_waiting to ≡ true → RanAt to ran ended → ran ≡ false
 ran_not to ran ended waits at = grind (arith, nat_tests)
@@ -356,6 +297,7 @@ none_or_less : (n : ℕ) → 0 ≤ n
 none_or_less n = omega arith
 
 quiet_took : (to : DestPhase) (node : Destination) (epoch : ℕ) (frame : Frame) → is_waiting to ≡ true → is_some (flow_next (waiting_flow to) frame) ≡ true → node.has_run ≡ false → IsQuiet node (destination_took node epoch frame) frame
+unfolding waiting_flow
 quiet_took to node epoch frame waits in_place ran = grind (arith, nat_tests, same_or_less, none_or_less)
 
 in_place_by : (next : Option Flow) (rest : List Sent) (end : Flow) → option_and_then (λ next. flow_after next rest) next ≡ Some end → is_some next ≡ true

@@ -1,5 +1,5 @@
 -- From every world in which an epoch is left a step of the strategy is due.
-use Rattle.std.proofs.Common.{◌≡◌, if◌then◌else◌, Bool, true, false, None, Some, refl, arith, length}
+use Rattle.std.proofs.Common.{◌≡◌, Bool, true, false, None, Some, refl, arith, length, if◌then◌else◌}
 use Rattle.std.specs.Option.{IfSome}
 use Rattle.std.specs.Prelude.{◌≢◌, ◌↔◌, ◌⊎◌}
 use Rattle.std.proofs.lemmas.Bool.Decides.{nat_tests}
@@ -8,16 +8,13 @@ use Rattle.mig_base.specs.declared.schedule.Step.{Step}
 use Rattle.mig_model.specs.Bounds.{IsCpuCount}
 use Rattle.mig_model.specs.Migration.{World, is_used}
 use Rattle.mig_model.specs.Promises.{IsComplete, IsReached}
-use Rattle.mig_model.proofs.AcceptedSteps.{IsInOrder}
-use Rattle.mig_model.proofs.EveryStep.{kept-reached, urgent-reached}
+use Rattle.mig_model.proofs.EveryStep.{kept-reached}
 use Rattle.frame_texts.specs.Flight.{HasGoodFrames}
 use Rattle.frame_texts.proofs.GoodFrames.{frames_good}
 use Rattle.finish.specs.Finishing.{IsDue, down_step, finishing_step, lacks_epoch, needs_epoch, up_step}
 use Rattle.finish.proofs.DueSteps.{down_due, precopy_due, start_due}
 use Rattle.finish.proofs.StoppedSteps.{paused_due, stopped_due}
-
-in_order : (world : World) → IsReached world → IsInOrder world
-in_order world reached = record { kept = kept-reached world reached; urgent = urgent-reached world reached }
+use Rattle.mig_model.proofs.Completion.{in_order}
 
 start_by : (used : Bool) (world : World) → is_used world.source.epoch ≡ used → IsReached world → world.up ≡ true → world.source.phase ≡ SourcePhase.Idle → IfSome (if used then None else Some Step.Start) (IsDue world)
 start_by true world is reached up phase = tt

@@ -1,10 +1,10 @@
 -- Every frame that a node sends has a text: what its pages, counts and commands rest on, and the frames themselves.
 use Rattle.std.proofs.lemmas.Bool.Decides.{nat_tests}
-use Rattle.std.proofs.Common.{◌≡◌, ℕ, zero, suc, ◌+◌, ◌^◌, ◌<◌, ◌≤◌, Bool, true, false, not, eqb, ltb, Option, Some, is_some, List, [], ◌∷◌, ◌++◌, refl, sym, ap, ◌∙◌, subst, arith, length, if◌then◌else◌}
+use Rattle.std.proofs.Common.{◌≡◌, ℕ, zero, suc, ◌+◌, ◌^◌, ◌<◌, ◌≤◌, Bool, true, false, ltb, Option, Some, is_some, List, [], ◌∷◌, ◌++◌, refl, sym, ap, ◌∙◌, subst, arith, length, if◌then◌else◌}
 use Rattle.std.specs.Prelude.{map}
 use Rattle.std.specs.Ordering.{nat_cmp}
 use Rattle.std.specs.FinMap.{contains_key, get}
-use Rattle.std.specs.FinSet.{FinSet, contains, contains-retain, len-empty, nat_cmp-IsAntisymmetric}
+use Rattle.std.specs.FinSet.{FinSet, contains}
 use Rattle.std.proofs.lemmas.Bool.{and_parts}
 use lib.ListN.{length-map}
 use Rattle.mig_base.specs.declared.TheConstants.{LOW_PAGE, HIGH_PAGE}
@@ -15,7 +15,7 @@ use Rattle.mig_model.specs.Host.{Host, IsSound}
 use Rattle.mig_model.specs.Guest.{Act, is_present}
 use Rattle.mig_model.specs.Guest.Act.{Requested}
 use Rattle.mig_model.specs.Log.{less, no_pages, present}
-use Rattle.mig_model.specs.Owed.{origins, without_request}
+use Rattle.mig_model.specs.Owed.{origins}
 use Rattle.mig_model.specs.Space.{Space}
 use Rattle.mig_model.specs.Wire.{Frame, Sent, page_frame, sending, sending_if}
 use Rattle.mig_model.specs.Wire.Frame.{Run, End, Resume, Request}
@@ -23,13 +23,14 @@ use Rattle.mig_model.specs.Cpus.{outstanding}
 use Rattle.mig_model.specs.Source.{Source, bytes_of, is_released, not_clean, package_frames, rebuild_frames, run_of, space_of, switch_frames}
 use Rattle.mig_model.specs.Destination.{Destination, act_frames, destination_act_by, destination_acted_by, destination_answers, received_of, recv_by}
 use Rattle.mig_model.specs.Migration.{World}
-use Rattle.mig_model.specs.Bounds.{AreFewPages, ArePageBytes, ArePages, AreUrgentFew, IsCpuCount, IsFrame, IsMapping, IsPage}
+use Rattle.mig_model.specs.Bounds.{AreFewPages, ArePageBytes, ArePages, AreUrgentFew, IsCpuCount, IsFrame, IsMapping, IsPage, AreListed}
 use Rattle.frame_texts.proofs.PageBytes.{HasBytes, contents_bytes}
 use Rattle.mig_model.proofs.CommandLemmas.{length-contents}
-use Rattle.mig_model.proofs.Facts.{owed_is_present, no_page}
+use Rattle.mig_model.proofs.Facts.{owed_is_present}
 use Rattle.mig_model.proofs.RightCommands.{AllRight, right_commands}
 use Rattle.mig_model.proofs.SetSizes.{count_below-few, len-below, only_where}
 use Rattle.mig_model.proofs.Delivery.{pair-origins}
+use Rattle.mig_model.proofs.PageLists.{listed_or_more, less_pages, few_none}
 
 -- Lists of frames
 
@@ -52,25 +53,6 @@ bodies-sending wire epoch (frame ∷ frames) are all = grind (arith, nat_tests, 
 
 pub bodies-sending_if : (up : Bool) (wire : List Sent) (epoch : ℕ) (frames : List Frame) → AreBodies wire → AllFrames frames → AreBodies (sending_if up wire epoch frames)
 bodies-sending_if up wire epoch frames are all = grind (arith, nat_tests, bodies-sending)
-
--- each page of a list may be mapped
-abbrev pub AreListed : List ℕ → Type 0
-AreListed [] = Unit {0}
-AreListed (page ∷ pages) = IsPage page × AreListed pages
-
-listed-push : (pages : List ℕ) (page : ℕ) → AreListed pages → IsPage page → AreListed (pages ++ page ∷ [])
-listed-push [] page are is = (is, tt)
-listed-push (first ∷ pages) page are is = (are.0, listed-push pages page are.1 is)
-
-listed_or_more : (asked : Bool) (requests : List ℕ) (origin : ℕ) → AreListed requests → IsPage origin → AreListed (if asked then requests else requests ++ origin ∷ [])
-listed_or_more asked requests origin are is = grind (arith, nat_tests, listed-push)
-
-without_first : (here : Bool) (request : ℕ) (requests less : List ℕ) → IsPage request → AreListed requests → AreListed less → AreListed (if here then requests else request ∷ less)
-without_first here request requests less is are left = grind (arith, nat_tests)
-
-pub listed-without : (requests : List ℕ) (origin : ℕ) → AreListed requests → AreListed (without_request requests origin)
-listed-without [] origin are = tt
-listed-without (request ∷ requests) origin are = without_first (eqb request origin) request requests (without_request requests origin) are.0 are.1 (listed-without requests origin are.1)
 
 frames-requests : (requests : List ℕ) → AreListed requests → AllFrames (map Request requests)
 frames-requests [] are = tt
@@ -110,13 +92,6 @@ pub run_good : (source : Source) (first number : ℕ) → IsSound (space_of sour
 run_good source first number sound bytes some few low end = grind (arith, nat_tests, length-run_of, run_bytes)
 
 -- Discard and Package
-
-less_pages : (set other : FinSet nat_cmp) → ArePages set → ArePages (less set other)
-less_pages set other are page h =
-    are page (and_parts (contains set page) (not (contains other page)) (sym (contains-retain set (λ q. not (contains other q)) page (λ x e. ap (λ q. not (contains other q)) (sym (nat_cmp-IsAntisymmetric page x e)))) ∙ h)).0
-
-few_none : AreFewPages no_pages
-few_none = (λ page h. no_page page h, let none = len-empty nat_cmp in omega (arith, none))
 
 pub package_good : (source : Source) (discarded owed : FinSet nat_cmp) → IsSound (space_of source).host → IsMapping (space_of source).host.areas → ArePages discarded → ((page : ℕ) → contains owed page ≡ true → is_present (space_of source) page ≡ true) →
     AllRight source.guest.cpus → IsCpuCount (length source.guest.cpus) → AllFrames (package_frames source discarded owed)

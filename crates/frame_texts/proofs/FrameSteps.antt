@@ -31,11 +31,12 @@ use Rattle.mig_model.specs.Destination.{act_frames, destination_act, destination
 use Rattle.mig_model.specs.Migration.{World, after_break, after_command, after_deliver, after_deliver_back, after_deliver_urgent, after_dest_act, after_end, after_notice, after_push, after_push_urgent, after_resume, after_run, after_send, after_source_read, after_start, after_switch, first_world_with, guest_by, guest_of, has_started, is_changing, is_used, next, run_bound, source_sends, with_guest_by}
 use Rattle.mig_model.specs.Invariant.{IsSoundWorld}
 use Rattle.mig_model.proofs.Taken.{IsInPlaceBack}
-use Rattle.mig_model.specs.Bounds.{ArePages, IsCpuCount, IsMapping, IsPage}
+use Rattle.mig_model.specs.Bounds.{ArePages, IsCpuCount, IsMapping, IsPage, AreListed}
 use Rattle.frame_texts.proofs.PageBytes.{HasBytes, changed_bytes, zeroed_bytes}
 use Rattle.mig_model.proofs.WokenSteps.{stopped_switched, takes_urgent}
 use Rattle.mig_model.proofs.Facts.{no_event, no_page}
-use Rattle.frame_texts.proofs.FrameBounds.{AreBodies, AreListed, act_good, act_listed, answers_good, bodies-sending, bodies-sending_if, end_good, listed-without, page_good, present_page, rebuilt_good, run_good, requested_owed, switch_good}
+use Rattle.mig_model.proofs.PageLists.{listed-without}
+use Rattle.frame_texts.proofs.FrameBounds.{AreBodies, act_good, act_listed, answers_good, bodies-sending, bodies-sending_if, end_good, page_good, present_page, rebuilt_good, run_good, requested_owed, switch_good}
 use Rattle.mig_model.proofs.FramesTaken.{is_taken_back}
 use Rattle.mig_model.proofs.MappingLemmas.{IsMapping-after, IsMapping-empty, host_tried}
 use Rattle.mig_model.proofs.Bounded.{IsReady}

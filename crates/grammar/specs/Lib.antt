@@ -4,5 +4,4 @@ pub mod Orders
 pub mod Parsing
 pub mod Printed
 pub mod Spelling
-pub mod Tails
 pub mod Words

@@ -3,7 +3,7 @@
 //! [`parse::parse`] reads the text of a line as a [`Line`]: an [`Order`] of a script, an entry of a transcript, or nothing.
 //! [`Language`] says which of the two languages the line is in. An order is a step of a migration, the push of a page, or a report of
 //! progress; [`Order::step`] is the step that it makes. [`token`] splits a text into words, each a [`Keyword`] or a number.
-//! [`print_line`] prints the line of a step's outcome, [`print_progress`] that of a [`Progress`].
+//! [`print_line`] prints the line of a step's outcome, which `mig_base` has the text of, [`print_progress`] that of a [`Progress`].
 //! `specs/Spelling.antt` defines how a line is spelled, `specs/Lines.antt` where lines end, and `specs/Printed.antt` what is printed.
 //! [`laws`] says that no text has two meanings.
 //!

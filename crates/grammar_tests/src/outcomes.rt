@@ -13,6 +13,7 @@ use mig_base::phase::Received;
 use mig_base::refusal::Refusal;
 use mig_base::schedule::Side;
 use mig_base::{Errno, Message, Reply, WorldPhase};
+use std::alloc::{AllocError, Global};
 use std::process::Abort;
 use std::test::Fail;
 
@@ -283,6 +284,81 @@ fn lines_of_outcomes(rt: HostRuntime) -> Result<(), Fail> {
             print_line(&mut text, outcome)?;
         }
         assert_eq!(&rt; text.as_bytes(), *wanted, "outcome {i}");
+    }
+    Ok(())
+}
+
+/// A text with room for a line. Where memory is refused it is asked for again.
+fn with_room(alloc: Global) -> Result<String, AllocError> {
+    match String::with_capacity(alloc, 128) {
+        Ok(text) => Ok(text),
+        Err(_) => String::with_capacity(alloc, 128),
+    }
+}
+
+#[test]
+fn texts_of_outcomes(rt: HostRuntime) -> Result<(), Fail> {
+    let mut text = with_room(rt.alloc())?;
+    for (i, (outcome, wanted)) in OUTCOMES.iter().enumerate() {
+        text.clear();
+        match outcome {
+            Ok(effect) => write!(text, "{effect}\n")?,
+            Err(refusal) => write!(text, "refused {refusal}\n")?,
+        }
+        assert_eq!(&rt; text.as_bytes(), *wanted, "outcome {i}");
+    }
+    Ok(())
+}
+
+static FAULTS: [(Message, &'static [u8]); 2] = [
+    (
+        Message::PageFault {
+            addr: 0x1_0000,
+            write: true,
+            wp: false,
+            tid: 7,
+        },
+        b"fault 0x10000 missing",
+    ),
+    (
+        Message::PageFault {
+            addr: 0xffff_f000,
+            write: true,
+            wp: true,
+            tid: 0,
+        },
+        b"fault 0xfffff000 write-protect",
+    ),
+];
+
+#[test]
+fn texts_of_faults(rt: HostRuntime) -> Result<(), Fail> {
+    let mut text = with_room(rt.alloc())?;
+    for (i, (fault, wanted)) in FAULTS.iter().enumerate() {
+        text.clear();
+        write!(text, "{fault}")?;
+        assert_eq!(&rt; text.as_bytes(), *wanted, "fault {i}");
+    }
+    Ok(())
+}
+
+static ERRORS: [(Errno, &'static [u8]); 7] = [
+    (Errno::Eperm, b"EPERM"),
+    (Errno::Enoent, b"ENOENT"),
+    (Errno::Eagain, b"EAGAIN"),
+    (Errno::Enomem, b"ENOMEM"),
+    (Errno::Efault, b"EFAULT"),
+    (Errno::Eexist, b"EEXIST"),
+    (Errno::Einval, b"EINVAL"),
+];
+
+#[test]
+fn texts_of_errors(rt: HostRuntime) -> Result<(), Fail> {
+    let mut text = with_room(rt.alloc())?;
+    for (i, (errno, wanted)) in ERRORS.iter().enumerate() {
+        text.clear();
+        write!(text, "{errno}")?;
+        assert_eq!(&rt; text.as_bytes(), *wanted, "error {i}");
     }
     Ok(())
 }

@@ -1,8 +1,6 @@
 -- What is listed of one line after the other.
-use Rattle.std.proofs.Common.{◌≡◌, ℕ, ◌+◌, ◌<◌, List, [], ◌∷◌, ◌++◌, length, true, false, refl, sym, ap, subst, ◌∙◌, append_assoc, append-nil, arith, inl, inr, length-append}
-use Rattle.std.specs.List.{concat}
+use Rattle.std.proofs.Common.{◌≡◌, ℕ, ◌+◌, ◌<◌, List, [], ◌∷◌, ◌++◌, length, true, false, refl, sym, ap, subst, ◌∙◌, append_assoc, arith, inl, inr, length-append}
 use Rattle.std.specs.Str.Lines.{strip_carriage_return}
-use Rattle.std.proofs.lemmas.List.Folds.{concat-append}
 use Rattle.grammar.specs.declared.line.Language.{Language}
 use Rattle.grammar.specs.Spelling.{Spells}
 use Rattle.grammar.specs.Lines.{HasNoFeed, BeginsWrong}
@@ -72,7 +70,3 @@ lists_last l name n m a [] b ys c p e q =
     let same : m ≡ n = omega (arith, e) in
     subst (λ (t : List ℕ). Lists l name n t ys c) (sym p) (subst (λ (k : ℕ). Lists l name k b ys c) same q)
 lists_last l name n m a (x ∷ xs) b ys c p e q = (p.1, ended_line l name n a p.0 p.1 x p.2 p.3 p.4, lists_last l name (n + 1) m p.1 xs b ys c p.5 (omega (arith, e)) q)
-
--- the text of one more line
-pub concat_more : (xs : List (List ℕ)) (y : List ℕ) → concat (xs ++ y ∷ []) ≡ concat xs ++ y
-concat_more xs y = concat-append xs (y ∷ []) ∙ ap (λ (t : List ℕ). concat xs ++ t) (append-nil y)

@@ -9,7 +9,9 @@ use Rattle.engine.specs.Engine.{Front}
 use Rattle.lint.specs.declared.linter.Linter.{Linter}
 use Rattle.lint.specs.Parts.{IsFront, IsRight, Holds, Listed, ListsRaw, ListsEnded, Advances, Fed, FedUntil, Last, ListsLast, CloseFault}
 use Rattle.engine.specs.declared.fault.RunFault.TheVariants as faults
-use Rattle.lint.proofs.Lines.{lists_more, lists_then, lists_one, concat_more}
+use Rattle.lint.proofs.Lines.{lists_more, lists_then, lists_one}
+use Rattle.engine.proofs.Pieces.{parts_then}
+use Rattle.mig_base.proofs.ByteLemmas.{concat-push}
 
 -- the states differ in nothing that lines depend on
 pub record IsSame (a b : Linter) : Type 0 where
@@ -47,10 +49,6 @@ lists_line name a b held front line text texts q one raw_text =
     subst (λ (t : List ℕ). ListsEnded l name (a.number + 1) t (texts ++ text ∷ []) []) (append_assoc held front (line ++ 10 ∷ []))
     (lists_then l name (a.number + 1) (b.number + 1) ((held ++ front) ++ (line ++ 10 ∷ [])) texts (q.rest ++ (line ++ 10 ∷ [])) (text ∷ []) [] more (omega (arith, q.number)) here)
 
-parts_then : (bytes front rest line behind : List ℕ) → bytes ≡ front ++ rest → rest ≡ line ++ 10 ∷ behind → bytes ≡ (front ++ (line ++ 10 ∷ [])) ++ behind
-parts_then bytes front rest line behind e cut =
-    e ∙ ap (λ (t : List ℕ). front ++ t) (cut ∙ sym (append_assoc line (10 ∷ []) behind)) ∙ sym (append_assoc front (line ++ 10 ∷ []) behind)
-
 pub feeds_line : (name : List ℕ) (a b d e : Linter) (held bytes rest line behind : List ℕ) (q : Feeds name a held bytes rest b) → rest ≡ line ++ 10 ∷ behind → HasNoFeed line → IsSame b d
     → Listed name true d (q.fed.advances.rest ++ line) e.output.items → Holds e [] → e.number ≡ d.number + 1 → e.language ≡ d.language → Feeds name a held bytes behind e
 feeds_line name a b d e held bytes rest line behind q cut one same listed holds number language =
@@ -71,7 +69,7 @@ feeds_line name a b d e held bytes rest line behind q cut one same listed holds 
           language = language ∙ same.language ∙ p.advances.language;
         };
         gathers = listed.gathers ∙ ap (λ (t : List ℕ). t ++ listed.text) (same.output ∙ p.gathers) ∙ append_assoc a.output.items (concat p.texts) listed.text
-            ∙ ap (λ (t : List ℕ). a.output.items ++ t) (sym (concat_more p.texts listed.text));
+            ∙ ap (λ (t : List ℕ). a.output.items ++ t) (sym (concat-push p.texts listed.text));
       };
     }
 

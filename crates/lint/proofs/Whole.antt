@@ -1,5 +1,5 @@
 -- A whole listing, from the first read on.
-use Rattle.std.proofs.Common.{◌≡◌, ℕ, ◌+◌, ◌<◌, List, [], ◌∷◌, ◌++◌, length, take, Option, None, Some, Bool, true, false, refl, sym, ap, subst, ◌∙◌, append_assoc, append-nil, arith, rules, inl, inr, length-append}
+use Rattle.std.proofs.Common.{◌≡◌, ℕ, ◌+◌, List, [], ◌∷◌, ◌++◌, length, Option, None, Some, Bool, true, false, refl, sym, ap, subst, ◌∙◌, append_assoc, append-nil, arith, rules, inl, inr, length-append}
 use Rattle.std.specs.Prelude.{◌↔◌, IsTrue, IfSome, IfErr, IfOk, Result, Ok, Err}
 use Rattle.std.specs.List.{concat}
 use Rattle.std.specs.Io.KnownBytes.{Appends, Keeps, Consumes, IsAtEnd}
@@ -11,7 +11,9 @@ use Rattle.engine.specs.declared.fault.RunFault.TheVariants as faults
 use Rattle.lint.specs.declared.linter.Linter.{Linter}
 use Rattle.lint.specs.Listing.{Lists, ListsAll, ListsWithin, Stops}
 use Rattle.lint.specs.Parts.{Holds, ListsRaw, ListsEnded, Passes, Written, Halts, ListsLast, Closes, CloseFault}
-use Rattle.lint.proofs.Lines.{lists_more, lists_then, lists_is, lists_last, last_line, concat_more}
+use Rattle.lint.proofs.Lines.{lists_more, lists_then, lists_is, lists_last, last_line}
+use Rattle.engine.proofs.Whole.{input_is}
+use Rattle.mig_base.proofs.ByteLemmas.{concat-push}
 
 -- what was read so far, and what was listed of it
 pub record Ran (language : Language) (name : List ℕ) (r0 r1 : Option (List ℕ)) (state : Linter) (w0 w1 : Option (List ℕ)) : Type 0 where
@@ -124,12 +126,6 @@ ran_read_fault l name p (Some x) r1 (Some y) w0 w1 ran kept = (
 
 -- ---- the end of the input
 
--- at the end of the input, what was read is the input
-input_is : (x consumed : List ℕ) (r1 r2 : Option (List ℕ)) → Consumes (Some x) r1 consumed → Consumes r1 r2 [] → IsAtEnd r2 → (x ≡ consumed) × (r2 ≡ Some [])
-input_is x consumed None r2 p q e = absurd p
-input_is x consumed (Some y) None p q e = absurd q
-input_is x consumed (Some y) (Some z) p q e = (p ∙ ap (λ (t : List ℕ). consumed ++ t) (q ∙ e) ∙ append-nil consumed, ap (λ (t : List ℕ). Some t) e)
-
 -- the listing of the whole input
 pub record Whole (l : Language) (name x before text : List ℕ) : Type 0 where
   pub texts : List (List ℕ)
@@ -150,7 +146,7 @@ closes l name p x text r1 r2 w0 w1 ran last e q =
         texts = ran.texts ++ text ∷ [];
         lists = lists_last l name 1 (p.number + 1) x ran.texts ran.held (text ∷ []) [] lists (omega (arith, ran.number))
             (last_line l name (p.number + 1) ran.held text some.0 some.1 (subst (λ (k : Language). ListsRaw k name (p.number + 1) false ran.held text) ran.same some.2));
-        whole = concat_more ran.texts text;
+        whole = concat-push ran.texts text;
       }
     ]
 
@@ -210,7 +206,3 @@ pub ran_stopped : {T : Type 0} (result : Result T RunFault) (l : Language) (name
     → IfErr result (λ fault. (held : List ℕ) → Holds p held → CloseFault name p held fault w1 w2) → IfErr result (λ fault. IfSome r0 (λ input. Stops l name input r2 fault w0 w2))
 ran_stopped (Ok x) l name p r0 r1 r2 w0 w1 w2 ran last e c = tt
 ran_stopped (Err fault) l name p r0 r1 r2 w0 w1 w2 ran last e c = close_fault l name p fault r0 r1 r2 w0 w1 w2 ran last e (c ran.held ran.holds)
-
--- a read that gave nothing was at the end
-pub at_end : (r1 r2 : Option (List ℕ)) (n : ℕ) (buf : List ℕ) → n ≡ 0 → 0 < length buf → Consumes r1 r2 (take n buf) × (n ≡ 0 → 0 < length buf → IsAtEnd r2) → Consumes r1 r2 [] × IsAtEnd r2
-at_end r1 r2 n buf none some p = (subst (λ (k : ℕ). Consumes r1 r2 (take k buf)) none p.0, p.1 none some)

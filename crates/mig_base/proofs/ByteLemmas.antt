@@ -1,7 +1,8 @@
--- Pages of zeros, and pages that others were written into.
-use Rattle.std.proofs.Common.{◌≡◌, ℕ, ◌+◌, ◌-◌, ◌<◌, ◌≤◌, List, ◌++◌, refl, sym, ap, ◌∙◌, subst, arith, length, take, drop, get_or, ⊎_elim, length-append}
+-- Pages of zeros, pages that others were written into, and the join of lists of bytes.
+use Rattle.std.proofs.Common.{◌≡◌, ℕ, ◌+◌, ◌-◌, ◌<◌, ◌≤◌, List, [], ◌∷◌, ◌++◌, append_assoc, refl, sym, ap, ◌∙◌, subst, arith, length, take, drop, get_or, ⊎_elim, length-append}
 use Rattle.std.specs.Prelude.{replicate}
-use Rattle.std.proofs.lemmas.List.{drop-drop, get_or-take, get_or_append_left, get_or-append_right, get_or-drop, get_or-replicate, length-take, length-drop, length-replicate}
+use Rattle.std.specs.List.{concat}
+use Rattle.std.proofs.lemmas.List.{append-nil, drop-drop, get_or-take, get_or_append_left, get_or-append_right, get_or-drop, get_or-replicate, length-take, length-drop, length-replicate}
 use Rattle.std.proofs.Math.ListN.{get_or-eq_default}
 use Rattle.std.proofs.lemmas.Bool.{cases_lt}
 use borrow.Rule.Slice.PartMut.{put_mid}
@@ -57,3 +58,8 @@ get_or-overwrite_above held bytes offset i h l =
 pub overwrite-put_mid : (held copied bytes : List ℕ) (offset len : ℕ) → copied ≡ bytes → len ≡ length bytes → put_mid offset len held copied ≡ overwrite held offset bytes
 unfolding overwrite
 overwrite-put_mid held copied bytes offset len same count = rw (same, count) (ap (λ xs. take offset held ++ (bytes ++ xs)) (drop-drop (length bytes) offset held))
+
+-- the join with one more list
+pub concat-push : (front : List (List ℕ)) (last : List ℕ) → concat (front ++ last ∷ []) ≡ concat front ++ last
+concat-push [] last = append-nil last
+concat-push (piece ∷ front) last = ap (λ (rest : List ℕ). piece ++ rest) (concat-push front last) ∙ sym (append_assoc piece (concat front) last)

@@ -11,3 +11,5 @@ pub mod Bits
 pub mod Places
 pub mod PageSets
 pub mod Messages
+pub mod Texts
+pub mod Tails

@@ -2,7 +2,7 @@
 
 ghost use Rattle.std.specs.Prelude.{◌≡◌, ◌<◌, ◌^◌, nat_lt, true};
 ghost use Rattle.mig_base.specs.Commands as commands;
-ghost use Rattle.mig_base.specs.Flat.{is_aligned as is_access, is_width};
+ghost use Rattle.mig_base.specs.Flat as flat;
 ghost use Rattle.mig_base.specs.declared.TheConstants.{HIGH_PAGE};
 
 use crate::{Addr, PAGE_SIZE, PageNo, Prot};
@@ -138,14 +138,14 @@ pub struct Entry {
 
 /// Whether an access of that width is aligned at the address: the width is 1, 2, 4 or 8 bytes, and the address is a multiple of it.
 pub fn is_aligned(addr: Addr, width: u8) -> bool
-    ensures { result ≡ is_access addr width }
+    ensures { result ≡ flat.is_aligned addr width }
 {
     matches!(width, 1 | 2 | 4 | 8) && addr % u64::from(width) == 0
 }
 
 /// Whether a number fits in `width` bytes, which are 1, 2, 4 or 8.
 pub fn fits(value: u64, width: u8) -> bool
-    ensures { is_width width ≡ true → result ≡ nat_lt value (256 ^ width) }
+    ensures { flat.is_width width ≡ true → result ≡ nat_lt value (256 ^ width) }
 {
     match width {
         1 => value <= 0xff,

@@ -49,7 +49,7 @@ step_to world new step effect is order can =
 -- Tests
 
 -- a step is made where no test of its list holds
-not_refused : (reasons : List (Bool × Refusal)) (rest : Answer) → NoneApplies reasons → unless reasons rest ≡ rest
+pub not_refused : (reasons : List (Bool × Refusal)) (rest : Answer) → NoneApplies reasons → unless reasons rest ≡ rest
 unfolding unless
 not_refused [] rest none = refl
 not_refused (reason ∷ reasons) rest none = ap (λ b. if b then Err reason.1 else unless reasons rest) none.0 ∙ not_refused reasons rest none.1

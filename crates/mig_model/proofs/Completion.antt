@@ -106,7 +106,7 @@ link_down_by from world is at =
 start_step : (world : World) → is_source_idle world.source.phase ≡ true → is_used world.source.epoch ≡ false → world.up ≡ true → IsInOrder world → CanComplete world
 start_step world idle free up order = by_start world idle free order (λ new. link_up_by SourcePhase.Precopy (after_start world) refl refl up new)
 
-in_order : (world : World) → IsReached world → IsInOrder world
+pub in_order : (world : World) → IsReached world → IsInOrder world
 in_order world reached = record { kept = kept-reached world reached; urgent = urgent-reached world reached }
 
 -- while the epoch of the source is not its last

@@ -86,40 +86,41 @@ pub next_some : (object : Object) (event : Noted) (more : List Noted) → object
 next_some object event more is = first_of object.faults object.events event more is
 
 -- a destination that took a frame: no more than one copy came, its guest is as it was, and it runs unless it has ended
-record IsNext (old new : Destination) : Type 0 where
-  arrived : length new.arrivals ≤ length old.arrivals + 1
-  guest : new.guest ≡ old.guest
-  phase : (new.phase ≡ old.phase) ⊎ (new.phase ≡ DestPhase.Ended)
+pub record IsNext (old new : Destination) : Type 0 where
+  pub arrived : length new.arrivals ≤ length old.arrivals + 1
+  pub guest : new.guest ≡ old.guest
+  pub phase : (new.phase ≡ old.phase) ⊎ (new.phase ≡ DestPhase.Ended)
 
-one_more : (arrivals : List Copy) (copy : Copy) → length (arrivals ++ copy ∷ []) ≤ length arrivals + 1
+pub one_more : (arrivals : List Copy) (copy : Copy) → length (arrivals ++ copy ∷ []) ≤ length arrivals + 1
 one_more arrivals copy = let more = length-append arrivals (copy ∷ []) in omega (arith, more)
 
-none_more : (arrivals : List Copy) → length arrivals ≤ length arrivals + 1
+pub none_more : (arrivals : List Copy) → length arrivals ≤ length arrivals + 1
 none_more arrivals = omega arith
 
-pushed-next : (node : Destination) (epoch : ℕ) (frame : Frame) → is_some (flow_next Pushed frame) ≡ true → IsNext node (destination_took node epoch frame)
+pub pushed-next : (node : Destination) (epoch : ℕ) (frame : Frame) → is_some (flow_next Pushed frame) ≡ true → IsNext node (destination_took node epoch frame)
 pushed-next node epoch frame in_place = grind (arith, nat_tests, one_more, none_more)
 
-urgent_took-next : (node : Destination) (frame : Frame) → IsNext node (urgent_took node frame)
+pub urgent_took-next : (node : Destination) (frame : Frame) → IsNext node (urgent_took node frame)
 urgent_took-next node frame = grind (arith, nat_tests, one_more)
 
 -- a copy that is installed or dropped waits no longer, and Install reads no message
-record IsInstalled (old new : Destination) (rest : List Copy) : Type 0 where
-  arrivals : new.arrivals ≡ rest
-  object : new.guest.space.object ≡ old.guest.space.object
-  phase : new.phase ≡ old.phase
+pub record IsInstalled (old new : Destination) (rest : List Copy) : Type 0 where
+  pub arrivals : new.arrivals ≡ rest
+  pub object : new.guest.space.object ≡ old.guest.space.object
+  pub phase : new.phase ≡ old.phase
 
-install_by-next : (page : Option ℕ) (node : Destination) (copy : Copy) (rest : List Copy) → IsInstalled node (install_by page node copy rest) rest
+pub install_by-next : (page : Option ℕ) (node : Destination) (copy : Copy) (rest : List Copy) → IsInstalled node (install_by page node copy rest) rest
 install_by-next page node copy rest = grind (arith, nat_tests)
+
+-- a destination that runs has run
+pub running-has_run : (world : World) → IsInOrder world → world.destination.phase ≡ DestPhase.Running → world.destination.has_run ≡ true
+running-has_run world order runs = (subst (λ p. RanAt p world.destination.has_run world.destination.ended) runs order.kept.phases.destination_phase).0
 
 -- the destination runs, and End was sent in this epoch
 record IsDraining (world : World) : Type 0 where
   at : IsUpAt SourcePhase.Stopped world
   told : flow_of world.source ≡ AfterEnd
   runs : world.destination.phase ≡ DestPhase.Running
-
-has_run-draining : (world : World) → IsDraining world → world.destination.has_run ≡ true
-has_run-draining world draining = (subst (λ p. RanAt p world.destination.has_run world.destination.ended) draining.runs draining.at.order.kept.phases.destination_phase).0
 
 -- from every world that has less left, and where the destination runs or has ended, the migration can be completed
 Again : World → Type 0
@@ -135,7 +136,7 @@ urgent_step world sent rest first draining again =
     let taken = ap length first in
     let object = ap (λ (guest : Guest). unread guest.space.object) node.guest in
     let arrived = node.arrived in
-    by_deliver_urgent world sent rest first (has_run-draining world draining) draining.at.up draining.at.order (λ order.
+    by_deliver_urgent world sent rest first (running-has_run world draining.at.order draining.runs) draining.at.up draining.at.order (λ order.
     again (after_deliver_urgent world sent rest) (omega (arith, taken, object, arrived)) (record { order = order; up = draining.at.up; phase = draining.at.phase }) draining.told (still_runs world.destination.phase _ draining.runs node.phase))
 
 read_step : (world : World) (noted : Noted) → next_message world.destination.guest.space.object ≡ Some noted → IsDraining world → Again world → CanComplete world
@@ -143,7 +144,7 @@ unfolding Again work
 read_step world noted is draining again =
     let less = read-less world.destination.guest.space.object noted is in
     let object = ap unread (read_object world.destination.guest noted.cpu noted.message) in
-    by_dest_read world noted (has_run-draining world draining) is draining.at.order (λ order.
+    by_dest_read world noted (running-has_run world draining.at.order draining.runs) is draining.at.order (λ order.
     again (after_dest_read world noted) (omega (arith, less, object)) (record { order = order; up = draining.at.up; phase = draining.at.phase }) draining.told (inl draining.runs))
 
 install_step : (world : World) (copy : Copy) (rest : List Copy) → world.destination.arrivals ≡ copy ∷ rest → is_changing world.destination.guest ≡ false → IsDraining world → Again world → CanComplete world
@@ -153,11 +154,11 @@ install_step world copy rest first quiet draining again =
     let waited = ap length first in
     let waits = ap length node.arrivals in
     let object = ap unread node.object in
-    by_install world copy rest (has_run-draining world draining) first quiet draining.at.order (λ order.
+    by_install world copy rest (running-has_run world draining.at.order draining.runs) first quiet draining.at.order (λ order.
     again (after_install world copy rest) (omega (arith, waited, waits, object)) (record { order = order; up = draining.at.up; phase = draining.at.phase }) draining.told (inl (node.phase ∙ draining.runs)))
 
 -- End does not come before an urgent frame
-none_early : (node : Destination) (epoch end_epoch count : ℕ) (frame : Frame) → IsTold epoch end_epoch count frame → count ≡ node.urgent_taken + 0 → is_early node frame ≡ false
+pub none_early : (node : Destination) (epoch end_epoch count : ℕ) (frame : Frame) → IsTold epoch end_epoch count frame → count ≡ node.urgent_taken + 0 → is_early node frame ≡ false
 none_early node epoch end_epoch count frame told all = grind (arith, nat_tests)
 
 deliver_step : (world : World) (sent : Sent) (rest : List Sent) → world.forward.frames ≡ sent ∷ rest → world.urgent.frames ≡ [] → world.destination.arrivals ≡ [] → IsDraining world → Again world → CanComplete world
@@ -177,7 +178,7 @@ deliver_step world sent rest first none free draining again =
     again (after_deliver world sent rest) (omega (arith, taken, object, arrived)) (record { order = order; up = draining.at.up; phase = draining.at.phase }) draining.told (still_runs world.destination.phase _ draining.runs node.phase))
 
 -- the wire is not empty as long as End was not taken
-not_at_end : (flow : Flow) (source : Source) (frames : List Sent) → flow ≢ AfterEnd → flow_of source ≡ AfterEnd → flow_after flow frames ≡ Some (flow_of source) → frames ≢ []
+pub not_at_end : (flow : Flow) (source : Source) (frames : List Sent) → flow ≢ AfterEnd → flow_of source ≡ AfterEnd → flow_after flow frames ≡ Some (flow_of source) → frames ≢ []
 not_at_end flow source frames other told h none = grind (arith, nat_tests)
 
 forward_step : (frames : List Sent) (world : World) → world.forward.frames ≡ frames → world.urgent.frames ≡ [] → world.destination.arrivals ≡ [] → IsDraining world → Again world → CanComplete world
@@ -209,23 +210,23 @@ running_by (suc n) world few at told phase =
 -- The destination has not run: the frames up to the Package are taken
 
 -- the phases before it runs
-abbrev is_waiting : DestPhase → Bool
+abbrev pub is_waiting : DestPhase → Bool
 is_waiting DestPhase.Idle = true
 is_waiting DestPhase.Advised = true
 is_waiting DestPhase.Discarding = true
 is_waiting phase = false
 
 -- where the wire to it begins
-waiting_flow : DestPhase → Flow
+unfoldable pub waiting_flow : DestPhase → Flow
 waiting_flow DestPhase.Idle = BeforeAdvise
 waiting_flow DestPhase.Advised = Copies
 waiting_flow phase = BeforePackage
 
-waiting-not_ended : (to : DestPhase) → waiting_flow to ≢ AfterEnd
+pub waiting-not_ended : (to : DestPhase) → waiting_flow to ≢ AfterEnd
 unfolding waiting_flow
 waiting-not_ended to h = grind (arith, nat_tests)
 
-waiting_wire : (to : DestPhase) (world : World) → is_waiting to ≡ true → world.destination.phase ≡ to → IsUpAt SourcePhase.Stopped world → flow_after (waiting_flow to) world.forward.frames ≡ Some (flow_of world.source)
+pub waiting_wire : (to : DestPhase) (world : World) → is_waiting to ≡ true → world.destination.phase ≡ to → IsUpAt SourcePhase.Stopped world → flow_after (waiting_flow to) world.forward.frames ≡ Some (flow_of world.source)
 unfolding waiting_flow
 waiting_wire to world waits is at = grind (arith, nat_tests)
 

@@ -74,3 +74,4 @@ pub mod DestinationAct
 pub mod Stopping
 pub mod SourceKept
 pub mod DestinationRead
+pub mod PageLists

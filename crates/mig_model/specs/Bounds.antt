@@ -59,7 +59,12 @@ pub record HasBoundedMemory (world : World) : Type 0 where
 abbrev pub ArePages : FinSet nat_cmp → Type 0
 ArePages pages = (page : ℕ) → contains pages page ≡ true → IsPage page
 
--- the same of a set that may be mapped as a whole: it has MAX_PAGES at most
+-- each page of a list may be mapped
+abbrev pub AreListed : List ℕ → Type 0
+AreListed [] = Unit {0}
+AreListed (page ∷ pages) = IsPage page × AreListed pages
+
+-- a set of such pages that may be mapped as a whole: it has MAX_PAGES at most
 abbrev pub AreFewPages : FinSet nat_cmp → Type 0
 AreFewPages pages = ArePages pages × (len pages ≤ MAX_PAGES)
 

@@ -81,5 +81,5 @@ pub record AreRegistered (old new : Space) (runs : List Run) (bits : ℕ) : Type
 
 -- UFFDIO_API on the fresh object of a space with these pages, and then UFFDIO_REGISTER of the runs, lead to a space
 pub record AreWatched (host : Host) (new : Space) (runs : List Run) (features bits : ℕ) : Type 0 where
-  pub handshake : handshake_error (record fresh_space { host = host }) 170 features ≡ None
-  pub areas : AreRegistered (handshaken (record fresh_space { host = host }) 170 features) new runs bits
+  pub handshake : handshake_error (record fresh_space { host = host }) 0xaa features ≡ None
+  pub areas : AreRegistered (handshaken (record fresh_space { host = host }) 0xaa features) new runs bits

@@ -49,11 +49,11 @@ is_feature i = i == 0 || i == 2 || i == 3 || i == 6 || i == 8
 
 -- these features as one word: bits 0, 2, 3, 6 and 8
 abbrev pub all_features : ℕ
-all_features = 333
+all_features = 0x14d
 
 -- the features of the object of a destination, the three events, as one word: bits 2, 3 and 6
 abbrev pub event_features : ℕ
-event_features = 76
+event_features = 0x4c
 
 -- whether the handshake asked for the three events, without which this project registers no page
 abbrev pub has_events : Object → Bool
@@ -76,9 +76,9 @@ is_bare space first count = none_below (λ i. contains_key space.host.areas (fir
 
 -- UFFDIO_API
 
--- the errors of a handshake, all EINVAL: another API than 0xAA (170), a feature that the object lacks, or a handshake made before
+-- the errors of a handshake, all EINVAL: another API than UFFD_API (0xAA), a feature that the object lacks, or a handshake made before
 abbrev pub handshake_error : Space → ℕ → ℕ → Option Errno
-handshake_error space api features = first_holding ((not (api == 170), Einval) ∷ (has_unknown is_feature features, Einval) ∷ (space.object.enabled, Einval) ∷ [])
+handshake_error space api features = first_holding ((not (api == 0xaa), Einval) ∷ (has_unknown is_feature features, Einval) ∷ (space.object.enabled, Einval) ∷ [])
 
 -- what UFFDIO_API answers: all features of the object, or the error
 abbrev pub handshake_answer : Space → ℕ → ℕ → Result ℕ Errno

@@ -24,10 +24,9 @@ use Rattle.mig_model.proofs.FrameFaults.{none_empty, present_below}
 use Rattle.mig_model.proofs.SetSizes.{len-some}
 use Rattle.mig_model.proofs.Stopping.{member_less}
 use Rattle.mig_model.proofs.Facts.{no_page}
-use Rattle.mig_model.specs.Bounds.{AreFewPages}
+use Rattle.mig_model.specs.Bounds.{AreFewPages, AreListed}
 use Rattle.mig_model.specs.Wire as wire
 use Rattle.page_stream.specs.declared.frame.Frame.{Frame}
-use Rattle.fault_handler.specs.Requests.{AreListed}
 use Rattle.recovery.specs.Breaks.{AreWellFormed, broken_world, frames_of, received_by}
 
 -- the source with a phase

@@ -1,41 +1,14 @@
--- The texts of replies, commands and entries.
+-- The texts of commands and entries.
 use Rattle.std.specs.Prelude.{ℕ, List, [], ◌∷◌, ◌++◌, codes, Bool, false, true, Option, Some, None}
-use Rattle.std.specs.Fmt.{decimal, digits}
+use Rattle.std.specs.Fmt.{decimal}
+use Rattle.mig_base.specs.Texts.{hexadecimal, reply_text}
 use Rattle.mig_base.specs.declared.Prot.{Prot}
 use Rattle.mig_base.specs.declared.Prot.TheVariants.{NoAccess, Read, ReadWrite}
-use Rattle.mig_base.specs.declared.command.Errno.{Errno}
-use Rattle.mig_base.specs.declared.command.Errno.TheVariants.{Eperm, Enoent, Eagain, Enomem, Efault, Eexist, Einval}
 use Rattle.mig_base.specs.declared.command.Place.{Place}
 use Rattle.mig_base.specs.declared.command.Place.TheVariants.{Anywhere, Fixed, NoReplace}
 use Rattle.mig_base.specs.declared.command.Command.{Command}
 use Rattle.mig_base.specs.declared.command.Command.TheVariants.{Load, Store, Mmap, Munmap, Mremap, DontNeed}
-use Rattle.mig_base.specs.declared.command.Reply.{Reply}
-use Rattle.mig_base.specs.declared.command.Reply.TheVariants.{Value, Done, At, Segv, BadAccess, Refused}
 use Rattle.mig_base.specs.declared.command.Entry.{Entry}
-
--- 0x and lower-case digits without leading zeros
-abbrev pub hexadecimal : ℕ → List ℕ
-hexadecimal n = codes "0x" ++ digits 16 false n
-
--- the name of an error number, as in errno(3)
-abbrev pub errno_name : Errno → List ℕ
-errno_name Eperm = codes "EPERM"
-errno_name Enoent = codes "ENOENT"
-errno_name Eagain = codes "EAGAIN"
-errno_name Enomem = codes "ENOMEM"
-errno_name Efault = codes "EFAULT"
-errno_name Eexist = codes "EEXIST"
-errno_name Einval = codes "EINVAL"
-
--- a reply
-abbrev pub reply_text : Reply → List ℕ
-reply_text (Value n) = codes "value " ++ hexadecimal n
-reply_text Done = codes "done"
-reply_text (At addr) = codes "at " ++ hexadecimal addr
-reply_text (Segv false) = codes "segv unmapped"
-reply_text (Segv true) = codes "segv protected"
-reply_text BadAccess = codes "bad access"
-reply_text (Refused errno) = codes "refused " ++ errno_name errno
 
 -- the word of a protection, as in a script
 abbrev pub prot_text : Prot → List ℕ

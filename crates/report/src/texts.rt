@@ -1,56 +1,13 @@
-//! Printing commands, replies and entries.
+//! Printing commands and entries.
 
 ghost use Rattle.std.specs.Prelude.{◌≡◌, ◌++◌, OnOk, OnErr, Some, string_bytes};
-ghost use Rattle.report.specs.Texts.{errno_name, reply_text, prot_text, place_text, may_move_text, target_text, mmap_text, mremap_text, command_text, entry_text, entry_line};
+ghost use Rattle.report.specs.Texts.{prot_text, place_text, may_move_text, target_text, mmap_text, mremap_text, command_text, entry_text, entry_line};
 
-use mig_base::{Addr, Command, Entry, Errno, NoMemory, Place, Prot, Reply};
+use mig_base::{Addr, Command, Entry, NoMemory, Place, Prot};
 use std::fmt;
 
 /// The room that is allocated for a line, in bytes: more than most lines need.
 const LINE: usize = 128;
-
-/// The name of an error number.
-#[derive(Clone, Copy)]
-struct ErrnoName(Errno);
-
-impl fmt::Display for ErrnoName {
-    ghost output = { λ x. Some (errno_name x.0) };
-
-    fn fmt<W: fmt::Write>(&self, f: &mut fmt::Formatter<W>) -> fmt::Result {
-        match self.0 {
-            Errno::Eperm => write!(f, "EPERM"),
-            Errno::Enoent => write!(f, "ENOENT"),
-            Errno::Eagain => write!(f, "EAGAIN"),
-            Errno::Enomem => write!(f, "ENOMEM"),
-            Errno::Efault => write!(f, "EFAULT"),
-            Errno::Eexist => write!(f, "EEXIST"),
-            Errno::Einval => write!(f, "EINVAL"),
-        }
-    }
-}
-
-/// A reply to a command, as it is printed.
-#[derive(Clone, Copy)]
-pub struct ReplyText(pub Reply);
-
-impl fmt::Display for ReplyText {
-    ghost output = { λ x. Some (reply_text x.0) };
-
-    fn fmt<W: fmt::Write>(&self, f: &mut fmt::Formatter<W>) -> fmt::Result {
-        match self.0 {
-            Reply::Value(value) => write!(f, "value 0x{value:x}"),
-            Reply::Done => write!(f, "done"),
-            Reply::At(addr) => write!(f, "at 0x{addr:x}"),
-            Reply::Segv { mapped: false } => write!(f, "segv unmapped"),
-            Reply::Segv { mapped: true } => write!(f, "segv protected"),
-            Reply::BadAccess => write!(f, "bad access"),
-            Reply::Refused(errno) => {
-                let name = ErrnoName(errno);
-                write!(f, "refused {name}")
-            }
-        }
-    }
-}
 
 /// The word of a protection.
 #[derive(Clone, Copy)]
@@ -213,7 +170,7 @@ impl fmt::Display for EntryText {
     fn fmt<W: fmt::Write>(&self, f: &mut fmt::Formatter<W>) -> fmt::Result {
         let cpu = self.0.cpu;
         let command = CommandText(self.0.command);
-        let reply = ReplyText(self.0.reply);
+        let reply = self.0.reply;
         write!(f, "{cpu} {command} => {reply}")
     }
 }

@@ -1,5 +1,5 @@
 -- The bytes in flight, piece by piece.
-use Rattle.std.proofs.Common.{◌≡◌, ℕ, List, [], ◌∷◌, ◌++◌, length, map, take, drop, refl, sym, ap, subst, ◌∙◌, append_assoc, arith}
+use Rattle.std.proofs.Common.{◌≡◌, ℕ, List, [], ◌∷◌, ◌++◌, length, map, take, drop, refl, sym, ap, subst, ◌∙◌, arith}
 use Rattle.std.proofs.lemmas.List.{append-nil, length-drop, take-append-drop, take-append-le}
 use Rattle.std.proofs.lemmas.List.Concat.{flat_map-cons}
 use Rattle.std.specs.Global.{Vec}
@@ -16,6 +16,7 @@ use Rattle.wires.specs.Chunks.{AreChunks, IsFull, frames_in, in_flight, in_full,
 use Rattle.wires.specs.Lanes.{IsHeld}
 use Rattle.wires.specs.declared.chunks.Chunks.{Chunks}
 use Rattle.wires.proofs.ChunkLemmas.{length-text_of}
+use Rattle.mig_base.proofs.ByteLemmas.{concat-push}
 
 abbrev text_of : Sent → List ℕ
 text_of sent = text Two sent.epoch sent.frame
@@ -27,10 +28,6 @@ abbrev pub bytes_in : Chunks → List ℕ
 bytes_in chunks = concat (pieces chunks)
 
 -- Joined, the pieces are the texts
-
-concat-push : (front : List (List ℕ)) (last : List ℕ) → concat (front ++ last ∷ []) ≡ concat front ++ last
-concat-push [] last = append-nil last
-concat-push (piece ∷ front) last = ap (λ (rest : List ℕ). piece ++ rest) (concat-push front last) ∙ sym (append_assoc piece (concat front) last)
 
 full_bytes : (full : List (Vec ℕ)) → AllByRecursion IsFull full → concat (map items_of full) ≡ texts versions.Two (in_full full)
 full_bytes [] all = refl

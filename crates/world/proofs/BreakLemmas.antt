@@ -153,12 +153,9 @@ pub record CanResume (world : World) (epoch : ℕ) : Type 0 where
 pub can_resume : (world : World) (epoch : ℕ) → resume_answer world ≡ Ok epoch → CanResume world epoch
 can_resume world epoch h = grind (arith, nat_tests)
 
-resume_by : (world : World) (refusal : Refusal) → resume_answer world ≡ Err refusal → outcome world Step.Resume ≡ Err refusal
-unfolding unless outcome
-resume_by world refusal h = grind (arith, nat_tests)
-
 pub resume_refused : (world : World) (refusal : Refusal) → resume_answer world ≡ Err refusal → outcome world Step.Resume ≡ Err refusal
-resume_refused world refusal h = resume_by world refusal h
+unfolding unless outcome
+resume_refused world refusal h = grind (arith, nat_tests)
 
 pub resume_could : (world : World) (epoch : ℕ) → resume_answer world ≡ Ok epoch → IsOk (outcome world Step.Resume)
 resume_could world epoch h = let can = can_resume world epoch h in resume_ok world epoch can.from can.to can.down can.free

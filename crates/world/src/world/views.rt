@@ -12,11 +12,14 @@ ghost use Rattle.world.specs.Headline.{IsMoved};
 
 use super::World;
 use crate::parts::bytes_on;
+use dirty_log::DirtyLog;
 use mig_base::counts::Counts;
 use mig_base::cpu_state::CpuState;
 use mig_base::phase::{DestPhase, SourcePhase};
 use mig_base::refusal::Refusal;
 use mig_base::{MAX_CPUS, Message, NoMemory, PageNo, PageSet, WorldPhase};
+use owed_pages::Owed;
+use uffd_ioctl::Space;
 use wires::Wire;
 
 impl World {
@@ -186,6 +189,34 @@ impl World {
         ensures { IfOk result (λ pages. pages ≡ not_clean self.now.source) }
     {
         self.parts.source.log().dirty(self.parts.source.space())
+    }
+
+    /// The address space of the guest at the source.
+    pub fn source_space(&self) -> &Space
+        ensures { result.now ≡ self.now.source.guest.space }
+    {
+        self.parts.source.space()
+    }
+
+    /// The same at the destination.
+    pub fn destination_space(&self) -> &Space
+        ensures { result.now ≡ self.now.destination.guest.space }
+    {
+        self.parts.destination.space()
+    }
+
+    /// What the source knows of its pages: which are clean, and which were sent in this epoch.
+    pub fn dirty_log(&self) -> &DirtyLog
+        ensures { result.now ≡ self.now.source.log }
+    {
+        self.parts.source.log()
+    }
+
+    /// The pages that the destination still needs, each with its page at the source.
+    pub fn owed(&self) -> &Owed
+        ensures { result.now ≡ self.now.destination.owed }
+    {
+        self.parts.destination.owed()
     }
 
     /// The number of bytes of the frames in flight to the destination, those of the first that have come among them: a header of 12

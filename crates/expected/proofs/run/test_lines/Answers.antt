@@ -1,7 +1,8 @@
 use Rattle.std.proofs.Common.{◌≡◌, length, arith, rules}
 use Rattle.std.proofs.lemmas.Result.{err_from_is_err_and}
 use Rattle.std.proofs.KnownBytes.{Keeps-refl}
-use Rattle.expected.proofs.Whole.{from_then, from_unmet, from_halts, from_read_fault, finished, finish_halts, at_end}
+use Rattle.engine.proofs.Whole.{at_end}
+use Rattle.expected.proofs.Whole.{from_then, from_unmet, from_halts, from_read_fault, finished, finish_halts}
 use Rattle.expected.proofs.run.test_lines.Goals as goal
 
 pub returns-in-Ok-eq0-clause-ok : goal.returns-in-Ok-eq0-clause-ok

@@ -1,4 +1,4 @@
-use Rattle.explore.proofs.Going.{Going}
+use Rattle.explore.specs.Explorations.{Going}
 use Rattle.explore.proofs.run.write_lines.Given as goal
 
 abbrev pub invariant-loop : goal.invariant-loop

@@ -1,7 +1,8 @@
 use Rattle.std.proofs.Common.{◌≡◌, length, arith, rules}
 use Rattle.std.proofs.lemmas.Result.{err_from_is_err_and}
 use Rattle.std.proofs.KnownBytes.{Keeps-refl}
-use Rattle.lint.proofs.Whole.{ran_none, ran_then, ran_halts, ran_read_fault, ran_finished, ran_stopped, at_end}
+use Rattle.engine.proofs.Whole.{at_end}
+use Rattle.lint.proofs.Whole.{ran_none, ran_then, ran_halts, ran_read_fault, ran_finished, ran_stopped}
 use Rattle.lint.proofs.run.lint_lines.Goals as goal
 
 pub returns-in-Ok-eq0-clause-ok : goal.returns-in-Ok-eq0-clause-ok

@@ -1,0 +1,42 @@
+"""The crates of the repository, and what each stands on, as crates.txt has them."""
+
+import page
+
+
+def lines_of(text):
+    """Of each crate the words behind its name, and those behind the colon."""
+    found = {}
+    for line in text.splitlines():
+        head, colon, rest = line.partition("#")[0].partition(":")
+        if colon:
+            found[head.split()[0]] = (head.split()[1:], rest.split())
+    return found
+
+
+def crates():
+    """What each crate stands on, in the order of crates.txt, which has each crate behind those that it stands on."""
+    return {name: below for name, (_, below) in lines_of((page.TOP / "crates.txt").read_text()).items()}
+
+
+def below(name):
+    """A crate and all crates of the repository that it stands on, lowest first."""
+    known, found = crates(), {name}
+    for it in reversed(known):
+        if it in found:
+            found |= set(known[it]) & set(known)
+    return [it for it in known if it in found]
+
+
+def above(names):
+    """These crates and all that stand on them, lowest first."""
+    known, found = crates(), set(names)
+    for it, stands_on in known.items():
+        if found & set(stands_on):
+            found.add(it)
+    return [it for it in known if it in found]
+
+
+def lines_for(names):
+    """The lines of crates.txt for these crates alone."""
+    lines = (page.TOP / "crates.txt").read_text().splitlines(keepends=True)
+    return "".join(line for line in lines if set(lines_of(line)) & set(names))

@@ -1,0 +1,193 @@
+//! Painting a picture.
+
+mod bands;
+mod head;
+mod legend;
+mod longest;
+mod marks;
+mod ruler;
+mod strands;
+
+use crate::pen::{Frame, Pen, Px};
+use crate::plan::{Plan, RIGHT};
+use crate::record::Record;
+use mig_base::NoMemory;
+use std::alloc::Global;
+use svg::{Attribute, Key, Sheet, Tag};
+
+/// The style sheet. `h` to `f` are also the parts of waits.
+const STYLE: &str = "path{fill:none}text{font-family:sans-serif;fill:#222;font-size:10px}\
+.n1{font-size:14px;font-weight:bold}.n2{font-size:11px}.n3{font-size:11px;font-weight:bold}.n4{font-weight:bold}\
+.sm{font-size:8.5px;fill:#666}.mo{font-family:monospace;font-size:9px}.gm{font-family:monospace;font-size:8.5px;fill:#999}\
+.en{text-anchor:end}.mi{text-anchor:middle}.wh{fill:#fff;font-size:8px;text-anchor:middle}.bl{font-size:8px;text-anchor:middle}\
+.ha{paint-order:stroke;stroke:#fff;stroke-width:3px;stroke-linejoin:round}\
+.bg{fill:#fff}.st{fill:#f0eee6}.nl{fill:#e4e4e4}\
+.e{fill:#bbb}.c{fill:#8ccbf0}.p{fill:#ececec;stroke:#bbb;stroke-width:.5}.u{fill:#9a9a9a}.d{fill:url(#dirty)}.o{fill:#cc7a00}\
+.i{fill:#009e73}.m{fill:#fff;stroke:#009e73}.a{fill:#f0e442;stroke:#222;stroke-width:.8}\
+.h{fill:#d55e00}.f{fill:url(#page);stroke:#d55e00;stroke-width:.8}.r{fill:url(#request);stroke:#d55e00;stroke-width:.8}\
+.s{fill:#6b2d00}.n{fill:#222}.w{fill:#fff;stroke:#d55e00}.k{fill:#cc79a7}\
+.lf{stroke:#0072b2;stroke-width:1.5}.lu{stroke:#d55e00;stroke-width:2.6}.lo{stroke:#444}.lq{stroke:#0072b2;stroke-width:1.5}\
+.ls{stroke:#0072b2;stroke-width:1.2;stroke-dasharray:3 2}.lx{stroke:#222;stroke-width:1.8}\
+.g1{stroke:#bbb;stroke-width:.6}.g2{stroke:#888}.g3{stroke:#222;stroke-width:.8}.g4{stroke:#222;stroke-width:1.6;stroke-dasharray:5 2}\
+.g5{stroke:#222;stroke-width:1.2}.do{fill:#fff;stroke:#222}.dd{fill:#222}.ar{fill:#444}";
+
+/// Writes the patterns that the style sheet names.
+fn patterns(pen: &mut Pen) -> Result<(), NoMemory> {
+    pen.sheet.begin(Tag::Defs, &[])?;
+    pattern(
+        pen,
+        "dirty",
+        "M0 0h6v6h-6z",
+        "o2",
+        "M-1 1L1-1M0 6L6 0M5 7L7 5",
+    )?;
+    pattern(
+        pen,
+        "request",
+        "M0 0h6v6h-6z",
+        "bg",
+        "M-1 1L1-1M0 6L6 0M5 7L7 5",
+    )?;
+    pattern(
+        pen,
+        "page",
+        "M0 0h6v6h-6z",
+        "o1",
+        "M-1 5L1 7M0 0L6 6M5-1L7 1",
+    )?;
+    pen.sheet.close()
+}
+
+/// Writes a pattern: stripes on a ground.
+fn pattern(
+    pen: &mut Pen,
+    id: &str,
+    ground: &str,
+    class: &str,
+    stripes: &str,
+) -> Result<(), NoMemory> {
+    let attributes = [
+        Attribute {
+            key: Key::Id,
+            value: id.as_bytes(),
+        },
+        Attribute {
+            key: Key::Width,
+            value: b"6",
+        },
+        Attribute {
+            key: Key::Height,
+            value: b"6",
+        },
+        Attribute {
+            key: Key::PatternUnits,
+            value: b"userSpaceOnUse",
+        },
+    ];
+    pen.sheet.begin(Tag::Pattern, &attributes)?;
+    pen.path(class, ground, "")?;
+    pen.path(if class == "o2" { "t2" } else { "t1" }, stripes, "")?;
+    pen.sheet.close()
+}
+
+/// A sheet of a size.
+fn new_sheet(alloc: Global, width: u64, height: u64) -> Result<Sheet, NoMemory> {
+    let wide = Px(width);
+    let high = Px(height);
+    let view = format!(in alloc; "0 0 {wide} {high}")?;
+    let across = format!(in alloc; "{wide}")?;
+    let down = format!(in alloc; "{high}")?;
+    let attributes = [
+        Attribute {
+            key: Key::Namespace,
+            value: b"http://www.w3.org/2000/svg",
+        },
+        Attribute {
+            key: Key::ViewBox,
+            value: view.as_bytes(),
+        },
+        Attribute {
+            key: Key::Width,
+            value: across.as_bytes(),
+        },
+        Attribute {
+            key: Key::Height,
+            value: down.as_bytes(),
+        },
+        Attribute {
+            key: Key::Role,
+            value: b"img",
+        },
+    ];
+    Sheet::new(alloc, &attributes)
+}
+
+/// Writes what stands behind all bands.
+fn ground(pen: &mut Pen, name: &str, width: u64, height: u64) -> Result<(), NoMemory> {
+    pen.title(name)?;
+    pen.sheet.begin(Tag::Style, &[])?;
+    pen.sheet.write(STYLE.as_bytes())?;
+    pen.sheet.write(
+        b".o1{fill:#fbdcc4}.o2{fill:#e69f00}.t1{stroke:#d55e00;stroke-width:1.3}.t2{stroke:#fff;stroke-width:1.6}",
+    )?;
+    pen.sheet.close()?;
+    patterns(pen)?;
+    let frame = Frame {
+        x: 0,
+        y: 0,
+        width,
+        height,
+    };
+    pen.rectangle("bg", frame, "")
+}
+
+/// Paints the bands and what stands around them.
+fn picture(pen: &mut Pen, plan: &Plan, record: &Record, input: &[u8]) -> Result<(), NoMemory> {
+    marks::grounds(pen, plan, record)?;
+    marks::phases(pen, plan, record)?;
+    bands::processors(pen, plan, record)?;
+    bands::pages(pen, plan, record, &plan.source, "source pages", false)?;
+    bands::pages(
+        pen,
+        plan,
+        record,
+        &plan.destination,
+        "destination pages",
+        true,
+    )?;
+    strands::wires(pen, plan, record)?;
+    ruler::ruler(pen, plan, record, input)
+}
+
+/// Paints the picture of a record, which is named so.
+pub(crate) fn paint(
+    alloc: Global,
+    record: &Record,
+    name: &str,
+    input: &[u8],
+) -> Result<Sheet, NoMemory> {
+    let mut plan = Plan::new(alloc, record)?;
+    let labels = marks::find_labels(alloc, &plan, record)?;
+    plan.place(700u64.saturating_add(labels.height))?;
+    let items = legend::find_items(alloc, &plan, record)?;
+    let foot = plan
+        .bottom
+        .saturating_add(ruler::height(&plan, record, input))
+        .saturating_add(200);
+    let width = plan
+        .right()
+        .saturating_add(RIGHT)
+        .max(legend::width(&items));
+    let waits = longest::longest_of(alloc, &plan, record)?;
+    let list = foot.saturating_add(legend::height(&items));
+    let height = list.saturating_add(longest::height(&waits));
+    let sheet = new_sheet(alloc, width, height)?;
+    let mut pen = Pen::new(alloc, sheet);
+    ground(&mut pen, name, width, height)?;
+    head::head(&mut pen, &plan, record, name)?;
+    picture(&mut pen, &plan, record, input)?;
+    marks::marks(&mut pen, &plan, &labels)?;
+    legend::legend(&mut pen, &items, 100, foot)?;
+    longest::longest(&mut pen, &plan, record, &waits, list)?;
+    Ok(pen.sheet)
+}

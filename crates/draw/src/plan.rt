@@ -1,0 +1,237 @@
+//! Where everything stands in a picture.
+
+use crate::band::{Columns, Stretch, stretches_of};
+use crate::record::{Change, Flight, Record};
+use crate::rows::{Row, Rows, stirs_of};
+use mig_base::NoMemory;
+use std::alloc::Global;
+
+/// Where the columns begin, in tenths of a pixel.
+pub(crate) const LEFT: u64 = 840;
+
+/// The room on the right of the columns.
+pub(crate) const RIGHT: u64 = 1680;
+
+/// The most lines of which each has a column of its own.
+const MOST_COLUMNS: u32 = 2000;
+
+/// The most shapes of a picture.
+const MOST_SHAPES: usize = 20_000;
+
+/// A band of rows: its rows, what is drawn in them, and where they stand.
+#[derive(Drop)]
+pub(crate) struct Band {
+    pub rows: Rows,
+    pub stretches: Vec<Stretch>,
+    /// Where each row begins.
+    pub tops: Vec<u64>,
+    /// The height of a row.
+    pub height: u64,
+    /// Where the band begins and ends.
+    pub top: u64,
+    pub bottom: u64,
+}
+
+/// A picture: its columns, its bands, and its size.
+#[derive(Drop)]
+pub(crate) struct Plan {
+    pub columns: Columns,
+    pub width: u64,
+    pub source: Band,
+    pub destination: Band,
+    pub processors: Band,
+    /// Where the marks end and the bands begin.
+    pub top: u64,
+    /// Where the wires stand: the source's side and the destination's of those that lead there, and the same of the wire back.
+    pub forward: (u64, u64),
+    pub back: (u64, u64),
+    /// Where the bands end.
+    pub bottom: u64,
+}
+
+/// The height of a row, if there are this many.
+fn row_height(rows: usize) -> u64 {
+    match rows {
+        0..=10 => 150,
+        11..=24 => 110,
+        25..=80 => 75,
+        81..=140 => 50,
+        _ => 35,
+    }
+}
+
+impl Band {
+    /// The rows of a band, and their stretches.
+    fn new(
+        alloc: Global,
+        changes: &[Change],
+        rows: Rows,
+        columns: Columns,
+    ) -> Result<Band, NoMemory> {
+        let stretches = stretches_of(alloc, changes, &rows, columns)?;
+        let height = row_height(rows.rows.len());
+        Ok(Band {
+            rows,
+            stretches,
+            tops: Vec::new(alloc),
+            height,
+            top: 0,
+            bottom: 0,
+        })
+    }
+
+    /// Places the rows from here on downwards, with a gap where pages between two are missing. Returns where they end.
+    fn place(&mut self, top: u64, gap: u64) -> Result<u64, NoMemory> {
+        let mut y = top;
+        self.top = top;
+        for row in &self.rows.rows {
+            if row.gap {
+                y = y.saturating_add(gap);
+            }
+            self.tops.push(y)?;
+            y = y.saturating_add(self.height);
+        }
+        self.bottom = y;
+        Ok(y)
+    }
+
+    /// Where a row begins.
+    pub(crate) fn top_of(&self, row: usize) -> u64 {
+        self.tops.get(row).copied().unwrap_or(self.top)
+    }
+
+    /// The first page of a row, and the number of its pages.
+    pub(crate) fn row(&self, row: usize) -> Option<&Row> {
+        self.rows.rows.get(row)
+    }
+
+    /// The middle of the row of a page.
+    pub(crate) fn middle_of(&self, page: u32) -> Option<u64> {
+        let row = self.rows.row_of(page)?;
+        Some(self.top_of(row).saturating_add(self.height / 2))
+    }
+}
+
+/// The width of the columns.
+fn width_of(lines: u32) -> u64 {
+    let lines = u64::from(lines);
+    let small = lines.saturating_mul(260).clamp(3300, 8400);
+    let more = lines.saturating_sub(400).saturating_mul(5);
+    small.saturating_add(more).min(16000)
+}
+
+/// The number of shapes for the frames of a wire: one for each pair of columns.
+fn shapes_of(flights: &[Flight], columns: Columns) -> usize {
+    let mut shapes = 0usize;
+    let mut before = (u32::MAX, u32::MAX);
+    for flight in flights {
+        let place = (columns.of(flight.sent), columns.of(flight.ended));
+        if place != before {
+            shapes = shapes.saturating_add(1);
+        }
+        before = place;
+    }
+    shapes
+}
+
+/// The columns of a picture, and its bands.
+fn bands_of(alloc: Global, record: &Record, per: u32, together: u32) -> Result<Plan, NoMemory> {
+    let lines = record.lines.len().clamp(1, u32::MAX as usize) as u32;
+    let columns = Columns { lines, per };
+    let source = &record.source.changes;
+    let destination = &record.destination.changes;
+    let stirs = stirs_of(alloc, &record.source, &record.dots, false)?;
+    let source_rows = Rows::of_pages(alloc, &stirs, together)?;
+    let stirs = stirs_of(alloc, &record.destination, &record.dots, true)?;
+    let destination_rows = Rows::of_pages(alloc, &stirs, together)?;
+    let lanes = Rows::of_processors(alloc, record.cpus)?;
+    Ok(Plan {
+        columns,
+        width: width_of(lines),
+        source: Band::new(alloc, source, source_rows, columns)?,
+        destination: Band::new(alloc, destination, destination_rows, columns)?,
+        processors: Band::new(alloc, &record.processors.changes, lanes, columns)?,
+        top: 0,
+        forward: (0, 0),
+        back: (0, 0),
+        bottom: 0,
+    })
+}
+
+impl Plan {
+    /// The number of shapes of the picture, about.
+    fn shapes(&self, record: &Record) -> usize {
+        let bands = self
+            .source
+            .stretches
+            .len()
+            .saturating_add(self.destination.stretches.len())
+            .saturating_add(self.processors.stretches.len());
+        bands
+            .saturating_add(shapes_of(&record.forward.flights, self.columns))
+            .saturating_add(shapes_of(&record.urgent.flights, self.columns))
+            .saturating_add(shapes_of(&record.back.flights, self.columns))
+    }
+
+    /// The columns and the bands of a record: as few lines in a column and pages in a row as leave the picture small.
+    pub(crate) fn new(alloc: Global, record: &Record) -> Result<Plan, NoMemory> {
+        let lines = record.lines.len().min(u32::MAX as usize) as u32;
+        let mut per = lines.div_ceil(MOST_COLUMNS).max(1);
+        let mut together = 1u32;
+        let mut plan = bands_of(alloc, record, per, together)?;
+        for _ in 0..16 {
+            if plan.shapes(record) <= MOST_SHAPES {
+                break;
+            }
+            per = per.saturating_mul(2);
+            together = together.saturating_mul(2);
+            plan = bands_of(alloc, record, per, together)?;
+        }
+        Ok(plan)
+    }
+
+    /// Places the bands below the marks.
+    pub(crate) fn place(&mut self, top: u64) -> Result<(), NoMemory> {
+        self.top = top;
+        self.processors.height = 270;
+        let y = self.processors.place(top.saturating_add(420), 0)?;
+        let y = self.source.place(y.saturating_add(280), 50)?;
+        let y = y.saturating_add(300);
+        self.forward = (y, y.saturating_add(840));
+        let y = y.saturating_add(1000);
+        self.back = (y.saturating_add(400), y);
+        let y = self.destination.place(y.saturating_add(660), 50)?;
+        self.bottom = y.saturating_add(60);
+        Ok(())
+    }
+
+    /// The middle of a column; the end of the columns for the one behind the last.
+    pub(crate) fn x_of(&self, column: u32) -> u64 {
+        let count = self.columns.count();
+        if column >= count {
+            return LEFT.saturating_add(self.width);
+        }
+        let halves = u64::from(column).saturating_mul(2).saturating_add(1);
+        let across = self
+            .width
+            .saturating_mul(halves)
+            .checked_div(u64::from(count).saturating_mul(2))
+            .unwrap_or(0);
+        LEFT.saturating_add(across)
+    }
+
+    /// The middle of the column of a line.
+    pub(crate) fn x_at(&self, line: u32) -> u64 {
+        self.x_of(self.columns.of(line))
+    }
+
+    /// Whether each line has a column that is wide enough for words.
+    pub(crate) fn is_small(&self) -> bool {
+        self.columns.lines <= crate::record::FEW
+    }
+
+    /// Where the columns end.
+    pub(crate) fn right(&self) -> u64 {
+        LEFT.saturating_add(self.width)
+    }
+}

@@ -1,0 +1,183 @@
+//! Running a script, and recording what each step did: from its effect, and from the world after it.
+
+mod channel;
+mod marks;
+mod pages;
+mod waits;
+
+use crate::record::{Lane, Record, Track};
+use area_map::AreaMap;
+use mig_base::cpu_state::CpuState;
+use mig_base::effect::Effect;
+use mig_base::refusal::Refusal;
+use mig_base::schedule::Step;
+use mig_base::{Addr, Command, HIGH_PAGE, NoMemory, PAGE_SIZE, PageNo, PageSet};
+use std::alloc::Global;
+use world::World;
+
+/// The page of an address; the one behind the last for an address above the address space.
+fn page_at(addr: Addr) -> PageNo {
+    (addr / PAGE_SIZE).min(u64::from(HIGH_PAGE)) as PageNo
+}
+
+/// The page behind a range of bytes.
+fn end_of(addr: Addr, len: u64) -> PageNo {
+    page_at(addr.saturating_add(len).saturating_add(PAGE_SIZE - 1))
+}
+
+/// The page of a load or a store, and 0 for a map call.
+fn page_of(command: Command) -> PageNo {
+    match command {
+        Command::Load { addr, .. } | Command::Store { addr, .. } => page_at(addr),
+        _ => 0,
+    }
+}
+
+/// Puts a page into a set.
+fn include(set: &mut PageSet, page: PageNo) -> Result<(), NoMemory> {
+    if page < HIGH_PAGE {
+        set.insert(page)?;
+    }
+    Ok(())
+}
+
+/// Takes a page out of a set.
+fn exclude(set: &mut PageSet, page: PageNo) {
+    if page < HIGH_PAGE {
+        set.remove(page);
+    }
+}
+
+/// A node.
+#[derive(Clone, Copy, PartialEq, Eq)]
+enum Node {
+    Source,
+    Destination,
+}
+
+/// What has to be known from before a step.
+#[derive(Clone, Copy)]
+struct Before {
+    step: Step,
+    /// The command that it makes, if it makes one.
+    command: Option<Command>,
+    /// The bytes in flight to the destination, and back.
+    forward: u64,
+    back: u64,
+}
+
+/// Runs a script on a world, and records what it does.
+#[derive(Drop)]
+pub(crate) struct Recorder {
+    alloc: Global,
+    world: World,
+    pub record: Record,
+    /// The mapped pages of the source and of the destination.
+    source_areas: AreaMap,
+    destination_areas: AreaMap,
+    /// The pages at the source of which a copy waits at the destination.
+    came: PageSet,
+    /// The pages that were pushed and are in flight.
+    flying: PageSet,
+    /// The pages whose requests are in flight.
+    asking: PageSet,
+    /// The pages on which processors sleep at the destination.
+    sleeping: PageSet,
+    /// The page behind the last that was ever mapped.
+    high: PageNo,
+    /// The number of the line, among those that are orders.
+    line: u32,
+}
+
+impl Recorder {
+    /// A recorder of a new world. `NoMemory` comes if it cannot be made.
+    pub(crate) fn new(alloc: Global, cpus: u8) -> Result<Recorder, NoMemory> {
+        let Ok(world) = World::new(alloc, cpus) else {
+            return Err(NoMemory);
+        };
+        Ok(Recorder {
+            alloc,
+            world,
+            record: Record {
+                lines: Vec::new(alloc),
+                source: Track::new(alloc),
+                destination: Track::new(alloc),
+                processors: Track::new(alloc),
+                forward: Lane::new(alloc),
+                urgent: Lane::new(alloc),
+                back: Lane::new(alloc),
+                marks: Vec::new(alloc),
+                dots: Vec::new(alloc),
+                drops: Vec::new(alloc),
+                refused: Vec::new(alloc),
+                cpus: u32::from(cpus),
+            },
+            source_areas: AreaMap::new(alloc),
+            destination_areas: AreaMap::new(alloc),
+            came: PageSet::new(alloc),
+            flying: PageSet::new(alloc),
+            asking: PageSet::new(alloc),
+            sleeping: PageSet::new(alloc),
+            high: 0,
+            line: 0,
+        })
+    }
+
+    /// The epoch of the world.
+    pub(crate) fn epoch(&self) -> u32 {
+        self.world.epoch()
+    }
+
+    /// The command that a step makes, if it makes one.
+    fn command_of(&self, step: Step) -> Option<Command> {
+        match step {
+            Step::Issue { command, .. } => Some(command),
+            Step::Retry { cpu } => match self.world.cpu_state(cpu) {
+                Ok(CpuState::Woken(command)) => Some(command),
+                _ => None,
+            },
+            _ => None,
+        }
+    }
+
+    /// Makes the step of a line of the file, and records what it did.
+    pub(crate) fn make(&mut self, number: u32, step: Step) -> Result<(), NoMemory> {
+        let before = Before {
+            step,
+            command: self.command_of(step),
+            forward: self.world.forward_bytes(),
+            back: self.world.back_bytes(),
+        };
+        self.line = self.record.lines.len().min(u32::MAX as usize) as u32;
+        self.record.lines.push(number)?;
+        match self.world.step(step) {
+            Ok(effect) => self.see(before, effect),
+            Err(Refusal::NoMemory) => Err(NoMemory),
+            Err(refusal) => {
+                self.refuse(refusal)?;
+                Ok(())
+            }
+        }
+    }
+
+    /// Notes the refusal of a step, among the first lines.
+    fn refuse(&mut self, refusal: Refusal) -> Result<(), NoMemory> {
+        if self.line < crate::record::FEW {
+            self.record.refused.push((self.line, refusal))?;
+        }
+        Ok(())
+    }
+
+    /// Records an effect.
+    fn see(&mut self, before: Before, effect: Effect) -> Result<(), NoMemory> {
+        self.see_sent(before, effect)?;
+        self.see_taken(before, effect)?;
+        self.see_marks(effect)?;
+        self.watch_processors()?;
+        self.see_commands(before, effect)?;
+        self.see_handlers(before, effect)?;
+        self.see_source(effect)?;
+        self.see_destination(effect)?;
+        Ok(())
+    }
+}

@@ -1,0 +1,125 @@
+//! Frames: which are sent, taken and lost.
+
+use super::{Before, Node, Recorder, exclude, include, page_at};
+use crate::record::{End, Kind, Lane};
+use mig_base::effect::Effect;
+use mig_base::schedule::Step;
+use mig_base::{NoMemory, PageNo, PageSet, WorldPhase};
+
+impl Recorder {
+    /// Notes a frame with pages that was sent.
+    fn send(
+        &mut self,
+        before: Before,
+        kind: Kind,
+        page: PageNo,
+        pages: u32,
+    ) -> Result<(), NoMemory> {
+        let line = self.line;
+        match before.step {
+            Step::PushUrgent(_) => self.record.urgent.put(line, kind, page, pages)?,
+            _ => self.record.forward.put(line, kind, page, pages)?,
+        }
+        match before.step {
+            Step::PushUrgent(_) | Step::Push(_) => include(&mut self.flying, page),
+            _ => Ok(()),
+        }
+    }
+
+    /// Notes a request, if the wire back has grown by it.
+    fn ask(&mut self, before: Before, page: PageNo) -> Result<(), NoMemory> {
+        if self.world.back_bytes() <= before.back {
+            return Ok(());
+        }
+        self.record.back.put(self.line, Kind::Request, page, 1)?;
+        include(&mut self.asking, page)
+    }
+
+    /// Notes the Discard and the Package, if the wire to the destination has grown by them.
+    fn hand_over(&mut self, before: Before) -> Result<(), NoMemory> {
+        if self.world.forward_bytes() <= before.forward {
+            return Ok(());
+        }
+        self.record.forward.put(self.line, Kind::Discard, 0, 0)?;
+        self.record.forward.put(self.line, Kind::Package, 0, 0)
+    }
+
+    /// Notes the Recv of a destination that goes on, and the requests that it repeats if it runs.
+    fn answer_resume(&mut self) -> Result<(), NoMemory> {
+        self.record.back.put(self.line, Kind::Received, 0, 0)?;
+        if self.world.phase() != WorldPhase::Postcopy {
+            return Ok(());
+        }
+        for page in self.world.requests() {
+            self.record.back.put(self.line, Kind::Request, *page, 1)?;
+            include(&mut self.asking, *page)?;
+        }
+        Ok(())
+    }
+
+    /// Notes the frames that an effect has sent.
+    pub(super) fn see_sent(&mut self, before: Before, effect: Effect) -> Result<(), NoMemory> {
+        let line = self.line;
+        match effect {
+            Effect::SentPage { addr } => self.send(before, Kind::Page, page_at(addr), 1),
+            Effect::SentZero { addr } => self.send(before, Kind::Zero, page_at(addr), 1),
+            Effect::SentRun { addr, pages } => self.send(before, Kind::Page, page_at(addr), pages),
+            Effect::Requested { origin, .. } => self.ask(before, page_at(origin)),
+            Effect::Started { .. } => self.record.forward.put(line, Kind::Advise, 0, 0),
+            Effect::EndSent => self.record.forward.put(line, Kind::Finish, 0, 0),
+            Effect::Resumed { .. } => self.record.forward.put(line, Kind::Resume, 0, 0),
+            Effect::Switched { .. } | Effect::TookRecv { .. } => self.hand_over(before),
+            Effect::TookResume => self.answer_resume(),
+            Effect::TookEnd => self.record.back.put(line, Kind::Done, 0, 0),
+            _ => Ok(()),
+        }
+    }
+
+    /// Notes that the copy of a page of the source has come.
+    fn land(&mut self, page: PageNo) -> Result<(), NoMemory> {
+        exclude(&mut self.flying, page);
+        match self.node() {
+            Node::Source => Ok(()),
+            Node::Destination => include(&mut self.came, page),
+        }
+    }
+
+    /// The wire from which a step takes frames.
+    fn lane(&mut self, step: Step) -> Option<&mut Lane> {
+        match step {
+            Step::Deliver { .. } => Some(&mut self.record.forward),
+            Step::DeliverUrgent { .. } => Some(&mut self.record.urgent),
+            Step::DeliverBack { .. } => Some(&mut self.record.back),
+            _ => None,
+        }
+    }
+
+    /// Notes the frame that an effect has taken, and those that a break has lost.
+    pub(super) fn see_taken(&mut self, before: Before, effect: Effect) -> Result<(), NoMemory> {
+        let line = self.line;
+        match effect {
+            Effect::Moved { .. } => return Ok(()),
+            Effect::TookPage { addr } | Effect::TookZero { addr } => self.land(page_at(addr))?,
+            Effect::TookRequest { addr } => exclude(&mut self.asking, page_at(addr)),
+            Effect::Installed { origin, .. } | Effect::Dropped { origin } => {
+                exclude(&mut self.came, page_at(origin));
+            }
+            _ => {}
+        }
+        if let Some(lane) = self.lane(before.step) {
+            lane.finish(line, End::Taken);
+        }
+        Ok(())
+    }
+
+    /// All frames in flight are lost. Returns how many pages and how many requests.
+    pub(super) fn lose(&mut self) -> (u32, u32) {
+        let line = self.line;
+        self.flying = PageSet::new(self.alloc);
+        self.asking = PageSet::new(self.alloc);
+        let forward = self.record.forward.lose(line);
+        let urgent = self.record.urgent.lose(line);
+        let requests = self.record.back.lose(line);
+        (forward.saturating_add(urgent), requests)
+    }
+}

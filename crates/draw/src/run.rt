@@ -1,0 +1,87 @@
+//! Drawing a script that is read from a reader.
+
+ghost use Rattle.std.specs.Prelude.{◌≡◌, ◌≤◌, OnOk};
+ghost use Rattle.draw.specs.Drawing.{Draws};
+
+use crate::paint::paint;
+use crate::recorder::Recorder;
+use engine::RunFault;
+use engine::line_runner::write_out;
+use engine::script_reader::{MAX_LINE, split_line, without_return};
+use grammar::parse::parse;
+use grammar::{Language, Line, Token};
+use std::alloc::Global;
+use std::io::{ErrorKind, Read, Write};
+
+/// Appends all that a reader has to the bytes.
+fn read_whole<R: Read>(reader: &mut R, bytes: &mut Vec<u8>) -> Result<(), RunFault> {
+    match reader.read_to_end(bytes) {
+        Ok(_) => Ok(()),
+        Err(error) if error.kind() == ErrorKind::OutOfMemory => Err(RunFault::NoMemory),
+        Err(_) => Err(RunFault::ReadFault),
+    }
+}
+
+/// Does the line with this number and text. The tokens are replaced.
+fn do_line(
+    recorder: &mut Recorder,
+    tokens: &mut Vec<Token>,
+    number: u64,
+    text: &[u8],
+) -> Result<(), RunFault> {
+    if text.len() > MAX_LINE {
+        return Err(RunFault::Line(number));
+    }
+    let Some(line) = parse(Language::Script, tokens, text)? else {
+        return Err(RunFault::Line(number));
+    };
+    if let Line::Do(order) = line
+        && let Some(step) = order.step(recorder.epoch())
+    {
+        recorder.make(number.min(u64::from(u32::MAX)) as u32, step)?;
+    }
+    Ok(())
+}
+
+/// Does all lines of a script.
+fn do_lines(alloc: Global, recorder: &mut Recorder, input: &[u8]) -> Result<(), RunFault> {
+    let mut tokens = Vec::new(alloc);
+    let mut rest = input;
+    let mut number = 1u64;
+    while let Some((raw, behind)) = split_line(rest) {
+        if raw.len() > MAX_LINE {
+            return Err(RunFault::Line(number));
+        }
+        do_line(recorder, &mut tokens, number, without_return(raw))?;
+        number = number.saturating_add(1);
+        rest = behind;
+    }
+    if rest.is_empty() {
+        return Ok(());
+    }
+    do_line(recorder, &mut tokens, number, rest)
+}
+
+/// Reads a script, makes its steps on a new world of `cpus` processors, 1 to 16, and writes the picture of what they did, named `name`.
+/// Reports of progress are not drawn.
+///
+/// The whole input is read before the first step, and the whole picture is made before it is written: at any fault but a write fault
+/// nothing is written. A line is wrong where [`engine::run_script`] finds it wrong.
+pub fn run_draw<R: Read, W: Write>(
+    alloc: Global,
+    reader: &mut R,
+    writer: &mut W,
+    name: &str,
+    cpus: u8,
+) -> Result<(), RunFault>
+    requires low { 1 ≤ cpus }
+    requires high { cpus ≤ 16 }
+    ensures { OnOk result (Draws (W.contents writer.old) (W.contents writer.new)) }
+{
+    let mut input = Vec::new(alloc);
+    read_whole(reader, &mut input)?;
+    let mut recorder = Recorder::new(alloc, cpus)?;
+    do_lines(alloc, &mut recorder, &input)?;
+    let picture = paint(alloc, &recorder.record, name, &input)?.finish()?;
+    write_out(writer, &picture)
+}

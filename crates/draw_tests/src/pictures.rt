@@ -1,0 +1,58 @@
+//! Scripts, and what their pictures have.
+
+use draw::run_draw;
+use engine::RunFault;
+use memchr::memmem;
+use std::alloc::{AllocError, Global};
+use std::test::Fail;
+
+/// A migration of one page, which a processor waits for.
+static STORY: &[u8] =
+    b"cpu 0 mmap 4096 rw\ncpu 0 store 0x10000 8 42\nstart\nswitch\ndeliver\ndeliver\ndeliver\n\
+cpu 1 load 0x10000 8\npush 0x10000\nround\ndeliver\ninstall\nretry 1\nend\ndeliver\nback\n";
+
+/// What its picture has.
+static WORDS: &[&[u8]] = &[
+    b"<svg xmlns=\"http://www.w3.org/2000/svg\" ",
+    b"<title>a &amp; &lt;b&gt;</title>",
+    b"Complete at line 16. Nobody ran the processors for 3 lines.",
+    b"1 wait of processors, 5 lines in all.",
+    b"<title>0x10000: owed, not pushed, lines 4 to 9</title>",
+    b"<title>0x10000: installed, lines 12 to 16</title>",
+    b"<title>cpu 1, page 0x10000: handler, lines 8 to 9</title>",
+    b"<title>page 0x10000: sent at line 9, taken at line 11</title>",
+    b"round: Phase  10",
+    b"switch: 1 owed",
+];
+
+/// Draws a script. It is drawn again if memory is refused; nothing was written then.
+fn drawn(alloc: Global, script: &[u8]) -> Result<(Result<(), RunFault>, Vec<u8>), AllocError> {
+    for _ in 0..2 {
+        let mut reader = script;
+        let mut writer = Vec::new(alloc);
+        let outcome = run_draw(alloc, &mut reader, &mut writer, "a & <b>", 2);
+        if outcome != Err(RunFault::NoMemory) {
+            return Ok((outcome, writer));
+        }
+    }
+    Err(AllocError)
+}
+
+#[test]
+fn words(rt: HostRuntime) -> Result<(), Fail> {
+    let (outcome, picture) = drawn(rt.alloc(), STORY)?;
+    assert_eq!(rt; outcome, Ok(()));
+    for words in WORDS {
+        assert!(rt; memmem::find(&picture, words).is_some());
+    }
+    assert!(rt; picture.ends_with(b"</text></svg>"));
+    Ok(())
+}
+
+#[test]
+fn wrong_line(rt: HostRuntime) -> Result<(), Fail> {
+    let (outcome, picture) = drawn(rt.alloc(), b"start\n# no order\ngo\n")?;
+    assert_eq!(rt; outcome, Err(RunFault::Line(3)));
+    assert!(rt; picture.is_empty());
+    Ok(())
+}

@@ -1,0 +1,105 @@
+-- What finishes a script: the lines of the steps that complete its migration.
+use Rattle.std.specs.Prelude.{◌≡◌, ℕ, ◌+◌, ◌<◌, ◌≤◌, ◌⊎◌, List, [], ◌∷◌, ◌++◌, length, Option, Some, true}
+use Rattle.std.specs.Io.KnownBytes.{Appends}
+use Rattle.std.specs.Str.Lines.{strip_carriage_return}
+use Rattle.mig_base.specs.declared.schedule.Step.{Step}
+use Rattle.mig_model.specs.Promises.{IsComplete}
+use Rattle.grammar.specs.declared.line.Language.TheVariants.{Script}
+use Rattle.grammar.specs.declared.line.Line.{Line}
+use Rattle.grammar.specs.declared.line.Line.TheVariants.{Do}
+use Rattle.grammar.specs.declared.order.Order.{Order}
+use Rattle.grammar.specs.Lines.{HasNoFeed, Reads, BeginsWrong}
+use Rattle.grammar.specs.Orders.{step_of}
+use Rattle.grammar.specs.Spelling.{Spells}
+use Rattle.engine.specs.declared.line_runner.Mode.TheVariants.{Lines}
+use Rattle.engine.specs.declared.fault.RunFault.{RunFault}
+use Rattle.engine.specs.declared.fault.RunFault.TheVariants as faults
+use Rattle.engine.specs.Engine.{Front}
+use Rattle.engine.specs.Script.{Runs}
+use Rattle.engine.specs.WorldState.{WorldState}
+use Rattle.finish.specs.Finishing.{Leads, lacks_epoch}
+use Rattle.finishing.specs.declared.ending.Ending.{Ending}
+use Rattle.finishing.specs.declared.ending.Ending.TheVariants.{Complete, NoEpoch}
+
+-- Lines
+
+-- the text, without a line feed, is a line of a script that says this
+pub record IsLine (raw : List ℕ) (line : Line) : Type 0 where
+  pub one : HasNoFeed raw
+  pub short : length raw ≤ 256
+  pub spells : Spells Script (strip_carriage_return raw) line
+
+-- the order makes this step, whatever the epoch of the world
+abbrev pub HasStep : Order → Step → Type 0
+HasStep order step = (epoch : ℕ) → step_of order epoch ≡ Some step
+
+-- the text is a line that spells this step
+pub record IsStepLine (raw : List ℕ) (step : Step) : Type 0 where
+  pub order : Order
+  pub line : IsLine raw (Do order)
+  pub makes : HasStep order step
+
+-- the text has a line for each step, with its line feed
+abbrev pub AreLines : List Step → List ℕ → Type 0
+AreLines [] text = text ≡ []
+AreLines (step ∷ steps) text = (raw : List ℕ) × (more : List ℕ) × IsStepLine raw step × (text ≡ (raw ++ 10 ∷ []) ++ more) × AreLines steps more
+
+-- the lines of the steps were added to a text
+abbrev pub Adds : List Step → List ℕ → List ℕ → Type 0
+Adds steps before after = (more : List ℕ) × (after ≡ before ++ more) × AreLines steps more
+
+-- the lines of the steps, behind a line feed or none
+abbrev pub AreBehind : List Step → List ℕ → Type 0
+AreBehind steps text = (front : List ℕ) × (lines : List ℕ) × ((front ≡ []) ⊎ (front ≡ 10 ∷ [])) × (text ≡ front ++ lines) × AreLines steps lines
+
+-- Endings
+
+-- the text has the lines of steps that complete the migration of a world; none of them is refused
+pub record Completes (world : WorldState) (text : List ℕ) : Type 0 where
+  pub steps : List Step
+  pub end : WorldState
+  pub leads : Leads world steps end
+  pub complete : IsComplete end
+  pub lines : AreBehind steps text
+
+-- what is written for a world: the lines that complete its migration, or nothing where a Start or a Resume is needed and the epoch is the last
+abbrev pub Ends : Ending → WorldState → Option (List ℕ) → Option (List ℕ) → Type 0
+Ends Complete world before after = (text : List ℕ) × Completes world text × Appends before after text
+Ends NoEpoch world before after = (lacks_epoch world ≡ true) × Appends before after []
+
+-- a fault behind the script. Only a write fault comes after a part of the lines was written
+abbrev pub Fails : WorldState → RunFault → Option (List ℕ) → Option (List ℕ) → Type 0
+Fails world (faults.Line n) before after = (n ≡ 0) × Appends before after []
+Fails world faults.ReadFault before after = ⊥
+Fails world faults.WriteFault before after = (text : List ℕ) × Completes world text × Front text before after
+Fails world faults.NoMemory before after = Appends before after []
+
+-- the input is a script, whose run leads from the first state to the last
+pub record LeadsTo (start : WorldState) (input : List ℕ) (end : WorldState) : Type 0 where
+  pub lines : List Line
+  pub out : List ℕ
+  pub reads : Reads Script input lines []
+  pub runs : Runs Lines start lines end out
+
+-- the bytes are none, or they end with a line feed
+abbrev pub IsEnded : List ℕ → Type 0
+IsEnded bytes = (bytes ≡ []) ⊎ ((front : List ℕ) × (bytes ≡ front ++ 10 ∷ []))
+
+-- the script was run, and what finishes it was written
+abbrev pub Finishes : Ending → WorldState → List ℕ → Option (List ℕ) → Option (List ℕ) → Type 0
+Finishes ending start input before after = (world : WorldState) × LeadsTo start input world × Ends ending world before after
+
+-- line `n` of the input is the first that is not a line of a script
+pub record WrongAt (input : List ℕ) (n : ℕ) : Type 0 where
+  pub lines : List Line
+  pub rest : List ℕ
+  pub reads : Reads Script input lines rest
+  pub number : n ≡ length lines + 1
+  pub wrong : BeginsWrong Script rest
+
+-- how it ends with a fault: at a wrong line of the script, or behind the script
+abbrev pub Stops : WorldState → List ℕ → RunFault → Option (List ℕ) → Option (List ℕ) → Type 0
+Stops start input (faults.Line n) before after = (WrongAt input n ⊎ (n ≡ 0)) × Appends before after []
+Stops start input faults.ReadFault before after = Appends before after []
+Stops start input faults.WriteFault before after = Appends before after [] ⊎ ((world : WorldState) × LeadsTo start input world × Fails world faults.WriteFault before after)
+Stops start input faults.NoMemory before after = Appends before after []

@@ -1,6 +1,0 @@
-use Rattle.std.proofs.Common.{arith}
-use Rattle.std.proofs.lemmas.Grind.{common_steps}
-use Rattle.grammar.proofs.print.EventTextDisplay.fmt.Goals as goal
-
-pub returns-in-Remove-clause-writes : goal.returns-in-Remove-clause-writes
-returns-in-Remove-clause-writes c after = grind (arith, common_steps)

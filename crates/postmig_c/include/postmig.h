@@ -1,0 +1,103 @@
+/* postmig as a library: worlds in which a guest migrates, checks of transcripts, and a decoder of frames.
+
+   docs/EMBED.md has what a caller owes, and complete programs. The contracts of the functions are in crates/postmig_c/src. */
+#ifndef POSTMIG_H
+#define POSTMIG_H
+#include <stdbool.h>
+#include <stddef.h>
+#include <stdint.h>
+#ifdef __cplusplus
+extern "C" {
+#endif
+
+/* What a call answers. */
+enum {
+    POSTMIG_OK = 0,
+    POSTMIG_NO_ROOM = 1,     /* out is too short: *written is the length that is needed */
+    POSTMIG_NOT_OPEN = 2,    /* the handle has no world; of a call on a decoder, no decoder */
+    POSTMIG_NOT_A_LINE = 3,  /* the text is not a line; of a whole text, *written is the number of its first line that is not one */
+    POSTMIG_NO_MEMORY = 4,   /* malloc failed */
+    POSTMIG_NO_CPU = 5,      /* there are 1 to 16 processors */
+    POSTMIG_NO_FRAME = 6,    /* no frame waits: the stream has to go on */
+    POSTMIG_FRAMES_WAIT = 7, /* frames wait: postmig_frames_next has to take them first */
+    POSTMIG_BAD_TAG = 8,     /* the stream has a version or tag that is not known, */
+    POSTMIG_BAD_LENGTH = 9,  /* a length that no body of such a frame has, */
+    POSTMIG_BAD_FIELD = 10   /* or another field with a value that no frame has there */
+};
+
+/* A world or a decoder. Initialise it to POSTMIG_NONE before the first call; from then on only these functions write it. It is not copied,
+   it stays on the thread that opened it, and one call at a time uses it. */
+typedef struct {
+    void *at;
+} postmig_handle;
+#define POSTMIG_NONE { 0 }
+
+/* Frees what the handle has, if it has anything. Calling it twice is fine. */
+void postmig_free(postmig_handle *handle);
+
+/* WORLDS */
+
+/* Opens a new world of so many processors, 1 to 16. What the handle had is freed; it keeps that if the answer is not POSTMIG_OK. Each line
+   prints the outcome of its step, or, if is_transcript, the entries that its step adds to the transcript. */
+uint32_t postmig_world_new(uint8_t cpus, bool is_transcript, postmig_handle *world);
+
+/* The same, with these counts as the epoch and the number of rounds. */
+uint32_t postmig_world_new_with_counts(uint8_t cpus, bool is_transcript, uint32_t epoch, uint32_t rounds, postmig_handle *world);
+
+/* Does one line of a script, without its line feed, and writes what it prints.
+   POSTMIG_NO_ROOM: the line was done; postmig_world_answer writes what it printed.
+   POSTMIG_NOT_A_LINE: the world did not change.
+   POSTMIG_NO_MEMORY: the world did not change, or the line was done and what it printed is lost. It may be used further. */
+uint32_t postmig_world_line(postmig_handle *world, const uint8_t *line, size_t length, uint8_t *out, size_t room, size_t *written);
+
+/* Writes again what the last line printed: nothing after POSTMIG_NOT_A_LINE or POSTMIG_NO_MEMORY. */
+uint32_t postmig_world_answer(postmig_handle *world, uint8_t *out, size_t room, size_t *written);
+
+enum { POSTMIG_IDLE = 0, POSTMIG_PRECOPY = 1, POSTMIG_SWITCHING = 2, POSTMIG_POSTCOPY = 3, POSTMIG_COMPLETE = 4 };
+
+/* How far the migration of a world has come. */
+typedef struct {
+    uint32_t phase;
+    uint32_t epoch;     /* of the source */
+    uint32_t rounds;    /* rounds of pre-copy made */
+    uint32_t left;      /* pages that the destination is still owed */
+    uint64_t sent;      /* pages that the source has sent */
+    uint64_t installed; /* copies that the destination has installed, */
+    uint64_t dropped;   /* and those that it has dropped */
+    uint64_t faults;    /* page faults that the handler of either node has read */
+} postmig_counts;
+
+uint32_t postmig_world_counts(postmig_handle *world, postmig_counts *counts);
+
+/* WHOLE SCRIPTS AND TRANSCRIPTS */
+
+/* Runs a script on a new world, and writes what it prints. */
+uint32_t postmig_run(uint8_t cpus, bool is_transcript, const uint8_t *script, size_t length, uint8_t *out, size_t room, size_t *written);
+
+/* Whether a transcript is that of one flat memory; writes the verdict: "ok N" or "wrong I expected REPLY". */
+uint32_t postmig_check(const uint8_t *transcript, size_t length, bool *is_flat, uint8_t *out, size_t room, size_t *written);
+
+/* FRAMES */
+
+/* A frame without the bytes and lists that it carries. */
+typedef struct {
+    uint32_t tag;   /* the second byte of its header */
+    uint32_t epoch; /* the epoch in which it was sent */
+    uint64_t addr;  /* the address of its page, or of the first page of its run; else 0 */
+    uint64_t count; /* its pages: of a run, discarded, or owed; of an End, the urgent frames; 1 for a frame of one page; else 0 */
+} postmig_frame;
+
+/* Opens a new decoder. What the handle had is freed; it keeps that if the answer is not POSTMIG_OK. */
+uint32_t postmig_frames_new(postmig_handle *frames);
+
+/* Takes the next bytes of the stream, cut anywhere. POSTMIG_FRAMES_WAIT and POSTMIG_NO_MEMORY: nothing of them was taken. */
+uint32_t postmig_frames_feed(postmig_handle *frames, const uint8_t *bytes, size_t length);
+
+/* Takes the first frame that waits, and writes its bytes, in version 2 of the format. POSTMIG_NO_ROOM: it still waits. Behind the last
+   frame the answer is POSTMIG_NO_FRAME, or the fault of the stream that stands there; it stays that fault. */
+uint32_t postmig_frames_next(postmig_handle *frames, postmig_frame *frame, uint8_t *out, size_t room, size_t *written);
+
+#ifdef __cplusplus
+}
+#endif
+#endif

@@ -1,0 +1,3 @@
+pub mod Words
+pub mod HandleWords
+pub mod Runners

@@ -1,0 +1,65 @@
+-- The effect of the calls on a decoder.
+use Rattle.std.specs.Prelude.{◌≡◌, ℕ, List, ◌∷◌}
+use Rattle.std.specs.declared.option.Option.{Option}
+use Rattle.std.specs.declared.option.Option.TheVariants.{None, Some}
+use Rattle.mig_model.specs.Wire.{Sent}
+use Rattle.frame_texts.specs.Texts.{text}
+use Rattle.frame_texts.specs.Texts.Version.{Two}
+use Rattle.frame_decoder.specs.declared.fault.StreamFault.{StreamFault}
+use Rattle.frame_decoder.specs.declared.fault.StreamFault.TheVariants as faults
+use Rattle.frame_queue.specs.declared.numbers.FrameNumbers.{FrameNumbers}
+use Rattle.frame_queue.specs.Numbers.{numbers_of}
+use Rattle.frame_queue.specs.Queues.{Queue, Refills, IsFedUp, Stops}
+use Rattle.postmig_c.specs.declared.handle.Content.{Content}
+use Rattle.postmig_c.specs.declared.handle.Content.TheVariants.{World, Frames}
+use Rattle.postmig_c.specs.Room.{Fills, IsTooLong}
+
+-- the handle has no decoder
+abbrev pub HasNoDecoder : Option Content → Type 0
+HasNoDecoder None = Unit {0}
+HasNoDecoder (Some (World runner)) = Unit {0}
+HasNoDecoder (Some (Frames queue)) = ⊥
+
+-- the handle has a decoder, and this holds of it
+abbrev pub TellsQueue : Option Content → (Queue → Type 0) → Type 0
+TellsQueue None P = ⊥
+TellsQueue (Some (World runner)) P = ⊥
+TellsQueue (Some (Frames queue)) P = P queue
+
+-- the handle had a decoder and has one, and this holds of the two
+abbrev pub HasQueues : Option Content → Option Content → (Queue → Queue → Type 0) → Type 0
+HasQueues old new P = TellsQueue old (λ before. TellsQueue new (P before))
+
+-- the first frame that waited was taken: these are its numbers, and its text was written
+pub record Takes (old : Queue) (numbers : FrameNumbers) (count : ℕ) (out : List ℕ) (new : Queue) : Type 0 where
+  pub mid : Queue
+  pub sent : Sent
+  pub refills : Refills old mid
+  pub waits : mid.waiting ≡ sent ∷ new.waiting
+  pub decoder : new.decoder ≡ mid.decoder
+  pub numbers_are : numbers ≡ numbers_of sent
+  pub fills : Fills (text Two sent.epoch sent.frame) count out
+
+-- the text of the first frame does not fit, and it waits
+pub record Waits (old : Queue) (numbers : FrameNumbers) (count : ℕ) (out : List ℕ) (new : Queue) : Type 0 where
+  pub sent : Sent
+  pub rest : List Sent
+  pub refills : Refills old new
+  pub waits : new.waiting ≡ sent ∷ rest
+  pub numbers_are : numbers ≡ numbers_of sent
+  pub long : IsTooLong (text Two sent.epoch sent.frame) count out
+
+-- no frame waits, and the stream has no fault there
+abbrev pub IsUp : Queue → Queue → Type 0
+IsUp old new = IsFedUp old new
+
+-- the number of a fault
+abbrev pub fault_number : StreamFault → ℕ
+fault_number faults.NoMemory = 4
+fault_number faults.BadTag = 8
+fault_number faults.BadLength = 9
+fault_number faults.BadField = 10
+
+-- no frame waits, and the fault of this number stands there
+abbrev pub IsFaulty : Queue → ℕ → Queue → Type 0
+IsFaulty old number new = (fault : StreamFault) × (number ≡ fault_number fault) × Stops old fault new

@@ -1,0 +1,4 @@
+pub mod Held
+pub mod Room
+pub mod Calls
+pub mod Frames

@@ -1,0 +1,34 @@
+//! What a call answers, as the numbers of `include/postmig.h`.
+
+/// The call did what it says.
+pub const DONE: u32 = 0;
+
+/// What is to be written does not fit.
+pub const NO_ROOM: u32 = 1;
+
+/// The handle has no world, or no decoder.
+pub const NOT_OPEN: u32 = 2;
+
+/// The text is not a line, or has one that is not.
+pub const NOT_A_LINE: u32 = 3;
+
+/// An allocation failed.
+pub const NO_MEMORY: u32 = 4;
+
+/// There are 1 to 16 processors.
+pub const NO_CPU: u32 = 5;
+
+/// No frame waits.
+pub const NO_FRAME: u32 = 6;
+
+/// Frames wait, and have to be taken first.
+pub const FRAMES_WAIT: u32 = 7;
+
+/// The version or the tag of a header is not known.
+pub const BAD_TAG: u32 = 8;
+
+/// No body of such a frame has the length in its header.
+pub const BAD_LENGTH: u32 = 9;
+
+/// Another field has a value that no frame has there.
+pub const BAD_FIELD: u32 = 10;

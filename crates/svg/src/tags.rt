@@ -1,0 +1,63 @@
+//! The text of tags.
+
+ghost use Rattle.std.specs.Prelude.{◌≡◌, ◌++◌, OnOk};
+ghost use Rattle.svg.specs.Trees.{attribute_text, attributes_text, end_tag, start_tag};
+ghost use Rattle.svg.specs.Given.{given, all_given};
+
+use crate::escape::push_escaped;
+use crate::name::{Key, Tag};
+use mig_base::NoMemory;
+
+/// An attribute of an element, with its value before it is escaped.
+#[derive(Clone, Copy)]
+pub struct Attribute<'a> {
+    pub key: Key,
+    pub value: &'a [u8],
+}
+
+/// Appends an attribute, with a space before it.
+fn push_attribute(bytes: &mut Vec<u8>, attribute: &Attribute) -> Result<(), NoMemory>
+    ensures { OnOk result (bytes.new.items ≡ bytes.old.items ++ attribute_text (given attribute.now)) }
+{
+    bytes.push(b' ')?;
+    bytes.extend_from_slice(attribute.key.name())?;
+    bytes.extend_from_slice(b"=\"")?;
+    push_escaped(bytes, attribute.value)?;
+    bytes.push(b'"')?;
+    Ok(())
+}
+
+/// Appends attributes, each with a space before it.
+fn push_attributes(bytes: &mut Vec<u8>, attributes: &[Attribute]) -> Result<(), NoMemory>
+    ensures { OnOk result (bytes.new.items ≡ bytes.old.items ++ attributes_text (all_given attributes.now)) }
+{
+    for attribute in attributes {
+        push_attribute(bytes, attribute)?;
+    }
+    Ok(())
+}
+
+/// Appends the tag that begins an element.
+pub(crate) fn push_start(
+    bytes: &mut Vec<u8>,
+    tag: Tag,
+    attributes: &[Attribute],
+) -> Result<(), NoMemory>
+    ensures { OnOk result (bytes.new.items ≡ bytes.old.items ++ start_tag tag (all_given attributes.now)) }
+{
+    bytes.push(b'<')?;
+    bytes.extend_from_slice(tag.name())?;
+    push_attributes(bytes, attributes)?;
+    bytes.push(b'>')?;
+    Ok(())
+}
+
+/// Appends the tag that ends an element.
+pub(crate) fn push_end(bytes: &mut Vec<u8>, tag: Tag) -> Result<(), NoMemory>
+    ensures { OnOk result (bytes.new.items ≡ bytes.old.items ++ end_tag tag) }
+{
+    bytes.extend_from_slice(b"</")?;
+    bytes.extend_from_slice(tag.name())?;
+    bytes.push(b'>')?;
+    Ok(())
+}
