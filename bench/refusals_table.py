@@ -19,7 +19,7 @@ from definitions import CRATES, definitions, imports, names, product
 PAGE = page.TOP / "docs" / "REFUSALS.md"
 ORDERS = page.TOP / "bench" / "refusals.txt"
 # What waits for a lock, and what only starts a program.
-LEFT_OUT = ("rig", "threads", "command_line", "postmig")
+LEFT_OUT = ("rig", "threads", "postmig")
 CALL = re.compile(r"( *)pub (?:const |final )?fn (\w+)")
 CLAUSE = re.compile(r"\s*(requires|ensures)\*? (\w+ )?\{")
 # A fault that is another type's fault, or hands arguments back, is memory's.

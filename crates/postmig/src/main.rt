@@ -1,8 +1,36 @@
-//! Runs scripts of steps on a model of post-copy live migration. The command line is the crate `command_line`.
+//! `postmig` runs, checks, draws and explores scripts of steps on a model of post-copy live migration.
+//!
+//! - `postmig run` reads a script and writes one line for each step, or with `--transcript` one for each command that took effect. With
+//!   `--wire`, `--back` and `--urgent` files get what is put on the wires.
+//! - `postmig finish` reads a script, and writes the lines that complete its migration.
+//! - `postmig check` reads such a transcript, and says whether it is that of one flat memory, or with `--explain` or `--all` what is
+//!   wrong with it.
+//! - `postmig lint` lists the wrong lines of a script or a transcript.
+//! - `postmig frames` reads frames, and writes a destination's answer to each.
+//! - `postmig draw` runs a script, and writes a picture of the run.
+//! - `postmig explore` writes a random script.
+//! - `postmig test` runs scripts whose lines have answers, and names the answers that differ.
+//! - `postmig threads` reads nothing, runs a migration in threads, and writes a report.
+//!
+//! `docs/SCRIPT.md` defines scripts and transcripts, `docs/FORMATS.md` frames, `docs/EXPLORE.md` random scripts, and `docs/THREADS.md` a
+//! run in threads.
+//!
+//! The exit statuses are those of `specs/Status.antt`. Reading and writing is done by `engine` for scripts and transcripts, and by the
+//! crate of the same name for each other command. `bench/programs.py` runs the program on arguments, files and input of many kinds.
 #![tactic(auto)]
 
+mod arguments;
+mod commands;
+mod input;
+mod status;
+mod streams;
+mod tally;
+mod tap;
+mod watched;
+
+use crate::commands::answer;
 use std::process::ExitCode;
 
 fn main(rt: HostRuntime) -> ExitCode {
-    command_line::answer(&rt, &rt)
+    answer(&rt, &rt)
 }

@@ -1,8 +1,10 @@
 //! The command line: its subcommands and their arguments.
 
-use crate::VERSION;
 use clap::{Arg, ArgAction, Command, value_parser};
 use std::alloc::{AllocError, Global};
+
+/// What `--version` prints behind the program's name.
+const VERSION: &str = "0.1.0";
 
 const WHY_IT_FAILED: &str = "Says on standard error why a read or a write failed";
 
@@ -17,7 +19,7 @@ const STATUSES: &str = "Exit status:
   0  all was done, or a check wrote ok
   1  a line, a frame or the command line is wrong
   2  a read or a write failed
-  3  a check wrote wrong, a test differs, or threads ended with a fault
+  3  a check wrote wrong, a test differs, finish has no epoch left, or threads ended with a fault
   4  memory ran out, or a thread could not be started
 
 docs/SCRIPT.md has the lines of scripts and transcripts.";

@@ -1,7 +1,7 @@
 //! What a command reads and writes, and how it says why it ended early.
 
 ghost use Rattle.std.specs.Prelude.{◌≡◌, IfOk, IfErr, OnOk};
-ghost use Rattle.command_line.specs.Status.{answer_status, fault_status, frames_fault_status, lint_status, tap_fault_status};
+ghost use Rattle.postmig.specs.Status.{answer_status, fault_status, frames_fault_status, lint_status, tap_fault_status};
 
 use crate::input::Input;
 use crate::status::{BAD_COMMAND_OR_SCRIPT, READ_OR_WRITE_FAULT, frames_status_of, status_of};

@@ -1,7 +1,7 @@
 //! Scripts as tests, one file after the other.
 
 ghost use Rattle.std.specs.Prelude.{◌≡◌, ◌≤◌, OnOk, IfErr};
-ghost use Rattle.command_line.specs.Status.{tally_status, fault_status};
+ghost use Rattle.postmig.specs.Status.{tally_status, fault_status};
 
 use crate::input::Input;
 use crate::status::{ALL_DONE, BAD_COMMAND_OR_SCRIPT, NO_FLAT_RUN, READ_OR_WRITE_FAULT, status_of};

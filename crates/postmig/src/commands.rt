@@ -1,33 +1,6 @@
-//! The command line of `postmig`, and its exit statuses.
-//!
-//! - `postmig run` reads a script and writes one line for each step, or with `--transcript` one for each command that took effect. With
-//!   `--wire`, `--back` and `--urgent` files get what is put on the wires.
-//! - `postmig finish` reads a script, and writes the lines that complete its migration.
-//! - `postmig check` reads such a transcript, and says whether it is that of one flat memory, or with `--explain` or `--all` what is
-//!   wrong with it.
-//! - `postmig lint` lists the wrong lines of a script or a transcript.
-//! - `postmig frames` reads frames, and writes a destination's answer to each.
-//! - `postmig draw` runs a script, and writes a picture of the run.
-//! - `postmig explore` writes a random script.
-//! - `postmig test` runs scripts whose lines have answers, and names the answers that differ.
-//! - `postmig threads` reads nothing, runs a migration in threads, and writes a report.
-//!
-//! `docs/SCRIPT.md` defines scripts and transcripts, `docs/FORMATS.md` frames, `docs/EXPLORE.md` random scripts, and `docs/THREADS.md` a
-//! run in threads.
-//!
-//! [`answer`] is the body of the program's `main`; the exit statuses are those of `specs/Status.antt`. Reading and writing is done by
-//! `engine` for scripts and transcripts, and by the crate of the same name for each other program.
-#![tactic(auto)]
+//! The commands of the program: what each reads, runs and writes, and its exit status.
 
 ghost use Rattle.std.specs.Prelude.{◌≤◌};
-
-mod arguments;
-mod input;
-mod status;
-mod streams;
-mod tally;
-mod tap;
-mod watched;
 
 use crate::arguments::command_line;
 use crate::input::Input;
@@ -56,9 +29,6 @@ use std::thread::Threads;
 use std::{env, io};
 use threads::run_threads;
 use wiretap::run_tapped;
-
-/// What `--version` prints behind the program's name.
-const VERSION: &str = "0.1.0";
 
 /// The most bytes of an argument that a message shows.
 const LONGEST_SHOWN: usize = 4096;
@@ -301,8 +271,8 @@ fn dispatch<T: Threads + Wait + Sync>(rt: &HostRuntime, handle: &T) -> io::Resul
 }
 
 /// Reads the command line, carries it out, and returns the exit status. An argument that is not UTF-8 is a fault of the command line.
-/// `handle` starts the threads of `postmig threads`, and waits for them; a program passes its runtime as both.
-pub fn answer<T: Threads + Wait + Sync>(rt: &HostRuntime, handle: &T) -> ExitCode {
+/// `handle` starts the threads of `postmig threads`, and waits for them; `main` passes its runtime as both.
+pub(crate) fn answer<T: Threads + Wait + Sync>(rt: &HostRuntime, handle: &T) -> ExitCode {
     match dispatch(rt, handle) {
         Ok(status) => ExitCode::from(status),
         Err(error) if error.kind() == io::ErrorKind::OutOfMemory => {

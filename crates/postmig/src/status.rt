@@ -1,7 +1,7 @@
 //! The exit statuses of the program.
 
 ghost use Rattle.std.specs.Prelude.{◌≡◌, IfOk, IfErr, OnOk};
-ghost use Rattle.command_line.specs.Status.{answer_status, fault_status, frames_fault_status};
+ghost use Rattle.postmig.specs.Status.{answer_status, fault_status, frames_fault_status};
 
 use engine::RunFault;
 use frames::FramesFault;
