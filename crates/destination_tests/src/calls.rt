@@ -53,7 +53,7 @@ pub enum Call {
     Cpu(u8),
 }
 
-#[derive(Clone, Copy, Debug, PartialEq, Eq)]
+#[derive(Clone, Copy, PartialEq, Eq)]
 pub enum Answer {
     Done,
     /// A frame was taken, and this is to be sent at once.

@@ -32,7 +32,7 @@ pub enum Sending {
 }
 
 /// A frame, as far as a table says it.
-#[derive(Clone, Copy, Debug, PartialEq, Eq)]
+#[derive(Clone, Copy, PartialEq, Eq)]
 pub enum Brief {
     Advise,
     /// A page with its first byte.

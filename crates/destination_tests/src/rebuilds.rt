@@ -34,7 +34,7 @@ pub enum Call {
 
 use Call::{Looks, Map, Notice, Rebuild, Round, Send, Start, Store, Switch};
 
-#[derive(Clone, Copy, Debug, PartialEq, Eq)]
+#[derive(Clone, Copy, PartialEq, Eq)]
 pub enum Answer {
     Done,
     /// The first of the frames that it sends.

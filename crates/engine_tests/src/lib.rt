@@ -4,8 +4,6 @@
 #![tactic(auto)]
 
 #[cfg(test)]
-mod pieces;
-#[cfg(test)]
 mod streams;
 #[cfg(test)]
 mod tests;

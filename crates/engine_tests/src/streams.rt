@@ -1,9 +1,9 @@
-use crate::pieces::{OneByte, Pieces};
 use frame_decoder::StreamFault;
 use frames::{FramesFault, run_frames};
 use std::alloc::{AllocError, Global};
 use std::process::Abort;
 use std::test::Fail;
+use test_kit::{OneByte, Pieces};
 
 /// Advise, Zero, End, Discard, Package, End, Zero, End, and an Advise of version 3: 12, 16, 16, 24, 49, 16, 16, 16 and 12 bytes.
 const STREAM: &[u8] =

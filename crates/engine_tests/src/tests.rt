@@ -1,8 +1,8 @@
-use crate::pieces::{Endless, OneByte, Pieces};
 use engine::{Mode, RunFault, check_script, run_script};
 use std::alloc::{AllocError, Global};
 use std::process::Abort;
 use std::test::Fail;
+use test_kit::{Endless, OneByte, Pieces};
 
 const SCRIPT: &[u8] =
     b"# first\r\ncpu 0 mmap 8192 rw\n\ncpu 0 store 0x10ff8 8 0x1122334455667788\r\ncpu 1 load 0x10ffc 4\ncpu 1 load 0x10ffc 8\nstart\nround\nprogress\ncpu 9 load 0 8";

@@ -9,8 +9,6 @@ mod answers;
 #[cfg(test)]
 mod cases;
 #[cfg(test)]
-mod pieces;
-#[cfg(test)]
 mod play;
 #[cfg(test)]
 mod streams;

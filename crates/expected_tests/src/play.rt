@@ -1,11 +1,11 @@
 //! Playing a test in pieces: how it ends, and what it wrote.
 
-use crate::pieces::{OneByte, Pieces};
 use engine::RunFault;
 use expected::{Outcome, answer_script, test_script};
 use std::alloc::{AllocError, Global};
 use std::process::Abort;
 use std::test::Fail;
+use test_kit::{OneByte, Pieces};
 
 /// No case writes more bytes.
 pub const MOST: usize = 4_000;

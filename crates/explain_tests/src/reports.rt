@@ -1,10 +1,9 @@
 use engine::RunFault;
 use explain::{Asks, Noting, explain_script};
 use std::alloc::{AllocError, Global};
-use std::io;
-use std::io::Read;
 use std::process::Abort;
 use std::test::Fail;
+use test_kit::Pieces;
 
 /// No report has more bytes.
 const MOST: usize = 4_000;
@@ -28,23 +27,6 @@ const ALL_WHY: Asks = Asks {
     all: true,
     reasons: true,
 };
-
-/// Gives its bytes in pieces of this size.
-#[derive(Drop)]
-struct Pieces<'a> {
-    bytes: &'a [u8],
-    size: usize,
-}
-
-impl Read for Pieces<'_> {
-    fn read(&mut self, buf: &mut [u8]) -> io::Result<usize> {
-        let count = self.size.min(self.bytes.len()).min(buf.len());
-        let (front, rest) = self.bytes.split_at(count);
-        buf[..count].copy_from_slice(front);
-        self.bytes = rest;
-        Ok(count)
-    }
-}
 
 /// A transcript, what is asked for, and the report.
 #[derive(Clone, Copy)]
@@ -82,6 +64,8 @@ fn played(
     let pieces = Pieces {
         bytes: case.transcript,
         size,
+        fails_at: 0,
+        reads: 0,
     };
     let mut reader = Noting::new(alloc, pieces);
     let mut written = room(alloc)?;

@@ -39,7 +39,7 @@ use Call::{
     Cpu, Issue, IssueAway, MakeZeros, Protect, Read, Register, Retry, RetryAway, Unprotect, Wake,
 };
 
-#[derive(Clone, Copy, Debug, PartialEq, Eq)]
+#[derive(Clone, Copy, PartialEq, Eq)]
 enum Answer {
     Done,
     /// A command was answered, and entered so.
@@ -82,7 +82,7 @@ struct Node {
 }
 
 /// What a refused call has to leave.
-#[derive(Clone, Copy, Debug, PartialEq, Eq)]
+#[derive(Clone, Copy, PartialEq, Eq)]
 struct Picture {
     cpus: [Result<CpuState, Refusal>; 3],
     events: usize,
@@ -193,12 +193,12 @@ fn play(
         let before = node.picture();
         let mut answer = node.call(*call);
         if answer.is_err() {
-            assert_eq!(rt; node.picture(), before, "step {i}");
+            assert!(rt; node.picture() == before, "step {i}");
         }
         if answer == Err(Refusal::NoMemory) {
             answer = node.call(*call);
         }
-        assert_eq!(rt; answer, *wanted, "step {i}");
+        assert!(rt; answer == *wanted, "step {i}");
     }
     Ok(())
 }

@@ -1,13 +1,13 @@
 //! Whole inputs: readers and writers that take pieces or fail, memory that runs out, and lines of any length.
 
 use crate::listing::{listed, room};
-use crate::pieces::{OneByte, Pieces};
 use engine::RunFault;
 use grammar::Language;
 use lint::lint_lines;
 use std::alloc::{AllocError, Global};
 use std::process::Abort;
 use std::test::Fail;
+use test_kit::{OneByte, Pieces};
 
 const SCRIPT: &[u8] =
     b"# first\r\nlod\r\n\nstart\nstart # go\ncpu 0 load 0x10000\r\r\nprogress\nsendrun 65";

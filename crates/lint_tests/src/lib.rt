@@ -9,8 +9,6 @@ mod faults;
 #[cfg(test)]
 mod listing;
 #[cfg(test)]
-mod pieces;
-#[cfg(test)]
 mod scripts;
 #[cfg(test)]
 mod transcripts;

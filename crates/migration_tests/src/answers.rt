@@ -11,7 +11,7 @@ use mig_base::{Addr, Message, PageNo, Reply, WorldPhase};
 pub type Last = Option<(u8, Reply)>;
 
 /// The effect of a step, why it is refused, or what a look shows.
-#[derive(Clone, Copy, Debug, PartialEq, Eq)]
+#[derive(Clone, Copy, PartialEq, Eq)]
 pub enum Answer {
     Replied(u8, Reply),
     Asleep(u8),

@@ -75,7 +75,7 @@ fn take_recv(rt: &impl Abort, world: &mut World) {
     let answer = make(rt, world, Step::DeliverBack { n: u64::MAX }, 0);
     assert!(rt;
         matches!(answer, Answer::TookRecv(_, _)),
-        "{answer:?} for the Recv"
+        "another answer to the Recv"
     );
 }
 
@@ -163,7 +163,10 @@ fn load_all(rt: &impl Abort, world: &mut World) {
     for addr in [0x10000, 0x11000, 0x12000, 0x20000] {
         let command = Command::Load { addr, width: 8 };
         let answer = make(rt, world, Step::Issue { cpu: 0, command }, 0);
-        assert!(rt; !matches!(answer, Refused(_)), "{answer:?} at {addr:#x}");
+        assert!(rt;
+            !matches!(answer, Refused(_)),
+            "a load at {addr:#x} is refused"
+        );
         answer_all(rt, world);
     }
 }

@@ -24,7 +24,7 @@ pub type Row = (Call, Answer);
 pub type Parts<'a> = (&'a [Row], &'a [Row], &'a [Row], &'a [Row]);
 
 /// What a refused step has to leave.
-#[derive(Clone, Copy, Debug, PartialEq, Eq)]
+#[derive(Clone, Copy, PartialEq, Eq)]
 struct Picture {
     phase: WorldPhase,
     source: SourcePhase,

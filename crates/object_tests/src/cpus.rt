@@ -35,7 +35,7 @@ use Call::{
     WakePage, WakeRange, Woken,
 };
 
-#[derive(Clone, Copy, Debug, PartialEq, Eq)]
+#[derive(Clone, Copy, PartialEq, Eq)]
 enum Answer {
     Done,
     Refused(Refusal),

@@ -23,7 +23,7 @@ enum Call {
 
 use Call::{Home, Len, MoveRange, Origin, Origins, RemoveRange, Settle};
 
-#[derive(Clone, Copy, Debug, PartialEq, Eq)]
+#[derive(Clone, Copy, PartialEq, Eq)]
 enum Answer {
     Done,
     At(Option<PageNo>),
@@ -35,7 +35,7 @@ enum Answer {
 use Answer::{At, Done, Number, Runs};
 
 /// How many pages are owed, and the origins at pages and the pages of origins near the borders of leaves.
-#[derive(Clone, Copy, Debug, PartialEq, Eq)]
+#[derive(Clone, Copy, PartialEq, Eq)]
 struct Picture {
     len: u32,
     origins: [Option<PageNo>; 8],

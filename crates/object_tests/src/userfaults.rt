@@ -47,7 +47,7 @@ use Call::{
     TakeBack, Unregister,
 };
 
-#[derive(Clone, Copy, Debug, PartialEq, Eq)]
+#[derive(Clone, Copy, PartialEq, Eq)]
 enum Answer {
     Done,
     Flags(Option<u64>),

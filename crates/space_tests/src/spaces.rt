@@ -42,7 +42,7 @@ pub enum Call {
     Present(PageNo),
 }
 
-#[derive(Clone, Copy, Debug, PartialEq, Eq)]
+#[derive(Clone, Copy, PartialEq, Eq)]
 pub enum Answer {
     /// A load or store is answered.
     Answered(Reply),
@@ -260,7 +260,7 @@ pub fn play_on(rt: &impl Abort, space: &mut Space, steps: &[(Call, Answer)]) -> 
             assert_eq!(rt; seen(space)?, before, "step {i}");
             answer = make(rt, space, *call);
         }
-        assert_eq!(rt; answer, Ok(*wanted), "step {i}");
+        assert!(rt; answer == Ok(*wanted), "step {i}");
     }
     Ok(())
 }

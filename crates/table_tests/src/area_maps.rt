@@ -32,7 +32,7 @@ enum Call {
 
 use Call::{Gap, Map, MappedIn, MappedPages, Move, OneProt, Pages, ProtAt, Relocate, Room, Unmap};
 
-#[derive(Clone, Copy, Debug, PartialEq, Eq)]
+#[derive(Clone, Copy, PartialEq, Eq)]
 enum Answer {
     Done,
     Prot(Option<Prot>),

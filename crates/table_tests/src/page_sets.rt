@@ -28,7 +28,7 @@ use Call::{
     Contains, Insert, InsertBoth, InsertRange, Len, Next, NextBefore, Ranges, Remove, RemoveRange,
 };
 
-#[derive(Clone, Copy, Debug, PartialEq, Eq)]
+#[derive(Clone, Copy, PartialEq, Eq)]
 enum Answer {
     Done,
     Is(bool),

@@ -38,7 +38,7 @@ use Call::{
     Unprotect, Write, WriteOne,
 };
 
-#[derive(Clone, Copy, Debug, PartialEq, Eq)]
+#[derive(Clone, Copy, PartialEq, Eq)]
 enum Answer {
     Done,
     /// The page is present already.

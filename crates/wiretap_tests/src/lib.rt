@@ -5,6 +5,4 @@
 #![tactic(auto)]
 
 #[cfg(test)]
-mod pieces;
-#[cfg(test)]
 mod wires;

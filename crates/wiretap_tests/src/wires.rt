@@ -1,8 +1,8 @@
-use crate::pieces::{OneByte, Pieces};
 use engine::{Mode, RunFault, run_script};
 use std::alloc::{AllocError, Global};
 use std::process::Abort;
 use std::test::Fail;
+use test_kit::{OneByte, Pieces};
 use wiretap::{Channel, TapFault, Taps, run_tapped};
 
 /// A page of zeros is sent and lost, then two are owed: one is pushed, and the other one requested.

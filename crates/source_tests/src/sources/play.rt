@@ -14,7 +14,7 @@ use std::test::Fail;
 use vcpu::NewFault;
 
 /// What a refused call has to leave.
-#[derive(Clone, Copy, Debug, PartialEq, Eq)]
+#[derive(Clone, Copy, PartialEq, Eq)]
 struct Picture {
     phase: SourcePhase,
     has_switched: bool,

@@ -1,4 +1,7 @@
-//! Readers and writers that take pieces, and fail.
+//! Readers and writers for tests: they take bytes in pieces, fail at a read or a write, or stop.
+//!
+//! None of them keeps a promise beyond those of `Read` and `Write`.
+#![tactic(auto)]
 
 use std::io;
 use std::io::{Read, Write};
@@ -22,6 +25,23 @@ impl Read for Pieces<'_> {
         let (front, rest) = self.bytes.split_at(count);
         buf[..count].copy_from_slice(front);
         self.bytes = rest;
+        Ok(count)
+    }
+}
+
+/// Gives the same byte without an end, in pieces of this size.
+#[derive(Drop)]
+pub struct Endless {
+    pub byte: u8,
+    pub size: usize,
+    pub reads: u32,
+}
+
+impl Read for Endless {
+    fn read(&mut self, buf: &mut [u8]) -> io::Result<usize> {
+        self.reads = self.reads.wrapping_add(1);
+        let count = self.size.min(buf.len());
+        buf[..count].fill(self.byte);
         Ok(count)
     }
 }
