@@ -1,13 +1,13 @@
 #!/usr/bin/env python3
 """Explores with many seeds, judges each script by the other commands, and counts what happened in them.
 
-python3 bench/explore.py [SEEDS] [--first SEED] [--steps N] [--cpus C] [--pages M] [--program PATH] [--scripts FILE] [--write]
+python3 bench/explore.py [SEEDS] [--first SEED] [--steps N] [--cpus C] [--pages M] [--finish] [--program PATH] [--scripts FILE] [--write]
 
 For each seed from SEED on (1), SEEDS of them (20), and for each profile: `postmig explore` writes a script with its answers. The same
 without answers has the same lines; `postmig run` prints the answers; `postmig check` accepts the transcript of the run. Its status is 1
-where one of these does not hold. Then it prints tables of what happened. Run it once ./postmig prove has built the program. With
---scripts it judges scripts with answers that stand in a file, one behind the other, and runs no `postmig explore`. With --write the tables
-go to docs/EXPLORE.md.
+where one of these does not hold. Then it prints tables of what happened. Run it once ./postmig prove has built the program. With --finish
+each script ends with the lines that finish it, and its migration has to be complete. With --scripts it judges scripts with answers that
+stand in a file, one behind the other, and runs no `postmig explore`. With --write the tables go to docs/EXPLORE.md.
 """
 
 import argparse
@@ -48,12 +48,15 @@ def argument(comment, name):
 
 
 def judge(program, text):
-    """Raises ValueError unless the other commands agree with a script and its answers."""
+    """Raises ValueError unless the other commands agree with a script and its answers, and a script that was finished is complete."""
     comment, lines, answers = split(text)
     script = "".join(f"{line}\n" for line in [comment, *lines]).encode()
     cpus = ["--cpus", argument(comment, "cpus")]
-    if ran(program, ["run", *cpus], script).splitlines() != answers:
+    *printed, end = ran(program, ["run", *cpus], script + b"progress\n").splitlines()
+    if printed != answers:
         raise ValueError(f"{comment}: run prints other answers")
+    if " --finish" in comment and not end.startswith("progress phase complete "):
+        raise ValueError(f"{comment}: it ends with {end}")
     transcript = ran(program, ["run", *cpus, "--transcript"], script).encode()
     verdict = ran(program, ["check"], transcript)
     if not verdict.startswith("ok "):
@@ -239,12 +242,14 @@ def main():
     asked.add_argument("seeds", nargs="?", type=int, default=20)
     asked.add_argument("--first", type=int, default=1)
     asked.add_argument("--program", default=str(PROGRAM))
+    asked.add_argument("--finish", action="store_true")
     asked.add_argument("--scripts")
     asked.add_argument("--write", action="store_true")
     for name in ("steps", "cpus", "pages"):
         asked.add_argument(f"--{name}", type=int)
     given = asked.parse_args()
     options = [word for name in ("steps", "cpus", "pages") if getattr(given, name) for word in (f"--{name}", str(getattr(given, name)))]
+    options += ["--finish"] * given.finish
 
     def one(case):
         text = case if given.scripts else explored(given.program, *case, options)

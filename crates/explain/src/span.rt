@@ -3,7 +3,7 @@
 use mig_base::{Addr, HIGH, PAGE_SIZE};
 
 /// The addresses from `start` up to, and without, `end`.
-#[derive(Clone, Copy, Debug, PartialEq, Eq)]
+#[derive(Clone, Copy)]
 pub(crate) struct Span {
     pub start: Addr,
     pub end: Addr,

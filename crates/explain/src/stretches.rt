@@ -5,7 +5,7 @@ use mig_base::{Command, Entry, NoMemory, Reply};
 use std::alloc::Global;
 
 /// What became of a range.
-#[derive(Clone, Copy, Debug, PartialEq, Eq)]
+#[derive(Clone, Copy)]
 pub(crate) enum Fate {
     /// The entry at this index mapped it, or moved it here.
     Mapped { by: usize },
@@ -15,7 +15,7 @@ pub(crate) enum Fate {
 }
 
 /// A part of a range, all of which has the same fate.
-#[derive(Clone, Copy, Debug, PartialEq, Eq)]
+#[derive(Clone, Copy)]
 pub(crate) struct Stretch {
     pub span: Span,
     pub fate: Fate,

@@ -8,7 +8,7 @@ use std::alloc::Global;
 const MOST: usize = 8;
 
 /// What an entry does to one address.
-#[derive(Clone, Copy, Debug, PartialEq, Eq)]
+#[derive(Clone, Copy, PartialEq, Eq)]
 enum Touch {
     Stored,
     /// It reads as zeros again.

@@ -10,7 +10,7 @@ use mig_base::{Entry, NoMemory, Reply};
 use std::alloc::Global;
 
 /// An entry with another reply than the flat memory's.
-#[derive(Clone, Copy, Debug, PartialEq, Eq)]
+#[derive(Clone, Copy)]
 pub struct Wrong {
     /// Counted from 0.
     pub index: usize,

@@ -69,7 +69,7 @@ impl Profile {
 }
 
 /// An exploration. Its text is that of the arguments that ask for it.
-#[derive(Clone, Copy, Debug, PartialEq, Eq)]
+#[derive(Clone, Copy)]
 pub struct Plan {
     /// The seed of the draws.
     pub seed: u64,

@@ -3,7 +3,7 @@
 use crate::plan::Profile;
 
 /// How often each part of a world acts, as weights, and how it acts, as shares of 16.
-#[derive(Clone, Copy, Debug)]
+#[derive(Clone, Copy)]
 pub(crate) struct Weights {
     /// The guest's processors.
     pub guest: u8,

@@ -11,7 +11,7 @@ use page_stream::Frame;
 
 /// A frame in numbers, without the bytes and the lists that it carries.
 #[repr(C)]
-#[derive(Clone, Copy, Debug, PartialEq, Eq, Drop)]
+#[derive(Clone, Copy, PartialEq, Eq, Drop)]
 pub struct FrameNumbers {
     /// The second byte of its header.
     pub tag: u32,

@@ -22,132 +22,136 @@ pub(crate) struct Form {
     pub(crate) tail: Tail,
 }
 
-/// The form of a line that is one word.
-fn alone(usage: &'static str) -> Form {
-    Form {
-        usage,
-        words: &[],
-        tail: Tail::Nothing,
+/// A first word, how its line is written, and what stands behind it.
+type Row = (&'static [u8], &'static str, &'static [Wanted], Tail);
+
+/// The lines of a script without a processor.
+static ORDERS: [Row; 22] = [
+    (b"start", "start", &[], Tail::Nothing),
+    (b"round", "round", &[], Tail::Nothing),
+    (b"send", "send", &[], Tail::Nothing),
+    (b"sread", "sread", &[], Tail::Nothing),
+    (b"sact", "sact", &[], Tail::Nothing),
+    (b"switch", "switch", &[], Tail::Nothing),
+    (b"dread", "dread", &[], Tail::Nothing),
+    (b"dact", "dact", &[], Tail::Nothing),
+    (b"install", "install", &[], Tail::Nothing),
+    (b"serve", "serve", &[], Tail::Nothing),
+    (b"end", "end", &[], Tail::Nothing),
+    (b"break", "break", &[], Tail::Nothing),
+    (b"resume", "resume", &[], Tail::Nothing),
+    (b"progress", "progress", &[], Tail::Nothing),
+    (b"retry", "retry K", &[Wanted::Cpu], Tail::Nothing),
+    (b"sendrun", "sendrun N", &[Wanted::Count], Tail::Nothing),
+    (
+        b"notice",
+        "notice source|dest",
+        &[Wanted::Side],
+        Tail::Nothing,
+    ),
+    (b"deliver", "deliver [N]", &[], Tail::Number(Wanted::Bytes)),
+    (b"back", "back [N]", &[], Tail::Number(Wanted::Bytes)),
+    (
+        b"udeliver",
+        "udeliver [N]",
+        &[],
+        Tail::Number(Wanted::Bytes),
+    ),
+    (
+        b"push",
+        "push ADDR [EPOCH]",
+        &[Wanted::Page],
+        Tail::Number(Wanted::Epoch),
+    ),
+    (
+        b"upush",
+        "upush ADDR [EPOCH]",
+        &[Wanted::Page],
+        Tail::Number(Wanted::Epoch),
+    ),
+];
+
+/// The commands of a processor.
+static COMMANDS: [Row; 6] = [
+    (
+        b"load",
+        "load ADDR WIDTH",
+        &[Wanted::Addr, Wanted::Width],
+        Tail::Nothing,
+    ),
+    (
+        b"store",
+        "store ADDR WIDTH VALUE",
+        &[Wanted::Addr, Wanted::Width, Wanted::Value],
+        Tail::Nothing,
+    ),
+    (
+        b"mmap",
+        "mmap LEN PROT [fixed|noreplace ADDR]",
+        &[Wanted::Len, Wanted::Protection],
+        Tail::Place,
+    ),
+    (
+        b"munmap",
+        "munmap ADDR LEN",
+        &[Wanted::Addr, Wanted::Len],
+        Tail::Nothing,
+    ),
+    (
+        b"mremap",
+        "mremap ADDR OLD NEW [maymove] [fixed ADDR]",
+        &[Wanted::Addr, Wanted::OldLen, Wanted::NewLen],
+        Tail::Target,
+    ),
+    (
+        b"dontneed",
+        "dontneed ADDR LEN",
+        &[Wanted::Addr, Wanted::Len],
+        Tail::Nothing,
+    ),
+];
+
+static REPLIES: [Row; 6] = [
+    (b"done", "done", &[], Tail::Nothing),
+    (b"value", "value VALUE", &[Wanted::Value], Tail::Nothing),
+    (b"at", "at ADDR", &[Wanted::Addr], Tail::Nothing),
+    (
+        b"segv",
+        "segv unmapped|protected",
+        &[Wanted::Segv],
+        Tail::Nothing,
+    ),
+    (b"bad", "bad access", &[Wanted::Access], Tail::Nothing),
+    (b"refused", "refused ERRNO", &[Wanted::Errno], Tail::Nothing),
+];
+
+/// The form of the row that has this first word.
+fn find(rows: &[Row], word: &[u8]) -> Option<Form> {
+    for (first, usage, words, tail) in rows {
+        if *first == word {
+            return Some(Form {
+                usage,
+                words,
+                tail: *tail,
+            });
+        }
     }
+    None
 }
 
 /// The form of the line of a script that begins with this word.
 pub(crate) fn order_form(word: &[u8]) -> Option<Form> {
-    let form = match word {
-        b"start" => alone("start"),
-        b"round" => alone("round"),
-        b"send" => alone("send"),
-        b"sread" => alone("sread"),
-        b"sact" => alone("sact"),
-        b"switch" => alone("switch"),
-        b"dread" => alone("dread"),
-        b"dact" => alone("dact"),
-        b"install" => alone("install"),
-        b"serve" => alone("serve"),
-        b"end" => alone("end"),
-        b"break" => alone("break"),
-        b"resume" => alone("resume"),
-        b"progress" => alone("progress"),
-        b"retry" => Form {
-            words: &[Wanted::Cpu],
-            ..alone("retry K")
-        },
-        b"sendrun" => Form {
-            words: &[Wanted::Count],
-            ..alone("sendrun N")
-        },
-        b"notice" => Form {
-            words: &[Wanted::Side],
-            ..alone("notice source|dest")
-        },
-        b"deliver" => Form {
-            tail: Tail::Number(Wanted::Bytes),
-            ..alone("deliver [N]")
-        },
-        b"back" => Form {
-            tail: Tail::Number(Wanted::Bytes),
-            ..alone("back [N]")
-        },
-        b"udeliver" => Form {
-            tail: Tail::Number(Wanted::Bytes),
-            ..alone("udeliver [N]")
-        },
-        b"push" => Form {
-            usage: "push ADDR [EPOCH]",
-            words: &[Wanted::Page],
-            tail: Tail::Number(Wanted::Epoch),
-        },
-        b"upush" => Form {
-            usage: "upush ADDR [EPOCH]",
-            words: &[Wanted::Page],
-            tail: Tail::Number(Wanted::Epoch),
-        },
-        _ => return None,
-    };
-    Some(form)
+    find(&ORDERS, word)
 }
 
 /// The form of the command that begins with this word.
 pub(crate) fn command_form(word: &[u8]) -> Option<Form> {
-    let form = match word {
-        b"load" => Form {
-            words: &[Wanted::Addr, Wanted::Width],
-            ..alone("load ADDR WIDTH")
-        },
-        b"store" => Form {
-            words: &[Wanted::Addr, Wanted::Width, Wanted::Value],
-            ..alone("store ADDR WIDTH VALUE")
-        },
-        b"mmap" => Form {
-            usage: "mmap LEN PROT [fixed|noreplace ADDR]",
-            words: &[Wanted::Len, Wanted::Protection],
-            tail: Tail::Place,
-        },
-        b"munmap" => Form {
-            words: &[Wanted::Addr, Wanted::Len],
-            ..alone("munmap ADDR LEN")
-        },
-        b"mremap" => Form {
-            usage: "mremap ADDR OLD NEW [maymove] [fixed ADDR]",
-            words: &[Wanted::Addr, Wanted::OldLen, Wanted::NewLen],
-            tail: Tail::Target,
-        },
-        b"dontneed" => Form {
-            words: &[Wanted::Addr, Wanted::Len],
-            ..alone("dontneed ADDR LEN")
-        },
-        _ => return None,
-    };
-    Some(form)
+    find(&COMMANDS, word)
 }
 
 /// The form of the reply that begins with this word.
 pub(crate) fn reply_form(word: &[u8]) -> Option<Form> {
-    let form = match word {
-        b"done" => alone("done"),
-        b"value" => Form {
-            words: &[Wanted::Value],
-            ..alone("value VALUE")
-        },
-        b"at" => Form {
-            words: &[Wanted::Addr],
-            ..alone("at ADDR")
-        },
-        b"segv" => Form {
-            words: &[Wanted::Segv],
-            ..alone("segv unmapped|protected")
-        },
-        b"bad" => Form {
-            words: &[Wanted::Access],
-            ..alone("bad access")
-        },
-        b"refused" => Form {
-            words: &[Wanted::Errno],
-            ..alone("refused ERRNO")
-        },
-        _ => return None,
-    };
-    Some(form)
+    find(&REPLIES, word)
 }
 
 /// How a line is written.

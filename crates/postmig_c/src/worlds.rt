@@ -18,7 +18,7 @@ use world::World;
 
 /// How far the migration of a world has come, in numbers.
 #[repr(C)]
-#[derive(Clone, Copy, Debug, PartialEq, Eq, Drop)]
+#[derive(Clone, Copy, PartialEq, Eq, Drop)]
 pub struct Counts {
     /// 0 idle, 1 pre-copy, 2 switching, 3 post-copy, 4 complete.
     pub phase: u32,

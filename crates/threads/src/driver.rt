@@ -12,7 +12,7 @@ use std::thread;
 use std::thread::Threads;
 
 /// The plan of a run.
-#[derive(Clone, Copy, Debug)]
+#[derive(Clone, Copy)]
 pub(crate) struct Plan {
     /// The number of stores of each processor, and of its loads.
     pub stores: u16,
@@ -21,7 +21,7 @@ pub(crate) struct Plan {
 }
 
 /// When the channel breaks.
-#[derive(Clone, Copy, Debug, PartialEq, Eq)]
+#[derive(Clone, Copy, PartialEq, Eq)]
 pub(crate) enum Cut {
     /// Right after the switch.
     AfterSwitch,
