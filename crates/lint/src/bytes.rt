@@ -1,7 +1,7 @@
 //! Bytes that no line has, or that look like others.
 
 /// A byte that no word of a line has.
-#[derive(Clone, Copy, PartialEq, Eq)]
+#[derive(Clone, Copy)]
 pub(crate) enum ByteFault {
     Tab,
     ByteOrderMark,

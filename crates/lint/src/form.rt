@@ -5,7 +5,7 @@ use grammar::Language;
 use std::fmt;
 
 /// What may stand at the end of a line, or not.
-#[derive(Clone, Copy, PartialEq, Eq)]
+#[derive(Clone, Copy)]
 pub(crate) enum Tail {
     Nothing,
     Number(Wanted),

@@ -6,7 +6,7 @@ use crate::wanted::Wanted;
 use mig_base::{HIGH, MAX_RUN, PAGE_SIZE};
 
 /// What is wrong with a number.
-#[derive(Clone, Copy, PartialEq, Eq)]
+#[derive(Clone, Copy)]
 pub(crate) enum NumberFault {
     Sign,
     /// It begins with `0X`.
