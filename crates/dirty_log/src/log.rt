@@ -8,7 +8,7 @@ mod handler;
 mod rounds;
 
 use crate::sets::subtract;
-use guest::Fault;
+use guest::{Fault, copy_faults};
 use mig_base::{NoMemory, PageNo, PageSet};
 use std::alloc::Global;
 use std::collections::VecDeque;
@@ -58,6 +58,20 @@ impl DirtyLog {
             sent: PageSet::new(alloc),
             held: VecDeque::new(alloc),
         }
+    }
+
+    /// An equal log, in memory of its own. `NoMemory` if that cannot be allocated.
+    pub fn copy(&self) -> Result<Self, NoMemory>
+        ensures { IfOk result (λ copy. copy ≡ self.now) }
+    {
+        Ok(DirtyLog {
+            alloc: self.alloc,
+            clean: self.clean.copy()?,
+            todo: self.todo.copy()?,
+            from: self.from,
+            sent: self.sent.copy()?,
+            held: copy_faults(self.alloc, &self.held)?,
+        })
     }
 
     /// The pages whose newest copy sent is still right, as far as the source knows.

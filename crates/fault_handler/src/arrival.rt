@@ -1,10 +1,12 @@
 //! Arrivals: copies that wait to be installed.
 
-ghost use Rattle.std.specs.Prelude.{◌≡◌};
+ghost use Rattle.std.specs.Prelude.{◌≡◌, IfOk};
 ghost use Rattle.mig_base.specs.Bytes.{zero_page};
 ghost use Rattle.fault_handler.specs.Arrivals.{bytes_of};
 
-use mig_base::{PageBytes, PageNo};
+use mig_base::{NoMemory, PageBytes, PageNo};
+use std::alloc::Global;
+use std::collections::VecDeque;
 use std::marker::Model;
 use std::mem::replace;
 
@@ -38,6 +40,16 @@ impl Arrival {
         Arrival { page, content }
     }
 
+    /// An equal copy, in memory of its own. `NoMemory` if its bytes cannot be allocated.
+    pub fn copy(&self, alloc: Global) -> Result<Self, NoMemory>
+        ensures { IfOk result (λ copy. copy ≡ self.now) }
+    {
+        Ok(Arrival {
+            page: self.page,
+            content: copy_content(alloc, &self.content)?,
+        })
+    }
+
     /// The page at the source.
     pub fn page(&self) -> PageNo
         ensures { result ≡ self.now.page }
@@ -59,4 +71,28 @@ impl Arrival {
     {
         self.content = content;
     }
+}
+
+/// Equal content, in memory of its own. `NoMemory` if that cannot be allocated; zeros need none.
+fn copy_content(alloc: Global, content: &Content) -> Result<Content, NoMemory>
+    ensures { IfOk result (λ copy. copy ≡ content.now) }
+{
+    match content {
+        Some(bytes) => Ok(Some(PageBytes::copy_of(alloc, bytes.as_array())?)),
+        None => Ok(None),
+    }
+}
+
+/// Equal arrivals, in memory of their own. `NoMemory` if that cannot be allocated.
+pub fn copy_arrivals(
+    alloc: Global,
+    arrivals: &VecDeque<Arrival>,
+) -> Result<VecDeque<Arrival>, NoMemory>
+    ensures { IfOk result (λ copies. copies.items ≡ arrivals.now.items) }
+{
+    let mut copies = VecDeque::with_capacity(alloc, arrivals.len())?;
+    for i in 0..arrivals.len() {
+        copies.push_back(arrivals[i].copy(alloc)?)?;
+    }
+    Ok(copies)
 }

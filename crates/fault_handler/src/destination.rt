@@ -14,12 +14,12 @@ mod installs;
 mod laws;
 mod recovery;
 
-use crate::arrival::Arrival;
+use crate::arrival::{Arrival, copy_arrivals};
 use crate::kept::Kept;
 use crate::requests::Requests;
-use guest::Fault;
-use mig_base::PageNo;
+use guest::{Fault, copy_faults};
 use mig_base::phase::DestPhase;
+use mig_base::{NoMemory, PageNo};
 use owed_pages::Owed;
 use std::alloc::Global;
 use std::collections::VecDeque;
@@ -91,6 +91,36 @@ impl Destination {
             installed: 0,
             dropped: 0,
             faults: 0,
+        })
+    }
+
+    /// An equal destination, in memory of its own. `NoMemory` if that cannot be allocated.
+    pub fn copy(&self) -> Result<Self, NoMemory>
+        ensures { IfOk result (λ copy. copy ≡ self.now) }
+    {
+        let held = copy_faults(self.alloc, &self.held)?;
+        let requests = self.requests.copy(self.alloc)?;
+        let arrivals = copy_arrivals(self.alloc, &self.arrivals)?;
+        let cpus = self.cpus.copy()?;
+        let owed = self.owed.copy()?;
+        let kept = self.kept.copy()?;
+        Ok(Destination {
+            alloc: self.alloc,
+            phase: self.phase,
+            has_run: self.has_run,
+            ended: self.ended,
+            epoch: self.epoch,
+            kept,
+            space: self.space.duplicate()?,
+            cpus,
+            held,
+            owed,
+            requests,
+            arrivals,
+            urgent_taken: self.urgent_taken,
+            installed: self.installed,
+            dropped: self.dropped,
+            faults: self.faults,
         })
     }
 

@@ -61,6 +61,18 @@ impl Kept {
         }
     }
 
+    /// The same kept copies, in memory of their own. `NoMemory` if that cannot be allocated.
+    pub fn copy(&self) -> Result<Self, NoMemory>
+        ensures { IfOk result (λ copy. copy ≡ self.now) }
+    {
+        let set = self.set.copy()?;
+        Ok(Kept {
+            alloc: self.alloc,
+            pages: self.pages.copy()?,
+            set,
+        })
+    }
+
     /// Keeps the copy of a page; it replaces an older one. If memory is refused, which never happens for a page that is kept, the bytes
     /// are returned and nothing changes.
     pub fn keep(&mut self, page: PageNo, bytes: PageBytes) -> Result<(), PageBytes>

@@ -36,6 +36,18 @@ impl Requests {
         }
     }
 
+    /// The same requests, in memory of their own. `NoMemory` if that cannot be allocated.
+    pub fn copy(&self, alloc: Global) -> Result<Self, NoMemory>
+        ensures { IfOk result (λ copy. copy ≡ self.now) }
+    {
+        let pages = self.as_slice();
+        let mut copy = Requests::new(alloc);
+        for page in pages {
+            copy.add(*page)?;
+        }
+        Ok(copy)
+    }
+
     /// The pages, in order.
     pub fn as_slice(&self) -> &[PageNo]
         ensures pages { result.now ≡ self.now }

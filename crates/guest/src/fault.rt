@@ -1,8 +1,10 @@
 //! A page fault that a handler has read and not resolved yet.
 
-ghost use Rattle.std.specs.Prelude.{◌≡◌, ◌*◌};
+ghost use Rattle.std.specs.Prelude.{◌≡◌, ◌*◌, IfOk};
 
-use mig_base::{Addr, PAGE_SIZE};
+use mig_base::{Addr, NoMemory, PAGE_SIZE};
+use std::alloc::Global;
+use std::collections::VecDeque;
 use std::marker::Model;
 
 /// A page fault: its page, and whether it is a write-protect fault.
@@ -34,6 +36,16 @@ impl Fault {
         Fault { addr, wp }
     }
 
+    /// An equal fault.
+    pub fn copy(&self) -> Self
+        ensures { result ≡ self.now }
+    {
+        Fault {
+            addr: self.addr,
+            wp: self.wp,
+        }
+    }
+
     /// The page number, which may lie past the address space.
     pub fn page(&self) -> u64
         ensures { result ≡ self.now.page }
@@ -54,4 +66,15 @@ impl Fault {
     {
         self.wp
     }
+}
+
+/// A copy of the faults that a handler holds. `NoMemory` if the allocation fails.
+pub fn copy_faults(alloc: Global, faults: &VecDeque<Fault>) -> Result<VecDeque<Fault>, NoMemory>
+    ensures { IfOk result (λ copy. copy.items ≡ faults.now.items) }
+{
+    let mut copy = VecDeque::with_capacity(alloc, faults.len())?;
+    for i in 0..faults.len() {
+        copy.push_back(faults[i].copy())?;
+    }
+    Ok(copy)
 }

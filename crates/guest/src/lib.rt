@@ -25,7 +25,7 @@ mod took;
 mod tried;
 
 pub use crate::commands::{issue, retry};
-pub use crate::fault::Fault;
+pub use crate::fault::{Fault, copy_faults};
 pub use crate::messages::read;
 pub use crate::pages::{install, make_zeros};
 pub use crate::tried::Tried;

@@ -14,6 +14,8 @@ mod calls;
 #[cfg(test)]
 mod commands;
 #[cfg(test)]
+mod copies;
+#[cfg(test)]
 mod counts;
 #[cfg(test)]
 mod everywhere;

@@ -2,6 +2,7 @@
 
 use crate::answers::Answer;
 use crate::calls::{Call, step_of};
+use crate::copies::play_copied;
 use crate::counts::play_many;
 use crate::everywhere::{Again, break_and_complete};
 use crate::openings::NOTHING;
@@ -120,6 +121,9 @@ pub enum Behind {
     Longest,
     /// All steps in one call.
     OneCall,
+    /// The world is copied, and both go on: what both show at first, what happens to the copy, what happens to the world, and what the
+    /// copy shows then.
+    Copied(Parts<'static>),
     /// The channel breaks, and the migration goes on to its completion.
     Broken(Again),
 }
@@ -142,6 +146,7 @@ fn tell(
         Behind::Many => play_many(rt, world),
         Behind::Longest => play_longest(rt, world),
         Behind::OneCall => return run_all(rt, alloc, world),
+        Behind::Copied(ways) => return play_copied(rt, world, ways),
         Behind::Broken(again) => break_and_complete(rt, alloc, world, again),
     }
     true

@@ -1,8 +1,9 @@
 -- Tables of numbers: one number changed, and leaves that are made.
-use Rattle.std.proofs.Common.{◌≡◌, ℕ, zero, suc, ◌/◌, ◌%◌, ◌<◌, ◌≤◌, true, false, cond, eqb, refl, ap, ◌∙◌, List, ◌∷◌, [], ◌++◌, length, get_or, set, get_or-set_same, get_or-set_other, Option, Some, None, is_some, replicate}
+use Rattle.std.proofs.Common.{◌≡◌, ℕ, zero, suc, ◌+◌, ◌-◌, ◌/◌, ◌%◌, ◌<◌, ◌≤◌, true, false, cond, eqb, refl, sym, ap, ◌∙◌, ⊎_elim, arith, List, ◌∷◌, [], ◌++◌, length, get_or, set, get_or-set_same, get_or-set_other, Option, Some, None, is_some, replicate}
 use mathlib.Core.Logic.{dite}
 use native.Mathlib.Decide.{ℕ_discrete}
-use Rattle.std.proofs.lemmas.Bool.{eq-eqb, ne_eqb}
+use Rattle.std.proofs.lemmas.Bool.{eq-eqb, ne_eqb, cases_lt}
+use Rattle.std.proofs.lemmas.List.{get_or_append_left, get_or-append_right}
 use Rattle.owed_pages.specs.Tables.{Place, number_in, number_at, is_place, has_place}
 use Rattle.mig_base.proofs.PlaceLemmas.{said_at, said_here, said_past, said_same, said-push, said-put}
 
@@ -78,3 +79,26 @@ pub all_none : (count i : ℕ) → get_or {A = Option ℕ} (replicate count None
 all_none zero i = refl
 all_none (suc count) zero = refl
 all_none (suc count) (suc i) = all_none count i
+
+-- A copy, place by place
+
+abbrev pub IsCopied : Places → Places → ℕ → Type 0
+IsCopied old copies at = (k : ℕ) → k < at → (i : ℕ) → number_in (get_or copies k None) i ≡ number_in (get_or old k None) i
+
+pub copied_more : (old copies : Places) (at : ℕ) (place : Place) → length copies ≡ at → IsCopied old copies at → ((i : ℕ) → number_in place i ≡ number_in (get_or old at None) i) → IsCopied old (copies ++ place ∷ []) (at + 1)
+copied_more old copies at place size is here k l i =
+    ⊎_elim
+    (λ (below : k < length copies). ap (λ o. number_in o i) (get_or_append_left copies (place ∷ []) None k below) ∙ is k (omega arith) i)
+    (λ (past : length copies ≤ k).
+    let e : k ≡ at = omega arith in
+    let zero_more : k - length copies ≡ 0 = omega arith in
+    ap (λ o. number_in o i) (get_or-append_right copies (place ∷ []) (length copies) k None refl past ∙ ap (λ n. get_or (place ∷ []) n None) zero_more)
+    ∙ here i ∙ ap (λ n. number_in (get_or old n None) i) (sym e))
+    (cases_lt k (length copies))
+
+pub copied_all : (old copies : Places) → length copies ≡ length old → IsCopied old copies (length old) → (q : ℕ) → number_at copies q ≡ number_at old q
+copied_all old copies size is q =
+    ⊎_elim
+    (λ (below : q / 1024 < length old). sym (at_place copies q (q / 1024) refl) ∙ is (q / 1024) below (q % 1024) ∙ at_place old q (q / 1024) refl)
+    (λ (past : length old ≤ q / 1024). past_places copies q (omega arith) ∙ sym (past_places old q past))
+    (cases_lt (q / 1024) (length old))

@@ -67,6 +67,16 @@ impl Owed {
         Ok(Owed { alloc, links })
     }
 
+    /// An equal table, in memory of its own. `NoMemory` if the room for the pairs cannot be allocated.
+    pub fn copy(&self) -> Result<Self, NoMemory>
+        ensures { IfOk result (λ copy. copy ≡ self.now) }
+    {
+        Ok(Owed {
+            alloc: self.alloc,
+            links: self.links.copy(self.alloc)?,
+        })
+    }
+
     /// The page where a page of the source belongs now, or `None` if it is not owed. Any page number is allowed.
     pub fn home(&self, origin: PageNo) -> Option<PageNo>
         ensures answer { result ≡ home self.now origin }

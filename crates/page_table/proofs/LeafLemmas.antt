@@ -77,3 +77,10 @@ whole_written old new at offset bytes inside whole here others i written h =
     held_written : (o : Option (List ℕ)) → ((held : List ℕ) → o ≡ Some held → length held ≡ PAGE_SIZE) → option_map (λ held. overwrite held offset bytes) o ≡ Some written → length written ≡ PAGE_SIZE
     held_written None size e = let absent : None ≡ Some written = e in cc
     held_written (Some held) size e = sym (ap length (same_Some (overwrite held offset bytes) written e)) ∙ overwritten held bytes offset (size held refl) inside
+
+-- a leaf copied cell by cell
+pub copied_cell : (copy old : ℕ → Cell) (new cell : Cell) (i j : ℕ) → ((k : ℕ) → k < i → copy k ≡ old k) → cell ≡ old i → new ≡ cond (eqb j i) cell (copy j) → j < i + 1 → new ≡ old j
+copied_cell copy old new cell i j is here put l =
+    dite (ℕ_discrete j i)
+    (λ e. put ∙ ap (λ b. cond b cell (copy j)) (eq-eqb j i e) ∙ here ∙ ap old (sym e))
+    (λ n. put ∙ ap (λ b. cond b cell (copy j)) (ne_eqb j i n) ∙ is j (omega arith))

@@ -3,7 +3,8 @@ use Rattle.std.proofs.Common.{◌≡◌, ◌≢◌, ℕ, ◌+◌, ◌-◌, ◌*�
 use mathlib.Core.Logic.{dite}
 use native.Mathlib.Decide.{ℕ_discrete}
 use Rattle.std.proofs.lemmas.Bool.Decides.{nat_tests}
-use Rattle.std.proofs.lemmas.Bool.{eq-eqb, ne_eqb}
+use Rattle.std.proofs.lemmas.Bool.{eq-eqb, ne_eqb, cases_lt}
+use Rattle.std.proofs.lemmas.List.{get_or_append_left, get_or-append_right}
 use Rattle.mig_base.specs.declared.TheConstants.{PAGE_SIZE}
 use Rattle.mig_base.specs.Ranges.{in_range}
 use Rattle.mig_base.proofs.RangeLemmas.{in_range-none, in_range-out}
@@ -123,3 +124,26 @@ whole_in (Some leaf) i bytes h = let sized = leaf.value.sized in sized i bytes h
 pub whole_cell : (places : Places) (q : ℕ) (bytes : List ℕ) → (cell_at places q).0 ≡ Some bytes → length bytes ≡ PAGE_SIZE
 unfolding cell_at
 whole_cell places q bytes h = whole_in (get_or places (q / 1024) None) (q % 1024) bytes h
+
+-- A copy, place by place
+
+abbrev pub IsCopied : Places → Places → ℕ → Type 0
+IsCopied old copies at = (k : ℕ) → k < at → (i : ℕ) → i < 1024 → cell_in (get_or copies k None) i ≡ cell_in (get_or old k None) i
+
+pub copied_more : (old copies : Places) (at : ℕ) (place : Place) → length copies ≡ at → IsCopied old copies at → ((i : ℕ) → i < 1024 → cell_in place i ≡ cell_in (get_or old at None) i) → IsCopied old (copies ++ place ∷ []) (at + 1)
+copied_more old copies at place size is here k l i inside =
+    ⊎_elim
+    (λ (below : k < length copies). ap (λ o. cell_in o i) (get_or_append_left copies (place ∷ []) None k below) ∙ is k (omega arith) i inside)
+    (λ (past : length copies ≤ k).
+    let e : k ≡ at = omega arith in
+    let zero_more : k - length copies ≡ 0 = omega arith in
+    ap (λ o. cell_in o i) (get_or-append_right copies (place ∷ []) (length copies) k None refl past ∙ ap (λ n. get_or (place ∷ []) n None) zero_more)
+    ∙ here i inside ∙ ap (λ n. cell_in (get_or old n None) i) (sym e))
+    (cases_lt k (length copies))
+
+pub copied_all : (old copies : Places) → length copies ≡ length old → IsCopied old copies (length old) → (q : ℕ) → cell_at copies q ≡ cell_at old q
+copied_all old copies size is q =
+    ⊎_elim
+    (λ (below : q / 1024 < length old). sym (at_place copies q (q / 1024) refl) ∙ is (q / 1024) below (q % 1024) (omega arith) ∙ at_place old q (q / 1024) refl)
+    (λ (past : length old ≤ q / 1024). past_places copies q (omega arith) ∙ sym (past_places old q past))
+    (cases_lt (q / 1024) (length old))

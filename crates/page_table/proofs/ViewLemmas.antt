@@ -213,3 +213,10 @@ gathered_more places place pages new at is old h q =
 
 pub gathered_all : (places : List Place) (pages : set.FinSet nat_cmp) (bound : ℕ) → 1024 * length places ≤ bound → IsGathered places pages bound → (q : ℕ) → set.contains pages q ≡ is_some (cell_at places q).0
 gathered_all places pages bound past is q = is q ∙ all_below q bound (is_some (cell_at places q).0) (λ h. ap (λ x. is_some x.0) (past_places places q (omega arith)))
+
+-- equal cells are a table too
+pub same_table : (old new : List Place) → IsTable old → length new ≡ length old → ((q : ℕ) → cell_at new q ≡ cell_at old q) → IsTable new
+same_table old new inv size h = record {
+  few = let few = inv.few in omega arith;
+  inside = λ q on. ap (λ x. is_some x.0) (h q) ∙ inv.inside q (sym (ap (λ x. x.1) (h q)) ∙ on);
+}

@@ -39,6 +39,16 @@ pub fn missing_pages(alloc: Global) -> Result<Vec<Page>, NoMemory>
     Ok(pages)
 }
 
+/// An equal page, in memory of its own. `NoMemory` if that cannot be allocated; a missing page needs none.
+pub fn copy_page(alloc: Global, page: &Page) -> Result<Page, NoMemory>
+    ensures { IfOk result (λ copy. copy ≡ page.now) }
+{
+    match page {
+        Some(bytes) => Ok(Some(PageBytes::copy_of(alloc, bytes.as_array())?)),
+        None => Ok(None),
+    }
+}
+
 /// Takes a page out of a list: it is missing there afterwards.
 pub fn take_page(pages: &mut Vec<Page>, i: usize) -> Page
     requires { i < length pages.old.items }

@@ -15,8 +15,8 @@ mod ranges;
 
 use crate::leaf::Place;
 use crate::table::{
-    bytes_at, clear_range, is_present_at, is_protected_at, make_place, make_places, move_cells,
-    present_of, protect_at, put_at, write_at,
+    bytes_at, clear_range, copy_places, is_present_at, is_protected_at, make_place, make_places,
+    move_cells, present_of, protect_at, put_at, write_at,
 };
 use mig_base::page_set::PageSet;
 use mig_base::{NoMemory, PAGE_BYTES, PageBytes, PageNo};
@@ -92,6 +92,17 @@ impl PageTable {
         ensures { IfOk result (λ pages. (q : ℕ) → set.contains pages q ≡ map.contains_key self.now.bytes q) }
     {
         present_of(self.alloc, &self.places)
+    }
+
+    /// An equal table, in memory of its own: each present page has its bytes twice afterwards. `NoMemory` if these, or the leaves,
+    /// cannot be allocated.
+    pub fn copy(&self) -> Result<Self, NoMemory>
+        ensures { IfOk result (λ copy. copy ≡ self.now) }
+    {
+        Ok(PageTable {
+            alloc: self.alloc,
+            places: copy_places(self.alloc, &self.places)?,
+        })
     }
 
     /// Makes a missing page present, not protected, with these bytes, which are not copied.

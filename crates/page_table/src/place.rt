@@ -11,7 +11,8 @@ ghost use Rattle.page_table.specs.Bytes.{IsWhole};
 ghost use Rattle.page_table.specs.Leaves.{Cell, cell_in, leaf_cell, is_place, no_cell, with_protection, written_cell};
 
 use crate::leaf::{
-    Leaf, Page, Place, clear_list, missing_pages, put_page, set_member, take_page, write_page,
+    Leaf, Page, Place, clear_list, copy_page, missing_pages, put_page, set_member, take_page,
+    write_page,
 };
 use mig_base::chunk::{CHUNK, Chunk};
 use mig_base::page_set::PageSet;
@@ -27,6 +28,18 @@ impl Leaf {
             pages: missing_pages(alloc)?,
             protected: Chunk::new(),
         })
+    }
+
+    /// A leaf with the same pages, in memory of its own. `NoMemory` if that cannot be allocated.
+    pub fn copy(&self, alloc: Global) -> Result<Self, NoMemory>
+        ensures { IfOk result (λ copy. (i : ℕ) → i < CHUNK → leaf_cell copy i ≡ leaf_cell self.now i) }
+    {
+        let mut copy = Leaf::new(alloc)?;
+        for i in 0..CHUNK {
+            let page = copy_page(alloc, &self.pages[i as usize])?;
+            copy.put(i, page, self.protected.contains(i));
+        }
+        Ok(copy)
     }
 
     /// Whether a page is present.
@@ -137,6 +150,16 @@ pub fn place_make(alloc: Global, place: &mut Place) -> Result<(), NoMemory>
             *place = Some(Box::new(alloc, Leaf::new(alloc)?)?);
             Ok(())
         }
+    }
+}
+
+/// A place with the same pages, in memory of its own. `NoMemory` if that cannot be allocated.
+pub fn place_copy(alloc: Global, place: &Place) -> Result<Place, NoMemory>
+    ensures { IfOk result (λ copy. (i : ℕ) → i < CHUNK → cell_in copy i ≡ cell_in place.now i) }
+{
+    match place {
+        Some(leaf) => Ok(Some(Box::new(alloc, leaf.copy(alloc)?)?)),
+        None => Ok(None),
     }
 }
 

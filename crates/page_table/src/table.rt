@@ -11,8 +11,8 @@ ghost use Rattle.page_table.specs.Leaves.{Cell, cell_at, has_place, no_cell, wit
 
 use crate::leaf::{Page, Place};
 use crate::place::{
-    place_clear, place_gather, place_get, place_is_protected, place_make, place_protect, place_put,
-    place_take, place_write,
+    place_clear, place_copy, place_gather, place_get, place_is_protected, place_make,
+    place_protect, place_put, place_take, place_write,
 };
 use mig_base::chunk::CHUNK;
 use mig_base::page_set::PageSet;
@@ -188,6 +188,18 @@ pub fn put_cells(places: &mut Vec<Place>, first: PageNo, mut run: Vec<PageBytes>
         let page = first + run.len() as u32;
         put_at(places, page, Some(bytes), false);
     }
+}
+
+/// Places with the same pages, in memory of their own. On `NoMemory` there are none.
+pub fn copy_places(alloc: Global, places: &Vec<Place>) -> Result<Vec<Place>, NoMemory>
+    ensures same { IfOk result (λ copy. (q : ℕ) → cell_at copy.items q ≡ cell_at places.now.items q) }
+    ensures size { IfOk result (λ copy. length copy.items ≡ length places.now.items) }
+{
+    let mut copies = Vec::new(alloc);
+    for at in 0..places.len() {
+        copies.push(place_copy(alloc, &places[at])?)?;
+    }
+    Ok(copies)
 }
 
 /// The present pages, as a set. The call visits only the places that have a leaf. `NoMemory` if the set cannot grow.

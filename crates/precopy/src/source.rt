@@ -17,7 +17,7 @@ mod runs;
 use dirty_log::DirtyLog;
 use mig_base::flags::{ALL_FEATURES, API};
 use mig_base::phase::SourcePhase;
-use mig_base::{PageNo, PageSet};
+use mig_base::{NoMemory, PageNo, PageSet};
 use std::alloc::Global;
 use std::collections::VecDeque;
 use std::marker::Model;
@@ -91,6 +91,33 @@ impl Source {
             rounds,
             pages_sent: 0,
             faults: 0,
+        })
+    }
+
+    /// An equal source, in memory of its own. `NoMemory` if that cannot be allocated.
+    pub fn copy(&self) -> Result<Self, NoMemory>
+        ensures { IfOk result (λ copy. copy ≡ self.now) }
+    {
+        let asked = copy_pages(self.alloc, &self.asked)?;
+        let remaining = self.remaining.copy()?;
+        let cpus = self.cpus.copy()?;
+        let log = self.log.copy()?;
+        Ok(Source {
+            alloc: self.alloc,
+            phase: self.phase,
+            switched: self.switched,
+            epoch: self.epoch,
+            end_epoch: self.end_epoch,
+            space: self.space.duplicate()?,
+            cpus,
+            log,
+            remaining,
+            asked,
+            urgent_sent: self.urgent_sent,
+            packaged: self.packaged,
+            rounds: self.rounds,
+            pages_sent: self.pages_sent,
+            faults: self.faults,
         })
     }
 
@@ -170,4 +197,15 @@ impl Source {
     {
         &self.log
     }
+}
+
+/// A copy of a queue of pages. `NoMemory` if the allocation fails.
+fn copy_pages(alloc: Global, pages: &VecDeque<PageNo>) -> Result<VecDeque<PageNo>, NoMemory>
+    ensures { IfOk result (λ copy. copy.items ≡ pages.now.items) }
+{
+    let mut copy = VecDeque::with_capacity(alloc, pages.len())?;
+    for i in 0..pages.len() {
+        copy.push_back(pages[i])?;
+    }
+    Ok(copy)
 }

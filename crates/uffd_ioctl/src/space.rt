@@ -160,6 +160,21 @@ impl Space {
         self.areas.copy()
     }
 
+    /// An equal space, in memory of its own: areas, pages with their bytes and protection, and the object with its unread messages.
+    /// `NoMemory` if that cannot be allocated. ([`Space::copy`] is UFFDIO_COPY.)
+    pub fn duplicate(&self) -> Result<Self, NoMemory>
+        ensures { IfOk result (λ copy. copy ≡ self.now) }
+    {
+        let areas = self.areas.copy()?;
+        let object = self.object.copy()?;
+        Ok(Space {
+            alloc: self.alloc,
+            areas,
+            pages: self.pages.copy()?,
+            object,
+        })
+    }
+
     /// The set of the present pages. `NoMemory` if the allocation fails.
     pub fn present(&self) -> Result<PageSet, NoMemory>
         ensures { IfOk result (λ pages. (q : ℕ) → set.contains pages q ≡ map.contains_key self.now.host.bytes q) }

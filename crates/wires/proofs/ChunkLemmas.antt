@@ -1,11 +1,12 @@
 -- The bytes in flight are the texts of the frames in flight.
-use Rattle.std.proofs.Common.{◌≡◌, ℕ, zero, suc, ◌+◌, ◌≤◌, Bool, false, true, ◌==◌, vec_len, List, [], ◌∷◌, ◌++◌, length, take, drop, Some, refl, sym, ap, subst, ◌∙◌, append_assoc, arith}
+use Rattle.std.proofs.Common.{◌≡◌, ℕ, zero, suc, ◌+◌, ◌<◌, ◌≤◌, get_or, Bool, false, true, ◌==◌, vec_len, List, [], ◌∷◌, ◌++◌, length, map, take, drop, Some, refl, sym, ap, subst, ◌∙◌, append_assoc, arith}
 use Rattle.std.proofs.lemmas.Bool.{eqb-false, eqb-true}
 use Rattle.std.proofs.lemmas.Bool.Decides.{nat_tests}
-use Rattle.std.proofs.lemmas.List.{append-nil, drop_all, drop_at, length-append, nil_from_length, take_at}
+use Rattle.std.proofs.lemmas.List.{append-nil, drop_all, drop_at, length-append, map-append, nil_from_length, take_at}
 use Rattle.std.proofs.lemmas.List.Concat.{flat_map-append, flat_map-cons}
+use Rattle.std.proofs.Math.Seq.{take-suc}
 use Rattle.std.specs.Global.{Vec}
-use Rattle.std.specs.List.{AllByRecursion}
+use Rattle.std.specs.List.{AllByRecursion, flat_map}
 use Rattle.mig_base.specs.Tests.{is_empty as is_none_of}
 use Rattle.mig_model.specs.Bounds.{IsFrame}
 use Rattle.mig_model.specs.Lengths.{text_len}
@@ -22,7 +23,7 @@ use Rattle.frame_decoder.specs.Reading.{Front, next_at}
 use Rattle.frame_decoder.specs.Streams.{IsSent, IsTextOf, texts}
 use Rattle.frame_decoder.specs.declared.version.Version.TheVariants as versions
 use Rattle.frame_decoder.specs.Versions.{AreFewIn, IsFrameIn}
-use Rattle.wires.specs.Chunks.{AreChunks, AreTexts, IsFull, frames_from, frames_in, in_flight, in_full, left}
+use Rattle.wires.specs.Chunks.{AreChunks, AreTexts, IsFull, frames_from, frames_in, in_flight, in_full, left, pieces}
 use Rattle.wires.specs.declared.chunks.Chunks.{Chunks}
 
 -- One text
@@ -282,3 +283,50 @@ in_two frame is = record { has = has_two frame; right = is; few = few_in_two fra
 -- no text is longer
 pub longest : (frame : Frame) → IsFrame frame → text_len frame ≤ 4456757
 longest frame is = grind (arith, nat_tests, discard-bound, package-bound, recv-bound)
+
+-- A copy
+
+-- the bytes of full chunks
+abbrev pub bytes_in : List (Vec ℕ) → List (List ℕ)
+bytes_in chunks = map (λ (chunk : Vec ℕ). chunk.items) chunks
+
+-- whole texts, at least one
+abbrev AreSome : List ℕ → Type 0
+AreSome bytes = AreTexts bytes × (bytes ≡ [] → ⊥)
+
+some_in : (chunks : List (Vec ℕ)) → AllByRecursion IsFull chunks → AllByRecursion AreSome (bytes_in chunks)
+some_in [] all = tt
+some_in (chunk ∷ rest) all = ((all.0.texts, all.0.some), some_in rest all.1)
+
+full_again : (chunks : List (Vec ℕ)) → AllByRecursion AreSome (bytes_in chunks) → AllByRecursion IsFull chunks
+full_again [] all = tt
+full_again (chunk ∷ rest) all = (record { texts = all.0.0; some = all.0.1 }, full_again rest all.1)
+
+in_full_by : (chunks : List (Vec ℕ)) → in_full chunks ≡ flat_map frames_in (bytes_in chunks)
+in_full_by [] = refl
+in_full_by (chunk ∷ rest) =
+    flat_map-cons (λ (chunk : Vec ℕ). frames_in chunk.items) chunk rest ∙ ap (λ (frames : List Sent). frames_in chunk.items ++ frames) (in_full_by rest) ∙ sym (flat_map-cons frames_in chunk.items (bytes_in rest))
+
+-- chunks with the same bytes, of which none was taken
+pub copied : (old new : Chunks) → AreChunks old → new.taken ≡ 0 → new.reading.items ≡ left old → bytes_in new.full.items ≡ bytes_in old.full.items → new.writing.items ≡ old.writing.items → AreChunks new × ((in_flight new ≡ in_flight old) × (pieces new ≡ pieces old))
+copied old new are taken read full written =
+    let left_is : left new ≡ left old = ap (λ (n : ℕ). drop n new.reading.items) taken ∙ read in
+    let behind : in_full new.full.items ≡ in_full old.full.items = in_full_by new.full.items ∙ ap (flat_map frames_in) full ∙ sym (in_full_by old.full.items) in (
+      record {
+        inside = omega (arith, taken);
+        reading = subst AreTexts (sym left_is) are.reading;
+        full = full_again new.full.items (subst (AllByRecursion AreSome) (sym full) (some_in old.full.items are.full));
+        writing = subst AreTexts (sym written) are.writing;
+      },
+      (flight_parts new (frames_in (left old)) (in_full old.full.items) (frames_in old.writing.items) (ap (λ (bytes : List ℕ). frames_in bytes) left_is) behind (ap (λ (bytes : List ℕ). frames_in bytes) written), λ i. left_is i ∷ (full i ++ written i ∷ [])),
+    )
+
+-- one chunk more
+pub copied_more : (old copies : List (Vec ℕ)) (at : ℕ) (chunk new : Vec ℕ) → bytes_in copies ≡ bytes_in (take at old) → at < length old → chunk ≡ get_or old at chunk → new.items ≡ chunk.items → bytes_in (copies ++ new ∷ []) ≡ bytes_in (take (at + 1) old)
+copied_more old copies at chunk new so_far inside here same =
+    let next : suc at ≡ at + 1 = omega arith in
+    map-append (λ (chunk : Vec ℕ). chunk.items) copies (new ∷ [])
+    ∙ (λ i. so_far i ++ (same ∙ ap (λ (chunk : Vec ℕ). chunk.items) here) i ∷ [])
+    ∙ sym (map-append (λ (chunk : Vec ℕ). chunk.items) (take at old) (get_or old at chunk ∷ []))
+    ∙ ap bytes_in (sym (take-suc old at chunk inside))
+    ∙ ap (λ (n : ℕ). bytes_in (take n old)) next

@@ -1,6 +1,6 @@
 //! The bytes in flight.
 
-ghost use Rattle.std.specs.Prelude.{◌≡◌, ◌+◌, ◌-◌, ◌≤◌, ◌<◌, ◌++◌, ◌∷◌, [], OnOk, length, slice_index_or, vec_capacity, vec_len};
+ghost use Rattle.std.specs.Prelude.{◌≡◌, ◌+◌, ◌-◌, ◌≤◌, ◌<◌, ◌++◌, ◌∷◌, [], IfOk, OnOk, length, map, slice_index_or, vec_capacity, vec_len};
 ghost use Rattle.mig_base.specs.Tests.{is_empty as is_none_of};
 ghost use Rattle.mig_model.specs.Bounds.{IsFrame};
 ghost use Rattle.mig_model.specs.Wire as machine;
@@ -43,6 +43,24 @@ impl Chunks {
             full: VecDeque::new(alloc),
             writing: Vec::new(alloc),
         }
+    }
+
+    /// The same bytes in flight, in memory of their own. `NoMemory` if that cannot be allocated.
+    pub(crate) fn copy(&self, alloc: Global) -> Result<Chunks, NoMemory>
+        requires { AreChunks self.now }
+        ensures chunks { IfOk result AreChunks }
+        ensures same { IfOk result (λ copy. in_flight copy ≡ in_flight self.now) }
+        ensures bytes { IfOk result (λ copy. pieces copy ≡ pieces self.now) }
+    {
+        let reading = Vec::from_slice(alloc, self.left())?;
+        let full = copy_full(alloc, &self.full)?;
+        let writing = Vec::from_slice(alloc, &self.writing)?;
+        Ok(Chunks {
+            reading,
+            taken: 0,
+            full,
+            writing,
+        })
     }
 
     /// Whether no byte is in flight.
@@ -207,4 +225,15 @@ impl Chunks {
         self.full.clear();
         self.writing.clear();
     }
+}
+
+/// A copy of full chunks. `NoMemory` if it cannot be allocated.
+fn copy_full(alloc: Global, chunks: &VecDeque<Vec<u8>>) -> Result<VecDeque<Vec<u8>>, NoMemory>
+    ensures { IfOk result (λ copy. map (λ chunk. chunk.items) copy.items ≡ map (λ chunk. chunk.items) chunks.now.items) }
+{
+    let mut copy = VecDeque::with_capacity(alloc, chunks.len())?;
+    for i in 0..chunks.len() {
+        copy.push_back(Vec::from_slice(alloc, &chunks[i])?)?;
+    }
+    Ok(copy)
 }

@@ -63,6 +63,19 @@ impl Wire {
         }
     }
 
+    /// A wire with the same frames and the same bytes in flight, in memory of its own, and perhaps less room. `NoMemory` if that cannot
+    /// be allocated.
+    pub fn copy(&self) -> Result<Self, NoMemory>
+        ensures wire { IfOk result (λ copy. copy.wire ≡ self.now.wire) }
+        ensures pieces { IfOk result (λ copy. copy.pieces ≡ self.now.pieces) }
+    {
+        Ok(Wire {
+            alloc: self.alloc,
+            chunks: self.chunks.copy(self.alloc)?,
+            held: self.held,
+        })
+    }
+
     /// Whether nothing is in flight.
     pub fn is_empty(&self) -> bool
         ensures { result ≡ is_none_of self.now.wire.frames }

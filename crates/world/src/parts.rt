@@ -1,6 +1,6 @@
 //! The parts of a world, and their steps.
 
-ghost use Rattle.std.specs.Prelude.{◌≡◌};
+ghost use Rattle.std.specs.Prelude.{◌≡◌, IfOk};
 ghost use Rattle.mig_model.specs.Migration.{guest_of, runs};
 ghost use Rattle.mig_model.specs.Runs.{Happens};
 ghost use Rattle.world.specs.Worlds.{IsWorld, world_of};
@@ -15,10 +15,10 @@ mod would;
 
 pub(crate) use self::would::bytes_on;
 use fault_handler::Destination;
-use mig_base::Entry;
 use mig_base::effect::Effect;
 use mig_base::refusal::Refusal;
 use mig_base::schedule::Step;
+use mig_base::{Entry, NoMemory};
 use precopy::Source;
 use std::alloc::Global;
 use vcpu::Cpus;
@@ -67,6 +67,27 @@ impl Parts {
             Step::Notice(side) => self.notice(side),
             Step::Resume => self.resume(),
         }
+    }
+
+    /// Parts of an equal world, in memory of their own. `NoMemory` if that cannot be allocated.
+    pub(crate) fn copy(&self) -> Result<Self, NoMemory>
+        ensures { IfOk result (λ copy. world_of copy ≡ world_of self.now) }
+    {
+        let transcript = Vec::from_slice(self.alloc, &self.transcript)?;
+        let forward = self.forward.copy()?;
+        let back = self.back.copy()?;
+        let urgent = self.urgent.copy()?;
+        let source = self.source.copy()?;
+        Ok(Parts {
+            alloc: self.alloc,
+            source,
+            destination: self.destination.copy()?,
+            forward,
+            back,
+            urgent,
+            up: self.up,
+            transcript,
+        })
     }
 
     /// The processors of the guest: at the destination once that has run, and at the source before.

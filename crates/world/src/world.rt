@@ -94,6 +94,17 @@ impl World {
         })
     }
 
+    /// An equal world, in memory of its own, so that two schedules can go on from here: a step of one world changes nothing of the other.
+    /// The copy takes as much memory as this world holds: the bytes of every present page, every kept or waiting copy, and all bytes in
+    /// flight. The only refusal is `NoMemory`, and no copy is left then.
+    pub fn copy(&self) -> Result<Self, NoMemory>
+        ensures { IfOk result (λ copy. copy ≡ self.now) }
+    {
+        Ok(World {
+            parts: self.parts.copy()?,
+        })
+    }
+
     /// Makes one step, and returns its effect. A step that is refused changes nothing, and may be made again. If several refusals apply,
     /// the first in the order of [`Refusal`] counts. `NoMemory` comes after all others, with one exception: a Deliver whose frame would
     /// have to wait may return it. Break, Notice and Serve never return it.

@@ -3,14 +3,14 @@
 //! `specs/Owed.antt` says when both tables have the same pairs (`AreLinks`). So the contracts here mention only the origins of
 //! pages.
 
-ghost use Rattle.std.specs.Prelude.{◌≡◌, ◌≢◌, ℕ, ◌+◌, ◌<◌, ◌≤◌, ◌⊎◌, true, nat_eq, if◌then◌else◌, Some, None, OnOk, OnErr};
+ghost use Rattle.std.specs.Prelude.{◌≡◌, ◌≢◌, ℕ, ◌+◌, ◌<◌, ◌≤◌, ◌⊎◌, true, nat_eq, if◌then◌else◌, Some, None, OnOk, OnErr, IfOk};
 ghost use Rattle.mig_base.specs.Ranges.{in_range};
 ghost use Rattle.mig_base.specs.declared.TheConstants.{HIGH_PAGE};
 ghost use Rattle.owed_pages.specs.Tables.{number_at, has_place, moved_number};
 ghost use Rattle.owed_pages.specs.Owed.{AreLinks, HasRoom};
 
 use crate::owed::table::{
-    Place, get_number, has_leaf, make_leaf, make_leaves, next_leaf, put_number,
+    Place, copy_places, get_number, has_leaf, make_leaf, make_leaves, next_leaf, put_number,
 };
 use mig_base::{NoMemory, PageNo};
 use std::alloc::Global;
@@ -37,6 +37,18 @@ impl Links {
             back: Vec::new(alloc),
             count: 0,
         }
+    }
+
+    /// The same pairs, in memory of their own. `NoMemory` if that cannot be allocated.
+    pub fn copy(&self, alloc: Global) -> Result<Self, NoMemory>
+        ensures { IfOk result (λ copy. (q : ℕ) → number_at copy.forth.items q ≡ number_at self.now.forth.items q) }
+    {
+        let forth = copy_places(alloc, &self.forth)?;
+        Ok(Links {
+            forth,
+            back: copy_places(alloc, &self.back)?,
+            count: self.count,
+        })
     }
 
     /// Removes the pair of a page, if there is one.

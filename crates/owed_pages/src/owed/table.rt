@@ -62,6 +62,34 @@ fn place_make(alloc: Global, place: &mut Place) -> Result<(), NoMemory>
     }
 }
 
+/// A place with the same numbers, in memory of its own. `NoMemory` if that cannot be allocated.
+fn place_copy(alloc: Global, place: &Place) -> Result<Place, NoMemory>
+    ensures { IfOk result (λ copy. (i : ℕ) → number_in copy i ≡ number_in place.now i) }
+{
+    match place {
+        Some(leaf) => {
+            let numbers: Leaf = **leaf;
+            let Ok(copy) = Box::new(alloc, numbers) else {
+                return Err(NoMemory);
+            };
+            Ok(Some(copy))
+        }
+        None => Ok(None),
+    }
+}
+
+/// Places with the same numbers, in memory of their own. On `NoMemory` there are none.
+pub fn copy_places(alloc: Global, places: &Vec<Place>) -> Result<Vec<Place>, NoMemory>
+    ensures same { IfOk result (λ copy. (q : ℕ) → number_at copy.items q ≡ number_at places.now.items q) }
+    ensures size { IfOk result (λ copy. length copy.items ≡ length places.now.items) }
+{
+    let mut copies = Vec::new(alloc);
+    for at in 0..places.len() {
+        copies.push(place_copy(alloc, &places[at])?)?;
+    }
+    Ok(copies)
+}
+
 /// The number of a page. Any page number is allowed.
 pub fn get_number(places: &Vec<Place>, page: PageNo) -> Option<PageNo>
     ensures { result ≡ number_at places.now.items page }
