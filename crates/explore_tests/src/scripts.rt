@@ -53,40 +53,38 @@ fn room(alloc: Global) -> Result<Vec<u8>, AllocError> {
     }
 }
 
-/// What an exploration writes, and how it ends. One that is refused memory is made again.
-fn explored(alloc: Global, plan: &Plan) -> Result<(Option<RunFault>, Vec<u8>), AllocError> {
-    let (fault, bytes) = explored_once(alloc, plan)?;
-    if fault == Some(RunFault::NoMemory) {
-        return explored_once(alloc, plan);
+/// What an exploration writes. One that is refused memory is made again.
+fn explored(rt: &impl Abort, alloc: Global, plan: &Plan) -> Result<Vec<u8>, Fail> {
+    let mut text = room(alloc)?;
+    let mut outcome = explore_into(alloc, plan, &mut text);
+    if outcome == Err(RunFault::NoMemory) {
+        text.clear();
+        outcome = explore_into(alloc, plan, &mut text);
     }
-    Ok((fault, bytes))
+    assert!(rt; outcome.is_ok());
+    Ok(text)
 }
 
-/// The same, made once. Nothing is written for a plan that is out of range.
-fn explored_once(alloc: Global, plan: &Plan) -> Result<(Option<RunFault>, Vec<u8>), AllocError> {
-    let mut writer = room(alloc)?;
+/// Explores. Nothing is written for a plan that is out of range.
+fn explore_into(alloc: Global, plan: &Plan, text: &mut Vec<u8>) -> Result<(), RunFault> {
     if plan.cpus < 1 || plan.cpus > 16 || plan.pages < 1 || plan.pages > 4096 {
-        return Ok((None, writer));
+        return Ok(());
     }
-    let fault = run_explore(alloc, &mut writer, plan).err();
-    Ok((fault, writer))
+    run_explore(alloc, text, plan)
 }
 
-/// What a run of a script writes.
-fn run(
-    alloc: Global,
-    script: &[u8],
-    mode: Mode,
-) -> Result<(Option<RunFault>, Vec<u8>), AllocError> {
+/// What a run of a script writes. One that is refused memory is made again.
+fn run(rt: &impl Abort, alloc: Global, script: &[u8], mode: Mode) -> Result<Vec<u8>, Fail> {
     let mut reader = script;
-    let mut writer = room(alloc)?;
-    let mut fault = run_script(alloc, &mut reader, &mut writer, 2, mode).err();
-    if fault == Some(RunFault::NoMemory) {
+    let mut output = room(alloc)?;
+    let mut outcome = run_script(alloc, &mut reader, &mut output, 2, mode);
+    if outcome == Err(RunFault::NoMemory) {
         reader = script;
-        writer.clear();
-        fault = run_script(alloc, &mut reader, &mut writer, 2, mode).err();
+        output.clear();
+        outcome = run_script(alloc, &mut reader, &mut output, 2, mode);
     }
-    Ok((fault, writer))
+    assert!(rt; outcome.is_ok());
+    Ok(output)
 }
 
 /// Whether a transcript is that of one flat memory.
@@ -123,8 +121,7 @@ fn split_answers(alloc: Global, text: &[u8]) -> Result<(Vec<u8>, Vec<u8>), Alloc
 
 #[test]
 fn the_comment_has_the_arguments(rt: HostRuntime) -> Result<(), Fail> {
-    let (fault, text) = explored(rt.alloc(), &PLAN)?;
-    assert_eq!(rt; fault, None);
+    let text = explored(&rt, rt.alloc(), &PLAN)?;
     assert!(rt;
         text.starts_with(
             b"# postmig 0.1.0 explore --seed 7 --steps 100 --cpus 2 --profile all --pages 8\n"
@@ -137,46 +134,40 @@ fn the_comment_has_the_arguments(rt: HostRuntime) -> Result<(), Fail> {
         steps: 0,
         ..PLAN
     };
-    let (fault, text) = explored(rt.alloc(), &plan)?;
-    assert_eq!(rt; fault, None);
-    assert_eq!(rt;
-        text.as_slice(),
-        b"# postmig 0.1.0 explore --seed 7 --steps 0 --cpus 2 --profile all --pages 8 --answers\n".as_slice()
-    );
+    let text = explored(&rt, rt.alloc(), &plan)?;
+    let comment =
+        b"# postmig 0.1.0 explore --seed 7 --steps 0 --cpus 2 --profile all --pages 8 --answers\n";
+    assert!(rt; text.as_slice() == comment.as_slice());
     Ok(())
 }
 
 #[test]
 fn the_same_plan_has_the_same_text(rt: HostRuntime) -> Result<(), Fail> {
-    let one = explored(rt.alloc(), &PLAN)?;
-    let again = explored(rt.alloc(), &PLAN)?;
-    assert_eq!(rt; one.0, None);
-    assert_eq!(rt; one.1.as_slice(), again.1.as_slice());
+    let one = explored(&rt, rt.alloc(), &PLAN)?;
+    let again = explored(&rt, rt.alloc(), &PLAN)?;
+    assert!(rt; one.as_slice() == again.as_slice());
     let other = Plan { seed: 8, ..PLAN };
-    let (fault, text) = explored(rt.alloc(), &other)?;
-    assert_eq!(rt; fault, None);
-    assert!(rt; text.as_slice() != one.1.as_slice());
+    let text = explored(&rt, rt.alloc(), &other)?;
+    assert!(rt; text.as_slice() != one.as_slice());
     Ok(())
 }
 
 /// The answers of a script are what a run of its lines prints, and the transcript of that run is that of one flat memory.
 fn answers_are_those_of_a_run(rt: &impl Abort, alloc: Global, plan: &Plan) -> Result<(), Fail> {
-    let (fault, text) = explored(alloc, plan)?;
-    assert_eq!(rt; fault, None);
+    let text = explored(rt, alloc, plan)?;
     let (lines, answers) = split_answers(alloc, &text)?;
-    let (fault, printed) = run(alloc, &lines, Mode::Lines)?;
-    assert_eq!(rt; fault, None);
-    assert_eq!(rt; printed.as_slice(), answers.as_slice());
-    let (fault, transcript) = run(alloc, &lines, Mode::Transcript)?;
-    assert_eq!(rt; fault, None);
-    assert_eq!(rt; check(alloc, &transcript)?, Ok(true));
+    let printed = run(rt, alloc, &lines, Mode::Lines)?;
+    assert!(rt; printed.as_slice() == answers.as_slice());
+    let transcript = run(rt, alloc, &lines, Mode::Transcript)?;
+    let verdict = check(alloc, &transcript)?;
+    assert!(rt; verdict == Ok(true));
     Ok(())
 }
 
 #[test]
 fn each_profile_runs(rt: HostRuntime) -> Result<(), Fail> {
     for profile in Profile::ALL {
-        assert_eq!(rt; Profile::named(profile.name()), Some(profile));
+        assert!(rt; Profile::named(profile.name()) == Some(profile));
         for seed in 1u64..4 {
             let plan = Plan {
                 seed,
@@ -188,7 +179,7 @@ fn each_profile_runs(rt: HostRuntime) -> Result<(), Fail> {
             answers_are_those_of_a_run(&rt, rt.alloc(), &plan)?;
         }
     }
-    assert_eq!(rt; Profile::named("All"), None);
+    assert!(rt; Profile::named("All").is_none());
     Ok(())
 }
 
@@ -201,11 +192,9 @@ fn each_profile_is_finished(rt: HostRuntime) -> Result<(), Fail> {
             finish: true,
             ..short
         };
-        let (fault, mut text) = explored(rt.alloc(), &plan)?;
-        assert_eq!(rt; fault, None);
+        let mut text = explored(&rt, rt.alloc(), &plan)?;
         text.extend_from_slice(b"progress\n")?;
-        let (fault, printed) = run(rt.alloc(), &text, Mode::Lines)?;
-        assert_eq!(rt; fault, None);
+        let printed = run(&rt, rt.alloc(), &text, Mode::Lines)?;
         let last = printed.split(|byte| *byte == b'\n').rev().nth(1);
         let is_complete = last.is_some_and(|line| line.starts_with(b"progress phase complete "));
         assert!(rt; is_complete, "not complete");
@@ -227,14 +216,12 @@ fn a_finished_script_has_answers(rt: HostRuntime) -> Result<(), Fail> {
 /// Without answers the lines are the same.
 #[test]
 fn answers_change_no_line(rt: HostRuntime) -> Result<(), Fail> {
-    let (fault, text) = explored(rt.alloc(), &PLAN)?;
-    assert_eq!(rt; fault, None);
+    let text = explored(&rt, rt.alloc(), &PLAN)?;
     let plan = Plan {
         answers: true,
         ..PLAN
     };
-    let (fault, answered) = explored(rt.alloc(), &plan)?;
-    assert_eq!(rt; fault, None);
+    let answered = explored(&rt, rt.alloc(), &plan)?;
     let (lines, _) = split_answers(rt.alloc(), &answered)?;
     assert!(rt; text.ends_with(&lines));
     assert!(rt; !lines.is_empty());
@@ -255,8 +242,7 @@ fn each_limit_runs(rt: HostRuntime) -> Result<(), Fail> {
             pages,
             ..PLAN
         };
-        let (fault, text) = explored(rt.alloc(), &plan)?;
-        assert_eq!(rt; fault, None);
+        let text = explored(&rt, rt.alloc(), &plan)?;
         let count = text.iter().filter(|byte| **byte == b'\n').count();
         assert_eq!(rt; count, 101);
     }
@@ -270,8 +256,7 @@ fn each_write_fails(rt: HostRuntime) -> Result<(), Fail> {
         steps: 1500,
         ..PLAN
     };
-    let (fault, text) = explored(rt.alloc(), &plan)?;
-    assert_eq!(rt; fault, None);
+    let text = explored(&rt, rt.alloc(), &plan)?;
     for before in 0u32..8 {
         let mut writer = Slow {
             bytes: room(rt.alloc())?,
@@ -285,7 +270,7 @@ fn each_write_fails(rt: HostRuntime) -> Result<(), Fail> {
             writer.writes = 0;
             outcome = run_explore(rt.alloc(), &mut writer, &plan);
         }
-        assert_eq!(rt; outcome, Err(RunFault::WriteFault), "{before}");
+        assert!(rt; outcome == Err(RunFault::WriteFault), "{before}");
         assert_eq!(rt; writer.writes, before + 1);
         assert!(rt; text.starts_with(&writer.bytes));
         assert!(rt; writer.bytes.len() <= 5000 * before as usize);
@@ -299,12 +284,11 @@ fn out_of_memory_leaves_whole_lines(rt: HostRuntime) -> Result<(), Fail> {
     let mut writer = room(rt.alloc())?;
     let outcome = run_explore(rt.alloc(), &mut writer, &PLAN);
     if outcome == Err(RunFault::NoMemory) {
-        let (fault, text) = explored(rt.alloc(), &PLAN)?;
-        assert_eq!(rt; fault, None);
+        let text = explored(&rt, rt.alloc(), &PLAN)?;
         assert!(rt; text.starts_with(&writer));
         assert!(rt; writer.is_empty() || writer.ends_with(b"\n"));
     } else {
-        assert_eq!(rt; outcome, Ok(()));
+        assert!(rt; outcome.is_ok());
     }
     Ok(())
 }
