@@ -1,7 +1,6 @@
 -- One line: its output, and what its step puts on the wires.
-use Rattle.std.proofs.Common.{◌≡◌, ◌⊎◌, ℕ, ◌+◌, List, [], ◌∷◌, ◌++◌, length, length-append, take, drop, Option, Some, None, refl, sym, ap, subst, ◌∙◌, append_assoc, append-nil, inl, inr, arith}
+use Rattle.std.proofs.Common.{◌≡◌, ℕ, ◌+◌, List, [], ◌∷◌, ◌++◌, length, length-append, take, drop, Option, Some, None, refl, sym, ap, subst, ◌∙◌, append_assoc, append-nil, inl, inr, arith}
 use Rattle.std.proofs.lemmas.List.{drop_all, take_at}
-use Rattle.std.specs.Io.KnownBytes.{Appends}
 use Rattle.mig_model.specs.Wire.{Wire}
 use Rattle.frame_decoder.specs.Streams.{texts}
 use Rattle.frame_decoder.specs.declared.version.Version.TheVariants.{Two}
@@ -9,14 +8,13 @@ use Rattle.grammar.specs.declared.line.Language.{Language}
 use Rattle.grammar.specs.declared.line.Language.TheVariants.{Script}
 use Rattle.grammar.specs.declared.line.Line.{Line}
 use Rattle.grammar.specs.declared.line.Line.TheVariants.{Skipped, Do, Enter}
-use Rattle.grammar.specs.declared.order.Order.{Order}
 use Rattle.grammar.specs.Lines.{HasNoFeed, Reads, ReadsLine}
 use Rattle.grammar.specs.Orders.{step_of}
 use Rattle.grammar.proofs.Cuts.{no_feed-append, feed_inside, one_cut}
 use Rattle.mig_base.specs.declared.schedule.Step.{Step}
 use Rattle.engine.specs.declared.line_runner.Mode.{Mode}
 use Rattle.engine.specs.Engine.{Place, Work, Running, Keeping, language_of, Does, Works, ReadsEnded, Passes, Closes, world_of}
-use Rattle.engine.specs.Script.{Obeys, MakesAny}
+use Rattle.engine.specs.Script.{MakesAny}
 use Rattle.engine.specs.WorldState.{WorldState, epoch_in}
 use Rattle.wiretap.specs.declared.marks.Marks.{Marks}
 use Rattle.wiretap.specs.declared.taps.Taps.{Taps}

@@ -1,10 +1,10 @@
 -- What a step puts on a wire, as frames and as bytes.
-use Rattle.std.proofs.Common.{◌≡◌, ◌⊎◌, ℕ, ◌+◌, ◌≤◌, List, [], ◌∷◌, ◌++◌, length, drop, refl, sym, ap, subst, ◌∙◌, append-nil, length-append, arith, inl, inr, ⊎_elim}
+use Rattle.std.proofs.Common.{◌≡◌, ℕ, List, [], ◌++◌, length, drop, refl, sym, ap, subst, ◌∙◌, append-nil, length-append, arith, inl, inr}
 use Rattle.std.proofs.lemmas.List.{drop_all}
 use Rattle.std.proofs.Math.Seq.{drop-append_seam}
 use Rattle.mig_base.specs.declared.schedule.Side.{Side}
 use Rattle.mig_base.specs.declared.schedule.Step.{Step}
-use Rattle.mig_model.specs.Migration.{World, next, after_break}
+use Rattle.mig_model.specs.Migration.{World, next}
 use Rattle.mig_model.specs.Parts.{Grows, Shrinks, ChangesParts}
 use Rattle.mig_model.specs.Runs.{Happens, Outcome}
 use Rattle.mig_model.specs.Wire.{Sent, Wire, empty_wire}
@@ -13,7 +13,7 @@ use Rattle.mig_model.proofs.StepCases.{made-next}
 use Rattle.frame_decoder.proofs.Whole.{texts_join}
 use Rattle.frame_decoder.specs.Streams.{texts}
 use Rattle.frame_decoder.specs.declared.version.Version.TheVariants.{Two}
-use Rattle.wiretap.specs.Traffic.{Traffic, IsPut, put_on, put_between}
+use Rattle.wiretap.specs.Traffic.{IsPut, put_on, put_between}
 use Rattle.wiretap.specs.Moves.{AreMarks, behind}
 use Rattle.wiretap.specs.declared.marks.Marks.{Marks}
 

@@ -1,22 +1,22 @@
 -- Lines one after the other, and a whole input.
-use Rattle.std.proofs.Common.{◌≡◌, ℕ, List, [], ◌∷◌, ◌++◌, length, Option, None, Some, refl, sym, ap, subst, ◌∙◌, append_assoc, append-nil, inl}
+use Rattle.std.proofs.Common.{◌≡◌, ℕ, List, [], ◌∷◌, ◌++◌, Option, None, Some, refl, sym, ap, subst, ◌∙◌, append_assoc, append-nil}
 use Rattle.std.specs.Prelude.{IfSome, OnOk, Result, Ok, Err}
-use Rattle.std.specs.Io.KnownBytes.{Appends, Consumes, IsAtEnd}
+use Rattle.std.specs.Io.KnownBytes.{Consumes, IsAtEnd}
 use Rattle.std.proofs.KnownBytes.{Appends-nil, Appends-trans, Consumes-nil, Consumes-trans}
 use Rattle.grammar.specs.declared.line.Language.TheVariants.{Script}
 use Rattle.grammar.specs.declared.line.Line.{Line}
 use Rattle.grammar.specs.declared.line.Line.TheVariants.{Skipped, Do, Enter}
-use Rattle.grammar.specs.Lines.{HasNoFeed, Reads}
+use Rattle.grammar.specs.Lines.{Reads}
 use Rattle.engine.specs.declared.line_runner.Mode.{Mode}
 use Rattle.engine.specs.Engine.{Place, Work, Running, ReadsEnded, start_of}
-use Rattle.engine.specs.Script.{Runs, Writes, Prints}
+use Rattle.engine.specs.Script.{Runs, Writes}
 use Rattle.engine.specs.WorldState.{WorldState, first_state}
 use Rattle.engine.proofs.Lines.{reads_more, reads_then, reads_last}
 use Rattle.engine.proofs.Transcripts.{run_promised}
 use Rattle.wiretap.specs.declared.fault.TapFault.{TapFault}
 use Rattle.wiretap.specs.declared.taps.Taps.{Taps}
 use Rattle.wiretap.specs.Traffic.{Traffic, no_traffic, with_more, put_between, Puts, Gets, IsTapped}
-use Rattle.wiretap.specs.Moves.{put_by, Carries, EndsOne, Moves, Ends, ReadsAll}
+use Rattle.wiretap.specs.Moves.{put_by, Carries, Moves, Ends, ReadsAll}
 use Rattle.wiretap.proofs.OneLine.{nothing_between}
 
 -- One after the other

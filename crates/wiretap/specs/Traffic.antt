@@ -1,8 +1,6 @@
 -- What the steps of a run put on the wires, and a run with its output and these bytes.
-use Rattle.std.specs.Prelude.{◌≡◌, ◌⊎◌, ℕ, List, [], ◌∷◌, ◌++◌, length, drop, Option, Some, None}
+use Rattle.std.specs.Prelude.{◌≡◌, ◌⊎◌, ℕ, List, [], ◌∷◌, ◌++◌, length, drop, Option}
 use Rattle.std.specs.Io.KnownBytes.{Appends}
-use Rattle.mig_base.specs.declared.schedule.Step.{Step}
-use Rattle.mig_model.specs.Migration.{World, next}
 use Rattle.mig_model.specs.Parts.{Shrinks}
 use Rattle.mig_model.specs.Wire.{Sent, Wire}
 use Rattle.frame_decoder.specs.Streams.{texts}

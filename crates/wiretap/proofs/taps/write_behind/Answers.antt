@@ -1,4 +1,4 @@
-use Rattle.std.proofs.Common.{min, ◌≡◌, ◌+◌, ◌∙◌, List, ℕ, length, drop, ap, subst, arith}
+use Rattle.std.proofs.Common.{min, ◌∙◌, List, ℕ, length, drop, ap, subst, arith}
 use Rattle.std.specs.Io.KnownBytes.{Appends}
 use Rattle.std.proofs.lemmas.List.{take_rest}
 use Rattle.wiretap.proofs.Pieces.{behind_more}
