@@ -1,6 +1,6 @@
 -- A piece at which the decoder returns a fault.
-use Rattle.std.proofs.Common.{◌≡◌, ℕ, List, [], Ok, Err, refl, sym, ap, subst, ◌∙◌, rules}
-use Rattle.std.specs.Prelude.{◌≢◌, ◌<◌, length, Result, OnOk, OnErr, IfErr}
+use Rattle.std.proofs.Common.{◌≡◌, ℕ, List, [], Ok, Err, ap, subst, ◌∙◌}
+use Rattle.std.specs.Prelude.{◌≢◌, Result, OnOk, OnErr, IfErr}
 use Rattle.frame_decoder.specs.declared.fault.StreamFault.{StreamFault}
 use Rattle.frame_decoder.specs.declared.fault.StreamFault.TheVariants as faults
 use Rattle.frame_decoder.specs.Feeding.{Answer, Fed}

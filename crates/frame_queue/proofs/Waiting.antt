@@ -1,15 +1,12 @@
 -- The frames behind those that were handed out.
 use Rattle.std.proofs.Common.{◌≡◌, ℕ, zero, suc, ◌+◌, ◌<◌, ◌≤◌, List, [], ◌∷◌, length, drop, get_or, refl, sym, ap, subst, arith}
-use Rattle.std.specs.List.{AllByRecursion}
-use Rattle.std.proofs.lemmas.List.{drop_more, length-drop, length-map, nil_from_length}
+use Rattle.std.proofs.lemmas.List.{drop_more, length-drop, length-map}
 use Rattle.mig_model.specs.Bounds.{IsFrame}
 use Rattle.mig_model.specs.Wire.{Sent}
 use Rattle.page_stream.specs.declared.frame.Frame.{Frame}
 use Rattle.page_stream.specs.Frames.{frame_of}
-use Rattle.frame_decoder.specs.declared.fault.StreamFault.{StreamFault}
-use Rattle.frame_decoder.specs.declared.version.Version.{Version}
-use Rattle.frame_decoder.specs.Streams.{sent_of, sents, IsSent, Splits}
-use Rattle.std.specs.Prelude.{Option, Bool, true, false, T, not, IsTrue}
+use Rattle.frame_decoder.specs.Streams.{sent_of, sents}
+use Rattle.std.specs.Prelude.{Bool, true, false, T, not, IsTrue}
 use Rattle.frame_queue.specs.Queues.{AreFrames}
 
 -- as many wait as were not handed out
