@@ -1,4 +1,4 @@
-use Rattle.std.proofs.Common.{◌≡◌, ◌∙◌, ap, ◌++◌, List, ℕ}
+use Rattle.std.proofs.Common.{◌∙◌, ap, ◌++◌, List, ℕ}
 use Rattle.finishing.proofs.Behind.{adds_more}
 use Rattle.finishing.proofs.run.add_lines.Goals as goal
 
