@@ -3,10 +3,11 @@
 
 python3 bench/pictures.py --write | --check | --parse [SCRIPTS] [--program PATH]
 
-Run it once ./postmig prove has built the program. --write draws the stories of docs/pictures anew, and --check compares them with what the
-program draws now; without the program --check says so, and is content. --parse draws every example and SCRIPTS explored scripts (200), and
-reads each picture: it is well-formed XML, its root is `svg`, it has only elements and attributes that a picture has, no reference to
-anything outside, and less than 4,000,000 bytes.
+Run it once ./postmig prove or rt ci has built the program. --write draws the pictures of docs/pictures anew: four examples, and the scripts
+that stand beside their pictures. --check draws them too, and its status is not 0 if one differs, is missing, or cannot be read, or if there
+is no program. --parse draws every example and SCRIPTS explored scripts (200), and reads each picture. A picture that can be read is
+well-formed XML, its root is `svg`, it has only elements and attributes that a picture has, no reference to anything outside, and less than
+4,000,000 bytes.
 """
 
 import argparse
@@ -21,6 +22,8 @@ from bench import PROGRAM
 PICTURES = page.TOP / "docs" / "pictures"
 EXAMPLES = page.TOP / "examples"
 STORIES = ("background-push", "fault", "page-moves", "lost-after-run")
+# The processors of the scripts of docs/pictures, by name.
+SCRIPTS = {"64-pages": 4, "one-page": 2}
 PROFILES = ("commands", "precopy", "postcopy", "moves", "breaks", "urgent", "bytes", "runs", "all")
 SVG = "{http://www.w3.org/2000/svg}"
 ELEMENTS = {SVG + name for name in ("svg", "title", "style", "defs", "pattern", "g", "path", "text")}
@@ -28,12 +31,12 @@ ATTRIBUTES = {"viewBox", "width", "height", "role", "id", "class", "patternUnits
 MOST_BYTES = 4_000_000
 
 
-def drawn(program, script, cpus=2, name=None):
-    """The picture of a script, or of the file of that name in examples."""
+def drawn(program, script, cpus=2, name=None, folder=EXAMPLES):
+    """The picture of a script, or of the file of that name in a folder."""
     words = [program, "draw", "--cpus", str(cpus)]
     if name is not None:
         words.append(name)
-    ended = subprocess.run(words, input=script, stdout=subprocess.PIPE, stderr=subprocess.PIPE, cwd=EXAMPLES)
+    ended = subprocess.run(words, input=script, stdout=subprocess.PIPE, stderr=subprocess.PIPE, cwd=folder)
     if ended.returncode != 0:
         raise SystemExit(f"{' '.join(words)}: status {ended.returncode}: {ended.stderr.decode()}")
     return ended.stdout
@@ -41,7 +44,10 @@ def drawn(program, script, cpus=2, name=None):
 
 def judge(name, picture):
     """Ends the program unless the bytes are a picture."""
-    root = xml.etree.ElementTree.fromstring(picture)
+    try:
+        root = xml.etree.ElementTree.fromstring(picture)
+    except xml.etree.ElementTree.ParseError as error:
+        raise SystemExit(f"{name}: {error}")
     if root.tag != SVG + "svg":
         raise SystemExit(f"{name}: the root is {root.tag}")
     for element in root.iter():
@@ -52,24 +58,29 @@ def judge(name, picture):
     return len(picture), sum(1 for _ in root.iter())
 
 
-def stories(program):
-    return {PICTURES / f"{story}.svg": drawn(program, b"", name=f"{story}.script") for story in STORIES}
+def pictures(program):
+    """The pictures of docs/pictures, each read, by their files."""
+    made = {PICTURES / f"{name}.svg": drawn(program, b"", name=f"{name}.script") for name in STORIES}
+    for name, cpus in SCRIPTS.items():
+        made[PICTURES / f"{name}.svg"] = drawn(program, b"", cpus, f"{name}.script", PICTURES)
+    for file, picture in made.items():
+        judge(file.name, picture)
+    return made
 
 
 def write(program):
-    PICTURES.mkdir(exist_ok=True)
-    for file, picture in stories(program).items():
-        judge(file.name, picture)
+    for file, picture in pictures(program).items():
         file.write_bytes(picture)
 
 
 def check(program):
-    if not pathlib.Path(program).exists():
-        print(f"pictures: no {program}, so none is compared")
-        return
-    for file, picture in stories(program).items():
-        if file.read_bytes() != picture:
-            raise SystemExit(f"{file}: the program draws another: python3 bench/pictures.py --write")
+    made = pictures(program)
+    wrong = [file for file, picture in made.items() if not file.is_file() or file.read_bytes() != picture]
+    wrong += set(PICTURES.glob("*.svg")) - set(made)
+    for file in wrong:
+        print(f"pictures: {file} is not what the program draws: python3 bench/pictures.py --write")
+    print(f"pictures: {len(made)} are drawn, {len(wrong)} differ")
+    return 1 if wrong else 0
 
 
 def parse(program, scripts):
@@ -93,13 +104,13 @@ def main():
     parser.add_argument("--parse", type=int, nargs="?", const=200)
     parser.add_argument("--program", default=str(PROGRAM))
     given = parser.parse_args()
+    if not pathlib.Path(given.program).is_file():
+        raise SystemExit(f"pictures: there is no {given.program}: ./postmig prove or rt ci makes one")
     if given.write:
         write(given.program)
-    if given.check:
-        check(given.program)
     if given.parse is not None:
         parse(given.program, given.parse)
-    return 0
+    return check(given.program) if given.check else 0
 
 
 if __name__ == "__main__":

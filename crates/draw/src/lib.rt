@@ -17,5 +17,6 @@ mod recorder;
 mod rows;
 mod run;
 mod state;
+mod waits;
 
 pub use crate::run::run_draw;

@@ -5,6 +5,7 @@ mod head;
 mod legend;
 mod longest;
 mod marks;
+mod notes;
 mod ruler;
 mod strands;
 
@@ -19,7 +20,7 @@ use svg::{Attribute, Key, Sheet, Tag};
 const STYLE: &str = "path{fill:none}text{font-family:sans-serif;fill:#222;font-size:10px}\
 .n1{font-size:14px;font-weight:bold}.n2{font-size:11px}.n3{font-size:11px;font-weight:bold}.n4{font-weight:bold}\
 .sm{font-size:8.5px;fill:#666}.mo{font-family:monospace;font-size:9px}.gm{font-family:monospace;font-size:8.5px;fill:#999}\
-.en{text-anchor:end}.mi{text-anchor:middle}.wh{fill:#fff;font-size:8px;text-anchor:middle}.bl{font-size:8px;text-anchor:middle}\
+.en{text-anchor:end}.mi{text-anchor:middle}.wh{fill:#fff;font-size:8px;text-anchor:middle}.bl{font-size:8px;text-anchor:middle}.wl{fill:#fff;font-size:8px}\
 .ha{paint-order:stroke;stroke:#fff;stroke-width:3px;stroke-linejoin:round}\
 .bg{fill:#fff}.st{fill:#f0eee6}.nl{fill:#e4e4e4}\
 .e{fill:#bbb}.c{fill:#8ccbf0}.p{fill:#ececec;stroke:#bbb;stroke-width:.5}.u{fill:#9a9a9a}.d{fill:url(#dirty)}.o{fill:#cc7a00}\
@@ -29,43 +30,20 @@ const STYLE: &str = "path{fill:none}text{font-family:sans-serif;fill:#222;font-s
 .lf{stroke:#0072b2;stroke-width:1.5}.lu{stroke:#d55e00;stroke-width:2.6}.lo{stroke:#444}.lq{stroke:#0072b2;stroke-width:1.5}\
 .ls{stroke:#0072b2;stroke-width:1.2;stroke-dasharray:3 2}.lx{stroke:#222;stroke-width:1.8}\
 .g1{stroke:#bbb;stroke-width:.6}.g2{stroke:#888}.g3{stroke:#222;stroke-width:.8}.g4{stroke:#222;stroke-width:1.6;stroke-dasharray:5 2}\
-.g5{stroke:#222;stroke-width:1.2}.do{fill:#fff;stroke:#222}.dd{fill:#222}.ar{fill:#444}";
+.g5{stroke:#222;stroke-width:1.2}.g6{stroke:#999;stroke-width:.6}.do{fill:#fff;stroke:#222}.dd{fill:#222}\
+.o1{fill:#fbdcc4}.o2{fill:#e69f00}.t1{stroke:#d55e00;stroke-width:1.3}.t2{stroke:#fff;stroke-width:1.6}";
 
 /// Writes the patterns that the style sheet names.
-fn patterns(pen: &mut Pen) -> Result<(), NoMemory> {
-    pen.sheet.begin(Tag::Defs, &[])?;
-    pattern(
-        pen,
-        "dirty",
-        "M0 0h6v6h-6z",
-        "o2",
-        "M-1 1L1-1M0 6L6 0M5 7L7 5",
-    )?;
-    pattern(
-        pen,
-        "request",
-        "M0 0h6v6h-6z",
-        "bg",
-        "M-1 1L1-1M0 6L6 0M5 7L7 5",
-    )?;
-    pattern(
-        pen,
-        "page",
-        "M0 0h6v6h-6z",
-        "o1",
-        "M-1 5L1 7M0 0L6 6M5-1L7 1",
-    )?;
-    pen.sheet.close()
+fn patterns(pen: &mut Pen) {
+    pen.open(Tag::Defs, &[]);
+    pattern(pen, "dirty", "o2", "t2", "M-1 1L1-1M0 6L6 0M5 7L7 5");
+    pattern(pen, "request", "bg", "t1", "M-1 1L1-1M0 6L6 0M5 7L7 5");
+    pattern(pen, "page", "o1", "t1", "M-1 5L1 7M0 0L6 6M5-1L7 1");
+    pen.close();
 }
 
-/// Writes a pattern: stripes on a ground.
-fn pattern(
-    pen: &mut Pen,
-    id: &str,
-    ground: &str,
-    class: &str,
-    stripes: &str,
-) -> Result<(), NoMemory> {
+/// Writes a pattern: stripes on a ground, each of a class.
+fn pattern(pen: &mut Pen, id: &str, ground: &str, class: &str, stripes: &str) {
     let attributes = [
         Attribute {
             key: Key::Id,
@@ -84,10 +62,10 @@ fn pattern(
             value: b"userSpaceOnUse",
         },
     ];
-    pen.sheet.begin(Tag::Pattern, &attributes)?;
-    pen.path(class, ground, "")?;
-    pen.path(if class == "o2" { "t2" } else { "t1" }, stripes, "")?;
-    pen.sheet.close()
+    pen.open(Tag::Pattern, &attributes);
+    pen.path(ground, "M0 0h6v6h-6z");
+    pen.path(class, stripes);
+    pen.close();
 }
 
 /// A sheet of a size.
@@ -123,40 +101,34 @@ fn new_sheet(alloc: Global, width: u64, height: u64) -> Result<Sheet, NoMemory> 
 }
 
 /// Writes what stands behind all bands.
-fn ground(pen: &mut Pen, name: &str, width: u64, height: u64) -> Result<(), NoMemory> {
-    pen.title(name)?;
-    pen.sheet.begin(Tag::Style, &[])?;
-    pen.sheet.write(STYLE.as_bytes())?;
-    pen.sheet.write(
-        b".o1{fill:#fbdcc4}.o2{fill:#e69f00}.t1{stroke:#d55e00;stroke-width:1.3}.t2{stroke:#fff;stroke-width:1.6}",
-    )?;
-    pen.sheet.close()?;
-    patterns(pen)?;
+fn ground(pen: &mut Pen, name: &str, width: u64, height: u64) {
+    pen.element(Tag::Title, name);
+    pen.element(Tag::Style, STYLE);
+    patterns(pen);
     let frame = Frame {
         x: 0,
         y: 0,
         width,
         height,
     };
-    pen.rectangle("bg", frame, "")
+    pen.rectangle("bg", frame);
 }
 
 /// Paints the bands and what stands around them.
-fn picture(pen: &mut Pen, plan: &Plan, record: &Record, input: &[u8]) -> Result<(), NoMemory> {
-    marks::grounds(pen, plan, record)?;
-    marks::phases(pen, plan, record)?;
-    bands::processors(pen, plan, record)?;
-    bands::pages(pen, plan, record, &plan.source, "source pages", false)?;
-    bands::pages(
-        pen,
-        plan,
-        record,
-        &plan.destination,
-        "destination pages",
-        true,
-    )?;
+fn picture(
+    pen: &mut Pen,
+    plan: &Plan,
+    record: &Record,
+    texts: &[ruler::Text],
+) -> Result<(), NoMemory> {
+    marks::grounds(pen, plan, record);
+    marks::phases(pen, plan, record);
+    bands::processors(pen, plan, record);
+    bands::nodes(pen, plan, record);
     strands::wires(pen, plan, record)?;
-    ruler::ruler(pen, plan, record, input)
+    notes::write_notes(pen, plan, record)?;
+    ruler::ruler(pen, plan, record, texts);
+    Ok(())
 }
 
 /// Paints the picture of a record, which is named so.
@@ -169,25 +141,26 @@ pub(crate) fn paint(
     let mut plan = Plan::new(alloc, record)?;
     let labels = marks::find_labels(alloc, &plan, record)?;
     plan.place(700u64.saturating_add(labels.height))?;
+    let texts = ruler::find_texts(alloc, &plan, record, input)?;
     let items = legend::find_items(alloc, &plan, record)?;
     let foot = plan
         .bottom
-        .saturating_add(ruler::height(&plan, record, input))
-        .saturating_add(200);
+        .saturating_add(ruler::height(&texts))
+        .saturating_add(100);
     let width = plan
         .right()
         .saturating_add(RIGHT)
         .max(legend::width(&items));
-    let waits = longest::longest_of(alloc, &plan, record)?;
+    let waits = longest::longest_of(alloc, &plan)?;
     let list = foot.saturating_add(legend::height(&items));
     let height = list.saturating_add(longest::height(&waits));
     let sheet = new_sheet(alloc, width, height)?;
     let mut pen = Pen::new(alloc, sheet);
-    ground(&mut pen, name, width, height)?;
-    head::head(&mut pen, &plan, record, name)?;
-    picture(&mut pen, &plan, record, input)?;
-    marks::marks(&mut pen, &plan, &labels)?;
-    legend::legend(&mut pen, &items, 100, foot)?;
-    longest::longest(&mut pen, &plan, record, &waits, list)?;
-    Ok(pen.sheet)
+    ground(&mut pen, name, width, height);
+    head::head(&mut pen, &plan, record, name);
+    picture(&mut pen, &plan, record, &texts)?;
+    marks::marks(&mut pen, &plan, &labels);
+    legend::legend(&mut pen, &items, 100, foot);
+    longest::longest(&mut pen, &plan, record, &waits, list);
+    pen.finish()
 }

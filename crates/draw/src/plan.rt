@@ -1,8 +1,10 @@
 //! Where everything stands in a picture.
 
 use crate::band::{Columns, Stretch, stretches_of};
+use crate::pen::{Pages, share};
 use crate::record::{Change, Flight, Record};
-use crate::rows::{Row, Rows, stirs_of};
+use crate::rows::{Rows, stirs_of};
+use crate::waits::{Wait, find_waits};
 use mig_base::NoMemory;
 use std::alloc::Global;
 
@@ -10,7 +12,7 @@ use std::alloc::Global;
 pub(crate) const LEFT: u64 = 840;
 
 /// The room on the right of the columns.
-pub(crate) const RIGHT: u64 = 1680;
+pub(crate) const RIGHT: u64 = 1480;
 
 /// The most lines of which each has a column of its own.
 const MOST_COLUMNS: u32 = 2000;
@@ -40,6 +42,7 @@ pub(crate) struct Plan {
     pub source: Band,
     pub destination: Band,
     pub processors: Band,
+    pub waits: Vec<Wait>,
     /// Where the marks end and the bands begin.
     pub top: u64,
     /// Where the wires stand: the source's side and the destination's of those that lead there, and the same of the wire back.
@@ -100,9 +103,12 @@ impl Band {
         self.tops.get(row).copied().unwrap_or(self.top)
     }
 
-    /// The first page of a row, and the number of its pages.
-    pub(crate) fn row(&self, row: usize) -> Option<&Row> {
-        self.rows.rows.get(row)
+    /// The pages of a row.
+    pub(crate) fn pages_of(&self, row: usize) -> Pages {
+        match self.rows.rows.get(row) {
+            Some(row) => Pages(row.first, row.pages),
+            None => Pages(0, 0),
+        }
     }
 
     /// The middle of the row of a page.
@@ -115,7 +121,7 @@ impl Band {
 /// The width of the columns.
 fn width_of(lines: u32) -> u64 {
     let lines = u64::from(lines);
-    let small = lines.saturating_mul(260).clamp(3300, 8400);
+    let small = lines.saturating_mul(260).clamp(6500, 8400);
     let more = lines.saturating_sub(400).saturating_mul(5);
     small.saturating_add(more).min(16000)
 }
@@ -145,12 +151,15 @@ fn bands_of(alloc: Global, record: &Record, per: u32, together: u32) -> Result<P
     let stirs = stirs_of(alloc, &record.destination, &record.dots, true)?;
     let destination_rows = Rows::of_pages(alloc, &stirs, together)?;
     let lanes = Rows::of_processors(alloc, record.cpus)?;
+    let processors = Band::new(alloc, &record.processors.changes, lanes, columns)?;
+    let waits = find_waits(alloc, &processors.stretches, record.cpus)?;
     Ok(Plan {
         columns,
         width: width_of(lines),
         source: Band::new(alloc, source, source_rows, columns)?,
         destination: Band::new(alloc, destination, destination_rows, columns)?,
-        processors: Band::new(alloc, &record.processors.changes, lanes, columns)?,
+        processors,
+        waits,
         top: 0,
         forward: (0, 0),
         back: (0, 0),
@@ -212,11 +221,7 @@ impl Plan {
             return LEFT.saturating_add(self.width);
         }
         let halves = u64::from(column).saturating_mul(2).saturating_add(1);
-        let across = self
-            .width
-            .saturating_mul(halves)
-            .checked_div(u64::from(count).saturating_mul(2))
-            .unwrap_or(0);
+        let across = share(self.width, halves, u64::from(count).saturating_mul(2));
         LEFT.saturating_add(across)
     }
 

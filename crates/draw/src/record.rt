@@ -1,9 +1,11 @@
 //! What a run did, as a picture shows it.
 
+use crate::pen::Pages;
 use crate::state::State;
 use mig_base::refusal::Refusal;
 use mig_base::{HIGH_PAGE, NoMemory};
 use std::alloc::Global;
+use std::fmt;
 
 /// The number of lines that a picture shows in words, if it has no more.
 pub(crate) const FEW: u32 = 76;
@@ -55,6 +57,17 @@ impl Track {
     /// The state that a row has now.
     pub(crate) fn state(&self, row: u32) -> State {
         self.now.get(row as usize).copied().unwrap_or(State::Blank)
+    }
+
+    /// The number of rows that are in a state now.
+    pub(crate) fn count(&self, state: State) -> u32 {
+        let mut rows = 0u32;
+        for now in &self.now {
+            if *now == state {
+                rows = rows.saturating_add(1);
+            }
+        }
+        rows
     }
 
     /// Notes the state of a row.
@@ -129,6 +142,18 @@ pub(crate) struct Flight {
     pub sent: u32,
     pub ended: u32,
     pub end: End,
+}
+
+/// What it is, with its first page if it has one.
+impl fmt::Display for Flight {
+    fn fmt<W: fmt::Write>(&self, f: &mut fmt::Formatter<W>) -> fmt::Result {
+        let word = self.kind.word();
+        if !self.kind.has_page() {
+            return write!(f, "{word}");
+        }
+        let pages = Pages(self.page, self.pages);
+        write!(f, "{word} {pages}")
+    }
 }
 
 /// The frames of one wire, in the order in which they were sent.
@@ -230,6 +255,15 @@ pub(crate) struct Dot {
     pub at_destination: bool,
 }
 
+/// A mapping that a call moved to another place: its first page before and after.
+#[derive(Clone, Copy)]
+pub(crate) struct Move {
+    pub line: u32,
+    pub from: u32,
+    pub to: u32,
+    pub at_destination: bool,
+}
+
 /// What a run did.
 #[derive(Drop)]
 pub(crate) struct Record {
@@ -243,6 +277,7 @@ pub(crate) struct Record {
     pub back: Lane,
     pub marks: Vec<Mark>,
     pub dots: Vec<Dot>,
+    pub moves: Vec<Move>,
     /// The copies that the destination dropped: a line and a page each.
     pub drops: Vec<(u32, u32)>,
     /// The refusals among the first lines.

@@ -108,6 +108,7 @@ impl Recorder {
                 back: Lane::new(alloc),
                 marks: Vec::new(alloc),
                 dots: Vec::new(alloc),
+                moves: Vec::new(alloc),
                 drops: Vec::new(alloc),
                 refused: Vec::new(alloc),
                 cpus: u32::from(cpus),

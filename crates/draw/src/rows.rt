@@ -41,6 +41,17 @@ impl Rows {
         }
     }
 
+    /// The number of pages to which more has happened than that they were mapped.
+    pub(crate) fn touched(&self) -> u32 {
+        let mut pages = 0u32;
+        for row in &self.rows {
+            if !row.dull {
+                pages = pages.saturating_add(row.pages);
+            }
+        }
+        pages
+    }
+
     /// A row for each processor.
     pub(crate) fn of_processors(alloc: Global, cpus: u32) -> Result<Rows, NoMemory> {
         let mut rows = Rows {

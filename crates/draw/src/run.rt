@@ -1,7 +1,8 @@
 //! Drawing a script that is read from a reader.
 
-ghost use Rattle.std.specs.Prelude.{◌≡◌, ◌≤◌, OnOk};
+ghost use Rattle.std.specs.Prelude.{◌≡◌, ◌≤◌, IfOk, OnOk};
 ghost use Rattle.draw.specs.Drawing.{Draws};
+ghost use Rattle.svg.specs.Trees.{IsPicture};
 
 use crate::paint::paint;
 use crate::recorder::Recorder;
@@ -62,6 +63,25 @@ fn do_lines(alloc: Global, recorder: &mut Recorder, input: &[u8]) -> Result<(), 
     do_line(recorder, &mut tokens, number, rest)
 }
 
+/// The picture of the script that a reader has.
+fn picture_of<R: Read>(
+    alloc: Global,
+    reader: &mut R,
+    name: &str,
+    cpus: u8,
+) -> Result<Vec<u8>, RunFault>
+    requires low { 1 ≤ cpus }
+    requires high { cpus ≤ 16 }
+    ensures { IfOk result (λ picture. IsPicture picture.items) }
+{
+    let mut input = Vec::new(alloc);
+    read_whole(reader, &mut input)?;
+    let mut recorder = Recorder::new(alloc, cpus)?;
+    do_lines(alloc, &mut recorder, &input)?;
+    let sheet = paint(alloc, &recorder.record, name, &input)?;
+    Ok(sheet.finish()?)
+}
+
 /// Reads a script, makes its steps on a new world of `cpus` processors, 1 to 16, and writes the picture of what they did, named `name`.
 /// Reports of progress are not drawn.
 ///
@@ -78,10 +98,6 @@ pub fn run_draw<R: Read, W: Write>(
     requires high { cpus ≤ 16 }
     ensures { OnOk result (Draws (W.contents writer.old) (W.contents writer.new)) }
 {
-    let mut input = Vec::new(alloc);
-    read_whole(reader, &mut input)?;
-    let mut recorder = Recorder::new(alloc, cpus)?;
-    do_lines(alloc, &mut recorder, &input)?;
-    let picture = paint(alloc, &recorder.record, name, &input)?.finish()?;
+    let picture = picture_of(alloc, reader, name, cpus)?;
     write_out(writer, &picture)
 }

@@ -96,41 +96,125 @@ impl State {
         State::NoLink,
     ];
 
+    /// The states in the order in which a legend has them: as they follow one another.
+    pub(crate) const IN_TURN: [State; STATES] = [
+        State::Empty,
+        State::Unsent,
+        State::Clean,
+        State::Dirty,
+        State::Unpushed,
+        State::Pushed,
+        State::Kept,
+        State::InPlace,
+        State::Owed,
+        State::SleptOn,
+        State::Came,
+        State::Installed,
+        State::Made,
+        State::Handler,
+        State::Request,
+        State::AtSource,
+        State::OnWire,
+        State::Install,
+        State::Woken,
+        State::NoLink,
+        State::Stopped,
+        State::InCall,
+        State::Blank,
+    ];
+
     /// Its place in [`State::ALL`].
     pub(crate) fn rank(self) -> usize {
         usize::from(self as u8)
     }
 
+    /// Its class in the style sheet.
+    fn class(self) -> &'static str {
+        match self {
+            State::Blank => "z",
+            State::Empty => "e",
+            State::Clean | State::Kept | State::InPlace => "c",
+            State::Pushed => "p",
+            State::Unsent => "u",
+            State::Dirty => "d",
+            State::Unpushed | State::Owed => "o",
+            State::Installed => "i",
+            State::Made => "m",
+            State::Came | State::Install => "a",
+            State::SleptOn | State::Handler => "h",
+            State::InCall => "k",
+            State::Woken => "w",
+            State::OnWire => "f",
+            State::Request => "r",
+            State::AtSource => "s",
+            State::Stopped | State::NoLink => "n",
+        }
+    }
+
+    /// What it says of a page.
+    fn page_words(self) -> &'static str {
+        match self {
+            State::Empty => "mapped, no contents",
+            State::Clean => "clean (sent, protected)",
+            State::Pushed => "pushed",
+            State::Unsent => "has contents, not sent",
+            State::Dirty => "stored to since it was sent",
+            State::Unpushed => "owed, not pushed",
+            State::Kept => "copy, before the run",
+            State::InPlace => "copy of pre-copy in place",
+            State::Installed => "installed",
+            State::Made => "zeros of its own",
+            State::Owed => "owed",
+            State::Came => "has come, not installed",
+            State::SleptOn => "a processor sleeps on it",
+            _ => "",
+        }
+    }
+
+    /// What it says in a legend.
+    fn words(self) -> &'static str {
+        match self {
+            State::InCall => "in a map call",
+            State::Woken => "woken, to try again",
+            State::Handler => "a handler has to act",
+            State::Install => "the page came, to be installed",
+            State::OnWire => "the page is on a wire",
+            State::Request => "its request is on the wire",
+            State::AtSource => "requested, not pushed yet",
+            State::Stopped => "nobody runs the processors",
+            State::NoLink => "no link",
+            _ => self.page_words(),
+        }
+    }
+
+    /// Where its rectangle begins in a row, and its height, in sixteenths of the row's height.
+    fn extent(self) -> (u64, u64) {
+        match self {
+            State::Blank => (0, 0),
+            State::Empty => (7, 1),
+            State::Kept => (6, 8),
+            State::Made => (1, 12),
+            State::Owed => (6, 3),
+            State::Came => (5, 9),
+            State::SleptOn => (3, 9),
+            State::InCall => (4, 8),
+            State::Clean
+            | State::Pushed
+            | State::Unsent
+            | State::Dirty
+            | State::Unpushed
+            | State::InPlace
+            | State::Installed => (0, 14),
+            _ => (0, 16),
+        }
+    }
+
     /// How it looks.
     pub(crate) fn look(self) -> Look {
-        let (class, words, top, height) = match self {
-            State::Blank => ("z", "", 0, 0),
-            State::Empty => ("e", "mapped, no contents", 7, 1),
-            State::Clean => ("c", "clean (sent, protected)", 0, 14),
-            State::Pushed => ("p", "pushed", 0, 14),
-            State::Unsent => ("u", "has contents, not sent", 0, 14),
-            State::Dirty => ("d", "stored to since it was sent", 0, 14),
-            State::Unpushed => ("o", "owed, not pushed", 0, 14),
-            State::Kept => ("c", "copy, before the run", 6, 8),
-            State::InPlace => ("c", "copy of pre-copy in place", 0, 14),
-            State::Installed => ("i", "installed", 0, 14),
-            State::Made => ("m", "zeros of its own", 1, 12),
-            State::Owed => ("o", "owed", 6, 3),
-            State::Came => ("a", "has come, not installed", 5, 9),
-            State::SleptOn => ("h", "a processor sleeps on it", 3, 9),
-            State::InCall => ("k", "in a map call", 4, 8),
-            State::Woken => ("w", "woken, to try again", 0, 16),
-            State::Handler => ("h", "a handler has to act", 0, 16),
-            State::Install => ("h", "the page has come, to be installed", 0, 16),
-            State::OnWire => ("f", "the page is on a wire", 0, 16),
-            State::Request => ("r", "its request is on the wire", 0, 16),
-            State::AtSource => ("s", "requested, not pushed yet", 0, 16),
-            State::Stopped => ("n", "nobody runs the processors", 0, 16),
-            State::NoLink => ("n", "no link", 0, 16),
-        };
+        let (top, height) = self.extent();
         Look {
-            class,
-            words,
+            class: self.class(),
+            words: self.words(),
             top,
             height,
         }

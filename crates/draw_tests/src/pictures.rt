@@ -15,8 +15,8 @@ cpu 1 load 0x10000 8\npush 0x10000\nround\ndeliver\ninstall\nretry 1\nend\ndeliv
 static WORDS: &[&[u8]] = &[
     b"<svg xmlns=\"http://www.w3.org/2000/svg\" ",
     b"<title>a &amp; &lt;b&gt;</title>",
-    b"Complete at line 16. Nobody ran the processors for 3 lines.",
-    b"1 wait of processors, 5 lines in all.",
+    b"Complete at line 16. Nobody ran the processors for 3 steps.",
+    b"1 wait of processors, 5 steps in all = handler 1 + page 2 + install 1 + woken 1.",
     b"<title>0x10000: owed, not pushed, lines 4 to 9</title>",
     b"<title>0x10000: installed, lines 12 to 16</title>",
     b"<title>cpu 1, page 0x10000: handler, lines 8 to 9</title>",

@@ -1,12 +1,11 @@
 //! The bands of processors and of pages.
 
 use crate::band::Stretch;
-use crate::pen::{Frame, Pen, width_of};
+use crate::pen::{At, Frame, Pen, width_of};
 use crate::plan::{Band, LEFT, Plan};
-use crate::record::{Dot, Record};
+use crate::record::{Dot, Event, Move, Record};
 use crate::state::State;
-use mig_base::NoMemory;
-use std::alloc::Global;
+use crate::waits::{Parts, Wait};
 
 /// The most dots and the most crosses that are drawn.
 const MOST_DOTS: usize = 3000;
@@ -35,251 +34,289 @@ fn frame_of(plan: &Plan, stretch: &Stretch, top: u64, height: u64) -> Frame {
     }
 }
 
-/// A wait of a processor: a run of stretches for one page.
-#[derive(Clone, Copy)]
-pub(super) struct Wait {
-    pub cpu: u32,
-    pub page: u32,
-    pub from: u32,
-    pub to: u32,
-}
-
-/// The waits of a processor, in turn.
-pub(super) fn waits_of(alloc: Global, plan: &Plan, cpu: u32) -> Result<Vec<Wait>, NoMemory> {
-    let mut waits: Vec<Wait> = Vec::new(alloc);
-    for stretch in &plan.processors.stretches {
-        if stretch.row != cpu || stretch.state == State::InCall {
-            continue;
-        }
-        match waits.last_mut() {
-            Some(last) if last.to == stretch.from => last.to = stretch.to,
-            _ => waits.push(Wait {
-                cpu,
-                page: stretch.about,
-                from: stretch.from,
-                to: stretch.to,
-            })?,
-        }
+/// The class of the words in a part of a wait.
+fn word_class(state: State) -> &'static str {
+    match state {
+        State::Woken | State::OnWire | State::Request => "bl ha",
+        State::Install | State::InCall => "bl",
+        _ => "wh",
     }
-    Ok(waits)
 }
 
 /// Draws a part of a wait.
-fn bar(pen: &mut Pen, plan: &Plan, record: &Record, stretch: &Stretch) -> Result<(), NoMemory> {
+fn bar(pen: &mut Pen, plan: &Plan, record: &Record, stretch: &Stretch) {
     let top = plan.processors.top_of(stretch.row as usize);
     let frame = frame_of(plan, stretch, top.saturating_add(AXLE - BAR / 2), BAR);
     let first = line_of(plan, record, stretch.from);
     let last = line_of(plan, record, stretch.to);
     let cpu = stretch.row;
-    let page = u64::from(stretch.about) * 4096;
+    let page = At(stretch.about);
     let words = stretch.state.part();
-    let title = format!(in pen.alloc;
-        "cpu {cpu}, page 0x{page:x}: {words}, lines {first} to {last}"
-    )?;
-    pen.rectangle(stretch.state.look().class, frame, &title)?;
-    if width_of(words, 80).saturating_add(20) > frame.width {
-        return Ok(());
+    let title = format!(in pen.alloc; "cpu {cpu}, page {page}: {words}, lines {first} to {last}");
+    pen.name(title);
+    pen.rectangle(stretch.state.look().class, frame);
+    if width_of(words, 80).saturating_add(20) <= frame.width {
+        let x = frame.x.saturating_add(frame.width / 2);
+        let y = top.saturating_add(AXLE + 28);
+        pen.words(word_class(stretch.state), (x, y), words);
     }
-    let class = match stretch.state {
-        State::Woken | State::OnWire | State::Request | State::InCall => "bl ha",
-        _ => "wh",
-    };
-    let x = frame.x.saturating_add(frame.width / 2);
-    pen.words(class, (x, top.saturating_add(AXLE + 28)), words)
 }
 
-/// Writes for which page and how long a processor waits, above each of its waits where there is room.
-fn wait_labels(pen: &mut Pen, plan: &Plan, waits: &[Wait]) -> Result<(), NoMemory> {
-    let mut free = 0u64;
-    for wait in waits {
-        let page = u64::from(wait.page) * 4096;
-        let lines = wait
-            .to
-            .saturating_sub(wait.from)
-            .saturating_mul(plan.columns.per);
-        let words = format!(in pen.alloc; "0x{page:x}, {lines}")?;
-        let x = plan.x_of(wait.from);
-        let end = x.saturating_add(width_of(&words, 90));
-        if x < free || end > plan.right().saturating_add(300) {
-            continue;
+/// Whether words above a wait that end here would stand on a longer wait of the processor, among the next ones.
+fn hides(plan: &Plan, wait: &Wait, later: &[Wait], end: u64) -> bool {
+    for next in later.iter().take(8) {
+        let longer = next.cpu == wait.cpu && next.columns() > wait.columns();
+        if longer && plan.x_of(next.from) < end {
+            return true;
         }
-        let y = plan
-            .processors
-            .top_of(wait.cpu as usize)
-            .saturating_add(AXLE - 75);
-        pen.words("mo ha", (x, y), &words)?;
-        free = end.saturating_add(40);
     }
-    Ok(())
+    false
 }
 
-/// Writes how often and how long a processor waited.
-fn wait_sums(pen: &mut Pen, plan: &Plan, waits: &[Wait], y: u64) -> Result<(), NoMemory> {
-    let count = waits.len();
-    let mut lines = 0u32;
-    let mut longest = 0u32;
-    for wait in waits {
-        let length = wait
-            .to
-            .saturating_sub(wait.from)
-            .saturating_mul(plan.columns.per);
-        lines = lines.saturating_add(length);
-        longest = longest.max(length);
+/// Writes for which page and for how many steps a processor waits, above the wait, unless that is taken or a longer one needs it.
+/// Returns where the words end.
+fn wait_label(pen: &mut Pen, plan: &Plan, wait: &Wait, later: &[Wait], free: u64) -> u64 {
+    let page = At(wait.page);
+    let steps = wait.columns().saturating_mul(plan.columns.per);
+    let text = format!(in pen.alloc; "{page}: {steps}");
+    let words = pen.made(text);
+    let x = plan.x_of(wait.from);
+    let end = x.saturating_add(width_of(&words, 90)).saturating_add(40);
+    let outside = end > plan.right().saturating_add(300);
+    if x < free || outside || hides(plan, wait, later, end) {
+        return free;
     }
+    let top = plan.processors.top_of(wait.cpu as usize);
+    pen.words("mo ha", (x, top.saturating_add(AXLE - 75)), &words);
+    end
+}
+
+/// Writes for which pages and how long the processors wait, where there is room.
+fn wait_labels(pen: &mut Pen, plan: &Plan) {
+    let mut free = 0u64;
+    let mut cpu = 0u32;
+    let mut at = 0usize;
+    for wait in &plan.waits {
+        at = at.saturating_add(1);
+        let later = plan.waits.get(at..).unwrap_or(&[]);
+        if wait.cpu != cpu {
+            free = 0;
+        }
+        cpu = wait.cpu;
+        free = wait_label(pen, plan, wait, later, free);
+    }
+}
+
+/// How often a processor waited, and all its waits together.
+fn sum_of(plan: &Plan, cpu: u32) -> (u32, Parts) {
+    let mut count = 0u32;
+    let mut parts = Parts::new();
+    for wait in &plan.waits {
+        if wait.cpu == cpu {
+            count = count.saturating_add(1);
+            parts.add_all(&wait.parts);
+        }
+    }
+    (count, parts)
+}
+
+/// Writes how often and how long a processor waited, and for whom most.
+fn wait_sums(pen: &mut Pen, plan: &Plan, cpu: u32) {
+    let (count, parts) = sum_of(plan, cpu);
     let x = plan.right().saturating_add(100);
+    let top = plan.processors.top_of(cpu as usize);
+    let y = top.saturating_add(AXLE - 10);
     if count == 0 {
         return pen.words("sm", (x, y), "never waited");
     }
     let noun = if count == 1 { "wait" } else { "waits" };
-    let text = format!(in pen.alloc; "{count} {noun}, {lines} lines")?;
-    pen.words("", (x, y), &text)?;
-    let text = format!(in pen.alloc; "longest: {longest}")?;
-    pen.words("sm", (x, y.saturating_add(105)), &text)
+    let per = plan.columns.per;
+    let steps = parts.sum().saturating_mul(per);
+    let text = format!(in pen.alloc; "{count} {noun}, {steps} steps");
+    let words = pen.made(text);
+    pen.words("", (x, y), &words);
+    let (state, most) = parts.most();
+    let word = state.part();
+    let most = most.saturating_mul(per);
+    let text = format!(in pen.alloc; "most: {word} {most}");
+    let words = pen.made(text);
+    pen.words("sm", (x, y.saturating_add(105)), &words);
 }
 
 /// Draws the lane of a processor.
-fn lane(pen: &mut Pen, plan: &Plan, cpu: u32) -> Result<(), NoMemory> {
+fn lane(pen: &mut Pen, plan: &Plan, cpu: u32) {
     let y = plan.processors.top_of(cpu as usize).saturating_add(AXLE);
-    pen.line("g2", (LEFT, y), (plan.right(), y), "")?;
-    let name = format!(in pen.alloc; "cpu {cpu}")?;
-    pen.words("mo en", (LEFT - 60, y.saturating_add(30)), &name)
+    pen.line("g2", (LEFT, y), (plan.right(), y));
+    let text = format!(in pen.alloc; "cpu {cpu}");
+    let name = pen.made(text);
+    pen.words("mo en", (LEFT - 60, y.saturating_add(30)), &name);
 }
 
 /// Draws the band of the processors.
-pub(super) fn processors(pen: &mut Pen, plan: &Plan, record: &Record) -> Result<(), NoMemory> {
+pub(super) fn processors(pen: &mut Pen, plan: &Plan, record: &Record) {
     let top = plan.processors.top.saturating_sub(20);
-    pen.words("n3", (100, top), "processors")?;
+    pen.words("n3", (100, top), "processors");
     for cpu in 0..record.cpus {
-        lane(pen, plan, cpu)?;
+        lane(pen, plan, cpu);
+        wait_sums(pen, plan, cpu);
     }
     for stretch in &plan.processors.stretches {
-        bar(pen, plan, record, stretch)?;
+        bar(pen, plan, record, stretch);
     }
-    for cpu in 0..record.cpus {
-        let waits = waits_of(pen.alloc, plan, cpu)?;
-        wait_labels(pen, plan, &waits)?;
-        let y = plan
-            .processors
-            .top_of(cpu as usize)
-            .saturating_add(AXLE - 10);
-        wait_sums(pen, plan, &waits, y)?;
-    }
-    Ok(())
-}
-
-/// The name of a row: its first page, and how many follow it.
-fn row_name(alloc: Global, band: &Band, row: usize) -> Result<String, NoMemory> {
-    let Some(row) = band.row(row) else {
-        return Ok(String::new(alloc));
-    };
-    let addr = u64::from(row.first).saturating_mul(4096);
-    let more = row.pages.saturating_sub(1);
-    if more == 0 {
-        return Ok(format!(in alloc; "0x{addr:x}")?);
-    }
-    Ok(format!(in alloc; "0x{addr:x} +{more}")?)
+    wait_labels(pen, plan);
 }
 
 /// Draws what a row of pages is in a stretch.
-fn stretch(
-    pen: &mut Pen,
-    plan: &Plan,
-    record: &Record,
-    band: &Band,
-    stretch: &Stretch,
-) -> Result<(), NoMemory> {
-    let row = stretch.row as usize;
-    let frame = frame_of(plan, stretch, band.top_of(row), band.height);
-    let name = row_name(pen.alloc, band, row)?;
+fn stretch(pen: &mut Pen, plan: &Plan, record: &Record, band: &Band, stretch: &Stretch) {
+    let at = stretch.row as usize;
+    let frame = frame_of(plan, stretch, band.top_of(at), band.height);
+    let pages = band.pages_of(at);
     let first = line_of(plan, record, stretch.from);
     let last = line_of(plan, record, stretch.to);
     let look = stretch.state.look();
     let words = look.words;
-    let title = format!(in pen.alloc; "{name}: {words}, lines {first} to {last}")?;
-    pen.rectangle(look.class, frame, &title)
+    let title = format!(in pen.alloc; "{pages}: {words}, lines {first} to {last}");
+    pen.name(title);
+    pen.rectangle(look.class, frame);
 }
 
 /// Writes the names of the rows where there is room.
-fn row_names(pen: &mut Pen, band: &Band) -> Result<(), NoMemory> {
+fn row_names(pen: &mut Pen, band: &Band) {
     let mut free = 0u64;
-    for row in 0..band.rows.rows.len() {
-        let y = band
-            .top_of(row)
-            .saturating_add(band.height / 2)
-            .saturating_add(30);
-        if y < free {
-            continue;
+    for at in 0..band.rows.rows.len() {
+        let middle = band.top_of(at).saturating_add(band.height / 2);
+        let y = middle.saturating_add(30);
+        if y >= free {
+            let pages = band.pages_of(at);
+            let text = format!(in pen.alloc; "{pages}");
+            let name = pen.made(text);
+            pen.words("mo en", (LEFT - 60, y), &name);
+            free = y.saturating_add(98);
         }
-        let name = row_name(pen.alloc, band, row)?;
-        pen.words("mo en", (LEFT - 60, y), &name)?;
-        free = y.saturating_add(98);
     }
-    Ok(())
 }
 
 /// Draws where a load or a store went to sleep.
-fn dot(pen: &mut Pen, plan: &Plan, band: &Band, dot: &Dot) -> Result<(), NoMemory> {
+fn dot(pen: &mut Pen, plan: &Plan, band: &Band, dot: &Dot) {
     let Some(y) = band.middle_of(dot.page) else {
-        return Ok(());
+        return;
     };
     let x = plan.x_at(dot.line);
     let cpu = dot.cpu;
-    let title = format!(in pen.alloc; "cpu {cpu} sleeps")?;
+    let title = format!(in pen.alloc; "cpu {cpu} sleeps");
+    pen.name(title);
     if band.height < 90 {
-        return pen.disk("dd", (x, y), (band.height / 2).min(24), &title);
+        return pen.disk("dd", (x, y), (band.height / 2).min(24));
     }
-    pen.disk("do", (x, y), 50, &title)?;
-    let name = format!(in pen.alloc; "{cpu}")?;
-    pen.words("bl", (x, y.saturating_add(30)), &name)
+    pen.disk("do", (x, y), 50);
+    let text = format!(in pen.alloc; "{cpu}");
+    let number = pen.made(text);
+    pen.words("bl", (x, y.saturating_add(30)), &number);
 }
 
-/// Draws the sleeps in a band, and at the destination the copies that were dropped.
-fn signs(
-    pen: &mut Pen,
-    plan: &Plan,
-    record: &Record,
-    band: &Band,
-    at_destination: bool,
-) -> Result<(), NoMemory> {
-    if record.dots.len() <= MOST_DOTS {
-        for sleep in &record.dots {
-            if sleep.at_destination == at_destination {
-                dot(pen, plan, band, sleep)?;
-            }
+/// Draws where a mapping moves to.
+fn moved(pen: &mut Pen, plan: &Plan, band: &Band, one: &Move) {
+    let (Some(from), Some(to)) = (band.middle_of(one.from), band.middle_of(one.to)) else {
+        return;
+    };
+    let x = plan.x_at(one.line);
+    pen.arrow("g5", (x, from), (x, to));
+    let y = from.saturating_add(to) / 2;
+    pen.words("sm ha", (x.saturating_add(40), y), "moved");
+}
+
+/// Writes in a row how many steps after the run its page was installed, if there is room.
+fn age(pen: &mut Pen, plan: &Plan, band: &Band, stretch: &Stretch, run: u32) {
+    let steps = stretch.from.saturating_sub(run);
+    let text = format!(in pen.alloc; "+{steps}");
+    let words = pen.made(text);
+    let x = plan.x_of(stretch.from).saturating_add(30);
+    if x.saturating_add(width_of(&words, 80)) <= plan.x_of(stretch.to) {
+        let top = band.top_of(stretch.row as usize);
+        let y = top.saturating_add(band.height / 2).saturating_add(22);
+        pen.words("wl", (x, y), &words);
+    }
+}
+
+/// The line from which the destination runs, if the bars of installed pages are to be counted from there.
+pub(super) fn run_of(plan: &Plan, record: &Record) -> Option<u32> {
+    if !plan.is_small() || plan.destination.height < 110 {
+        return None;
+    }
+    for mark in &record.marks {
+        if mark.event == Event::Package {
+            return Some(mark.line);
         }
     }
-    if !at_destination || record.drops.len() > MOST_DOTS {
-        return Ok(());
+    None
+}
+
+/// Writes how many steps after the run each page was installed, in a picture with words.
+fn ages(pen: &mut Pen, plan: &Plan, record: &Record) {
+    let Some(run) = run_of(plan, record) else {
+        return;
+    };
+    let band = &plan.destination;
+    for stretch in &band.stretches {
+        if stretch.state == State::Installed {
+            age(pen, plan, band, stretch, run);
+        }
     }
-    for drop in &record.drops {
+}
+
+/// Draws the sleeps in a band.
+fn dots(pen: &mut Pen, plan: &Plan, record: &Record, band: &Band, at_destination: bool) {
+    for sleep in record.dots.iter().take(MOST_DOTS) {
+        if sleep.at_destination == at_destination {
+            dot(pen, plan, band, sleep);
+        }
+    }
+}
+
+/// Draws the moves of mappings in a band.
+fn moves(pen: &mut Pen, plan: &Plan, record: &Record, band: &Band, at_destination: bool) {
+    for one in record.moves.iter().take(MOST_DOTS) {
+        if one.at_destination == at_destination {
+            moved(pen, plan, band, one);
+        }
+    }
+}
+
+/// Draws the copies that the destination dropped.
+fn drops(pen: &mut Pen, plan: &Plan, record: &Record) {
+    let band = &plan.destination;
+    let reach = (band.height / 2).min(35);
+    for drop in record.drops.iter().take(MOST_DOTS) {
         if let Some(y) = band.middle_of(drop.1) {
-            let reach = (band.height / 2).min(35);
-            pen.cross("lx", (plan.x_at(drop.0), y), reach, "a copy is dropped")?;
+            pen.cross("lx", (plan.x_at(drop.0), y), reach);
         }
     }
-    Ok(())
 }
 
 /// Draws the band of the pages of a node.
-pub(super) fn pages(
-    pen: &mut Pen,
-    plan: &Plan,
-    record: &Record,
-    band: &Band,
-    name: &str,
-    at_destination: bool,
-) -> Result<(), NoMemory> {
+fn pages(pen: &mut Pen, plan: &Plan, record: &Record, band: &Band, name: &str) {
     let together = band.rows.together;
-    let top = band.top.saturating_sub(50);
-    if together > 1 {
-        let text = format!(in pen.alloc; "{name}, {together} in a row")?;
-        pen.words("n3", (100, top), &text)?;
+    let text = if together > 1 {
+        format!(in pen.alloc; "{name}, {together} in a row")
     } else {
-        pen.words("n3", (100, top), name)?;
-    }
+        format!(in pen.alloc; "{name}")
+    };
+    let name = pen.made(text);
+    pen.words("n3", (100, band.top.saturating_sub(50)), &name);
     for one in &band.stretches {
-        stretch(pen, plan, record, band, one)?;
+        stretch(pen, plan, record, band, one);
     }
-    row_names(pen, band)?;
-    signs(pen, plan, record, band, at_destination)
+    row_names(pen, band);
+}
+
+/// Draws the bands of the pages of both nodes.
+pub(super) fn nodes(pen: &mut Pen, plan: &Plan, record: &Record) {
+    pages(pen, plan, record, &plan.source, "source pages");
+    dots(pen, plan, record, &plan.source, false);
+    moves(pen, plan, record, &plan.source, false);
+    pages(pen, plan, record, &plan.destination, "destination pages");
+    ages(pen, plan, record);
+    dots(pen, plan, record, &plan.destination, true);
+    moves(pen, plan, record, &plan.destination, true);
+    drops(pen, plan, record);
 }

@@ -1,28 +1,28 @@
 //! The name of a picture, and what it says in sentences.
 
-use super::bands::{line_of, waits_of};
+use super::bands::line_of;
 use crate::pen::Pen;
 use crate::plan::Plan;
 use crate::record::{Event, Record};
-use mig_base::NoMemory;
-use std::alloc::Global;
+use crate::waits::Parts;
+use std::alloc::{AllocError, Global};
 
 /// How the run ends: the line at which the migration is complete, if it is.
-fn ending(alloc: Global, plan: &Plan, record: &Record) -> Result<String, NoMemory> {
+fn ending(alloc: Global, plan: &Plan, record: &Record) -> Result<String, AllocError> {
     for mark in &record.marks {
         if mark.event == Event::Complete {
             let line = line_of(plan, record, plan.columns.of(mark.line));
-            return Ok(format!(in alloc; "Complete at line {line}.")?);
+            return format!(in alloc; "Complete at line {line}.");
         }
     }
     if record.marks.is_empty() {
-        return Ok(String::from_str(alloc, "No migration.")?);
+        return String::from_str(alloc, "No migration.");
     }
-    let lines = record.lines.len();
-    Ok(format!(in alloc; "Not complete after {lines} steps.")?)
+    let steps = record.lines.len();
+    format!(in alloc; "Not complete after {steps} steps.")
 }
 
-/// How many lines nobody ran the processors.
+/// How many steps nobody ran the processors.
 fn downtime(record: &Record) -> u32 {
     let mut switched = None;
     for mark in &record.marks {
@@ -35,56 +35,50 @@ fn downtime(record: &Record) -> u32 {
     0
 }
 
-/// The number of waits, and of the lines that they took.
-fn waits(alloc: Global, plan: &Plan, record: &Record) -> Result<(usize, u32), NoMemory> {
-    let mut count = 0usize;
-    let mut lines = 0u32;
-    for cpu in 0..record.cpus {
-        let waits = waits_of(alloc, plan, cpu)?;
-        count = count.saturating_add(waits.len());
-        for wait in &waits {
-            let length = wait
-                .to
-                .saturating_sub(wait.from)
-                .saturating_mul(plan.columns.per);
-            lines = lines.saturating_add(length);
-        }
+/// Writes how the run ends, and how long nobody ran the processors.
+fn outcome(pen: &mut Pen, plan: &Plan, record: &Record) {
+    let text = ending(pen.alloc, plan, record);
+    let ending = pen.made(text);
+    let nobody = downtime(record);
+    if nobody == 0 {
+        return pen.words("n2", (100, 350), &ending);
     }
-    Ok((count, lines))
+    let text = format!(in pen.alloc; "{ending} Nobody ran the processors for {nobody} steps.");
+    let words = pen.made(text);
+    pen.words("n2", (100, 350), &words);
+}
+
+/// Writes how often and how long processors waited, and for whom.
+fn waits(pen: &mut Pen, plan: &Plan) {
+    let mut parts = Parts::new();
+    for wait in &plan.waits {
+        parts.add_all(&wait.parts);
+    }
+    let count = plan.waits.len();
+    let noun = if count == 1 { "wait" } else { "waits" };
+    let steps = parts.sum().saturating_mul(plan.columns.per);
+    let sum = parts.times(plan.columns.per);
+    let text = format!(in pen.alloc; "{count} {noun} of processors, {steps} steps in all{sum}.");
+    let words = pen.made(text);
+    pen.words("n2", (100, 485), &words);
 }
 
 /// Writes what is merged, if anything is.
-fn merged(pen: &mut Pen, plan: &Plan, y: u64) -> Result<(), NoMemory> {
+fn merged(pen: &mut Pen, plan: &Plan) {
     let per = plan.columns.per;
-    if per == 1 {
-        return Ok(());
+    if per > 1 {
+        let text = format!(in pen.alloc;
+            "Each column is {per} steps. Where they differ, the state that matters most is shown."
+        );
+        let words = pen.made(text);
+        pen.words("n2", (100, 620), &words);
     }
-    let text = format!(in pen.alloc;
-        "Each column is {per} lines. Where they differ, the state that matters most is shown."
-    )?;
-    pen.words("n2", (100, y), &text)
 }
 
 /// Writes the name of the picture, and what it says in sentences.
-pub(super) fn head(
-    pen: &mut Pen,
-    plan: &Plan,
-    record: &Record,
-    name: &str,
-) -> Result<(), NoMemory> {
-    pen.words("n1", (100, 200), name)?;
-    let ending = ending(pen.alloc, plan, record)?;
-    let nobody = downtime(record);
-    let (count, lines) = waits(pen.alloc, plan, record)?;
-    let ran = if nobody == 0 {
-        String::new(pen.alloc)
-    } else {
-        format!(in pen.alloc; " Nobody ran the processors for {nobody} lines.")?
-    };
-    let text = format!(in pen.alloc; "{ending}{ran}")?;
-    pen.words("n2", (100, 350), &text)?;
-    let noun = if count == 1 { "wait" } else { "waits" };
-    let text = format!(in pen.alloc; "{count} {noun} of processors, {lines} lines in all.")?;
-    pen.words("n2", (100, 485), &text)?;
-    merged(pen, plan, 620)
+pub(super) fn head(pen: &mut Pen, plan: &Plan, record: &Record, name: &str) {
+    pen.words("n1", (100, 200), name);
+    outcome(pen, plan, record);
+    waits(pen, plan);
+    merged(pen, plan);
 }

@@ -1,12 +1,12 @@
 //! The longest waits of processors: how long each was, and who had to act.
 
-use super::bands::{Wait, line_of, waits_of};
-use crate::pen::Pen;
+use super::bands::line_of;
+use crate::pen::{At, Pen};
 use crate::plan::Plan;
 use crate::record::Record;
-use crate::state::State;
+use crate::waits::Wait;
 use mig_base::NoMemory;
-use std::alloc::Global;
+use std::alloc::{AllocError, Global};
 
 /// The most waits that are listed.
 const MOST: usize = 6;
@@ -14,65 +14,29 @@ const MOST: usize = 6;
 /// The height of a line.
 const LINE: u64 = 140;
 
-/// The parts of a wait, in the order in which they come.
-const PARTS: [State; 8] = [
-    State::Stopped,
-    State::Handler,
-    State::Request,
-    State::AtSource,
-    State::OnWire,
-    State::NoLink,
-    State::Install,
-    State::Woken,
-];
-
 /// The longest waits, the longest first.
-pub(super) fn longest_of(
-    alloc: Global,
-    plan: &Plan,
-    record: &Record,
-) -> Result<Vec<Wait>, NoMemory> {
+pub(super) fn longest_of(alloc: Global, plan: &Plan) -> Result<Vec<Wait>, NoMemory> {
     let mut all = Vec::new(alloc);
-    for cpu in 0..record.cpus {
-        let waits = waits_of(alloc, plan, cpu)?;
-        all.extend_from_slice(&waits)?;
-    }
-    all.sort_by_key(|wait| u32::MAX.saturating_sub(wait.to.saturating_sub(wait.from)))?;
+    all.extend_from_slice(&plan.waits)?;
+    all.sort_by_key(|wait| u32::MAX.saturating_sub(wait.columns()))?;
     all.truncate(MOST);
     Ok(all)
 }
 
-/// The columns of a wait in which a processor waits for one reason.
-fn columns_of(plan: &Plan, wait: &Wait, part: State) -> u32 {
-    let mut columns = 0u32;
-    for stretch in &plan.processors.stretches {
-        let inside = stretch.row == wait.cpu && stretch.from >= wait.from && stretch.to <= wait.to;
-        if inside && stretch.state == part {
-            columns = columns.saturating_add(stretch.to.saturating_sub(stretch.from));
-        }
-    }
-    columns
-}
-
 /// How long a wait was, and its parts.
-fn words_of(alloc: Global, plan: &Plan, record: &Record, wait: &Wait) -> Result<String, NoMemory> {
+fn words_of(
+    alloc: Global,
+    plan: &Plan,
+    record: &Record,
+    wait: &Wait,
+) -> Result<String, AllocError> {
     let cpu = wait.cpu;
-    let page = u64::from(wait.page) * 4096;
-    let per = plan.columns.per;
+    let page = At(wait.page);
     let first = line_of(plan, record, wait.from);
     let last = line_of(plan, record, wait.to);
-    let lines = wait.to.saturating_sub(wait.from).saturating_mul(per);
-    let mut text = format!(in alloc; "cpu {cpu}, 0x{page:x}, lines {first} to {last}: {lines}")?;
-    let mut mark = " =";
-    for part in PARTS {
-        let lines = columns_of(plan, wait, part).saturating_mul(per);
-        if lines > 0 {
-            let word = part.part();
-            write!(text, "{mark} {word} {lines}")?;
-            mark = " +";
-        }
-    }
-    Ok(text)
+    let steps = wait.columns().saturating_mul(plan.columns.per);
+    let parts = wait.parts.times(plan.columns.per);
+    format!(in alloc; "cpu {cpu}, {page}, lines {first} to {last}: {steps}{parts}")
 }
 
 /// The height of the list.
@@ -81,22 +45,16 @@ pub(super) fn height(waits: &[Wait]) -> u64 {
 }
 
 /// Writes the list of the longest waits.
-pub(super) fn longest(
-    pen: &mut Pen,
-    plan: &Plan,
-    record: &Record,
-    waits: &[Wait],
-    top: u64,
-) -> Result<(), NoMemory> {
+pub(super) fn longest(pen: &mut Pen, plan: &Plan, record: &Record, waits: &[Wait], top: u64) {
     if waits.is_empty() {
-        return Ok(());
+        return;
     }
-    pen.words("n3", (100, top), "longest waits, in lines")?;
+    pen.words("n3", (100, top), "longest waits, in steps");
     let mut y = top;
     for wait in waits {
         y = y.saturating_add(LINE);
-        let words = words_of(pen.alloc, plan, record, wait)?;
-        pen.words("mo", (100, y), &words)?;
+        let text = words_of(pen.alloc, plan, record, wait);
+        let words = pen.made(text);
+        pen.words("mo", (100, y), &words);
     }
-    Ok(())
 }

@@ -4,7 +4,7 @@ use crate::pen::{Frame, Pen, width_of};
 use crate::plan::Plan;
 use crate::record::{Event, Mark, Record};
 use mig_base::NoMemory;
-use std::alloc::Global;
+use std::alloc::{AllocError, Global};
 
 /// The most rows of words.
 const MOST_ROWS: u64 = 9;
@@ -20,7 +20,7 @@ const MOST_WORDS: usize = 120;
 pub(super) struct Label {
     x: u64,
     words: String,
-    rank: u8,
+    event: Event,
     /// Its row above the bands, if it has words.
     row: Option<u64>,
 }
@@ -42,25 +42,42 @@ fn rank_of(event: Event) -> u8 {
     }
 }
 
-/// The words of a mark.
-fn words_of(alloc: Global, mark: &Mark) -> Result<String, NoMemory> {
-    let first = mark.first;
-    let second = mark.second;
-    let words = match mark.event {
+/// The words of a break: how many pages and how many requests it has lost.
+fn break_words(alloc: Global, pages: u32, requests: u32) -> Result<String, AllocError> {
+    let pages_word = if pages == 1 { "page" } else { "pages" };
+    let requests_word = if requests == 1 { "request" } else { "requests" };
+    match (pages, requests) {
+        (0, 0) => String::from_str(alloc, "break: no page lost"),
+        (_, 0) => format!(in alloc; "break: lost {pages} {pages_word}"),
+        (0, _) => format!(in alloc; "break: lost {requests} {requests_word}"),
+        _ => format!(in alloc; "break: lost {pages} {pages_word}, {requests} {requests_word}"),
+    }
+}
+
+/// The words of a mark without numbers.
+fn plain_words(event: Event) -> &'static str {
+    match event {
         Event::Start => "start",
         Event::End => "end sent",
         Event::Complete => "complete",
+        Event::Package => "package: the destination runs",
         Event::SourceNotice => "source pauses",
         Event::DestinationNotice => "destination pauses",
-        Event::Round => return Ok(format!(in alloc; "round {first}: {second}")?),
-        Event::Switch => return Ok(format!(in alloc; "switch: {first} owed")?),
-        Event::Package => return Ok(format!(in alloc; "package: the destination runs")?),
-        Event::Break => return Ok(format!(in alloc;
-            "break: lost pages {first}, requests {second}"
-        )?),
-        Event::Resume => return Ok(format!(in alloc; "resume, epoch {first}")?),
-    };
-    Ok(String::from_str(alloc, words)?)
+        _ => "",
+    }
+}
+
+/// The words of a mark.
+fn words_of(alloc: Global, mark: &Mark) -> Result<String, AllocError> {
+    let first = mark.first;
+    let second = mark.second;
+    match mark.event {
+        Event::Round => format!(in alloc; "round {first}: {second}"),
+        Event::Switch => format!(in alloc; "switch: {first} owed"),
+        Event::Break => break_words(alloc, first, second),
+        Event::Resume => format!(in alloc; "resume, epoch {first}"),
+        event => String::from_str(alloc, plain_words(event)),
+    }
 }
 
 /// The row of words that begin at a place and are so wide: one above each of those on the right that begin under them.
@@ -83,9 +100,8 @@ fn staircase(alloc: Global, plan: &Plan, record: &Record, least: u8) -> Result<L
     let mut rows = 0u64;
     for mark in record.marks.iter().rev() {
         let x = plan.x_at(mark.line);
-        let rank = rank_of(mark.event);
         let words = words_of(alloc, mark)?;
-        let row = if rank < least {
+        let row = if rank_of(mark.event) < least {
             None
         } else {
             let row = row_above(&labels, x, width_of(&words, 100).saturating_add(60));
@@ -95,7 +111,7 @@ fn staircase(alloc: Global, plan: &Plan, record: &Record, least: u8) -> Result<L
         labels.push(Label {
             x,
             words,
-            rank,
+            event: mark.event,
             row,
         })?;
     }
@@ -119,57 +135,43 @@ pub(super) fn find_labels(alloc: Global, plan: &Plan, record: &Record) -> Result
     staircase(alloc, plan, record, 5)
 }
 
-/// Draws a mark.
-fn mark(pen: &mut Pen, plan: &Plan, label: &Label) -> Result<(), NoMemory> {
-    let row = label.row.unwrap_or(0);
-    let y = plan.top.saturating_sub(row.saturating_mul(ROW));
-    let class = match label.rank {
-        4 if label.words.as_str().starts_with("break") => "g4",
-        3 | 4 => "g3",
-        _ => "g1",
-    };
-    let begin = if label.row.is_some() {
-        y.saturating_sub(90)
-    } else {
-        plan.top
-    };
-    pen.line(
-        class,
-        (label.x, begin),
-        (label.x, plan.bottom),
-        &label.words,
-    )?;
-    if label.row.is_none() {
-        return Ok(());
+/// The class of the line of a mark, and of its words.
+fn classes_of(event: Event) -> (&'static str, &'static str) {
+    match event {
+        Event::Break => ("g4", "n4 ha"),
+        Event::Switch | Event::Package | Event::Complete => ("g3", "n4 ha"),
+        Event::Start | Event::Resume => ("g3", "ha"),
+        _ => ("g1", "sm ha"),
     }
-    let class = match label.rank {
-        4 => "n4 ha",
-        3 => "ha",
-        _ => "sm ha",
+}
+
+/// Draws a mark, with its words if they have a row.
+fn mark(pen: &mut Pen, plan: &Plan, label: &Label) {
+    let (line, words) = classes_of(label.event);
+    let foot = (label.x, plan.bottom);
+    let title = String::from_str(pen.alloc, &label.words);
+    pen.name(title);
+    let Some(row) = label.row else {
+        return pen.line(line, (label.x, plan.top), foot);
     };
-    pen.words(class, (label.x.saturating_add(30), y), &label.words)
+    let y = plan.top.saturating_sub(row.saturating_mul(ROW));
+    pen.line(line, (label.x, y.saturating_sub(90)), foot);
+    pen.words(words, (label.x.saturating_add(30), y), &label.words);
 }
 
 /// Draws the marks. Of those without words at one place, the last is drawn.
-pub(super) fn marks(pen: &mut Pen, plan: &Plan, labels: &Labels) -> Result<(), NoMemory> {
+pub(super) fn marks(pen: &mut Pen, plan: &Plan, labels: &Labels) {
     let mut before = u64::MAX;
     for label in &labels.labels {
         if label.row.is_some() || label.x != before {
-            mark(pen, plan, label)?;
+            mark(pen, plan, label);
         }
         before = label.x;
     }
-    Ok(())
 }
 
 /// Draws a ground from one line to another.
-fn ground(
-    pen: &mut Pen,
-    plan: &Plan,
-    class: &str,
-    lines: (u32, u32),
-    rows: (u64, u64),
-) -> Result<(), NoMemory> {
+fn ground(pen: &mut Pen, plan: &Plan, class: &str, lines: (u32, u32), rows: (u64, u64)) {
     let x = plan.x_at(lines.0);
     let frame = Frame {
         x,
@@ -177,88 +179,88 @@ fn ground(
         width: plan.x_at(lines.1).saturating_sub(x),
         height: rows.1.saturating_sub(rows.0),
     };
-    pen.rectangle(class, frame, "")
+    pen.rectangle(class, frame);
+}
+
+/// The line of the first mark of one of two kinds behind a line; the end of the columns if there is none.
+fn line_behind(record: &Record, line: u32, one: Event, other: Event) -> u32 {
+    for mark in &record.marks {
+        if mark.line > line && (mark.event == one || mark.event == other) {
+            return mark.line;
+        }
+    }
+    u32::MAX
 }
 
 /// Draws the ground while nobody runs the processors, and while there is no link.
-pub(super) fn grounds(pen: &mut Pen, plan: &Plan, record: &Record) -> Result<(), NoMemory> {
-    let mut switched = None;
-    let mut broken = None;
-    let last = u32::MAX;
+pub(super) fn grounds(pen: &mut Pen, plan: &Plan, record: &Record) {
     for mark in &record.marks {
-        match mark.event {
-            Event::Switch => switched = Some(mark.line),
-            Event::Break => broken = Some(mark.line),
-            Event::Package => {
-                let lines = (switched.take().unwrap_or(mark.line), mark.line);
-                ground(
-                    pen,
-                    plan,
-                    "st",
-                    lines,
-                    (plan.top.saturating_add(60), plan.bottom),
-                )?;
-            }
-            Event::Resume => {
-                let lines = (broken.take().unwrap_or(mark.line), mark.line);
-                ground(pen, plan, "nl", lines, (plan.forward.0, plan.back.0))?;
-            }
-            _ => {}
+        if mark.event == Event::Switch {
+            let end = line_behind(record, mark.line, Event::Package, Event::Complete);
+            let rows = (plan.top.saturating_add(60), plan.bottom);
+            ground(pen, plan, "st", (mark.line, end), rows);
+        }
+        if mark.event == Event::Break {
+            let end = line_behind(record, mark.line, Event::Resume, Event::Break);
+            let rows = (plan.forward.0, plan.back.0);
+            ground(pen, plan, "nl", (mark.line, end), rows);
         }
     }
-    if let Some(line) = switched {
-        ground(
-            pen,
-            plan,
-            "st",
-            (line, last),
-            (plan.top.saturating_add(60), plan.bottom),
-        )?;
+}
+
+/// The words of a part of the migration for which there is room: its name and its steps, its steps alone, or none.
+fn phase_words(pen: &mut Pen, word: &str, steps: u32, room: u64) -> String {
+    let text = format!(in pen.alloc; "{word}: {steps} steps");
+    let mut words = pen.made(text);
+    if width_of(&words, 95).saturating_add(100) > room {
+        let text = format!(in pen.alloc; "{steps}");
+        words = pen.made(text);
     }
-    if let Some(line) = broken {
-        ground(pen, plan, "nl", (line, last), (plan.forward.0, plan.back.0))?;
+    if width_of(&words, 95).saturating_add(100) > room {
+        words.clear();
     }
-    Ok(())
+    words
 }
 
 /// Writes how long a part of the migration took, where there is room.
-fn phase(pen: &mut Pen, plan: &Plan, word: &str, lines: (u32, u32)) -> Result<(), NoMemory> {
-    let count = lines.1.saturating_sub(lines.0);
+fn phase(pen: &mut Pen, plan: &Plan, word: &str, lines: (u32, u32)) {
+    let steps = lines.1.saturating_sub(lines.0);
     let left = plan.x_at(lines.0);
     let right = plan.x_at(lines.1);
     let room = right.saturating_sub(left);
+    let words = phase_words(pen, word, steps, room);
+    let half = width_of(&words, 110) / 2;
+    let middle = left.saturating_add(room / 2);
     let y = plan.top.saturating_add(150);
-    let middle = (left.saturating_add(room / 2), y.saturating_add(35));
-    pen.line("g3", (left, y), (right, y), "")?;
-    let long = format!(in pen.alloc; "{word}: {count} lines")?;
-    if width_of(&long, 95).saturating_add(40) <= room {
-        return pen.words("mi ha", middle, &long);
+    pen.line("g3", (left, y), (middle.saturating_sub(half), y));
+    pen.line("g3", (middle.saturating_add(half), y), (right, y));
+    pen.words("mi", (middle, y.saturating_add(35)), &words);
+}
+
+/// What follows a mark, if the migration is in another part then.
+fn part_behind(event: Event) -> Option<&'static str> {
+    match event {
+        Event::Start => Some("pre-copy"),
+        Event::Switch => Some("nobody runs"),
+        Event::Package => Some("post-copy"),
+        Event::Complete => Some("after"),
+        _ => None,
     }
-    let short = format!(in pen.alloc; "{count}")?;
-    if width_of(&short, 95).saturating_add(40) <= room {
-        return pen.words("mi ha", middle, &short);
-    }
-    Ok(())
 }
 
 /// Writes how long each part of a migration took.
-pub(super) fn phases(pen: &mut Pen, plan: &Plan, record: &Record) -> Result<(), NoMemory> {
+pub(super) fn phases(pen: &mut Pen, plan: &Plan, record: &Record) {
     let mut from = 0u32;
     let mut word = "guest at the source";
     for mark in &record.marks {
-        let next = match mark.event {
-            Event::Start => "pre-copy",
-            Event::Switch => "nobody runs",
-            Event::Package => "post-copy",
-            Event::Complete => "after",
-            _ => continue,
-        };
-        phase(pen, plan, word, (from, mark.line))?;
-        from = mark.line;
-        word = next;
+        if let Some(next) = part_behind(mark.event) {
+            phase(pen, plan, word, (from, mark.line));
+            from = mark.line;
+            word = next;
+        }
     }
-    if record.marks.is_empty() {
-        return Ok(());
+    let last = plan.columns.lines.saturating_sub(1);
+    if !record.marks.is_empty() && from < last {
+        phase(pen, plan, word, (from, last));
     }
-    phase(pen, plan, word, (from, plan.columns.lines))
 }

@@ -1,14 +1,20 @@
 //! The wires: each frame from the line that sent it to the line that took or lost it.
 
 use super::bands::line_of;
-use crate::pen::{Pen, width_of};
+use crate::pen::{Pages, Pen, Place, share, width_of};
 use crate::plan::{LEFT, Plan};
 use crate::record::{End, Flight, Kind, Record};
+use crate::state::State;
 use mig_base::NoMemory;
 use std::alloc::Global;
 
 /// Where words stand on the line of a frame, in tenths of its way.
 const HEIGHTS: [u64; 5] = [5, 3, 7, 2, 8];
+
+/// The most words, and the most frames with pages of a wire that have words in a picture of many lines.
+const MOST_WORDS: usize = 400;
+
+const MOST_FRAMES: usize = 16;
 
 /// A wire as it is drawn: where its frames begin and end, and the class of their pages.
 #[derive(Clone, Copy)]
@@ -22,7 +28,7 @@ impl Strand {
     /// The place of a frame on its way, after a part of the whole.
     fn part(self, part: u64, whole: u64) -> u64 {
         let reach = self.from.abs_diff(self.to);
-        let along = reach.saturating_mul(part).checked_div(whole).unwrap_or(0);
+        let along = share(reach, part, whole);
         if self.from < self.to {
             self.from.saturating_add(along)
         } else {
@@ -41,7 +47,7 @@ fn ending(flight: &Flight) -> &'static str {
 }
 
 /// The place where a frame ends: a lost one where the break found it, the oldest farthest.
-fn end_of(plan: &Plan, strand: Strand, flight: &Flight, oldest: u32) -> (u64, u64) {
+fn end_of(plan: &Plan, strand: Strand, flight: &Flight, oldest: u32) -> Place {
     match flight.end {
         End::Taken => (plan.x_at(flight.ended), strand.to),
         End::Lost => {
@@ -55,83 +61,22 @@ fn end_of(plan: &Plan, strand: Strand, flight: &Flight, oldest: u32) -> (u64, u6
     }
 }
 
-/// Draws a frame.
-fn flight(
-    pen: &mut Pen,
-    plan: &Plan,
-    record: &Record,
-    strand: Strand,
-    flight: &Flight,
-    oldest: u32,
-) -> Result<(), NoMemory> {
-    let from = (plan.x_at(flight.sent), strand.from);
-    let to = end_of(plan, strand, flight, oldest);
-    let word = flight.kind.word();
-    let page = u64::from(flight.page) * 4096;
-    let first = line_of(plan, record, plan.columns.of(flight.sent));
-    let last = line_of(plan, record, plan.columns.of(flight.ended));
-    let ended = ending(flight);
-    let title = if flight.kind.has_page() {
-        format!(in pen.alloc; "{word} 0x{page:x}: sent at line {first}, {ended} {last}")?
-    } else {
-        format!(in pen.alloc; "{word}: sent at line {first}, {ended} {last}")?
-    };
-    let class = match flight.end {
-        End::Lost => "ls",
-        _ if flight.kind.has_page() => strand.class,
-        _ => "lo",
-    };
-    pen.line(class, from, to, &title)?;
-    if flight.end == End::Lost {
-        pen.cross("lx", to, 30, &title)?;
-    }
-    Ok(())
+/// A frame with the place where it was sent, and where it ended.
+#[derive(Clone, Copy)]
+struct Route {
+    flight: Flight,
+    from: Place,
+    to: Place,
 }
 
-/// What a frame is, in a word.
-fn flight_words(alloc: Global, flight: &Flight) -> Result<String, NoMemory> {
-    let page = u64::from(flight.page) * 4096;
-    let more = flight.pages.saturating_sub(1);
-    let words = match flight.kind {
-        Kind::Page | Kind::Request if more == 0 => format!(in alloc; "0x{page:x}")?,
-        Kind::Page => format!(in alloc; "0x{page:x} +{more}")?,
-        Kind::Zero => format!(in alloc; "0x{page:x} zeros")?,
-        _ => String::from_str(alloc, flight.kind.word())?,
-    };
-    Ok(words)
-}
-
-/// Writes what a frame is on its line, at the first of some heights where there is room.
-fn flight_label(
-    pen: &mut Pen,
+/// The frames of a wire. Of those that have the same columns, the first is there.
+fn routes_of(
+    alloc: Global,
     plan: &Plan,
-    strand: Strand,
-    flight: &Flight,
-    free: &mut [u64; 5],
-) -> Result<(), NoMemory> {
-    let words = flight_words(pen.alloc, flight)?;
-    let half = width_of(&words, 90) / 2;
-    let from = plan.x_at(flight.sent);
-    let reach = plan.x_at(flight.ended).saturating_sub(from);
-    for (free, height) in free.iter_mut().zip(HEIGHTS.iter()) {
-        let x = from.saturating_add(reach.saturating_mul(*height) / 10);
-        if x >= free.saturating_add(half) {
-            *free = x.saturating_add(half).saturating_add(40);
-            let y = strand.part(*height, 10).saturating_add(30);
-            return pen.words("mo mi ha", (x, y), &words);
-        }
-    }
-    Ok(())
-}
-
-/// Draws the frames of a wire. Where two have the same columns, the first is drawn.
-fn frames(
-    pen: &mut Pen,
-    plan: &Plan,
-    record: &Record,
     strand: Strand,
     flights: &[Flight],
-) -> Result<(), NoMemory> {
+) -> Result<Vec<Route>, NoMemory> {
+    let mut routes = Vec::new(alloc);
     let mut before = (u32::MAX, u32::MAX);
     let mut lost = (u32::MAX, 0u32);
     for one in flights {
@@ -140,81 +85,170 @@ fn frames(
         }
         let place = (plan.columns.of(one.sent), plan.columns.of(one.ended));
         if place != before {
-            flight(pen, plan, record, strand, one, lost.1)?;
+            routes.push(Route {
+                flight: *one,
+                from: (plan.x_at(one.sent), strand.from),
+                to: end_of(plan, strand, one, lost.1),
+            })?;
         }
         before = place;
     }
+    Ok(routes)
+}
+
+/// Gives the next shape what a viewer shows of a frame: when it was sent, and how it ended.
+fn name(pen: &mut Pen, plan: &Plan, record: &Record, flight: &Flight) {
+    let first = line_of(plan, record, plan.columns.of(flight.sent));
+    let last = line_of(plan, record, plan.columns.of(flight.ended));
+    let ended = ending(flight);
+    let title = format!(in pen.alloc; "{flight}: sent at line {first}, {ended} {last}");
+    pen.name(title);
+}
+
+/// Draws a frame: as an arrow if it was taken and there is room, with a cross at its end if it was lost.
+fn draw_frame(pen: &mut Pen, plan: &Plan, record: &Record, class: &str, route: &Route) {
+    name(pen, plan, record, &route.flight);
+    let class = if route.flight.kind.has_page() {
+        class
+    } else {
+        "lo"
+    };
+    match route.flight.end {
+        End::Taken if plan.is_small() => pen.arrow(class, route.from, route.to),
+        End::Taken | End::Open => pen.line(class, route.from, route.to),
+        End::Lost => {
+            pen.line("ls", route.from, route.to);
+            pen.cross("lx", route.to, 30);
+        }
+    }
+}
+
+/// Draws the frames of a wire.
+fn frames(pen: &mut Pen, plan: &Plan, record: &Record, strand: Strand, routes: &[Route]) {
+    for route in routes {
+        draw_frame(pen, plan, record, strand.class, route);
+    }
+}
+
+/// Words on a wire: where they begin and end, and how far down they stand.
+#[derive(Clone, Copy)]
+struct Words {
+    left: u64,
+    right: u64,
+    y: u64,
+}
+
+/// Whether words touch no others.
+fn is_free(words: Words, others: &[Words]) -> bool {
+    for other in others {
+        let beside = words.left > other.right || other.left > words.right;
+        if !beside && words.y.abs_diff(other.y) < 85 {
+            return false;
+        }
+    }
+    true
+}
+
+/// A place for words that are so wide on the line of a frame: the first of some heights where there is room.
+fn place_of(route: &Route, width: u64, written: &[Words]) -> Option<Words> {
+    let half = (width / 2).saturating_add(25);
+    let reach = route.to.0.saturating_sub(route.from.0);
+    let way = Strand {
+        from: route.from.1,
+        to: route.to.1,
+        class: "",
+    };
+    for height in &HEIGHTS {
+        let x = route.from.0.saturating_add(share(reach, *height, 10));
+        let place = Words {
+            left: x.saturating_sub(half),
+            right: x.saturating_add(half),
+            y: way.part(*height, 10).saturating_add(30),
+        };
+        if is_free(place, written) {
+            return Some(place);
+        }
+    }
+    None
+}
+
+/// Writes what a frame is on its line, if there is room.
+fn frame_label(pen: &mut Pen, route: &Route, written: &mut Vec<Words>) -> Result<(), NoMemory> {
+    let flight = &route.flight;
+    let pages = Pages(flight.page, flight.pages);
+    let text = if matches!(flight.kind, Kind::Page | Kind::Request) {
+        format!(in pen.alloc; "{pages}")
+    } else {
+        format!(in pen.alloc; "{flight}")
+    };
+    let words = pen.made(text);
+    if let Some(place) = place_of(route, width_of(&words, 90), written) {
+        let x = place.left.saturating_add(place.right) / 2;
+        pen.words("mo mi ha", (x, place.y), &words);
+        written.push(place)?;
+    }
     Ok(())
 }
 
-/// Writes what the frames of a wire are, where there is room.
+/// Writes what the frames of a wire are, where there is room: if their pages are named, also on the lines of those that have pages.
 fn frame_labels(
     pen: &mut Pen,
-    plan: &Plan,
-    strand: Strand,
-    flights: &[Flight],
+    routes: &[Route],
+    pages: bool,
+    written: &mut Vec<Words>,
 ) -> Result<(), NoMemory> {
-    let mut free = [0; 5];
-    for one in flights {
-        if one.end == End::Taken {
-            flight_label(pen, plan, strand, one, &mut free)?;
+    for route in routes {
+        if (pages || !route.flight.kind.has_page()) && written.len() < MOST_WORDS {
+            frame_label(pen, route, written)?;
         }
     }
     Ok(())
 }
 
-/// Draws the rails between which frames travel, with their names.
-fn rails(pen: &mut Pen, plan: &Plan) -> Result<(), NoMemory> {
-    let top = plan.forward.0;
-    pen.words("n3", (100, top.saturating_sub(50)), "wires")?;
-    for y in [plan.forward.0, plan.forward.1, plan.back.0, plan.back.1] {
-        pen.line("g1", (LEFT, y), (plan.right(), y), "")?;
-    }
-    pen.words("sm en", (LEFT - 60, top.saturating_add(40)), "source")?;
-    pen.words("en", (LEFT - 60, top.saturating_add(450)), "down")?;
-    pen.words(
-        "sm en",
-        (LEFT - 60, plan.forward.1.saturating_add(20)),
-        "destination",
-    )?;
-    pen.words(
-        "en",
-        (LEFT - 60, plan.back.1.saturating_add(230)),
-        "back, up",
-    )
-}
-
-/// Writes how many pages were sent, and how many of them were lost.
-fn sums(pen: &mut Pen, plan: &Plan, record: &Record) -> Result<(), NoMemory> {
-    let mut pages = 0u32;
-    let mut lost = 0u32;
-    for one in record
-        .forward
-        .flights
-        .iter()
-        .chain(record.urgent.flights.iter())
-    {
-        if one.kind.has_page() {
-            pages = pages.saturating_add(one.pages);
-            if one.end == End::Lost {
-                lost = lost.saturating_add(one.pages);
-            }
+/// Draws thin lines from the rows of pages at the source to where they are sent.
+fn departures(pen: &mut Pen, plan: &Plan, routes: &[Route]) {
+    for route in routes {
+        if route.flight.kind.has_page()
+            && let Some(y) = plan.source.middle_of(route.flight.page)
+        {
+            pen.line("g6", (route.from.0, y), route.from);
         }
     }
-    let x = plan.right().saturating_add(100);
-    let y = plan.forward.0.saturating_add(120);
-    let text = format!(in pen.alloc; "{pages} pages sent")?;
-    pen.words("", (x, y), &text)?;
-    if lost == 0 {
-        return Ok(());
-    }
-    let text = format!(in pen.alloc; "{lost} of them lost")?;
-    pen.words("", (x, y.saturating_add(120)), &text)
 }
 
-/// Draws the wires.
-pub(super) fn wires(pen: &mut Pen, plan: &Plan, record: &Record) -> Result<(), NoMemory> {
-    rails(pen, plan)?;
+/// Draws thin lines from where pages are taken to their rows at the destination.
+fn arrivals(pen: &mut Pen, plan: &Plan, record: &Record) {
+    for change in &record.destination.changes {
+        if matches!(change.state, State::Came | State::Kept)
+            && let Some(y) = plan.destination.middle_of(change.row)
+        {
+            let x = plan.x_at(change.line);
+            pen.line("g6", (x, plan.forward.1), (x, y));
+        }
+    }
+}
+
+/// Draws a rail between which frames travel, and writes words beside it.
+fn rail(pen: &mut Pen, plan: &Plan, y: u64, words: &str) {
+    pen.line("g1", (LEFT, y), (plan.right(), y));
+    pen.words("sm en", (LEFT - 60, y.saturating_add(30)), words);
+}
+
+/// Draws the rails, with the names of the wires.
+fn rails(pen: &mut Pen, plan: &Plan) {
+    rail(pen, plan, plan.forward.0, "source");
+    rail(pen, plan, plan.forward.1, "destination");
+    rail(pen, plan, plan.back.0, "");
+    rail(pen, plan, plan.back.1, "");
+    let top = plan.forward.0;
+    pen.words("n3", (100, top.saturating_sub(50)), "wires");
+    pen.words("en", (LEFT - 60, top.saturating_add(450)), "forward");
+    let middle = plan.back.1.saturating_add(230);
+    pen.words("en", (LEFT - 60, middle), "back");
+}
+
+/// Draws the frames to the destination.
+fn forward(pen: &mut Pen, plan: &Plan, record: &Record) -> Result<(), NoMemory> {
     let down = Strand {
         from: plan.forward.0,
         to: plan.forward.1,
@@ -224,18 +258,38 @@ pub(super) fn wires(pen: &mut Pen, plan: &Plan, record: &Record) -> Result<(), N
         class: "lu",
         ..down
     };
+    let slow = routes_of(pen.alloc, plan, down, &record.forward.flights)?;
+    let fast = routes_of(pen.alloc, plan, urgent, &record.urgent.flights)?;
+    let small = plan.is_small();
+    if small {
+        departures(pen, plan, &slow);
+        departures(pen, plan, &fast);
+        arrivals(pen, plan, record);
+    }
+    frames(pen, plan, record, down, &slow);
+    frames(pen, plan, record, urgent, &fast);
+    let mut written = Vec::new(pen.alloc);
+    frame_labels(pen, &fast, small || fast.len() <= MOST_FRAMES, &mut written)?;
+    frame_labels(pen, &slow, small, &mut written)
+}
+
+/// Draws the frames back to the source.
+fn back(pen: &mut Pen, plan: &Plan, record: &Record) -> Result<(), NoMemory> {
     let up = Strand {
         from: plan.back.0,
         to: plan.back.1,
         class: "lq",
     };
-    frames(pen, plan, record, down, &record.forward.flights)?;
-    frames(pen, plan, record, urgent, &record.urgent.flights)?;
-    frames(pen, plan, record, up, &record.back.flights)?;
-    if plan.is_small() {
-        frame_labels(pen, plan, down, &record.forward.flights)?;
-        frame_labels(pen, plan, urgent, &record.urgent.flights)?;
-        frame_labels(pen, plan, up, &record.back.flights)?;
-    }
-    sums(pen, plan, record)
+    let routes = routes_of(pen.alloc, plan, up, &record.back.flights)?;
+    frames(pen, plan, record, up, &routes);
+    let few = plan.is_small() || routes.len() <= MOST_FRAMES;
+    let mut written = Vec::new(pen.alloc);
+    frame_labels(pen, &routes, few, &mut written)
+}
+
+/// Draws the wires.
+pub(super) fn wires(pen: &mut Pen, plan: &Plan, record: &Record) -> Result<(), NoMemory> {
+    rails(pen, plan);
+    forward(pen, plan, record)?;
+    back(pen, plan, record)
 }

@@ -1,7 +1,7 @@
 //! Pages: what each is at the source and at the destination.
 
 use super::{Before, Node, Recorder, end_of, page_at, page_of};
-use crate::record::Change;
+use crate::record::{Change, Move};
 use crate::state::State;
 use mig_base::cpu_state::CpuState;
 use mig_base::effect::Effect;
@@ -126,9 +126,16 @@ impl Recorder {
         Ok(())
     }
 
-    /// Lets the pages of a range keep what they are where they move to: the world is asked after that.
+    /// Notes that a mapping has moved, and lets its pages keep what they are where they move to: the world is asked after that.
     fn carry(&mut self, from: PageNo, to: PageNo, count: u32) -> Result<(), NoMemory> {
-        if self.node() == Node::Source {
+        let at_destination = self.node() == Node::Destination;
+        self.record.moves.push(Move {
+            line: self.line,
+            from,
+            to,
+            at_destination,
+        })?;
+        if !at_destination {
             return Ok(());
         }
         for at in 0..count {
