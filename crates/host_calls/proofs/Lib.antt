@@ -1,0 +1,7 @@
+pub mod AreaRuns
+pub mod MadeCalls
+pub mod ReadSteps
+pub mod Woken
+pub mod ListedCalls
+pub mod Moving
+pub mod StepLines

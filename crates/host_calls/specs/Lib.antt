@@ -1,0 +1,5 @@
+pub mod Calls
+pub mod Made
+pub mod Parts
+pub mod Stepped
+pub mod Texts
