@@ -57,7 +57,19 @@ fn wire_argument<'a>(alloc: Global, name: &'static str, help: &'a str) -> Arg<'a
         .help(help)
 }
 
-/// `postmig run [--cpus N] [--transcript] [--wire FILE] [--back FILE] [--urgent FILE] [--explain] [FILE]`.
+/// `--steps`, for which a run has to write the lines of its steps alone.
+fn calls_argument<'a>(alloc: Global) -> Result<Arg<'a>, AllocError> {
+    Arg::new(alloc, "steps")
+        .long("steps")
+        .help("Writes behind each line the calls of a host that its step stands for")
+        .action(ArgAction::SetTrue)
+        .conflicts_with("transcript")?
+        .conflicts_with("wire")?
+        .conflicts_with("back")?
+        .conflicts_with("urgent")
+}
+
+/// `postmig run [--cpus N] [--transcript] [--steps] [--wire FILE] [--back FILE] [--urgent FILE] [--explain] [FILE]`.
 fn run_command<'a>(alloc: Global) -> Result<Command<'a>, AllocError> {
     let transcript = Arg::new(alloc, "transcript")
         .long("transcript")
@@ -67,6 +79,7 @@ fn run_command<'a>(alloc: Global) -> Result<Command<'a>, AllocError> {
         .about("Runs a script")
         .arg(cpus_argument(alloc))?
         .arg(transcript)?
+        .arg(calls_argument(alloc)?)?
         .arg(wire_argument(
             alloc,
             "wire",

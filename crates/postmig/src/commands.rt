@@ -20,6 +20,7 @@ use explore::{Plan, Profile, run_explore};
 use finishing::{Ending, finish_script};
 use frames::run_frames;
 use grammar::Language;
+use host_calls::run_steps;
 use lint::lint_lines;
 use std::env::{Env, FillError};
 use std::io::Stdout;
@@ -50,7 +51,12 @@ fn run(rt: &HostRuntime, matches: &ArgMatches) -> u8 {
     if has_taps(matches) {
         return run_with_taps(rt, matches, &mut input, &mut output, cpus, mode);
     }
-    let outcome = run_script(rt.alloc(), &mut input, &mut output, cpus, mode).map(|()| true);
+    let ran = if matches.get_flag("steps") {
+        run_steps(rt.alloc(), &mut input, &mut output, cpus)
+    } else {
+        run_script(rt.alloc(), &mut input, &mut output, cpus, mode)
+    };
+    let outcome = ran.map(|()| true);
     let status = end(rt, matches, &input, &output, outcome);
     say_wrong_lines(rt, matches, Language::Script, &outcome);
     status
