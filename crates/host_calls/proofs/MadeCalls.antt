@@ -35,6 +35,7 @@ use Rattle.mig_model.proofs.Registering.{pages_again}
 use Rattle.mig_model.proofs.RightCommands.{AllRight, right_source}
 use Rattle.mig_model.proofs.SourceRounds.{precopy_unswitched}
 use Rattle.mig_model.proofs.StepCases.{made-effect, made-next}
+use Rattle.mig_model.proofs.SetSizes.{only_where}
 use Rattle.host_calls.specs.declared.call.Call.{Call}
 use Rattle.host_calls.specs.Calls.{areas_at, calls_of, guest_at, installed_calls, is_of_host, node_of, pages_from, pushed_calls, read_calls, registers, resolved_calls, run_calls, sent_calls, taken_calls}
 use Rattle.host_calls.specs.Made.{AreMade, first_bytes}
@@ -176,9 +177,6 @@ push_urgent_made world ticket effect bytes is =
 
 -- Messages that are read
 
-ran_late : (ran switched : Bool) → (ran ≡ true → switched ≡ true) → switched ≡ false → ran ≡ false
-ran_late ran switched late before = grind (arith, nat_tests)
-
 right_destination : (ran : Bool) (from to : Guest) → ran ≡ true → AllRight (guest_by ran from to).cpus → AllRight to.cpus
 right_destination ran from to runs right = grind (arith, nat_tests)
 
@@ -190,7 +188,7 @@ pub source_read_made : (cpus : ℕ) (world : World) (effect : Effect) (bytes : L
 source_read_made cpus world effect bytes all is =
     made-effect (λ e new. AreMade bytes (read_calls e) world.source.guest new.source.guest) world Step.SourceRead effect
     (λ noted some started unswitched.
-    let ran = ran_late world.destination.has_run world.source.switched all.ready.kept.phases.ran_after_switch unswitched in
+    let ran = only_where world.destination.has_run world.source.switched all.ready.kept.phases.ran_after_switch unswitched in
     read_made bytes world.source.guest noted noted.cpu noted.message (source_enabled cpus world all unswitched) some (right_source world.destination.has_run world.source.guest world.destination.guest ran all.ready.right)) is
 
 pub destination_read_made : (cpus : ℕ) (world : World) (effect : Effect) (bytes : List ℕ) → IsBounded cpus world → outcome world Step.DestRead ≡ Ok effect → AreMade bytes (read_calls effect) world.destination.guest (next world Step.DestRead).destination.guest
