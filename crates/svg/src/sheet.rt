@@ -89,7 +89,7 @@ impl Sheet {
         Ok(())
     }
 
-    /// Closes all elements, and returns the text of the picture. `NoMemory` comes too if an earlier call ran out of memory.
+    /// Closes all elements, and returns the text of the picture. An earlier call that ran out of memory makes it `NoMemory`, too.
     pub fn finish(self) -> Result<Vec<u8>, NoMemory>
         ensures { IfOk result (λ bytes. IsPicture bytes.items) }
     {
