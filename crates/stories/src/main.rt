@@ -1,10 +1,14 @@
 //! Plays stories: scripts and transcripts that lie in `data/`, each with what it must print beside it.
 //!
 //! The file `stories` names one a line, by a [`Kind`] and the name of its files. For each story one line goes to standard output,
-//! which says whether the story printed what is stored, and of a script also what a check says of its transcript. The exit status
-//! is 1 where one did not, and 2 where a file cannot be read. A further story is a line and its files. Runs have two processors.
+//! which says whether the story printed what is stored, and of a script also what a check says of its transcript, or after how many lines
+//! its migration was finished. The exit status is 1 where one did not pass, and 2 where a file cannot be read. A further story is a line
+//! and its files. Runs have two processors. The folder `examples` at the top has links to files of `data/`.
 #![tactic(auto)]
 
+mod finished;
+
+use crate::finished::finish_prefixes;
 use engine::{Mode, RunFault, check_script, run_script};
 use grammar::Language;
 use lint::lint_lines;
@@ -35,6 +39,8 @@ enum Kind {
     Lint,
     /// No line of `NAME.transcript` is listed as wrong.
     LintTranscript,
+    /// The migration of `NAME.script` is finished from each of its prefixes.
+    Finish,
 }
 
 impl Kind {
@@ -47,6 +53,7 @@ impl Kind {
             "entries" => Some(Kind::Entries),
             "lint" => Some(Kind::Lint),
             "lint-transcript" => Some(Kind::LintTranscript),
+            "finish" => Some(Kind::Finish),
             _ => None,
         }
     }
@@ -54,7 +61,7 @@ impl Kind {
     /// What the name of the file ends with that is read.
     fn input(self) -> &'static str {
         match self {
-            Kind::Run | Kind::Print | Kind::Lint => "script",
+            Kind::Run | Kind::Print | Kind::Lint | Kind::Finish => "script",
             Kind::Check | Kind::LintTranscript => "transcript",
             Kind::Lines => "lines",
             Kind::Entries => "entries",
@@ -121,6 +128,7 @@ fn printed(alloc: Global, kind: Kind, input: &[u8]) -> Result<Vec<u8>, AllocErro
         Kind::Run => print_run(alloc, &mut text, input, Mode::Lines)?,
         Kind::Print => print_run(alloc, &mut text, input, Mode::Transcript)?,
         Kind::Check => print_check(alloc, &mut text, input)?,
+        Kind::Finish => {}
         Kind::Lint => print_listing(alloc, &mut text, input, Language::Script)?,
         Kind::LintTranscript => print_listing(alloc, &mut text, input, Language::Transcript)?,
         Kind::Lines => {
@@ -163,6 +171,19 @@ fn play(rt: &HostRuntime, kind: Kind, name: &str) -> io::Result<bool> {
     Ok(printed(rt.alloc(), kind, &input)? == stored)
 }
 
+/// Finishes a script from each of its prefixes, and prints how it went.
+fn play_finish(rt: &HostRuntime, line: &str, name: &str) -> io::Result<bool> {
+    let script = read(rt, name, Kind::Finish.input())?;
+    match finish_prefixes(rt.alloc(), &script) {
+        Ok(lines) => println!(rt; "{line}: finished after 0 to {lines} lines")?,
+        Err(lines) => {
+            println!(rt; "{line}: NOT FINISHED after {lines} lines")?;
+            return Ok(false);
+        }
+    }
+    Ok(true)
+}
+
 /// Plays the story of a line, and prints how it went.
 fn play_line(rt: &HostRuntime, line: &str) -> io::Result<bool> {
     let Some((word, name)) = line.split_once(' ') else {
@@ -173,6 +194,9 @@ fn play_line(rt: &HostRuntime, line: &str) -> io::Result<bool> {
         println!(rt; "{line}: not a story")?;
         return Ok(false);
     };
+    if kind == Kind::Finish {
+        return play_finish(rt, line, name);
+    }
     let same = play(rt, kind, name)?;
     let says = if same { "as stored" } else { "DIFFERS" };
     if kind == Kind::Run {

@@ -1,15 +1,10 @@
-//! Finishes the migration of each script of `data/` from each of its prefixes. The scripts are those that `stories` runs, and the file
-//! `scripts` names them.
+//! Finishes the migration of a script from each of its prefixes.
 //!
 //! After the lines of a prefix the world is finished. A second world that was made by the same lines makes the steps that this
-//! answers: it says before each that it is not refused, and both are complete. Each step of the lines is asked for too, before it
-//! is made. For each script one line goes to standard output. The exit status is 1 where one did not pass, and 2 where a file cannot
-//! be read. Runs have two processors.
-#![tactic(auto)]
+//! returns: it says before each that it is not refused, and both are complete. Each step of the lines is asked for too, before it
+//! is made.
 
-#[cfg(test)]
-mod edges;
-
+use crate::CPUS;
 use finish::{finish, next_to_finish};
 use grammar::parse::parse;
 use grammar::{Language, Line, Token};
@@ -17,15 +12,18 @@ use mig_base::WorldPhase;
 use mig_base::refusal::Refusal;
 use mig_base::schedule::Step;
 use std::alloc::Global;
-use std::process::ExitCode;
-use std::{fs, io};
 use world::World;
 
-const CPUS: u8 = 2;
-
-const FAILS: u8 = 1;
-
-const NOT_PLAYED: u8 = 2;
+/// The number of lines of a script, or the number of lines after which it was not finished.
+pub(crate) fn finish_prefixes(alloc: Global, script: &[u8]) -> Result<usize, usize> {
+    let prefixes = script.split(|byte| *byte == b'\n').count();
+    for count in 0..prefixes {
+        if !finishes(alloc, script, count) {
+            return Err(count);
+        }
+    }
+    Ok(prefixes.saturating_sub(1))
+}
 
 /// Makes a step, and says whether it was answered before as it is now. A step that finds no memory is made again.
 fn make_asked(world: &mut World, step: Step) -> bool {
@@ -90,7 +88,7 @@ fn is_complete(world: &World) -> bool {
     world.phase() == WorldPhase::Complete && next_to_finish(world).is_none()
 }
 
-/// Whether the world after the first lines is finished by steps none of which is refused.
+/// Whether the world after the first lines of a script is finished by steps none of which is refused.
 fn finishes(alloc: Global, script: &[u8], count: usize) -> bool {
     let Some(mut world) = world_after(alloc, script, count) else {
         return false;
@@ -107,43 +105,4 @@ fn finishes(alloc: Global, script: &[u8], count: usize) -> bool {
         }
     }
     is_complete(&world) && is_complete(&again)
-}
-
-/// Plays a script, and prints from how many prefixes it was finished.
-fn play(rt: &HostRuntime, name: &str) -> io::Result<bool> {
-    let path = format!(in rt.alloc(); "{name}.script")?;
-    let script = fs::read(rt, path.as_str())?;
-    let prefixes = script.split(|byte| *byte == b'\n').count();
-    for count in 0..prefixes {
-        if !finishes(rt.alloc(), &script, count) {
-            println!(rt; "{name}: NOT FINISHED after {count} lines")?;
-            return Ok(false);
-        }
-    }
-    println!(rt;
-        "{name}: finished after 0 to {} lines",
-        prefixes.saturating_sub(1)
-    )?;
-    Ok(true)
-}
-
-/// Plays each script that the file `scripts` names.
-fn play_all(rt: &HostRuntime) -> io::Result<bool> {
-    let scripts = fs::read_to_string(rt, "scripts")?;
-    let mut all = true;
-    for name in scripts.lines() {
-        all &= play(rt, name)?;
-    }
-    Ok(all)
-}
-
-fn main(rt: HostRuntime) -> ExitCode {
-    match play_all(&rt) {
-        Ok(true) => ExitCode::SUCCESS,
-        Ok(false) => ExitCode::from(FAILS),
-        Err(error) => {
-            let _ = eprintln!(&rt; "finish_tests: {error}");
-            ExitCode::from(NOT_PLAYED)
-        }
-    }
 }
