@@ -10,16 +10,20 @@ use Rattle.mig_base.specs.declared.schedule.Side.{Side}
 use Rattle.mig_base.specs.declared.schedule.Step.{Step}
 use Rattle.mig_base.specs.Tests.{is_empty}
 use Rattle.mig_model.specs.Userfault.{Noted, next_message}
-use Rattle.mig_model.specs.Guest.{is_present}
+use Rattle.mig_model.specs.Guest.{is_present, is_changing}
 use Rattle.mig_model.specs.Log.{least_of, less}
 use Rattle.mig_model.specs.Owed.{home}
 use Rattle.mig_model.specs.Source.{bytes_of, is_precopy, is_released, is_source_idle, is_source_paused, is_stopped, not_clean, space_of}
 use Rattle.mig_model.specs.Destination.{is_dest_paused}
 use Rattle.mig_model.specs.Wire.{Copy, Sent}
 use Rattle.mig_model.specs.Lengths.{text_len}
-use Rattle.mig_model.specs.Migration.{World, Answer, answer, unless, made, next, next_by, outcome, outcome_by, after_steps, is_changing, is_early, is_end, is_paused_at, is_used, page_effect, read_effect, frame_effect, install_effect, deliver_first, deliver_back_first, deliver_urgent_first, destination_read_next, install_first, source_read_next, after_start, after_source_read, after_switch, after_deliver, after_deliver_back, after_deliver_urgent, after_dest_read, after_install, after_push, after_end, after_notice, after_resume, after_move, after_move_back, after_move_urgent}
+use Rattle.mig_model.specs.Migration.{World, Answer, answer, made, next, next_by, outcome, outcome_by, after_steps, deliver_first, deliver_back_first, deliver_urgent_first, destination_read_next, install_first, source_read_next}
+use Rattle.mig_model.specs.NodeSteps.{unless, is_used}
+use Rattle.mig_model.specs.Faults.{is_early, is_end}
+use Rattle.mig_model.proofs.StepWorlds.{is_paused_at, after_start, after_source_read, after_switch, after_deliver, after_deliver_back, after_deliver_urgent, after_dest_read, after_install, after_push, after_end, after_notice, after_resume}
+use Rattle.mig_model.specs.Effects.{page_effect, read_effect, frame_effect, install_effect}
 use Rattle.mig_model.specs.Invariant.{IsSoundWorld, AreSoundUrgent}
-use Rattle.mig_model.specs.Promises.{CanComplete, AreAccepted, IsComplete}
+use Rattle.mig_model.specs.Promises.{CanComplete, AreAccepted, IsComplete, after_move, after_move_back, after_move_urgent}
 use Rattle.mig_model.proofs.StepLemmas.{NoneApplies}
 use Rattle.mig_model.proofs.Facts.{eqb-self}
 use Rattle.mig_model.proofs.EveryStep.{kept-next}

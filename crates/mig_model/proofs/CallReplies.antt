@@ -22,7 +22,9 @@ use Rattle.mig_model.specs.Cpus.Took.{Sleep, Call}
 use Rattle.mig_model.specs.Guest.{Guest, is_left_by, read_guest, took_by}
 use Rattle.mig_model.specs.Wire.{Frame, Sent}
 use Rattle.mig_model.specs.Wire.Frame.{Package}
-use Rattle.mig_model.specs.Migration.{Made, World, after_command, after_deliver, answer, event_effect, guest_by, guest_of, next, outcome, read_effect, try_effect}
+use Rattle.mig_model.specs.Migration.{Made, World, answer, guest_by, guest_of, next, outcome}
+use Rattle.mig_model.proofs.StepWorlds.{after_command, after_deliver}
+use Rattle.mig_model.specs.Effects.{event_effect, read_effect, try_effect}
 use Rattle.mig_model.specs.Promises.{AreSoundCalls}
 use Rattle.mig_model.specs.Invariant.{IsSoundWorld}
 use Rattle.mig_model.specs.Promises.{IsReached}

@@ -17,9 +17,11 @@ use Rattle.mig_model.specs.Host.{Host, memory}
 use Rattle.mig_model.specs.Userfault.{Noted}
 use Rattle.mig_model.specs.Space.{Space, IsSoundSpace}
 use Rattle.mig_model.specs.Ioctls.{put_pages, installed as pages_installed}
-use Rattle.mig_model.specs.Guest.{Guest, counted, is_present, Fault, is_forgotten, zero_installed, resolved}
+use Rattle.mig_model.specs.Guest.{Guest, counted, is_present, Fault, is_forgotten, zero_installed, resolved, is_changing}
 use Rattle.mig_model.specs.Wire.{Copy, Sent, wire_if}
-use Rattle.mig_model.specs.Migration.{World, outcome, next, after_install, install_effect, is_changing, runs, destination_sends, after_dest_act}
+use Rattle.mig_model.specs.Migration.{World, outcome, next, runs, destination_sends}
+use Rattle.mig_model.proofs.StepWorlds.{after_install, after_dest_act}
+use Rattle.mig_model.specs.Effects.{install_effect}
 use Rattle.mig_model.specs.Whereabouts.{AreFaithful, has_copy, seen_host, seen_bytes, are_requests, is_request}
 use Rattle.mig_model.specs.Invariant.{IsSoundWorld, Wires}
 use Rattle.mig_model.specs.Promises.{IsPut}

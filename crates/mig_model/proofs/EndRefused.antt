@@ -10,7 +10,9 @@ use Rattle.mig_base.specs.declared.schedule.Step.{Step}
 use Rattle.mig_base.proofs.RangeLemmas.{least_below-none, least_below-some}
 use Rattle.mig_model.specs.Log.{least_of}
 use Rattle.mig_model.specs.Source.{is_stopped, space_of}
-use Rattle.mig_model.specs.Migration.{World, Answer, after_end, made, outcome, outcome_by, unless}
+use Rattle.mig_model.specs.Migration.{World, Answer, made, outcome, outcome_by}
+use Rattle.mig_model.proofs.StepWorlds.{after_end}
+use Rattle.mig_model.specs.NodeSteps.{unless}
 use Rattle.mig_model.specs.Invariant.{IsSoundWorld}
 use Rattle.mig_model.proofs.FrameFaults.{sound_below}
 

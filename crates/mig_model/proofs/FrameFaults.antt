@@ -18,7 +18,10 @@ use Rattle.mig_base.specs.declared.effect.Effect.{Effect}
 use Rattle.mig_base.specs.declared.refusal.Refusal.{Refusal}
 use Rattle.mig_base.specs.declared.schedule.Step.{Step}
 use Rattle.mig_model.specs.Space.{Space, IsSoundSpace}
-use Rattle.mig_model.specs.Migration.{World, Made, Answer, after_deliver, frame_effect, has_started, is_early, is_end, is_short, made, outcome, outcome_by, unless}
+use Rattle.mig_model.specs.Migration.{World, Made, Answer, has_started, is_short, made, outcome, outcome_by}
+use Rattle.mig_model.proofs.StepWorlds.{after_deliver}
+use Rattle.mig_model.specs.Effects.{frame_effect}
+use Rattle.mig_model.specs.NodeSteps.{unless}
 use Rattle.mig_model.specs.Invariant.{IsSoundWorld}
 use Rattle.mig_model.specs.Wire.{Frame, Sent, Copy}
 use Rattle.mig_model.specs.Wire.Frame.{Advise, End, Recv}
@@ -26,7 +29,7 @@ use Rattle.mig_model.specs.Guest.{is_present}
 use Rattle.mig_model.specs.Log.{no_pages, present}
 use Rattle.mig_model.specs.Source.{Source, space_of}
 use Rattle.mig_model.specs.Destination.{Destination}
-use Rattle.mig_model.specs.Faults.{frame_fault, back_fault, rebuild_fault, take_fault, urgent_fault, wait_fault, is_bad, is_too_soon}
+use Rattle.mig_model.specs.Faults.{frame_fault, back_fault, rebuild_fault, take_fault, urgent_fault, wait_fault, is_bad, is_too_soon, is_early, is_end}
 use Rattle.mig_model.proofs.Taken.{IsTaken, IsTakenUrgent, IsGood, IsInPlaceBack}
 use Rattle.mig_model.proofs.Facts.{low_or}
 

@@ -4,6 +4,7 @@ pub mod HostLemmas
 pub mod CommandLemmas
 pub mod SpaceLemmas
 pub mod IoctlLemmas
+pub mod StepWorlds
 pub mod StepLemmas
 pub mod StepCases
 pub mod Breaking

@@ -6,7 +6,8 @@ use Rattle.std.specs.List.{list_all}
 use Rattle.std.proofs.lemmas.Bool.{false≢true, and_parts}
 use Rattle.mig_base.specs.declared.refusal.Refusal.{Refusal}
 use Rattle.mig_base.specs.declared.schedule.Step.{Step}
-use Rattle.mig_model.specs.Migration.{Answer, World, after_steps, answer, next, outcome, outcome_by, unless}
+use Rattle.mig_model.specs.Migration.{Answer, World, after_steps, answer, next, outcome, outcome_by}
+use Rattle.mig_model.specs.NodeSteps.{unless}
 use Rattle.mig_model.specs.Promises.{IsReached}
 use Rattle.mig_model.specs.Runs.{Happens, IsRun, Outcome, is_lacking, needs_memory, outcomes, results_of, steps_made}
 use Rattle.mig_model.proofs.Facts.{by_test}

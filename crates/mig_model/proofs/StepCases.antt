@@ -14,9 +14,15 @@ use Rattle.mig_base.specs.Tests.{is_empty}
 use Rattle.mig_base.specs.Commands.{is_access}
 use Rattle.mig_base.proofs.TestLemmas.{missing_none}
 use Rattle.mig_model.specs.Userfault.{Noted, next_message}
-use Rattle.mig_model.specs.Guest.{Fault, is_present, took_by}
+use Rattle.mig_model.specs.Guest.{Fault, is_present, took_by, is_changing}
 use Rattle.mig_model.specs.Wire.{Sent, Copy}
-use Rattle.mig_model.specs.Migration.{Answer, World, Made, answer, next, outcome, is_used, guest_of, runs, has_started, is_changing, is_end, try_effect, page_effect, read_effect, act_effect, frame_effect, install_effect, retry_command, send_page, send_run_from, run_bound, after_run, source_act_first, deliver_first, deliver_back_first, destination_act_first, install_first, after_command, after_start, after_round, after_send, after_source_read, after_source_act, after_switch, after_deliver, after_deliver_back, after_dest_read, after_dest_act, after_install, after_push, after_serve, after_end, after_break, after_notice, after_resume, after_move, after_move_back, is_short, has_no_cpu, after_deliver_urgent, after_move_urgent, after_push_urgent, deliver_urgent_first, is_early}
+use Rattle.mig_model.specs.Migration.{Answer, World, Made, answer, next, outcome, guest_of, runs, has_started, retry_command, send_page, send_run_from, source_act_first, deliver_first, deliver_back_first, destination_act_first, install_first, is_short, deliver_urgent_first}
+use Rattle.mig_model.specs.NodeSteps.{is_used}
+use Rattle.mig_model.specs.Faults.{is_end, is_early}
+use Rattle.mig_model.specs.Effects.{try_effect, page_effect, read_effect, act_effect, frame_effect, install_effect}
+use Rattle.mig_model.specs.SourceSteps.{run_bound}
+use Rattle.mig_model.proofs.StepWorlds.{after_run, after_command, after_start, after_round, after_send, after_source_read, after_source_act, after_switch, after_deliver, after_deliver_back, after_dest_read, after_dest_act, after_install, after_push, after_serve, after_end, after_break, after_notice, after_resume, has_no_cpu, after_deliver_urgent, after_push_urgent}
+use Rattle.mig_model.specs.Promises.{after_move, after_move_back, after_move_urgent}
 use Rattle.mig_model.proofs.StepLemmas.{Holds, holds-unless, holds-either, holds-effect, leaves-next, leaves-ok, outcome-ok}
 use Rattle.mig_model.specs.Cpus.{is_idle, is_woken, outstanding, processor_at}
 use Rattle.mig_model.specs.Log.{least_of, less}

@@ -5,7 +5,8 @@ use Rattle.std.specs.Prelude.{Ok, Err, IsOk}
 use Rattle.mig_base.specs.declared.effect.Effect.{Effect}
 use Rattle.mig_base.specs.declared.refusal.Refusal.{Refusal}
 use Rattle.mig_base.specs.declared.schedule.Step.{Step}
-use Rattle.mig_model.specs.Migration.{World, Made, Answer, unless, answer, outcome, next, made}
+use Rattle.mig_model.specs.Migration.{World, Made, Answer, answer, outcome, next, made}
+use Rattle.mig_model.specs.NodeSteps.{unless}
 
 -- what holds of a step that is not refused
 abbrev pub Holds : (Made → Type 0) → Answer → Type 0
