@@ -1,6 +1,6 @@
 -- The steps of the destination. The sentence above a step names its refusals in the order in which they are tested; the first that applies
 -- is given.
-use Rattle.std.specs.Prelude.{ℕ, ◌*◌, not, ok_or, Bool, if◌then◌else◌, Option, Some, None, Result, Ok, Err, List, [], ◌∷◌}
+use Rattle.std.specs.Prelude.{ℕ, ◌*◌, not, ok_or, Option, Some, None, Result, Err}
 use Rattle.mig_base.specs.declared.TheConstants.{PAGE_SIZE}
 use Rattle.mig_base.specs.declared.effect.Effect.{Effect}
 use Rattle.mig_base.specs.declared.fault.TakeFault.{TakeFault}

@@ -1,7 +1,7 @@
 -- The machine: both nodes, the wires between them, and what each step of a world answers. A step of a node is the node's own
 -- (`GuestSteps`, `SourceSteps` and `DestinationSteps` define it), and is lifted here: the world puts the frames on their wire, and asks for
 -- the link where the step needs it. Deliveries, the break of a channel, its notice and its resumption are steps as well.
-use Rattle.std.specs.Prelude.{ℕ, ◌-◌, ◌&&◌, ◌||◌, not, nat_lt, ok_or, Bool, true, false, if◌then◌else◌, Result, Ok, Err, List, [], ◌∷◌, ◌++◌}
+use Rattle.std.specs.Prelude.{ℕ, ◌-◌, ◌||◌, not, nat_lt, ok_or, Bool, true, false, if◌then◌else◌, Result, Ok, Err, List, [], ◌∷◌, ◌++◌}
 use Rattle.mig_base.specs.declared.command.Entry.{Entry}
 use Rattle.mig_base.specs.declared.effect.Effect.{Effect}
 use Rattle.mig_base.specs.declared.refusal.Refusal.{Refusal}

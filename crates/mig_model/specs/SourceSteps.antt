@@ -1,13 +1,12 @@
 -- The steps of the source. The sentence above a step names its refusals in the order in which they are tested; the first that applies is
 -- given. Whether the link is up is asked by the world, after Phase and before the other refusals.
-use Rattle.std.specs.Prelude.{ℕ, ◌+◌, ◌*◌, ◌==◌, ◌&&◌, ◌||◌, not, is_some, ok_or, Bool, if◌then◌else◌, Result, Ok, Err, List, [], ◌∷◌}
+use Rattle.std.specs.Prelude.{ℕ, ◌+◌, ◌*◌, ◌==◌, ◌&&◌, ◌||◌, not, is_some, ok_or, if◌then◌else◌, Result, [], ◌∷◌}
 use Rattle.std.specs.FinSet as finset
 use Rattle.std.specs.FinSet.{contains}
 use Rattle.mig_base.specs.Ranges.{lesser}
 use Rattle.mig_base.specs.Sets.{run_length}
 use Rattle.mig_base.specs.declared.TheConstants.{PAGE_SIZE, MAX_RUN}
 use Rattle.mig_base.specs.declared.effect.Effect.{Effect}
-use Rattle.mig_base.specs.declared.phase.SourcePhase.{SourcePhase}
 use Rattle.mig_base.specs.declared.refusal.Refusal.{Refusal}
 use Rattle.mig_base.specs.declared.schedule.Side.{Side}
 use Rattle.mig_base.specs.declared.schedule.Ticket.{Ticket}
