@@ -13,10 +13,13 @@ use Rattle.mig_base.specs.declared.schedule.Side.{Side}
 use Rattle.mig_base.specs.declared.schedule.Step.{Step}
 use Rattle.mig_base.specs.declared.message.Message.{Message}
 use Rattle.mig_model.specs.Bounds.{AreUrgentFew}
-use Rattle.mig_model.specs.Guest.{Guest, read_guest}
+use Rattle.mig_model.specs.Guest.{Guest, read_guest, is_changing}
 use Rattle.mig_model.specs.Host.{Host}
 use Rattle.mig_model.specs.Log.{less, present}
-use Rattle.mig_model.specs.Migration.{World, answer, made, next, next_by, outcome, outcome_by, is_changing, is_paused_at, is_used, read_effect, source_read_next, after_notice, after_resume, after_source_read, after_start, after_switch}
+use Rattle.mig_model.specs.Migration.{World, answer, made, next, next_by, outcome, outcome_by, source_read_next}
+use Rattle.mig_model.proofs.StepWorlds.{is_paused_at, after_notice, after_resume, after_source_read, after_start, after_switch}
+use Rattle.mig_model.specs.NodeSteps.{is_used}
+use Rattle.mig_model.specs.Effects.{read_effect}
 use Rattle.mig_model.specs.Source.{Source, commands_of, is_precopy, is_released, is_source_idle, is_source_paused, is_stopped, not_clean, space_of}
 use Rattle.mig_model.specs.Destination.{Destination, is_dest_paused}
 use Rattle.mig_model.specs.Userfault.{Noted, Object, message_read, next_message}

@@ -17,14 +17,18 @@ use Rattle.mig_base.specs.declared.refusal.Refusal.{Refusal}
 use Rattle.mig_base.specs.declared.schedule.Step.{Step}
 use Rattle.mig_base.proofs.RangeLemmas.{least_below_tells}
 use Rattle.mig_model.specs.Destination.{Destination, destination_answers, destination_took, is_dest_paused, received_of, recv_by, resumed_by}
-use Rattle.mig_model.specs.Guest.{is_present}
+use Rattle.mig_model.specs.Guest.{is_present, is_changing}
 use Rattle.mig_model.specs.Invariant.{AreTold, Flow, are_requests_and_done, RanAt, flow_after, flow_next, flow_of}
 use Rattle.mig_model.specs.Invariant.Flow.{AfterEnd, Pushed}
 use Rattle.mig_model.specs.Lengths.{text_len}
 use Rattle.mig_model.specs.Log.{forgotten, least_of, no_pages, present}
-use Rattle.mig_model.specs.Migration.{World, answer, deliver_back_first, deliver_first, deliver_urgent_first, destination_read_next, frame_effect, install_effect, install_first, is_changing, is_early, is_end, made, page_effect, read_effect, unless, after_deliver, after_deliver_back, after_deliver_urgent, after_dest_read, after_end, after_install, after_move, after_move_back, after_move_urgent, after_push}
+use Rattle.mig_model.specs.Migration.{World, answer, deliver_back_first, deliver_first, deliver_urgent_first, destination_read_next, install_first, made}
+use Rattle.mig_model.specs.Effects.{frame_effect, install_effect, page_effect, read_effect}
+use Rattle.mig_model.specs.Faults.{is_early, is_end}
+use Rattle.mig_model.specs.NodeSteps.{unless}
+use Rattle.mig_model.proofs.StepWorlds.{after_deliver, after_deliver_back, after_deliver_urgent, after_dest_read, after_end, after_install, after_push}
 use Rattle.mig_model.specs.Owed.{home}
-use Rattle.mig_model.specs.Promises.{IsReached}
+use Rattle.mig_model.specs.Promises.{IsReached, after_move, after_move_back, after_move_urgent}
 use Rattle.mig_model.specs.Source.{Source, bytes_of, is_released, is_source_idle, is_stopped, package_frames, rebuild_frames, released, source_rebuilt, space_of}
 use Rattle.mig_model.specs.Userfault.{Noted, Object, next_message}
 use Rattle.mig_model.specs.Whereabouts.{IsReceiving, is_request}

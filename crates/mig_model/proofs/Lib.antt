@@ -7,6 +7,7 @@ pub mod IoctlLemmas
 pub mod StepWorlds
 pub mod StepLemmas
 pub mod StepCases
+pub mod StepAnswers
 pub mod Breaking
 pub mod FirstWorld
 pub mod SettledLemmas
