@@ -116,7 +116,7 @@ woken_by (CpuState.Asleep command) = Err Refusal.NotWoken
 woken_by (CpuState.Woken command) = Ok command
 woken_by (CpuState.InCall reply left) = Err Refusal.NotAsleep
 
--- the command that processor k retries: refused as NoCpu if there is no such processor, NotAsleep if it is idle or in a map call, NotWoken
--- while it sleeps
+-- the command that processor k retries: refused as NoCpu if there is no such processor, NotAsleep if it is idle or in a map call,
+-- NotWoken while it sleeps
 abbrev pub woken_answer : List CpuState → ℕ → Result Command Refusal
 woken_answer processors k = answer_by woken_by processors k

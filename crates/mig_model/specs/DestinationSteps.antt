@@ -1,5 +1,5 @@
--- The steps of the destination. The sentence above a step names its refusals in the order in which they are tested; the first that applies
--- is given.
+-- The steps of the destination. The sentence above a step names its refusals in the order in which they are tested; the first that
+-- applies is given.
 use Rattle.std.specs.Prelude.{ℕ, ◌*◌, not, ok_or, Option, Some, None, Result, Err}
 use Rattle.mig_base.specs.declared.TheConstants.{PAGE_SIZE}
 use Rattle.mig_base.specs.declared.effect.Effect.{Effect}
@@ -17,8 +17,8 @@ use Rattle.mig_model.specs.Wire.{Frame}
 
 -- The handler
 
--- DestRead: refused as Phase until the destination has run, NothingThere if no message waits. A fault is held, and an event is applied to
--- the owed table at once
+-- DestRead: refused as Phase until the destination has run, NothingThere if no message waits. A fault is held, and an event is applied
+-- to the owed table at once
 abbrev pub read : Destination → Result (Acted Destination) Refusal
 read node =
     in_phase node.has_run
@@ -31,15 +31,17 @@ abbrev pub act : Destination → Result (Sends Destination) Refusal
 act node =
     in_phase node.has_run
     (and_then (when_quiet node.guest (first_of node.held)) (λ fault.
-    sent (act_effect (destination_act node fault) (PAGE_SIZE * fault.page)) (act_frames (destination_act node fault) node) (destination_acted node fault)))
+    sent (act_effect (destination_act node fault) (PAGE_SIZE * fault.page)) (act_frames (destination_act node fault) node)
+    (destination_acted node fault)))
 
--- Install: refused as Phase until the destination has run, NothingThere if no copy waits, Changing while the destination has unread events.
--- The first copy that has arrived is installed where its page is owed now, or dropped if it is owed nowhere
+-- Install: refused as Phase until the destination has run, NothingThere if no copy waits, Changing while the destination has unread
+-- events. The first copy that has arrived is installed where its page is owed now, or dropped if it is owed nowhere
 abbrev pub install : Destination → Result (Acted Destination) Refusal
 install node =
     in_phase node.has_run
     (and_then (when_quiet node.guest (first_of node.arrivals)) (λ copy.
-    acted (install_effect (home node.owed copy.page) copy.page) (install_by (home node.owed copy.page) node copy (rest_of node.arrivals))))
+    acted (install_effect (home node.owed copy.page) copy.page)
+    (install_by (home node.owed copy.page) node copy (rest_of node.arrivals))))
 
 -- Frames
 

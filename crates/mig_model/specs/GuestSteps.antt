@@ -23,8 +23,8 @@ tried_with effect entries guest = Ok (record { effect = effect; entries = entrie
 -- a processor tries a command: it is made at once, or its page fault is queued and the processor sleeps
 abbrev pub try_command : Guest → ℕ → Command → Result Tried Refusal
 try_command guest cpu command =
-    tried_with (try_effect cpu (took_by (is_access command) guest.space command)) (entries_of cpu command (took_by (is_access command) guest.space command))
-    (tried (is_access command) guest cpu command)
+    tried_with (try_effect cpu (took_by (is_access command) guest.space command))
+    (entries_of cpu command (took_by (is_access command) guest.space command)) (tried (is_access command) guest cpu command)
 
 -- Issue of a command: refused as NoCpu if the guest has no such processor, Busy unless it is idle, Phase unless a node runs the guest
 abbrev pub issue : Guest → (runs : Bool) → ℕ → Command → Result Tried Refusal
@@ -35,7 +35,8 @@ issue guest runs cpu command = and_then (idle_answer guest.cpus cpu) (λ idle. i
 abbrev pub retry : Guest → (runs : Bool) → ℕ → Result Tried Refusal
 retry guest runs cpu = and_then (woken_answer guest.cpus cpu) (λ command. in_phase runs (try_command guest cpu command))
 
--- the page, fault or copy that a step goes on from: refused as NothingThere if there is none, Changing while the guest has unread events
+-- the page, fault or copy that a step goes on from: refused as NothingThere if there is none, Changing while the guest has unread
+-- events
 abbrev pub when_quiet : {A : Type 0} → Guest → Option A → Result A Refusal
 when_quiet guest None = Err Refusal.NothingThere
 when_quiet guest (Some next) = unless ((is_changing guest, Refusal.Changing) ∷ []) (Ok next)

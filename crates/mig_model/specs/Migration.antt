@@ -1,6 +1,6 @@
--- The machine: both nodes, the wires between them, and what each step of a world answers. A step of a node is the node's own
--- (`GuestSteps`, `SourceSteps` and `DestinationSteps` define it), and is lifted here: the world puts the frames on their wire, and asks for
--- the link where the step needs it. Deliveries, the break of a channel, its notice and its resumption are steps as well.
+-- The machine: both nodes, the wires between them, and what each step of a world answers. A step of a node is defined on the node, in
+-- `GuestSteps`, `SourceSteps` or `DestinationSteps`. Here it becomes a step of the world, which puts the frames on their wire, and asks
+-- for the link where the step needs it. Deliveries, the break of a channel, its notice and its resumption are steps as well.
 use Rattle.std.specs.Prelude.{ℕ, ◌-◌, ◌||◌, not, nat_lt, ok_or, Bool, true, false, if◌then◌else◌, Result, Ok, Err, List, [], ◌∷◌, ◌++◌}
 use Rattle.mig_base.specs.declared.command.Entry.{Entry}
 use Rattle.mig_base.specs.declared.effect.Effect.{Effect}
@@ -36,7 +36,15 @@ pub record World : Type 0 where
 -- a world of `cpus` processors in which nothing has happened, whose epoch and number of rounds are those given
 abbrev pub first_world_with : ℕ → ℕ → ℕ → World
 first_world_with cpus epoch rounds =
-    record { source = first_source cpus epoch rounds; destination = first_destination cpus; forward = empty_wire; back = empty_wire; urgent = empty_wire; up = true; transcript = [] }
+    record {
+      source = first_source cpus epoch rounds;
+      destination = first_destination cpus;
+      forward = empty_wire;
+      back = empty_wire;
+      urgent = empty_wire;
+      up = true;
+      transcript = [];
+    }
 
 -- a world of `cpus` processors in which nothing has happened
 abbrev pub first_world : ℕ → World
@@ -90,7 +98,9 @@ made effect world = Ok (record { effect = effect; world = world })
 
 -- a command of the guest: what took effect is entered in the transcript
 abbrev pub guest_tries : World → Result Tried Refusal → Answer
-guest_tries world step = and_then step (λ tried. made tried.effect (record (with_guest world tried.guest) { transcript = world.transcript ++ tried.entries }))
+guest_tries world step =
+    and_then step (λ tried.
+    made tried.effect (record (with_guest world tried.guest) { transcript = world.transcript ++ tried.entries }))
 
 -- a step of the source that sends nothing
 abbrev pub source_acts : World → Result (Acted Source) Refusal → Answer
@@ -99,12 +109,14 @@ source_acts world step = and_then step (λ acted. made acted.effect (record worl
 -- a step of the source that sends frames to the destination, in its epoch
 abbrev pub source_sends : World → Result (Sends Source) Refusal → Answer
 source_sends world step =
-    and_then step (λ sends. made sends.effect (record world { source = sends.node; forward = wire_with world.forward sends.node.epoch sends.frames }))
+    and_then step (λ sends.
+    made sends.effect (record world { source = sends.node; forward = wire_with world.forward sends.node.epoch sends.frames }))
 
 -- the same on the urgent wire
 abbrev pub source_sends_urgently : World → Result (Sends Source) Refusal → Answer
 source_sends_urgently world step =
-    and_then step (λ sends. made sends.effect (record world { source = sends.node; urgent = wire_with world.urgent sends.node.epoch sends.frames }))
+    and_then step (λ sends.
+    made sends.effect (record world { source = sends.node; urgent = wire_with world.urgent sends.node.epoch sends.frames }))
 
 -- a step of the destination that sends nothing
 abbrev pub destination_acts : World → Result (Acted Destination) Refusal → Answer
@@ -113,7 +125,8 @@ destination_acts world step = and_then step (λ acted. made acted.effect (record
 -- a step of the destination that sends frames back, in its epoch. They are lost while the link is down
 abbrev pub destination_sends : World → Result (Sends Destination) Refusal → Answer
 destination_sends world step =
-    and_then step (λ sends. made sends.effect (record world { destination = sends.node; back = wire_if world.up world.back sends.node.epoch sends.frames }))
+    and_then step (λ sends.
+    made sends.effect (record world { destination = sends.node; back = wire_if world.up world.back sends.node.epoch sends.frames }))
 
 -- Deliveries
 
@@ -126,10 +139,11 @@ is_short wire frame n = nat_lt n (text_len frame - wire.held)
 abbrev pub delivered : (on : Wire → World) → Wire → ℕ → (World → Sent → Answer) → Answer
 delivered on wire n take =
     and_then (ok_or (first_of wire.frames) Refusal.NothingThere) (λ sent.
-    if is_short wire sent.frame n then made (Effect.Moved n) (on (wire_moved wire n)) else take (on (wire_behind (rest_of wire.frames))) sent)
+    if is_short wire sent.frame n then made (Effect.Moved n) (on (wire_moved wire n))
+    else take (on (wire_behind (rest_of wire.frames))) sent)
 
--- Deliver: refused as Phase before Start, Broken while the link is down, NothingThere if the wire to the destination is empty, and as the
--- destination refuses the frame
+-- Deliver: refused as Phase before Start, Broken while the link is down, NothingThere if the wire to the destination is empty, and then
+-- as the destination refuses the frame
 abbrev pub deliver : World → ℕ → Answer
 deliver world n =
     while_up world.up
@@ -142,9 +156,11 @@ abbrev pub deliver_back : World → ℕ → Answer
 deliver_back world n =
     while_up world.up
     (in_phase (has_started world)
-    (delivered (λ wire. record world { back = wire }) world.back n (λ behind sent. source_sends behind (source.take behind.source sent.frame))))
+    (delivered (λ wire. record world { back = wire }) world.back n (λ behind sent.
+    source_sends behind (source.take behind.source sent.frame))))
 
--- DeliverUrgent: refused as Phase until the destination has run, Broken while the link is down, NothingThere if the urgent wire is empty
+-- DeliverUrgent: refused as Phase until the destination has run, Broken while the link is down, NothingThere if the urgent wire is
+-- empty
 abbrev pub deliver_urgent : World → ℕ → Answer
 deliver_urgent world n =
     while_up world.up
@@ -166,12 +182,15 @@ break world = while_up world.up (in_phase (is_under_way world.source) (made Effe
 -- up
 abbrev pub notice : World → Side → Answer
 notice world Side.Source = source_acts world (while_down world.up (source.pause world.source))
-notice world Side.Destination = destination_acts world (while_down world.up (in_phase (is_under_way world.source) (destination.pause world.destination)))
+notice world Side.Destination =
+    destination_acts world (while_down world.up (in_phase (is_under_way world.source) (destination.pause world.destination)))
 
--- Resume: refused as Phase unless both sides are paused, NotBroken while the link is up, CountUsed if no epoch is left. The link is up, and
--- both sides stay paused until they take the Resume or the Recv that answers it
+-- Resume: refused as Phase unless both sides are paused, NotBroken while the link is up, CountUsed if no epoch is left. The link is up,
+-- and both sides stay paused until they take the Resume or the Recv that answers it
 abbrev pub resume : World → Answer
-resume world = source_sends (record world { up = true }) (while_down world.up (in_phase (is_dest_paused world.destination.phase) (source.resume world.source)))
+resume world =
+    source_sends (record world { up = true })
+    (while_down world.up (in_phase (is_dest_paused world.destination.phase) (source.resume world.source)))
 
 -- Steps
 
