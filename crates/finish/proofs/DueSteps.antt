@@ -1,5 +1,5 @@
 -- Each step of the strategy until the source has stopped: it is made, and fewer steps are left after it.
-use Rattle.std.proofs.Common.{◌≡◌, ℕ, suc, ◌+◌, ◌<◌, ◌≤◌, ◌&&◌, ◌||◌, Bool, true, false, not, eqb, ltb, Some, List, [], ◌∷◌, ◌++◌, length, length-append, refl, sym, ap, ◌∙◌, subst, arith, if◌then◌else◌}
+use Rattle.std.proofs.Common.{◌≡◌, ℕ, suc, ◌+◌, ◌<◌, ◌≤◌, Bool, true, false, not, eqb, ltb, Some, List, [], ◌∷◌, ◌++◌, length, length-append, refl, sym, ap, ◌∙◌, subst, arith, if◌then◌else◌}
 use Rattle.std.specs.Option.{IfSome}
 use Rattle.std.specs.Prelude.{IsOk, None, ◌≢◌}
 use Rattle.std.specs.FinMap.{contains_key}
@@ -16,7 +16,9 @@ use Rattle.mig_model.specs.Bounds.{AreUrgentFew}
 use Rattle.mig_model.specs.Guest.{Guest, read_guest}
 use Rattle.mig_model.specs.Host.{Host}
 use Rattle.mig_model.specs.Log.{less, present}
-use Rattle.mig_model.specs.Migration.{World, answer, made, next, next_by, outcome, outcome_by, is_changing, is_paused_at, is_used, read_effect, source_read_next, after_notice, after_resume, after_source_read, after_start, after_switch}
+use Rattle.mig_model.specs.Migration.{World, answer, made, next, next_by, outcome, outcome_by}
+use Rattle.mig_model.proofs.StepWorlds.{after_notice, after_resume, after_source_read, after_start, after_switch}
+use Rattle.mig_model.specs.NodeSteps.{is_used}
 use Rattle.mig_model.specs.Source.{Source, commands_of, is_precopy, is_released, is_source_idle, is_source_paused, is_stopped, not_clean, space_of}
 use Rattle.mig_model.specs.Destination.{Destination, is_dest_paused}
 use Rattle.mig_model.specs.Userfault.{Noted, Object, message_read, next_message}
@@ -29,7 +31,7 @@ use Rattle.mig_model.proofs.UrgentFew.{few-reached}
 use Rattle.mig_model.specs.Invariant.{IsSoundWorld, PrecopyWires, SwitchedAt}
 use Rattle.mig_model.proofs.CompletionStopped.{IsUpAt, next_some, read_object, wires_at}
 use Rattle.finish.specs.Finishing.{IsDue, before_push, down_left, down_step, lacks_epoch, one_if, precopy_step, reported, steps_left, unread, up_left, waiting}
-use Rattle.mig_model.proofs.AcceptedSteps.{not_refused}
+use Rattle.mig_model.proofs.StepAnswers.{answers-notice, answers-resume, answers-source_read, answers-start, answers-switch}
 use Rattle.mig_model.proofs.SourceMapped.{read_host}
 use Rattle.mig_model.proofs.SetSizes.{only_where}
 use Rattle.mig_model.proofs.UrgentWire.{is_paused}
@@ -65,9 +67,6 @@ sent_one frames sent = length-append frames (sent ∷ [])
 
 -- Start
 
-start_made : (world : World) → is_source_idle world.source.phase ≡ true → is_used world.source.epoch ≡ false → answer world Step.Start ≡ made (Effect.Started (world.source.epoch + 1)) (after_start world)
-start_made world idle free = not_refused _ _ (ap (λ b. not b) idle, (free, tt))
-
 pub start_due : (world : World) → IsUpAt SourcePhase.Idle world → is_used world.source.epoch ≡ false → IsDue world Step.Start
 start_due world at free =
     let new = after_start world in
@@ -75,7 +74,7 @@ start_due world at free =
     let new_left = left_up new SourcePhase.Precopy at.up refl in
     let none = ap length (wires_at SourcePhase.Idle world.destination.phase world refl at).1 in
     let one = sent_one world.forward.frames (record { epoch = world.source.epoch + 1; frame = Advise }) in
-    due_by world new Step.Start _ (start_made world (ap is_source_idle at.phase) free) (omega (arith, old_left, new_left, none, one)) (λ _. goes_up new at.up refl)
+    due_by world new Step.Start _ (answers-start world (ap is_source_idle at.phase) free) (omega (arith, old_left, new_left, none, one)) (λ _. goes_up new at.up refl)
 
 -- A message is read
 
@@ -87,11 +86,6 @@ read_unread guest noted is = ap (λ (object : Object). (length object.faults + l
 
 read_present : (guest : Guest) (cpu : ℕ) (message : Message) → len (present (read_guest guest cpu message).space) ≡ len (present guest.space)
 read_present guest cpu message = ap (λ (host : Host). len (pages_where (λ page. contains_key host.bytes page))) (read_host guest cpu message)
-
-read_made : (world : World) (noted : Noted) → is_source_idle world.source.phase ≡ false → world.source.switched ≡ false → next_message (space_of world.source).object ≡ Some noted →
-    answer world Step.SourceRead ≡ made (read_effect world.source.guest noted.cpu noted.message) (after_source_read world noted)
-read_made world noted started unswitched is =
-    not_refused _ _ (ap (λ b. not (not b && not world.source.switched)) started ∙ ap (λ b. not (not b)) unswitched, tt) ∙ ap (source_read_next world) is
 
 -- a source that makes rounds has not switched
 unswitched : (world : World) → IsUpAt SourcePhase.Precopy world → world.source.switched ≡ false
@@ -105,15 +99,10 @@ source_read_by world event events unquiet at =
     let new_left = left_up new SourcePhase.Precopy at.up at.phase in
     let less = read_unread world.source.guest found.0 found.1 in
     let pages = read_present world.source.guest found.0.cpu found.0.message in
-    due_by world new Step.SourceRead _ (read_made world found.0 (ap is_source_idle at.phase) (unswitched world at) found.1) (omega (arith, old_left, new_left, less, pages))
+    due_by world new Step.SourceRead _ (answers-source_read world found.0 (ap is_source_idle at.phase) (unswitched world at) found.1) (omega (arith, old_left, new_left, less, pages))
     (λ _. goes_up new at.up (ap is_source_idle at.phase))
 
 -- Switch
-
--- where no message is left on a quiet source, it switches
-switch_answer : (world : World) → is_precopy world.source.phase ≡ true → world.up ≡ true → is_changing world.source.guest ≡ false →
-    answer world Step.Switch ≡ made (Effect.Switched (len (less world.source.log.sent world.source.log.clean)) (len (not_clean world.source))) (after_switch world)
-switch_answer world precopy up quiet = not_refused _ _ (ap not precopy, (ap not up, (quiet, tt)))
 
 -- before the switch nothing comes back
 precopy_back : (to : DestPhase) (source : Source) (destination : Destination) (forward back : List Sent) → PrecopyWires source (record destination { phase = to }) forward back → back ≡ []
@@ -137,7 +126,7 @@ switch_due world reached quiet at =
     let new = after_switch world in
     let old_left = left_up world SourcePhase.Precopy at.up at.phase in
     let new_left = left_up new SourcePhase.Stopped at.up refl in
-    let is = switch_answer world (ap is_precopy at.phase) at.up (ap (λ events. ltb 0 (length events)) quiet) in
+    let is = answers-switch world (ap is_precopy at.phase) at.up (ap (λ events. ltb 0 (length events)) quiet) in
     let few = (few_next world new Step.Switch _ reached is).few refl refl in
     let unended = one_if-most (not (eqb world.source.end_epoch world.source.epoch)) in
     let urgent = ap length (at.order.urgent.stopped (ap is_stopped at.phase)) in
@@ -172,10 +161,6 @@ free_by world down h = grind (arith, nat_tests)
 still_free : (world : World) → is_used world.source.epoch ≡ false → lacks_epoch world ≡ false
 still_free world free = grind (arith, nat_tests)
 
-notice_answer : (world : World) (side : Side) → is_source_idle world.source.phase ≡ false → is_released world.source.phase ≡ false → is_paused_at world side ≡ false → world.up ≡ false → answer world (Step.Notice side) ≡ made (Effect.Noticed side) (after_notice world side)
-notice_answer world side started going unpaused down =
-    not_refused _ _ (ap (λ b. not (not b) || is_released world.source.phase || is_paused_at world side) started ∙ ap (λ b. b || is_paused_at world side) going ∙ unpaused, (down, tt))
-
 not_idle : (from : SourcePhase) → from ≢ SourcePhase.Idle → is_source_idle from ≡ false
 not_idle from not = grind (arith, nat_tests)
 
@@ -189,7 +174,7 @@ notice_source_due world at unpaused =
     let old_left = left_down world at.down in
     let new_left = left_down new at.down in
     let one = ap (λ b. one_if (not b)) unpaused in
-    due_by world new (Step.Notice Side.Source) _ (notice_answer world Side.Source (not_idle world.source.phase flight.2) (not_released world.source.phase flight.3) unpaused at.down) (omega (arith, old_left, new_left, one))
+    due_by world new (Step.Notice Side.Source) _ (answers-notice world Side.Source (not_idle world.source.phase flight.2) (not_released world.source.phase flight.3) unpaused at.down) (omega (arith, old_left, new_left, one))
     (λ h. still_free new (free_by world at.down h))
 
 notice_destination_due : (world : World) → IsDown world → is_dest_paused world.destination.phase ≡ false → IsDue world (Step.Notice Side.Destination)
@@ -199,11 +184,8 @@ notice_destination_due world at unpaused =
     let old_left = left_down world at.down in
     let new_left = left_down new at.down in
     let one = ap (λ b. one_if (not b)) unpaused in
-    due_by world new (Step.Notice Side.Destination) _ (notice_answer world Side.Destination (not_idle world.source.phase flight.2) (not_released world.source.phase flight.3) unpaused at.down) (omega (arith, old_left, new_left, one))
+    due_by world new (Step.Notice Side.Destination) _ (answers-notice world Side.Destination (not_idle world.source.phase flight.2) (not_released world.source.phase flight.3) unpaused at.down) (omega (arith, old_left, new_left, one))
     (λ h. still_free new (free_by world at.down h))
-
-resume_answer : (world : World) → is_source_paused world.source.phase ≡ true → is_dest_paused world.destination.phase ≡ true → world.up ≡ false → is_used world.source.epoch ≡ false → answer world Step.Resume ≡ made (Effect.Resumed (world.source.epoch + 1)) (after_resume world)
-resume_answer world from to down free = not_refused _ _ (ap (λ b. not (b && is_dest_paused world.destination.phase)) from ∙ ap not to, (down, (free, tt)))
 
 resume_due : (world : World) → IsDown world → is_source_paused world.source.phase ≡ true → is_dest_paused world.destination.phase ≡ true → is_used world.source.epoch ≡ false → IsDue world Step.Resume
 resume_due world at from to free =
@@ -211,7 +193,7 @@ resume_due world at from to free =
     let phase = is_paused world.source.phase from in
     let old_left = left_down world at.down in
     let new_left = left_up new SourcePhase.Paused refl phase ∙ ap (λ b. if b then reported new + 10 else before_push new + (waiting new + length new.back.frames) + 8) to in
-    due_by world new Step.Resume _ (resume_answer world from to at.down free) (omega (arith, old_left, new_left)) (λ _. goes_up new refl (ap is_source_idle phase))
+    due_by world new Step.Resume _ (answers-resume world from to at.down free) (omega (arith, old_left, new_left)) (λ _. goes_up new refl (ap is_source_idle phase))
 
 down_by : (from to used : Bool) (world : World) → IsDown world → is_source_paused world.source.phase ≡ from → is_dest_paused world.destination.phase ≡ to → is_used world.source.epoch ≡ used →
     IfSome (if not from then Some (Step.Notice Side.Source) else if not to then Some (Step.Notice Side.Destination) else if used then None else Some Step.Resume) (IsDue world)

@@ -1,5 +1,5 @@
 -- Each step of the strategy from a stopped source, and from one that waits for a report: it is made, and fewer steps are left after it.
-use Rattle.std.proofs.Common.{◌≡◌, ℕ, ◌+◌, ◌-◌, ◌^◌, ◌<◌, ◌≤◌, ◌&&◌, ◌||◌, Bool, true, false, not, eqb, ltb, Option, Some, None, is_some, List, [], ◌∷◌, ◌++◌, length, refl, sym, ap, ◌∙◌, subst, arith, if◌then◌else◌}
+use Rattle.std.proofs.Common.{◌≡◌, ℕ, ◌+◌, ◌-◌, ◌^◌, ◌<◌, ◌≤◌, ◌&&◌, Bool, true, false, not, eqb, ltb, Option, Some, None, is_some, List, [], ◌∷◌, ◌++◌, length, refl, sym, ap, ◌∙◌, subst, arith, if◌then◌else◌}
 use Rattle.std.specs.Prelude.{◌≢◌}
 use Rattle.std.specs.Option.{option_and_then}
 use Rattle.std.specs.Ordering.{nat_cmp}
@@ -9,24 +9,25 @@ use Rattle.std.proofs.lemmas.Bool.Decides.{nat_tests}
 use Rattle.std.proofs.lemmas.List.{length-map}
 use Rattle.mig_base.specs.Tests.{is_empty}
 use Rattle.mig_base.specs.declared.TheConstants.{HIGH_PAGE}
-use Rattle.mig_base.specs.declared.effect.Effect.{Effect}
 use Rattle.mig_base.specs.declared.phase.DestPhase.{DestPhase}
 use Rattle.mig_base.specs.declared.phase.Received.{Received}
 use Rattle.mig_base.specs.declared.phase.SourcePhase.{SourcePhase}
-use Rattle.mig_base.specs.declared.refusal.Refusal.{Refusal}
 use Rattle.mig_base.specs.declared.schedule.Step.{Step}
 use Rattle.mig_base.proofs.RangeLemmas.{least_below_tells}
 use Rattle.mig_model.specs.Destination.{Destination, destination_answers, destination_took, is_dest_paused, received_of, recv_by, resumed_by}
-use Rattle.mig_model.specs.Guest.{is_present}
+use Rattle.mig_model.specs.Guest.{is_changing}
 use Rattle.mig_model.specs.Invariant.{AreTold, Flow, are_requests_and_done, RanAt, flow_after, flow_next, flow_of}
 use Rattle.mig_model.specs.Invariant.Flow.{AfterEnd, Pushed}
 use Rattle.mig_model.specs.Lengths.{text_len}
 use Rattle.mig_model.specs.Log.{forgotten, least_of, no_pages, present}
-use Rattle.mig_model.specs.Migration.{World, answer, deliver_back_first, deliver_first, deliver_urgent_first, destination_read_next, frame_effect, install_effect, install_first, is_changing, is_early, is_end, made, page_effect, read_effect, unless, after_deliver, after_deliver_back, after_deliver_urgent, after_dest_read, after_end, after_install, after_move, after_move_back, after_move_urgent, after_push}
+use Rattle.mig_model.specs.Migration.{World, answer, made}
+use Rattle.mig_model.specs.Effects.{frame_effect}
+use Rattle.mig_model.specs.Faults.{is_early, is_end}
+use Rattle.mig_model.proofs.StepWorlds.{after_deliver, after_deliver_back, after_deliver_urgent, after_dest_read, after_end, after_install, after_push}
 use Rattle.mig_model.specs.Owed.{home}
 use Rattle.mig_model.specs.Promises.{IsReached}
 use Rattle.mig_model.specs.Source.{Source, bytes_of, is_released, is_source_idle, is_stopped, package_frames, rebuild_frames, released, source_rebuilt, space_of}
-use Rattle.mig_model.specs.Userfault.{Noted, Object, next_message}
+use Rattle.mig_model.specs.Userfault.{Noted, Object}
 use Rattle.mig_model.specs.Whereabouts.{IsReceiving, is_request}
 use Rattle.mig_model.specs.Wire.{Copy, Frame, Sent, page_frame, sending, sending_if, wire_behind, wire_with}
 use Rattle.mig_model.specs.Wire.Frame.{Done, End, Recv, Request, Resume}
@@ -39,7 +40,7 @@ use Rattle.frame_texts.specs.Flight.{AreFrames, HasGoodFrames}
 use Rattle.frame_texts.proofs.LengthBounds.{text_short}
 use Rattle.finish.specs.Finishing.{IsDue, all_bytes, before_push, one_if, paused_step, reported, running_step, steps_left, stopped_by, stopped_step, told_step, unread, waiting}
 use Rattle.finish.proofs.DueSteps.{due_by, few_next, goes_up, left_up, one_if-most, read_unread, sent_one}
-use Rattle.mig_model.proofs.AcceptedSteps.{not_refused}
+use Rattle.mig_model.proofs.StepAnswers.{answers-deliver, answers-deliver_back, answers-deliver_urgent, answers-dest_read, answers-end, answers-install, answers-push}
 
 -- what is known while the source has stopped
 pub record IsStopped (world : World) : Type 0 where
@@ -48,10 +49,6 @@ pub record IsStopped (world : World) : Type 0 where
   pub good : HasGoodFrames world
 
 -- Push
-
-push_answer : (world : World) (page : ℕ) → is_stopped world.source.phase ≡ true → world.up ≡ true → is_present (space_of world.source) page ≡ true → contains world.source.remaining page ≡ true →
-    answer world (Step.Push (record { epoch = world.source.epoch; page = page })) ≡ made (page_effect page (bytes_of world.source page)) (after_push world page)
-push_answer world page stopped up here remains = not_refused _ _ (ap not stopped, (ap not up, (ap not (eqb-self world.source.epoch), (ap not here, (ap not remains, tt)))))
 
 pub push_due : (world : World) (page : ℕ) → least_of world.source.remaining ≡ Some page → IsStopped world → IsDue world (Step.Push (record { epoch = world.source.epoch; page = page }))
 push_due world page found is =
@@ -63,13 +60,10 @@ push_due world page found is =
     let less = len-removed world.source.remaining page remains in
     let some = len-some world.source.remaining page remains in
     let one = sent_one world.forward.frames (record { epoch = world.source.epoch; frame = page_frame page (bytes_of world.source page) }) in
-    due_by world new (Step.Push (record { epoch = world.source.epoch; page = page })) _ (push_answer world page (ap is_stopped at.phase) at.up (at.order.kept.pushing.remaining_present page remains) remains)
+    due_by world new (Step.Push (record { epoch = world.source.epoch; page = page })) _ (answers-push world page (ap is_stopped at.phase) at.up (at.order.kept.pushing.remaining_present page remains) remains)
     (omega (arith, old_left, new_left, less, some, one)) (λ _. goes_up new at.up (ap is_source_idle at.phase))
 
 -- End
-
-end_answer : (world : World) → is_stopped world.source.phase ≡ true → world.up ≡ true → eqb world.source.end_epoch world.source.epoch ≡ false → least_of world.source.remaining ≡ None → answer world Step.End ≡ made Effect.EndSent (after_end world)
-end_answer world stopped up other none = not_refused _ _ (ap (λ b. not b || eqb world.source.end_epoch world.source.epoch) stopped ∙ other, (ap not up, (ap is_some none, tt)))
 
 pub end_due : (world : World) → eqb world.source.end_epoch world.source.epoch ≡ false → least_of world.source.remaining ≡ None → IsStopped world → IsDue world Step.End
 end_due world other none is =
@@ -80,7 +74,7 @@ end_due world other none is =
     let before = ap (λ b. one_if (not b)) other in
     let after = ap (λ b. one_if (not b)) (eqb-self world.source.epoch) in
     let one = sent_one world.forward.frames (record { epoch = world.source.epoch; frame = End world.source.urgent_sent }) in
-    due_by world new Step.End _ (end_answer world (ap is_stopped at.phase) at.up other none) (omega (arith, old_left, new_left, before, after, one)) (λ _. goes_up new at.up (ap is_source_idle at.phase))
+    due_by world new Step.End _ (answers-end world (ap is_stopped at.phase) at.up other none) (omega (arith, old_left, new_left, before, after, one)) (λ _. goes_up new at.up (ap is_source_idle at.phase))
 
 -- Deliveries
 
@@ -90,26 +84,15 @@ enough length held short = grind (arith, nat_tests)
 
 deliver_answer : (world : World) (sent : Sent) (rest : List Sent) → world.forward.frames ≡ sent ∷ rest → HasGoodFrames world → is_source_idle world.source.phase ≡ false → world.up ≡ true → (is_end sent.frame && not (is_empty world.destination.arrivals)) ≡ false →
     is_early world.destination sent.frame ≡ false → answer world (Step.Deliver all_bytes) ≡ made (frame_effect sent.frame) (after_deliver world sent rest)
-deliver_answer world sent rest first good started up free came =
-    let taken = made (frame_effect sent.frame) (after_deliver world sent rest) in
-    let reasons : List (Bool × Refusal) = (is_end sent.frame && not (is_empty world.destination.arrivals), Refusal.InstallFirst) ∷ (is_early world.destination sent.frame, Refusal.UrgentFirst) ∷ [] in
-    let short = enough (text_len sent.frame) world.forward.held (text_short sent.frame (subst AreFrames first good.forward).1) in
-    not_refused _ _ (ap (λ b. not (not b)) started, (ap not up, tt)) ∙ ap (deliver_first world all_bytes) first
-    ∙ ap (λ b. if b then made (Effect.Moved all_bytes) (after_move world all_bytes) else unless reasons taken) short ∙ not_refused reasons taken (free, (came, tt))
+deliver_answer world sent rest first good = answers-deliver world all_bytes sent rest first (enough (text_len sent.frame) world.forward.held (text_short sent.frame (subst AreFrames first good.forward).1))
 
 back_answer : (world : World) (sent : Sent) (rest : List Sent) → world.back.frames ≡ sent ∷ rest → HasGoodFrames world → is_source_idle world.source.phase ≡ false → world.up ≡ true →
     answer world (Step.DeliverBack all_bytes) ≡ made (frame_effect sent.frame) (after_deliver_back world sent rest)
-back_answer world sent rest first good started up =
-    let short = enough (text_len sent.frame) world.back.held (text_short sent.frame (subst AreFrames first good.back).1) in
-    not_refused _ _ (ap (λ b. not (not b)) started, (ap not up, tt)) ∙ ap (deliver_back_first world all_bytes) first
-    ∙ ap (λ b. if b then made (Effect.Moved all_bytes) (after_move_back world all_bytes) else made (frame_effect sent.frame) (after_deliver_back world sent rest)) short
+back_answer world sent rest first good = answers-deliver_back world all_bytes sent rest first (enough (text_len sent.frame) world.back.held (text_short sent.frame (subst AreFrames first good.back).1))
 
 urgent_answer : (world : World) (sent : Sent) (rest : List Sent) → world.urgent.frames ≡ sent ∷ rest → HasGoodFrames world → world.destination.has_run ≡ true → world.up ≡ true →
     answer world (Step.DeliverUrgent all_bytes) ≡ made (frame_effect sent.frame) (after_deliver_urgent world sent rest)
-urgent_answer world sent rest first good ran up =
-    let short = enough (text_len sent.frame) world.urgent.held (text_short sent.frame (subst AreFrames first good.urgent).1) in
-    not_refused _ _ (ap not ran, (ap not up, tt)) ∙ ap (deliver_urgent_first world all_bytes) first
-    ∙ ap (λ b. if b then made (Effect.Moved all_bytes) (after_move_urgent world all_bytes) else made (frame_effect sent.frame) (after_deliver_urgent world sent rest)) short
+urgent_answer world sent rest first good = answers-deliver_urgent world all_bytes sent rest first (enough (text_len sent.frame) world.urgent.held (text_short sent.frame (subst AreFrames first good.urgent).1))
 
 -- what is on a wire once more is sent
 pub length-sending : (wire : List Sent) (epoch : ℕ) (frames : List Frame) → length (sending wire epoch frames) ≡ length wire + length frames
@@ -181,9 +164,6 @@ urgent_due world sent rest first draining =
     let arrived = node.arrived in
     due_by world new (Step.DeliverUrgent all_bytes) _ (urgent_answer world sent rest first draining.is.good (running-has_run world draining.is.at.order draining.runs) at.up) (omega (arith, old_left, new_left, taken, messages, arrived)) (λ _. goes_up new at.up (ap is_source_idle at.phase))
 
-dest_read_answer : (world : World) (noted : Noted) → world.destination.has_run ≡ true → next_message world.destination.guest.space.object ≡ Some noted → answer world Step.DestRead ≡ made (read_effect world.destination.guest noted.cpu noted.message) (after_dest_read world noted)
-dest_read_answer world noted ran is = not_refused _ _ (ap not ran, tt) ∙ ap (destination_read_next world) is
-
 dest_read_due : (world : World) (event : Noted) (events : List Noted) → world.destination.guest.space.object.events ≡ event ∷ events → IsDraining world → IsDue world Step.DestRead
 dest_read_due world event events unquiet draining =
     let at = draining.is.at in
@@ -192,11 +172,7 @@ dest_read_due world event events unquiet draining =
     let old_left = left_up world SourcePhase.Stopped at.up at.phase in
     let new_left = left_up new SourcePhase.Stopped at.up at.phase in
     let less = read_unread world.destination.guest found.0 found.1 in
-    due_by world new Step.DestRead _ (dest_read_answer world found.0 (running-has_run world draining.is.at.order draining.runs) found.1) (omega (arith, old_left, new_left, less)) (λ _. goes_up new at.up (ap is_source_idle at.phase))
-
-install_answer : (world : World) (copy : Copy) (rest : List Copy) → world.destination.has_run ≡ true → world.destination.arrivals ≡ copy ∷ rest → is_changing world.destination.guest ≡ false →
-    answer world Step.Install ≡ made (install_effect (home world.destination.owed copy.page) copy.page) (after_install world copy rest)
-install_answer world copy rest ran first quiet = not_refused _ _ (ap not ran, tt) ∙ ap (install_first world) first ∙ not_refused _ _ (quiet, tt)
+    due_by world new Step.DestRead _ (answers-dest_read world found.0 (running-has_run world draining.is.at.order draining.runs) found.1) (omega (arith, old_left, new_left, less)) (λ _. goes_up new at.up (ap is_source_idle at.phase))
 
 install_due : (world : World) (copy : Copy) (rest : List Copy) → world.destination.arrivals ≡ copy ∷ rest → is_changing world.destination.guest ≡ false → IsDraining world → IsDue world Step.Install
 install_due world copy rest first quiet draining =
@@ -208,7 +184,7 @@ install_due world copy rest first quiet draining =
     let waited = ap length first in
     let waits = ap length node.arrivals in
     let messages = ap (λ (object : Object). length object.faults + length object.events) node.object in
-    due_by world new Step.Install _ (install_answer world copy rest (running-has_run world draining.is.at.order draining.runs) first quiet) (omega (arith, old_left, new_left, waited, waits, messages)) (λ _. goes_up new at.up (ap is_source_idle at.phase))
+    due_by world new Step.Install _ (answers-install world copy rest (running-has_run world draining.is.at.order draining.runs) first quiet) (omega (arith, old_left, new_left, waited, waits, messages)) (λ _. goes_up new at.up (ap is_source_idle at.phase))
 
 pushed_due : (world : World) (sent : Sent) (rest : List Sent) → world.forward.frames ≡ sent ∷ rest → world.urgent.frames ≡ [] → world.destination.arrivals ≡ [] → IsDraining world → IsDue world (Step.Deliver all_bytes)
 pushed_due world sent rest first none free draining =

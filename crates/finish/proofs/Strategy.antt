@@ -6,7 +6,8 @@ use Rattle.std.proofs.lemmas.Bool.Decides.{nat_tests}
 use Rattle.mig_base.specs.declared.phase.SourcePhase.{SourcePhase}
 use Rattle.mig_base.specs.declared.schedule.Step.{Step}
 use Rattle.mig_model.specs.Bounds.{IsCpuCount}
-use Rattle.mig_model.specs.Migration.{World, is_used}
+use Rattle.mig_model.specs.Migration.{World}
+use Rattle.mig_model.specs.NodeSteps.{is_used}
 use Rattle.mig_model.specs.Promises.{IsComplete, IsReached}
 use Rattle.mig_model.proofs.EveryStep.{kept-reached}
 use Rattle.frame_texts.specs.Flight.{HasGoodFrames}

@@ -11,9 +11,10 @@ use Rattle.mig_base.specs.declared.phase.SourcePhase.{SourcePhase}
 use Rattle.mig_base.specs.declared.schedule.Side.{Side}
 use Rattle.mig_base.specs.declared.schedule.Step.{Step}
 use Rattle.mig_model.specs.Destination.{is_dest_paused}
-use Rattle.mig_model.specs.Guest.{Guest}
+use Rattle.mig_model.specs.Guest.{Guest, is_changing}
 use Rattle.mig_model.specs.Log.{least_of, present}
-use Rattle.mig_model.specs.Migration.{World, after_steps, is_changing, is_used, next, outcome}
+use Rattle.mig_model.specs.Migration.{World, after_steps, next, outcome}
+use Rattle.mig_model.specs.NodeSteps.{is_used}
 use Rattle.mig_model.specs.Promises.{AreAccepted}
 use Rattle.mig_model.specs.Source.{is_source_idle, is_source_paused, space_of}
 

@@ -19,7 +19,7 @@ use Rattle.mig_base.proofs.SetLemmas.{member_inserted, member_run, member_with_r
 use Rattle.mig_base.specs.Ranges.{in_range}
 use Rattle.mig_base.specs.Sets.{run_length, with_range}
 use Rattle.mig_model.specs.Host.{Host, bare_host}
-use Rattle.mig_model.specs.Guest.{Act, Fault, Guest, is_forgotten, is_present, tried}
+use Rattle.mig_model.specs.Guest.{Act, Fault, Guest, is_forgotten, is_present, tried, is_changing}
 use Rattle.mig_model.specs.Guest.Act.{Requested}
 use Rattle.mig_model.specs.Userfault.{Noted}
 use Rattle.mig_model.specs.Log.{least_of, no_pages}
@@ -28,7 +28,10 @@ use Rattle.mig_model.specs.Wire.{Copy, Frame, Sent, page_frame, wire_behind}
 use Rattle.mig_model.specs.Wire.Frame.{Advise, Run, End, Resume, Request, Recv, Done}
 use Rattle.mig_model.specs.Source.{bytes_of, is_precopy, is_released, is_source_idle, is_source_paused, is_stopped, rebuild_frames, run_of, source_act, source_acted_by, source_rebuilt, space_of, switch_frames}
 use Rattle.mig_model.specs.Destination.{act_frames, destination_act, destination_acted_by, install_by}
-use Rattle.mig_model.specs.Migration.{World, after_break, after_command, after_deliver, after_deliver_back, after_deliver_urgent, after_dest_act, after_end, after_notice, after_push, after_push_urgent, after_resume, after_run, after_send, after_source_read, after_start, after_switch, first_world_with, guest_by, guest_of, has_started, is_changing, is_used, next, run_bound, source_sends, with_guest_by}
+use Rattle.mig_model.specs.Migration.{World, first_world_with, guest_by, guest_of, has_started, next, with_guest_by}
+use Rattle.mig_model.proofs.StepWorlds.{forward_sent, after_break, after_command, after_deliver, after_deliver_back, after_deliver_urgent, after_dest_act, after_end, after_notice, after_push, after_push_urgent, after_resume, after_run, after_send, after_source_read, after_start, after_switch}
+use Rattle.mig_model.specs.NodeSteps.{is_used}
+use Rattle.mig_model.specs.SourceSteps.{run_bound}
 use Rattle.mig_model.specs.Invariant.{IsSoundWorld}
 use Rattle.mig_model.proofs.Taken.{IsInPlaceBack}
 use Rattle.mig_model.specs.Bounds.{ArePages, IsCpuCount, IsMapping, IsPage, AreListed}
@@ -232,7 +235,7 @@ bare_notrun : (world : World) (rest : List Sent) (epoch : ℕ) (owed : FinSet na
 bare_notrun world rest epoch owed kept up first paused = grind (arith, nat_tests, is_paused)
 
 rebuilt_limited : {cpus : ℕ} → (switched : Bool) (world : World) (rest : List Sent) (owed : FinSet nat_cmp) → IsSoundWorld world → AllRight world.source.guest.cpus → length world.source.guest.cpus ≡ cpus → world.source.epoch < 2 ^ 32 → (IsCpuCount cpus → AreBodies rest) → AreLimited cpus world →
-    AreLimited cpus (source_sends (record world { back = wire_behind rest }) (source_rebuilt Received.NotRun owed (record world.source { switched = switched })) (rebuild_frames Received.NotRun (record world.source { switched = switched })))
+    AreLimited cpus (forward_sent (record world { back = wire_behind rest }) (source_rebuilt Received.NotRun owed (record world.source { switched = switched })) (rebuild_frames Received.NotRun (record world.source { switched = switched })))
 rebuilt_limited {cpus = cpus} true world rest owed kept right many epoch bodies h =
     assumption (λ (c : IsCpuCount cpus). bodies-sending world.forward.frames world.source.epoch (rebuild_frames Received.NotRun (record world.source { switched = true })) (h.to_destination c) (rebuilt_good Received.NotRun (record world.source { switched = true }) kept.spaces.source_space.host h.areas (λ s. right) (subst IsCpuCount (sym many) c)))
 rebuilt_limited {cpus = cpus} false world rest owed kept right many epoch bodies h = grind (arith, nat_tests, none_pages)

@@ -5,7 +5,7 @@ use Rattle.mig_base.specs.declared.fault.TakeFault.{TakeFault}
 use Rattle.mig_base.specs.declared.fault.TakeFault.TheVariants as takes
 use Rattle.mig_model.specs.Destination.{Destination, destination_took}
 use Rattle.mig_model.specs.Faults.{take_fault}
-use Rattle.mig_model.specs.Migration.{frame_effect}
+use Rattle.mig_model.specs.Effects.{frame_effect}
 use Rattle.mig_model.specs.Wire.{Sent}
 use Rattle.grammar.specs.Printed.{outcome_line}
 use Rattle.frames.specs.Answers.{after, answer_line, answer_lines, behind, refusal_line}

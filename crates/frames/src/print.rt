@@ -2,7 +2,7 @@
 
 ghost use Rattle.std.specs.Prelude.{◌≡◌, ◌≢◌, ◌++◌, OnOk, string_bytes};
 ghost use Rattle.mig_model.specs.Bounds.{IsFrame};
-ghost use Rattle.mig_model.specs.Migration.{frame_effect};
+ghost use Rattle.mig_model.specs.Effects.{frame_effect};
 ghost use Rattle.page_stream.specs.Frames.{frame_of};
 ghost use Rattle.frames.specs.Answers.{refusal_line, take_fault_name};
 

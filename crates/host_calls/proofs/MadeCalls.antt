@@ -21,7 +21,9 @@ use Rattle.mig_model.specs.Guest.Act.{Unprotected, Zeroed, Woke, Forgot, Request
 use Rattle.mig_model.specs.Handlers.{AreAccepted, AreRegistered, IsCopy, registered_in_turn}
 use Rattle.mig_model.specs.Invariant.{IsSoundWorld}
 use Rattle.mig_model.specs.Ioctls.{event_features, handshaken, registered}
-use Rattle.mig_model.specs.Migration.{World, act_effect, after_send, frame_effect, guest_by, install_effect, next, outcome, page_effect}
+use Rattle.mig_model.specs.Migration.{World, guest_by, next, outcome}
+use Rattle.mig_model.specs.Effects.{act_effect, frame_effect, install_effect, page_effect}
+use Rattle.mig_model.proofs.StepWorlds.{after_send}
 use Rattle.mig_model.specs.Owed.{home}
 use Rattle.mig_model.specs.Source.{bytes_of, is_precopy, source_act, source_act_by, space_of}
 use Rattle.mig_model.specs.Space.{fresh_space}

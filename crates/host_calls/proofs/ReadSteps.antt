@@ -11,7 +11,7 @@ use Rattle.mig_model.specs.Bounds.{IsPage}
 use Rattle.mig_model.specs.Cpus.{all_woken, handed_over, message_less, processor_at}
 use Rattle.mig_model.specs.Guest.{Guest, in_bytes, is_left_by, read_guest}
 use Rattle.mig_model.specs.Ioctls.{is_bad_range, read_error, read_space, wake_answer}
-use Rattle.mig_model.specs.Migration.{event_effect, read_effect}
+use Rattle.mig_model.specs.Effects.{event_effect, read_effect}
 use Rattle.mig_model.specs.Space.{Space}
 use Rattle.mig_model.specs.Userfault.{Noted, Object, message_read, next_message}
 use Rattle.mig_model.proofs.Registering.{left_new}

@@ -2,7 +2,8 @@
 use Rattle.std.proofs.lemmas.Bool.Decides.{nat_tests}
 use Rattle.std.proofs.Common.{◌≡◌, true, false, arith}
 use Rattle.mig_base.specs.declared.schedule.Side.{Side}
-use Rattle.mig_model.specs.Migration.{World, has_started, after_break, after_notice, after_resume}
+use Rattle.mig_model.specs.Migration.{World, has_started}
+use Rattle.mig_model.proofs.StepWorlds.{after_break, after_notice, after_resume}
 use Rattle.mig_model.specs.Invariant.{IsSoundWorld}
 use Rattle.mig_model.specs.Source.{is_released, is_source_paused}
 use Rattle.mig_model.specs.Destination.{is_dest_paused}

@@ -1,7 +1,7 @@
 -- A processor in a call has the reply of its last entry, until its last message is read.
 use Rattle.std.proofs.lemmas.Bool.Decides.{nat_tests}
 use Rattle.std.proofs.Common.{◌≡◌, ℕ, zero, suc, Bool, true, false, eqb, Option, Some, None, List, [], ◌∷◌, ◌++◌, refl, sym, ap, ◌∙◌, subst, ◌⊎◌, inl, inr, ⊎_elim, arith, if◌then◌else◌, not, append-nil}
-use Rattle.std.specs.Prelude.{set, map, Ok}
+use Rattle.std.specs.Prelude.{set, map, Ok, Err}
 use Rattle.std.specs.Ordering.{nat_cmp}
 use Rattle.std.specs.FinMap.{FinMap}
 use Rattle.std.specs.FinSet.{FinSet}
@@ -22,7 +22,9 @@ use Rattle.mig_model.specs.Cpus.Took.{Sleep, Call}
 use Rattle.mig_model.specs.Guest.{Guest, is_left_by, read_guest, took_by}
 use Rattle.mig_model.specs.Wire.{Frame, Sent}
 use Rattle.mig_model.specs.Wire.Frame.{Package}
-use Rattle.mig_model.specs.Migration.{Made, World, after_command, after_deliver, answer, event_effect, guest_by, guest_of, next, outcome, read_effect, try_effect}
+use Rattle.mig_model.specs.Migration.{Made, World, answer, guest_by, guest_of, next, outcome, Answer, next_by, outcome_by}
+use Rattle.mig_model.proofs.StepWorlds.{after_command, after_deliver}
+use Rattle.mig_model.specs.Effects.{event_effect, read_effect, try_effect}
 use Rattle.mig_model.specs.Promises.{AreSoundCalls}
 use Rattle.mig_model.specs.Invariant.{IsSoundWorld}
 use Rattle.mig_model.specs.Promises.{IsReached}
@@ -294,10 +296,18 @@ call_answer world step k reply kept all h =
     (λ tries. holds-map (Tries world) _ (answer world step) (λ made t. inl (ap (λ w. reply_at (guest_of w).cpus k) t.is ∙ tried_keeps world t.cpu t.command k reply t.free h)) (holds-made _ world step (is_tried world step tries)))
     (λ other. holds-map (GoesOn world) _ (answer world step) (λ made g. g.calls.kept k reply h) (goes_on world step kept all other))
 
+handed_by : (world : World) (step : Step) (cpu : ℕ) (reply : Reply) → reply_at (guest_of world).cpus cpu ≡ Some reply → Holds (GoesOnOr cpu reply) (answer world step) → (reply_at (guest_of (next world step)).cpus cpu ≡ Some reply) ⊎ HandsOver world step cpu reply
+unfolding next outcome
+handed_by world step cpu reply h holds = by (answer world step) refl holds
+  where
+    by : (result : Answer) → answer world step ≡ result → Holds (GoesOnOr cpu reply) result → (reply_at (guest_of (next_by world (answer world step))).cpus cpu ≡ Some reply) ⊎ HandsOver world step cpu reply
+    by (Ok made) is (inl stays) = inl (ap (λ r. reply_at (guest_of (next_by world r)).cpus cpu) is ∙ stays)
+    by (Ok made) is (inr last) = inr (record { event = last.event; is = ap outcome_by is ∙ ap (λ e. Ok e) last.is })
+    by (Err refusal) is k = inl (ap (λ r. reply_at (guest_of (next_by world r)).cpus cpu) is ∙ h)
+
 pub reply_kept : (world : World) (step : Step) (cpu : ℕ) (reply : Reply) → IsReached world → call_reply (processor_at (guest_of world).cpus cpu) ≡ Some reply →
     (call_reply (processor_at (guest_of (next world step)).cpus cpu) ≡ Some reply) ⊎ HandsOver world step cpu reply
-unfolding next outcome
-reply_kept world step cpu reply reached h = grind (arith, nat_tests, call_answer, kept-reached, are_sound_calls)
+reply_kept world step cpu reply reached h = handed_by world step cpu reply h (call_answer world step cpu reply (kept-reached world reached) (are_sound_calls world reached) h)
 
 -- what is handed over is that reply
 abbrev LastTold : World → Effect → World → Type 0

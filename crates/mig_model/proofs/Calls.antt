@@ -27,7 +27,8 @@ use Rattle.mig_model.proofs.EveryStep.{by_reached}
 use Rattle.mig_model.specs.Cpus.{access_took, all_woken, call_took, is_idle, is_woken, message_less, processor_after, processor_at, taken_over}
 use Rattle.mig_model.specs.Guest.{Guest, read_guest, tried, is_left_by}
 use Rattle.mig_model.specs.Destination.{Destination, destination_took}
-use Rattle.mig_model.specs.Migration.{first_world_with, World, after_command, guest_by, guest_of, has_no_cpu, next, start, with_guest_by}
+use Rattle.mig_model.specs.Migration.{first_world_with, World, guest_by, guest_of, next, with_guest_by}
+use Rattle.mig_model.proofs.StepWorlds.{after_command, has_no_cpu}
 use Rattle.mig_model.specs.Promises.{IsReached}
 use Rattle.mig_model.proofs.StepCases.{made-next}
 use Rattle.mig_model.proofs.WokenSteps.{Wakes, takes, wakes-next}

@@ -18,7 +18,6 @@ use Rattle.mig_model.specs.Whereabouts.{seen_host}
 use Rattle.mig_model.proofs.HostLemmas.{get-put}
 use Rattle.mig_model.proofs.SeenLemmas.{PageMap, AreMapped, overlay, get-seen}
 use Rattle.mig_model.specs.Promises.{gone, moved_owed, owed_changed}
-use Rattle.mig_model.specs.Migration.{start}
 use Rattle.mig_model.proofs.Facts.{none_absurd}
 
 -- The seen host

@@ -13,7 +13,9 @@ use Rattle.mig_model.specs.Source.{Source, is_released, is_source_idle, is_sourc
 use Rattle.mig_model.specs.Destination.{is_dest_paused}
 use Rattle.mig_model.specs.Wire.{Sent}
 use Rattle.mig_model.specs.Wire.Frame.{Recv, Resume}
-use Rattle.mig_model.specs.Migration.{World, has_started, is_used, after_deliver, after_deliver_back, after_notice, after_source_read, after_start}
+use Rattle.mig_model.specs.Migration.{World, has_started}
+use Rattle.mig_model.specs.NodeSteps.{is_used}
+use Rattle.mig_model.proofs.StepWorlds.{after_deliver, after_deliver_back, after_notice, after_source_read, after_start}
 use Rattle.mig_model.specs.Invariant.{SwitchedAt}
 use Rattle.mig_model.specs.Promises.{CanComplete, IsReached}
 use Rattle.mig_model.proofs.Facts.{none_absurd}

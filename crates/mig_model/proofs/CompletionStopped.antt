@@ -14,13 +14,15 @@ use Rattle.mig_base.specs.declared.phase.SourcePhase.{SourcePhase}
 use Rattle.mig_base.specs.Tests.{is_empty}
 use Rattle.mig_base.proofs.RangeLemmas.{least_below_tells}
 use Rattle.mig_model.specs.Userfault.{Noted, Object, first_noted, message_read, next_message, next_of}
-use Rattle.mig_model.specs.Guest.{Guest, read_guest}
+use Rattle.mig_model.specs.Guest.{Guest, read_guest, is_changing}
 use Rattle.mig_model.specs.Log.{least_of}
 use Rattle.mig_model.specs.Owed.{home}
 use Rattle.mig_model.specs.Source.{Source, is_released, is_source_idle, is_stopped, source_took}
 use Rattle.mig_model.specs.Destination.{Destination, destination_took, install_by, urgent_took}
 use Rattle.mig_model.specs.Wire.{Copy, Frame, Sent}
-use Rattle.mig_model.specs.Migration.{World, is_changing, is_early, is_end, after_deliver, after_deliver_back, after_deliver_urgent, after_dest_read, after_install, after_push}
+use Rattle.mig_model.specs.Migration.{World}
+use Rattle.mig_model.specs.Faults.{is_early, is_end}
+use Rattle.mig_model.proofs.StepWorlds.{after_deliver, after_deliver_back, after_deliver_urgent, after_dest_read, after_install, after_push}
 use Rattle.mig_model.specs.Invariant.{AreTold, Flow, IsTold, RanAt, Wires, flow_after, flow_next, flow_of}
 use Rattle.mig_model.specs.Invariant.Flow.{BeforeAdvise, Copies, BeforePackage, Pushed, AfterEnd}
 use Rattle.mig_model.specs.Promises.{CanComplete}

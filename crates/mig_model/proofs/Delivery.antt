@@ -11,7 +11,9 @@ use Rattle.mig_base.specs.declared.phase.SourcePhase.{SourcePhase}
 use Rattle.mig_base.proofs.PageLemmas.{same_pages}
 use Rattle.mig_model.specs.Wire.{Sent, Copy, Frame, sending, wire_behind, copies_in, kept_after, kept_with}
 use Rattle.mig_model.specs.Wire.Frame.{End, Done, Resume, Request, Recv, Advise, Page, Zero, Run, Discard}
-use Rattle.mig_model.specs.Migration.{World, is_end, after_deliver}
+use Rattle.mig_model.specs.Migration.{World}
+use Rattle.mig_model.specs.Faults.{is_end}
+use Rattle.mig_model.proofs.StepWorlds.{after_deliver}
 use Rattle.mig_model.specs.Whereabouts.{copies_of, has_copy, is_urgent_or_left, IsSwitching, are_requests, behind, kept_by, package_in, AreFaithful}
 use Rattle.mig_model.specs.Invariant.{Wires, IsSoundWorld, IsFlowing, AreOf, flow_of, RanAt, EpochAt, flow_after, AreWhole}
 use Rattle.mig_model.specs.Invariant.Flow.{Pushed, AfterEnd}

@@ -20,7 +20,8 @@ use Rattle.mig_model.specs.Space.{fresh_space}
 use Rattle.mig_model.specs.Guest.{is_present}
 use Rattle.mig_model.specs.Wire.{Frame, Sent, kept_after, wire_behind}
 use Rattle.mig_model.specs.Wire.Frame.{Discard, Recv}
-use Rattle.mig_model.specs.Migration.{World, after_deliver_back}
+use Rattle.mig_model.specs.Migration.{World}
+use Rattle.mig_model.proofs.StepWorlds.{after_deliver_back}
 use Rattle.mig_model.specs.Whereabouts.{IsSwitching, AreFaithful, copies_of, has_copy, seen_host, current_host}
 use Rattle.mig_model.specs.Invariant.{IsSoundWorld, IsSoundPushing, IsSoundLog, AreOf}
 use Rattle.mig_model.proofs.SpaceLemmas.{IsSoundSpace-fresh}

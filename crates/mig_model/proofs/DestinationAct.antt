@@ -17,9 +17,11 @@ use Rattle.mig_model.specs.Host.{Host, memory}
 use Rattle.mig_model.specs.Userfault.{Noted}
 use Rattle.mig_model.specs.Space.{Space, IsSoundSpace}
 use Rattle.mig_model.specs.Ioctls.{put_pages, installed as pages_installed}
-use Rattle.mig_model.specs.Guest.{Guest, counted, is_present, Fault, is_forgotten, zero_installed, resolved}
+use Rattle.mig_model.specs.Guest.{Guest, counted, is_present, Fault, is_forgotten, zero_installed, resolved, is_changing}
 use Rattle.mig_model.specs.Wire.{Copy, Sent, wire_if}
-use Rattle.mig_model.specs.Migration.{World, outcome, next, after_install, install_effect, is_changing, runs, destination_sends, after_dest_act}
+use Rattle.mig_model.specs.Migration.{World, outcome, next, runs}
+use Rattle.mig_model.proofs.StepWorlds.{back_sent, after_install, after_dest_act}
+use Rattle.mig_model.specs.Effects.{install_effect}
 use Rattle.mig_model.specs.Whereabouts.{AreFaithful, has_copy, seen_host, seen_bytes, are_requests, is_request}
 use Rattle.mig_model.specs.Invariant.{IsSoundWorld, Wires}
 use Rattle.mig_model.specs.Promises.{IsPut}
@@ -335,7 +337,7 @@ not_or a b h = grind arith
 
 act_in : (forgotten present : Bool) (o : Option ℕ) (fault : Fault) (rest : List Fault) (world : World) → IsSoundWorld (at_held [] (fault ∷ rest) world) → world.destination.has_run ≡ true →
     is_forgotten (at_held [] (fault ∷ rest) world).destination.guest.space fault.page ≡ forgotten → is_present world.destination.guest.space fault.page ≡ present → get world.destination.owed fault.page ≡ o →
-    IsSoundWorld (destination_sends (at_held [] (fault ∷ rest) world) (destination_acted_by (destination_act_by forgotten present o) (at_held [] (fault ∷ rest) world).destination fault.page) (act_frames (destination_act_by forgotten present o) (at_held [] (fault ∷ rest) world).destination))
+    IsSoundWorld (back_sent (at_held [] (fault ∷ rest) world) (destination_acted_by (destination_act_by forgotten present o) (at_held [] (fault ∷ rest) world).destination fault.page) (act_frames (destination_act_by forgotten present o) (at_held [] (fault ∷ rest) world).destination))
 act_in true present o fault rest world kept runs f p h =
     let old : World = at_held [] (fault ∷ rest) world in
     let new : World = record old { destination = destination_acted_by Forgot old.destination fault.page } in

@@ -21,7 +21,8 @@ use Rattle.mig_model.specs.Userfault.{Noted, next_message, next_of}
 use Rattle.mig_model.specs.Space.{IsSoundSpace, fresh_space}
 use Rattle.mig_model.specs.Guest.{Guest, Fault, is_present, took_by, tried}
 use Rattle.mig_model.specs.Wire.{Sent, Copy}
-use Rattle.mig_model.specs.Migration.{World, after_dest_read, runs, guest_by, with_guest_by, after_command}
+use Rattle.mig_model.specs.Migration.{World, runs, guest_by, with_guest_by}
+use Rattle.mig_model.proofs.StepWorlds.{after_dest_read, after_command}
 use Rattle.mig_model.specs.Whereabouts.{IsReceiving, AreFaithful, has_copy, seen_host, current_host, current_by}
 use Rattle.mig_model.specs.Promises.{AreFaults}
 use Rattle.mig_model.specs.Invariant.{IsSoundWorld, Wires, IsFlowing, AreRight}

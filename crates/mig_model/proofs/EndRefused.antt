@@ -1,7 +1,7 @@
 -- End is refused exactly where a page remains.
 use Rattle.std.proofs.lemmas.Bool.Decides.{nat_tests}
-use Rattle.std.proofs.Common.{◌≡◌, ℕ, ◌||◌, Bool, true, false, not, eqb, is_some, if◌then◌else◌, [], ◌∷◌, ap, arith}
-use Rattle.std.specs.Prelude.{Ok, Err}
+use Rattle.std.proofs.Common.{◌≡◌, ℕ, ◌||◌, Bool, true, false, not, eqb, is_some, if◌then◌else◌, [], ◌∷◌, ap, ◌∙◌, arith}
+use Rattle.std.specs.Prelude.{Result, Ok, Err}
 use Rattle.std.specs.FinSet.{contains}
 use Rattle.mig_base.specs.declared.TheConstants.{HIGH_PAGE}
 use Rattle.mig_base.specs.declared.effect.Effect.{Effect}
@@ -9,19 +9,28 @@ use Rattle.mig_base.specs.declared.refusal.Refusal.{Refusal}
 use Rattle.mig_base.specs.declared.schedule.Step.{Step}
 use Rattle.mig_base.proofs.RangeLemmas.{least_below-none, least_below-some}
 use Rattle.mig_model.specs.Log.{least_of}
-use Rattle.mig_model.specs.Source.{is_stopped, space_of}
-use Rattle.mig_model.specs.Migration.{World, Answer, after_end, made, outcome, outcome_by, unless}
+use Rattle.mig_model.specs.Source.{Source, end_sent as ending, is_stopped, space_of}
+use Rattle.mig_model.specs.Migration.{World, outcome, outcome_by, source_sends}
+use Rattle.mig_model.specs.NodeSteps.{Sends, sent, unless}
+use Rattle.mig_model.specs.SourceSteps as source
+use Rattle.mig_model.specs.Wire.Frame.{End}
+use Rattle.mig_model.proofs.StepLemmas.{is-up}
 use Rattle.mig_model.specs.Invariant.{IsSoundWorld}
 use Rattle.mig_model.proofs.FrameFaults.{sound_below}
 
-by_tests : (stopped unended up left : Bool) (answer : Answer) → stopped ≡ true → unended ≡ false → up ≡ true → unless ((not stopped || unended, Refusal.Phase) ∷ (not up, Refusal.Broken) ∷ (left, Refusal.PagesLeft) ∷ []) answer ≡ (if left then Err Refusal.PagesLeft else answer)
+by_tests : (stopped unended left : Bool) (result : Result (Sends Source) Refusal) → stopped ≡ true → unended ≡ false → unless ((not stopped || unended, Refusal.Phase) ∷ (left, Refusal.PagesLeft) ∷ []) result ≡ (if left then Err Refusal.PagesLeft else result)
 unfolding unless
-by_tests stopped unended up left answer s o u = grind (arith, nat_tests)
+by_tests stopped unended left result s o = grind (arith, nat_tests)
 
 end_by : (world : World) (left : Bool) → is_stopped world.source.phase ≡ true → eqb world.source.end_epoch world.source.epoch ≡ false → world.up ≡ true → is_some (least_of world.source.remaining) ≡ left →
-    outcome world Step.End ≡ outcome_by (if left then Err Refusal.PagesLeft else made Effect.EndSent (after_end world))
+    outcome world Step.End ≡ (if left then Err Refusal.PagesLeft else Ok Effect.EndSent)
 unfolding outcome
-end_by world left stopped unended up is = grind (arith, nat_tests, by_tests)
+end_by world left stopped unended up is =
+    let ends = by_tests (is_stopped world.source.phase) (eqb world.source.end_epoch world.source.epoch) (is_some (least_of world.source.remaining)) _ stopped unended in
+    ap (λ r. outcome_by (source_sends world r)) (is-up world.up (source.end world.source) up ∙ ends) ∙ ended left (is_some (least_of world.source.remaining)) is
+  where
+    ended : (other test : Bool) → test ≡ other → outcome_by (source_sends world (if test then Err Refusal.PagesLeft else sent Effect.EndSent (End world.source.urgent_sent ∷ []) (ending world.source))) ≡ (if other then Err Refusal.PagesLeft else Ok Effect.EndSent)
+    ended other test same = grind (arith, nat_tests)
 
 pub end_left : (world : World) (q : ℕ) → IsSoundWorld world → is_stopped world.source.phase ≡ true → eqb world.source.end_epoch world.source.epoch ≡ false → world.up ≡ true → contains world.source.remaining q ≡ true → outcome world Step.End ≡ Err Refusal.PagesLeft
 end_left world q kept stopped unended up left =

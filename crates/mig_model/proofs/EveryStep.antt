@@ -4,9 +4,10 @@ use Rattle.std.proofs.Common.{◌≡◌, ℕ, ◌||◌, Bool, true, false, not, 
 use Rattle.mig_base.specs.declared.schedule.Side.{Side}
 use Rattle.mig_base.specs.declared.schedule.Step.{Step}
 use Rattle.mig_base.specs.declared.command.Command.{Command}
-use Rattle.mig_model.specs.Migration.{World, first_world_with, next, after_steps, after_command, runs, after_move, after_move_back, is_short, after_move_urgent}
+use Rattle.mig_model.specs.Migration.{World, first_world_with, next, after_steps, runs, is_short}
+use Rattle.mig_model.proofs.StepWorlds.{after_command}
 use Rattle.mig_model.specs.Invariant.{IsSoundWorld, AreSoundUrgent}
-use Rattle.mig_model.specs.Promises.{IsReached, IsComplete}
+use Rattle.mig_model.specs.Promises.{IsReached, IsComplete, after_move, after_move_back, after_move_urgent}
 use Rattle.mig_model.proofs.Breaking.{kept-break, kept-notice_source, kept-notice_destination, kept-resume}
 use Rattle.mig_model.proofs.Stopping.{kept-push, kept-serve, kept-end, kept-switch}
 use Rattle.mig_model.proofs.FirstWorld.{kept-first}

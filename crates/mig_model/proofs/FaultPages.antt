@@ -18,7 +18,8 @@ use Rattle.mig_model.specs.Owed.{home}
 use Rattle.mig_model.specs.Wire.{Copy, Frame}
 use Rattle.mig_model.specs.Source.{source_act, source_acted_by, source_took, space_of}
 use Rattle.mig_model.specs.Destination.{destination_act, destination_acted_by, destination_took, install_by, urgent_took}
-use Rattle.mig_model.specs.Migration.{World, after_dest_read, after_source_read, after_steps, answer, guest_by, next, with_guest_by}
+use Rattle.mig_model.specs.Migration.{World, after_steps, answer, guest_by, next, with_guest_by}
+use Rattle.mig_model.proofs.StepWorlds.{after_dest_read, after_source_read}
 use Rattle.mig_model.specs.Invariant.{AreRight, IsSoundWorld}
 use Rattle.mig_model.specs.Promises.{IsReached}
 use Rattle.mig_model.specs.Bounds.{IsMapping, IsPage}

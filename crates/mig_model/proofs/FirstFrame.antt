@@ -8,7 +8,8 @@ use Rattle.mig_base.specs.declared.phase.DestPhase.{DestPhase}
 use Rattle.mig_base.specs.declared.phase.SourcePhase.{SourcePhase}
 use Rattle.mig_model.specs.Wire.{Frame, Sent}
 use Rattle.mig_model.specs.Wire.Frame.{Page, Zero, Run, Resume}
-use Rattle.mig_model.specs.Migration.{World, after_deliver, after_deliver_back, next}
+use Rattle.mig_model.specs.Migration.{World, next}
+use Rattle.mig_model.proofs.StepWorlds.{after_deliver, after_deliver_back}
 use Rattle.mig_model.specs.Invariant.{Flow, flow_next, flow_after, Wires}
 use Rattle.mig_model.specs.Invariant.Flow.{BeforeAdvise, Copies, BeforePackage, Pushed, AfterEnd}
 use Rattle.mig_model.specs.Source.{Source}

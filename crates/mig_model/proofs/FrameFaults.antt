@@ -18,15 +18,19 @@ use Rattle.mig_base.specs.declared.effect.Effect.{Effect}
 use Rattle.mig_base.specs.declared.refusal.Refusal.{Refusal}
 use Rattle.mig_base.specs.declared.schedule.Step.{Step}
 use Rattle.mig_model.specs.Space.{Space, IsSoundSpace}
-use Rattle.mig_model.specs.Migration.{World, Made, Answer, after_deliver, frame_effect, has_started, is_early, is_end, is_short, made, outcome, outcome_by, unless}
+use Rattle.mig_model.specs.Migration.{World, Made, destination_sends, has_started, is_short, outcome, outcome_by}
+use Rattle.mig_model.specs.DestinationSteps.{take_by}
+use Rattle.mig_model.proofs.StepLemmas.{delivers}
+use Rattle.mig_model.proofs.StepWorlds.{after_deliver, back_sent}
+use Rattle.mig_model.specs.Effects.{frame_effect}
 use Rattle.mig_model.specs.Invariant.{IsSoundWorld}
-use Rattle.mig_model.specs.Wire.{Frame, Sent, Copy}
+use Rattle.mig_model.specs.Wire.{Frame, Sent, Copy, wire_behind}
 use Rattle.mig_model.specs.Wire.Frame.{Advise, End, Recv}
 use Rattle.mig_model.specs.Guest.{is_present}
 use Rattle.mig_model.specs.Log.{no_pages, present}
 use Rattle.mig_model.specs.Source.{Source, space_of}
-use Rattle.mig_model.specs.Destination.{Destination}
-use Rattle.mig_model.specs.Faults.{frame_fault, back_fault, rebuild_fault, take_fault, urgent_fault, wait_fault, is_bad, is_too_soon}
+use Rattle.mig_model.specs.Destination.{Destination, destination_answers, destination_took}
+use Rattle.mig_model.specs.Faults.{frame_fault, back_fault, rebuild_fault, take_fault, urgent_fault, wait_fault, is_bad, is_too_soon, is_early, is_end}
 use Rattle.mig_model.proofs.Taken.{IsTaken, IsTakenUrgent, IsGood, IsInPlaceBack}
 use Rattle.mig_model.proofs.Facts.{low_or}
 
@@ -97,34 +101,21 @@ no_rebuild_fault node state owed below place = grind (arith, nat_tests, none_lis
 
 -- A Deliver that completes a frame
 
-passes : (started up : Bool) (answer : Answer) → started ≡ true → up ≡ true → unless ((not started, Refusal.Phase) ∷ (not up, Refusal.Broken) ∷ []) answer ≡ answer
-unfolding unless
-passes started up answer s u = grind (arith, nat_tests)
-
--- the two reasons for which it may be refused
-abbrev waits : World → Sent → List (Bool × Refusal)
-waits world sent = (is_end sent.frame && not (is_empty world.destination.arrivals), Refusal.InstallFirst) ∷ (is_early world.destination sent.frame, Refusal.UrgentFirst) ∷ []
-
-completed : (world : World) (n : ℕ) (sent : Sent) (rest : List Sent) → has_started world ≡ true → world.up ≡ true → world.forward.frames ≡ sent ∷ rest → is_short world.forward sent.frame n ≡ false →
-    outcome world (Step.Deliver n) ≡ outcome_by (unless (waits world sent) (made (frame_effect sent.frame) (after_deliver world sent rest)))
-unfolding outcome
-completed world n sent rest started up first full = grind (arith, nat_tests, passes)
-
-abbrev fault_by : (install early : Bool) → Option TakeFault
-fault_by install early = first_holding ((install, TakeFault.InstallFirst) ∷ (early, TakeFault.UrgentFirst) ∷ [])
-
-abbrev answer_by : (install early : Bool) → Made → Result Effect Refusal
-answer_by install early new = outcome_by (unless ((install, Refusal.InstallFirst) ∷ (early, Refusal.UrgentFirst) ∷ []) (Ok new))
-
--- what a step whose frame has such a fault answers
+-- what a step answers whose frame has such a fault
 abbrev pub answer_to : Option TakeFault → Made → Result Effect Refusal
 answer_to (Some TakeFault.InstallFirst) new = Err Refusal.InstallFirst
 answer_to (Some fault) new = Err Refusal.UrgentFirst
 answer_to None new = Ok new.effect
 
-told_by : (install early : Bool) (new : Made) → answer_by install early new ≡ answer_to (fault_by install early) new
-unfolding unless
-told_by install early new = grind (arith, nat_tests)
+-- the two reasons for which it may be refused
+abbrev fault_by : (install early : Bool) → Option TakeFault
+fault_by install early = first_holding ((install, TakeFault.InstallFirst) ∷ (early, TakeFault.UrgentFirst) ∷ [])
+
+told_by : (install early : Bool) (world : World) (node : Destination) (epoch : ℕ) (frame : Frame) →
+    outcome_by (destination_sends world (take_by (fault_by install early) node epoch frame)) ≡ answer_to (fault_by install early) (record { effect = frame_effect frame; world = back_sent world (destination_took node epoch frame) (destination_answers node frame) })
+told_by true early world node epoch frame = refl
+told_by false true world node epoch frame = refl
+told_by false false world node epoch frame = refl
 
 -- a frame that is not wrong has no fault but for having to wait
 only_waits : (node : Destination) (sent : Sent) (fault : Option TakeFault) → frame_fault node sent.epoch sent.frame ≡ None → take_fault node sent.epoch sent.frame ≡ fault → wait_fault node sent.frame ≡ fault
@@ -140,11 +131,11 @@ pub record IsFull (world : World) (n : ℕ) (sent : Sent) (rest : List Sent) : T
 
 pub full_by : (world : World) (n : ℕ) (sent : Sent) (rest : List Sent) (fault : Option TakeFault) → IsFull world n sent rest → take_fault world.destination sent.epoch sent.frame ≡ fault →
     outcome world (Step.Deliver n) ≡ answer_to fault (record { effect = frame_effect sent.frame; world = after_deliver world sent rest })
+unfolding outcome
 full_by world n sent rest fault is h =
-    let new : Made = record { effect = frame_effect sent.frame; world = after_deliver world sent rest } in
-    completed world n sent rest is.started is.up is.first is.full
-    ∙ told_by (is_end sent.frame && not (is_empty world.destination.arrivals)) (is_early world.destination sent.frame) new
-    ∙ ap (λ f. answer_to f new) (only_waits world.destination sent fault is.right h)
+    ap outcome_by (delivers world n sent rest false is.started is.up is.first is.full)
+    ∙ told_by (is_end sent.frame && not (is_empty world.destination.arrivals)) (is_early world.destination sent.frame) (record world { forward = wire_behind rest }) world.destination sent.epoch sent.frame
+    ∙ ap (λ f. answer_to f (record { effect = frame_effect sent.frame; world = after_deliver world sent rest })) (only_waits world.destination sent fault is.right h)
 
 pub is_full : (world : World) (n : ℕ) (sent : Sent) (rest : List Sent) → IsSoundWorld world → world.up ≡ true → world.forward.frames ≡ sent ∷ rest → is_short world.forward sent.frame n ≡ false → IsTaken world.destination sent → IsFull world n sent rest
 is_full world n sent rest kept up first full taken = grind (arith, nat_tests, no_frame_fault)

@@ -30,7 +30,10 @@ use Rattle.mig_model.specs.Owed.{home, settled_by}
 use Rattle.mig_model.specs.Wire.{Copy, Frame, Sent, is_zeros}
 use Rattle.mig_model.specs.Source.{bytes_of, for_both, is_precopy, source_act, source_act_by, source_acted_by, space_of}
 use Rattle.mig_model.specs.Destination.{assembled, destination_act, destination_act_by, destination_acted_by, for_missing, install_by}
-use Rattle.mig_model.specs.Migration.{World, act_effect, after_deliver, after_install, after_source_act, frame_effect, install_effect, next, outcome, run_bound}
+use Rattle.mig_model.specs.Migration.{World, next, outcome}
+use Rattle.mig_model.specs.Effects.{act_effect, frame_effect, install_effect}
+use Rattle.mig_model.proofs.StepWorlds.{after_deliver, after_install, after_source_act}
+use Rattle.mig_model.specs.SourceSteps.{run_bound}
 use Rattle.mig_model.specs.Whereabouts.{AreFaithful, is_unread}
 use Rattle.mig_model.specs.Invariant.{IsSoundWorld}
 use Rattle.mig_model.specs.Bounds.{IsMapping, IsPage}

@@ -4,8 +4,10 @@ pub mod HostLemmas
 pub mod CommandLemmas
 pub mod SpaceLemmas
 pub mod IoctlLemmas
+pub mod StepWorlds
 pub mod StepLemmas
 pub mod StepCases
+pub mod StepAnswers
 pub mod Breaking
 pub mod FirstWorld
 pub mod SettledLemmas

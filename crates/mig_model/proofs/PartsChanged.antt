@@ -9,7 +9,9 @@ use Rattle.mig_base.specs.declared.schedule.Step.{Step}
 use Rattle.mig_base.specs.declared.command.Command.{Command}
 use Rattle.mig_model.specs.Wire.{Frame, Sent, page_frame, sending, Wire, wire_if, wire_with}
 use Rattle.mig_model.specs.Wire.Frame.{Advise, Run, End, Resume}
-use Rattle.mig_model.specs.Migration.{World, next, after_command, after_deliver, after_deliver_back, after_dest_act, after_move, after_move_back, after_move_urgent, after_deliver_urgent}
+use Rattle.mig_model.specs.Migration.{World, next}
+use Rattle.mig_model.proofs.StepWorlds.{after_command, after_deliver, after_deliver_back, after_dest_act, after_deliver_urgent}
+use Rattle.mig_model.specs.Promises.{after_move, after_move_back, after_move_urgent}
 use Rattle.mig_model.specs.Parts.{Grows, Shrinks, GuestAlone, ChangesParts}
 use Rattle.mig_model.proofs.StepCases.{MakesWorld, made-next}
 use Rattle.mig_model.specs.Source.{bytes_of, run_of, source_answers, source_took, switch_frames}

@@ -12,7 +12,6 @@ use Rattle.mig_model.specs.Invariant.{AreRight}
 use Rattle.mig_model.proofs.SeenLemmas.{owed_none}
 use Rattle.mig_model.specs.Owed.{owed_after, settled_by}
 use Rattle.mig_model.specs.Promises.{gone}
-use Rattle.mig_model.specs.Migration.{start}
 use Rattle.mig_model.proofs.Facts.{in_range_first, settled-push}
 use Rattle.mig_model.proofs.SourceMessages.{events_queued, AreRight-append}
 pub use Rattle.mig_model.proofs.SourceMessages.{AllRight, AllRight-append as right-append, told_right as right-told}

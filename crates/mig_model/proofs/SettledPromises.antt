@@ -20,7 +20,9 @@ use Rattle.mig_model.specs.Userfault.{Noted, next_of}
 use Rattle.mig_model.specs.Space.{Space, accessed_by}
 use Rattle.mig_model.specs.Guest.{tried, Act}
 use Rattle.mig_model.specs.Wire.{Frame, Sent, Copy}
-use Rattle.mig_model.specs.Migration.{World, with_guest_by, guest_by, next, outcome, install_effect, after_command, after_dest_read, guest_of, runs}
+use Rattle.mig_model.specs.Migration.{World, with_guest_by, guest_by, next, outcome, guest_of, runs}
+use Rattle.mig_model.specs.Effects.{install_effect}
+use Rattle.mig_model.proofs.StepWorlds.{after_command, after_dest_read}
 use Rattle.mig_model.specs.Promises.{AreFaults}
 use Rattle.mig_model.specs.Invariant.{IsSoundWorld, AreRight}
 use Rattle.mig_model.specs.Promises.{owed_changed, leaves_settled, AreAccesses}

@@ -17,7 +17,8 @@ use Rattle.mig_base.specs.Commands.{is_access}
 use Rattle.mig_model.specs.Userfault.{Object, fault_queued}
 use Rattle.mig_model.specs.Space.{Space, IsSoundSpace, access_of, accessed_by, called, queued_by, call_messages, modes_after}
 use Rattle.mig_model.specs.Guest.{took_by, tried}
-use Rattle.mig_model.specs.Migration.{World, after_command}
+use Rattle.mig_model.specs.Migration.{World}
+use Rattle.mig_model.proofs.StepWorlds.{after_command}
 use Rattle.mig_model.specs.Whereabouts.{is_unread}
 use Rattle.mig_model.specs.Invariant.{IsSoundWorld, AreRight}
 use Rattle.mig_model.proofs.HostLemmas.{get-put}

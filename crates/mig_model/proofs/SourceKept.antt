@@ -12,7 +12,8 @@ use Rattle.mig_model.specs.Host.{Host, memory}
 use Rattle.mig_model.specs.Space.{Space, IsSoundSpace, fresh_space}
 use Rattle.mig_model.specs.Guest.{Guest, is_present, Fault, is_changed_by, read_guest, zero_installed, is_forgotten, Act}
 use Rattle.mig_model.specs.Wire.{Sent}
-use Rattle.mig_model.specs.Migration.{World, next, after_source_act, after_source_read}
+use Rattle.mig_model.specs.Migration.{World, next}
+use Rattle.mig_model.proofs.StepWorlds.{after_source_act, after_source_read}
 use Rattle.mig_model.specs.Whereabouts.{AreFaithful, is_unread, copies_of, current_by, current_host}
 use Rattle.mig_model.specs.Invariant.{IsSoundWorld, IsSoundFlight, AreSoundEpochs, Wires, AreRight, AreWhole, RanAt, SwitchedAt, HeldFits}
 use Rattle.mig_model.specs.Log.{no_pages, present, unchanged}

@@ -12,7 +12,6 @@ use Rattle.mig_model.specs.Guest.{is_changed_by, in_bytes}
 use Rattle.mig_model.specs.Space.{told, all_queued}
 use Rattle.mig_model.specs.Whereabouts.{is_unread}
 use Rattle.mig_model.specs.Invariant.{IsRight, AreRight}
-use Rattle.mig_model.specs.Migration.{start}
 use Rattle.mig_model.proofs.Facts.{in_range_first, or_assoc}
 
 -- Messages and the events that they become

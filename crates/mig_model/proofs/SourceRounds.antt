@@ -15,7 +15,8 @@ use Rattle.mig_model.specs.Space.{Space, IsSoundSpace}
 use Rattle.mig_model.specs.Guest.{is_present}
 use Rattle.mig_model.specs.Wire.{Sent}
 use Rattle.mig_model.specs.Wire.Frame.{Advise}
-use Rattle.mig_model.specs.Migration.{World, after_round, after_start}
+use Rattle.mig_model.specs.Migration.{World}
+use Rattle.mig_model.proofs.StepWorlds.{after_round, after_start}
 use Rattle.mig_model.specs.Whereabouts.{is_unread, copies_of, kept_by}
 use Rattle.mig_model.specs.Invariant.{IsSoundWorld, AreSoundEpochs, Wires, PrecopyWires, SwitchedAt, EpochAt, AreOf, AreWhole, flow_after}
 use Rattle.mig_model.specs.Invariant.Flow.{BeforeAdvise}

@@ -12,7 +12,9 @@ use Rattle.mig_model.specs.Invariant.{Flow, flow_next, flow_after, AreWhole, IsS
 use Rattle.mig_model.specs.Invariant.Flow.{BeforeAdvise, Copies}
 use Rattle.mig_model.specs.Source.{Source, bytes_of, run_of, in_space, is_precopy, space_of}
 use Rattle.mig_model.proofs.HostLemmas.{get-put}
-use Rattle.mig_model.specs.Migration.{World, after_run, after_send, is_changing, run_bound}
+use Rattle.mig_model.specs.Migration.{World}
+use Rattle.mig_model.proofs.StepWorlds.{after_run, after_send}
+use Rattle.mig_model.specs.SourceSteps.{run_bound}
 use Rattle.mig_model.proofs.Facts.{none_absurd, zero_bytes, kept_page, copies_of-append, AreWhole-append, eqb-self, only_one, AreOf-one, no_event}
 use Rattle.mig_model.proofs.WireLemmas.{has_no_package, copies_in-page, flow_sent, fits-append, flight_up}
 use Rattle.std.specs.FinSet.{FinSet, contains}
@@ -26,7 +28,7 @@ use Rattle.mig_base.proofs.RangeLemmas.{least_below_tells}
 use Rattle.mig_base.proofs.SetLemmas.{member_below, member_inserted, member_removed, member_run, member_with_range, member_without}
 use Rattle.mig_model.specs.Space.{Space, IsSoundSpace}
 use Rattle.mig_model.specs.Ioctls.{protected_in}
-use Rattle.mig_model.specs.Guest.{is_present}
+use Rattle.mig_model.specs.Guest.{is_present, is_changing}
 use Rattle.mig_model.specs.Log.{Log, least_of, log_run_sent, log_sent}
 use Rattle.mig_model.proofs.IoctlLemmas.{IsSoundSpace-protected}
 use Rattle.mig_model.proofs.SourceKept.{source_holds, renewed, never_idle, has_not_run, in_one_is}

@@ -1,7 +1,21 @@
 -- Each step that is not refused: what its tests tell, and what it makes. A fact about every step is one answer for each of these.
+use Rattle.std.proofs.Common.{◌≡◌, ℕ, ◌&&◌, Bool, true, false, not, eqb, ltb, Some, None, List, ◌∷◌, length, refl, ap, ◌+◌, ◌*◌, arith}
+use Rattle.std.specs.Prelude.{Ok, IsOk, Result, ok_or}
+use Rattle.mig_base.specs.declared.cpu_state.CpuState.{CpuState}
+use Rattle.mig_base.specs.declared.refusal.Refusal.{Refusal}
+use Rattle.mig_base.specs.declared.schedule.Side.{Side}
+use Rattle.mig_model.specs.NodeSteps.{Sends, first_of, in_phase, is_used, rest_of, while_up, while_down}
+use Rattle.mig_model.specs.GuestSteps.{issue, retry, when_quiet}
+use Rattle.mig_model.specs.SourceSteps as source
+use Rattle.mig_model.specs.SourceSteps.{run_bound}
+use Rattle.mig_model.specs.DestinationSteps as destination
+use Rattle.mig_model.specs.DestinationSteps.{take_by}
+use Rattle.mig_model.specs.Cpus.{answer_by, idle_answer, idle_by, is_idle, is_woken, outstanding, processor_at, woken_answer, woken_by}
+use Rattle.mig_model.specs.Source.{bytes_of, is_handling, is_precopy, is_released, is_source_idle, is_source_paused, is_stopped, is_under_way, not_clean, source_act, space_of}
+use Rattle.mig_model.specs.Destination.{Destination, destination_act, is_dest_paused}
+use Rattle.mig_model.specs.Wire.{Frame, Sent, Copy}
+use Rattle.mig_model.proofs.StepLemmas.{Holds, first_and_rest, holds-and_then, holds-effect, holds-either, holds-in_phase, holds-ok_or, holds-unless, holds-when_quiet, holds-while_down, holds-while_up, leaves-next, leaves-ok, outcome-ok}
 use Rattle.std.proofs.lemmas.Bool.Decides.{nat_tests}
-use Rattle.std.proofs.Common.{◌≡◌, ℕ, ◌&&◌, Bool, true, false, not, eqb, Option, Some, None, List, [], ◌∷◌, refl, ◌+◌, ◌*◌, arith}
-use Rattle.std.specs.Prelude.{Ok, IsOk}
 use Rattle.std.specs.FinSet as finset
 use Rattle.std.specs.FinSet.{contains}
 use Rattle.std.proofs.lemmas.Bool.{not-false, and_parts, or_parts}
@@ -14,15 +28,14 @@ use Rattle.mig_base.specs.Tests.{is_empty}
 use Rattle.mig_base.specs.Commands.{is_access}
 use Rattle.mig_base.proofs.TestLemmas.{missing_none}
 use Rattle.mig_model.specs.Userfault.{Noted, next_message}
-use Rattle.mig_model.specs.Guest.{Fault, is_present, took_by}
-use Rattle.mig_model.specs.Wire.{Sent, Copy}
-use Rattle.mig_model.specs.Migration.{Answer, World, Made, answer, next, outcome, is_used, guest_of, runs, has_started, is_changing, is_end, try_effect, page_effect, read_effect, act_effect, frame_effect, install_effect, retry_command, send_page, send_run_from, run_bound, after_run, source_act_first, deliver_first, deliver_back_first, destination_act_first, install_first, after_command, after_start, after_round, after_send, after_source_read, after_source_act, after_switch, after_deliver, after_deliver_back, after_dest_read, after_dest_act, after_install, after_push, after_serve, after_end, after_break, after_notice, after_resume, after_move, after_move_back, is_short, has_no_cpu, after_deliver_urgent, after_move_urgent, after_push_urgent, deliver_urgent_first, is_early}
-use Rattle.mig_model.proofs.StepLemmas.{Holds, holds-unless, holds-either, holds-effect, leaves-next, leaves-ok, outcome-ok}
-use Rattle.mig_model.specs.Cpus.{is_idle, is_woken, outstanding, processor_at}
+use Rattle.mig_model.specs.Guest.{Fault, is_present, took_by, is_changing}
+use Rattle.mig_model.specs.Migration.{World, Made, answer, next, outcome, guest_of, runs, has_started, is_short}
+use Rattle.mig_model.specs.Faults.{is_end, is_early}
+use Rattle.mig_model.specs.Effects.{try_effect, page_effect, read_effect, act_effect, frame_effect, install_effect}
+use Rattle.mig_model.proofs.StepWorlds.{after_run, after_command, after_start, after_round, after_send, after_source_read, after_source_act, after_switch, after_deliver, after_deliver_back, after_dest_read, after_dest_act, after_install, after_push, after_serve, after_end, after_break, after_notice, after_resume, has_no_cpu, after_deliver_urgent, after_push_urgent}
+use Rattle.mig_model.specs.Promises.{after_move, after_move_back, after_move_urgent}
 use Rattle.mig_model.specs.Log.{least_of, less}
 use Rattle.mig_model.specs.Owed.{home}
-use Rattle.mig_model.specs.Source.{bytes_of, is_precopy, is_released, is_source_idle, is_source_paused, is_stopped, not_clean, source_act, space_of}
-use Rattle.mig_model.specs.Destination.{destination_act, is_dest_paused}
 
 -- what is to be shown so that Q holds of what a step makes: its tests tell these facts
 abbrev pub Makes : (Made → Type 0) → World → Step → Type 0
@@ -82,62 +95,133 @@ Makes Q world Step.Resume =
 
 -- Tests
 
--- the source has started and still runs the processors
-unswitched : (a b : Bool) → not (not a && not b) ≡ false → (a ≡ false) × (b ≡ false)
-unswitched a b h = grind (arith, nat_tests)
+-- two tests of which neither may hold
+neither : (a b : Bool) → (not a && not b) ≡ true → (a ≡ false) × (b ≡ false)
+neither a b h = grind (arith, nat_tests)
 
--- what a step finds
-holds-some : {A : Type 0} (Q : Made → Type 0) (f : Option A → Answer) (o : Option A) → Holds Q (f None) → ((x : A) → o ≡ Some x → Holds Q (f (Some x))) → Holds Q (f o)
-holds-some Q f o none some = grind (arith, nat_tests)
+-- a processor that begins a command, or retries one
+holds-answer_by : {A : Type 0} (Q : A → Type 0) (by : CpuState → Result A Refusal) (cpus : List CpuState) (k : ℕ) → (not (ltb k (length cpus)) ≡ false → Holds Q (by (processor_at cpus k))) → Holds Q (answer_by by cpus k)
+holds-answer_by Q by cpus k h = holds-either Q (ltb k (length cpus)) _ _ (λ here. h (ap not here)) (λ none. tt)
 
-holds-first : {A : Type 0} (Q : Made → Type 0) (f : List A → Answer) (l : List A) → Holds Q (f []) → ((x : A) (xs : List A) → l ≡ x ∷ xs → Holds Q (f (x ∷ xs))) → Holds Q (f l)
-holds-first Q f [] none some = none
-holds-first Q f (x ∷ xs) none some = some x xs refl
+holds-idle_by : (Q : Unit {0} → Type 0) (state : CpuState) → (is_idle state ≡ true → Q tt) → Holds Q (idle_by state)
+holds-idle_by Q CpuState.Idle h = h refl
+holds-idle_by Q _ h = tt
+
+holds-woken_by : (Q : Command → Type 0) (state : CpuState) → ((command : Command) → outstanding state ≡ Some command → is_woken state ≡ true → Q command) → Holds Q (woken_by state)
+holds-woken_by Q (CpuState.Woken command) h = h command refl refl
+holds-woken_by Q _ h = tt
+
+-- a frame that does not have to wait
+holds-take : (Q : Sends Destination → Type 0) (node : Destination) (epoch : ℕ) (frame : Frame) →
+    ((is_end frame && not (is_empty node.arrivals)) ≡ false → is_early node frame ≡ false → Holds Q (take_by None node epoch frame)) → Holds Q (destination.take node epoch frame)
+holds-take Q node epoch frame h = grind (arith, nat_tests)
 
 -- Every step
 
 pub holds-made : (Q : Made → Type 0) (world : World) (step : Step) → Makes Q world step → Holds Q (answer world step)
-holds-made Q world (Step.Issue cpu command) h = holds-unless Q _ _ (λ t. h t.0 (not-false _ t.1.0) (not-false _ t.1.1.0))
+holds-made Q world (Step.Issue cpu command) h =
+    holds-and_then Q (issue (guest_of world) (runs world) cpu command) _
+    (holds-and_then _ (idle_answer (guest_of world).cpus cpu) _
+    (holds-answer_by _ idle_by (guest_of world).cpus cpu (λ there. holds-idle_by _ (processor_at (guest_of world).cpus cpu) (λ idle. holds-in_phase _ (runs world) _ (λ may. h there idle may)))))
 holds-made Q world (Step.Retry cpu) h =
-    holds-unless Q _ _ (λ t. holds-some Q (retry_command world cpu) (outstanding (processor_at (guest_of world).cpus cpu)) tt (λ command is. holds-unless Q _ _ (λ u. h command is (not-false _ u.0) (not-false _ u.1.0))))
-holds-made Q world Step.Start h = holds-unless Q _ _ (λ t. h (not-false _ t.0) t.1.0)
-holds-made Q world Step.Round h = holds-unless Q _ _ (λ t. h (not-false _ t.0) t.1.0)
+    holds-and_then Q (retry (guest_of world) (runs world) cpu) _
+    (holds-and_then _ (woken_answer (guest_of world).cpus cpu) _
+    (holds-answer_by _ woken_by (guest_of world).cpus cpu (λ there.
+    holds-woken_by _ (processor_at (guest_of world).cpus cpu) (λ command waits woken. holds-in_phase _ (runs world) _ (λ may. h command waits woken may)))))
+holds-made Q world Step.Start h = holds-and_then Q (source.start world.source) _ (holds-unless _ _ _ (λ t. h (not-false _ t.0) t.1.0))
+holds-made Q world Step.Round h = holds-and_then Q (source.round world.source) _ (holds-unless _ _ _ (λ t. h (not-false _ t.0) t.1.0))
 holds-made Q world Step.Send h =
-    holds-unless Q _ _ (λ t. holds-some Q (send_page world) (least_of world.source.log.todo) tt (λ page is. holds-unless Q _ _ (λ u. h page is (not-false _ t.0) (not-false _ t.1.0) u.0)))
+    holds-and_then Q (while_up world.up (source.send world.source)) _ (holds-while_up _ world.up (source.send world.source) (λ up.
+    holds-and_then _ (source.next_to_send world.source) _ (holds-in_phase _ (is_precopy world.source.phase) _ (λ precopy.
+    holds-when_quiet _ world.source.guest (least_of world.source.log.todo) (λ page is quiet. h page is precopy up quiet)))))
 holds-made Q world (Step.SendRun count) h =
-    holds-unless Q _ _ (λ t.
-    holds-some Q (send_run_from world count) (least_of world.source.log.todo) tt (λ first is.
-    holds-unless Q _ _ (λ u. h first (run_length world.source.log.todo first (run_bound count)) is refl (not-false _ t.0) (not-false _ t.1.0) u.0)))
-holds-made Q world Step.SourceRead h = grind (arith, nat_tests, holds-unless, unswitched, holds-some)
+    holds-and_then Q (while_up world.up (source.send_run world.source count)) _ (holds-while_up _ world.up (source.send_run world.source count) (λ up.
+    holds-and_then _ (source.next_to_send world.source) _ (holds-in_phase _ (is_precopy world.source.phase) _ (λ precopy.
+    holds-when_quiet _ world.source.guest (least_of world.source.log.todo) (λ first is quiet. h first (run_length world.source.log.todo first (run_bound count)) is refl precopy up quiet)))))
+holds-made Q world Step.SourceRead h =
+    holds-and_then Q (source.read world.source) _ (holds-in_phase _ (is_handling world.source) _ (λ handling.
+    let runs = neither (is_source_idle world.source.phase) world.source.switched handling in
+    holds-and_then _ (ok_or (next_message (space_of world.source).object) _) _ (holds-ok_or _ (next_message (space_of world.source).object) _ (λ noted is. h noted is runs.0 runs.1))))
 holds-made Q world Step.SourceAct h =
-    holds-unless Q _ _ (λ t.
-    let runs = unswitched (is_source_idle world.source.phase) world.source.switched t.0 in
-    holds-first Q (source_act_first world) world.source.log.held tt (λ fault rest is. holds-unless Q _ _ (λ u. h fault rest is runs.0 runs.1 u.0)))
-holds-made Q world Step.Switch h = holds-unless Q _ _ (λ t. h (not-false _ t.0) (not-false _ t.1.0) t.1.1.0)
+    holds-and_then Q (source.act world.source) _ (holds-in_phase _ (is_handling world.source) _ (λ handling.
+    let runs = neither (is_source_idle world.source.phase) world.source.switched handling in
+    let held = world.source.log.held in
+    holds-and_then _ (when_quiet world.source.guest (first_of held)) _ (holds-when_quiet _ world.source.guest (first_of held) (λ fault is quiet.
+    h fault (rest_of held) (first_and_rest held fault is) runs.0 runs.1 quiet))))
+holds-made Q world Step.Switch h =
+    holds-and_then Q (while_up world.up (source.switch world.source)) _ (holds-while_up _ world.up (source.switch world.source) (λ up. holds-unless _ _ _ (λ t. h (not-false _ t.0) up t.1.0)))
 holds-made Q world (Step.Deliver n) (moved, taken) =
-    holds-unless Q _ _ (λ t.
-    holds-first Q (deliver_first world n) world.forward.frames tt (λ sent rest is.
-    holds-either Q (is_short world.forward sent.frame n) _ _ (moved sent rest is) (λ full. holds-unless Q _ _ (λ u. taken sent rest is full (not-false _ t.0) (not-false _ t.1.0) u.0 u.1.0))))
+    let frames = world.forward.frames in
+    holds-while_up Q world.up _ (λ up.
+    holds-in_phase Q (has_started world) _ (λ started.
+    holds-and_then Q (ok_or (first_of frames) _) _ (holds-ok_or _ (first_of frames) _ (λ sent is.
+    let first = first_and_rest frames sent is in
+    holds-either Q (is_short world.forward sent.frame n) _ _ (moved sent (rest_of frames) first) (λ full.
+    holds-and_then Q (destination.take world.destination sent.epoch sent.frame) _ (holds-take _ world.destination sent.epoch sent.frame (λ free early. taken sent (rest_of frames) first full started up free early)))))))
 holds-made Q world (Step.DeliverBack n) (moved, taken) =
-    holds-unless Q _ _ (λ t.
-    holds-first Q (deliver_back_first world n) world.back.frames tt (λ sent rest is.
-    holds-either Q (is_short world.back sent.frame n) _ _ (moved sent rest is) (λ full. taken sent rest is full (not-false _ t.0) (not-false _ t.1.0))))
-holds-made Q world Step.DestRead h = grind (arith, nat_tests, holds-unless, holds-some, not-false)
+    let frames = world.back.frames in
+    holds-while_up Q world.up _ (λ up.
+    holds-in_phase Q (has_started world) _ (λ started.
+    holds-and_then Q (ok_or (first_of frames) _) _ (holds-ok_or _ (first_of frames) _ (λ sent is.
+    let first = first_and_rest frames sent is in
+    holds-either Q (is_short world.back sent.frame n) _ _ (moved sent (rest_of frames) first) (λ full. taken sent (rest_of frames) first full started up)))))
+holds-made Q world Step.DestRead h =
+    holds-and_then Q (destination.read world.destination) _ (holds-in_phase _ world.destination.has_run _ (λ ran.
+    let next = next_message world.destination.guest.space.object in
+    holds-and_then _ (ok_or next _) _ (holds-ok_or _ next _ (λ noted is. h noted is ran))))
 holds-made Q world Step.DestAct h =
-    holds-unless Q _ _ (λ t. holds-first Q (destination_act_first world) world.destination.held tt (λ fault rest is. holds-unless Q _ _ (λ u. h fault rest is (not-false _ t.0) u.0)))
+    holds-and_then Q (destination.act world.destination) _ (holds-in_phase _ world.destination.has_run _ (λ ran.
+    let held = world.destination.held in
+    holds-and_then _ (when_quiet world.destination.guest (first_of held)) _ (holds-when_quiet _ world.destination.guest (first_of held) (λ fault is quiet.
+    h fault (rest_of held) (first_and_rest held fault is) ran quiet))))
 holds-made Q world Step.Install h =
-    holds-unless Q _ _ (λ t. holds-first Q (install_first world) world.destination.arrivals tt (λ copy rest is. holds-unless Q _ _ (λ u. h copy rest is (not-false _ t.0) u.0)))
-holds-made Q world (Step.Push ticket) h = holds-unless Q _ _ (λ t. h (not-false _ t.0) (not-false _ t.1.0) (not-false _ t.1.1.0) (not-false _ t.1.1.1.0) (not-false _ t.1.1.1.1.0))
-holds-made Q world (Step.PushUrgent ticket) h = holds-unless Q _ _ (λ t. h (not-false _ t.0) (not-false _ t.1.0) (not-false _ t.1.1.0) (not-false _ t.1.1.1.0) (not-false _ t.1.1.1.1.0))
+    holds-and_then Q (destination.install world.destination) _ (holds-in_phase _ world.destination.has_run _ (λ ran.
+    let arrivals = world.destination.arrivals in
+    holds-and_then _ (when_quiet world.destination.guest (first_of arrivals)) _ (holds-when_quiet _ world.destination.guest (first_of arrivals) (λ copy is quiet.
+    h copy (rest_of arrivals) (first_and_rest arrivals copy is) ran quiet))))
+holds-made Q world (Step.Push ticket) h =
+    holds-and_then Q (while_up world.up (source.push world.source ticket)) _ (holds-while_up _ world.up (source.push world.source ticket) (λ up.
+    holds-unless _ _ _ (λ t. h (not-false _ t.0) up (not-false _ t.1.0) (not-false _ t.1.1.0) (not-false _ t.1.1.1.0))))
+holds-made Q world (Step.PushUrgent ticket) h =
+    holds-and_then Q (while_up world.up (source.push_urgent world.source ticket)) _ (holds-while_up _ world.up (source.push_urgent world.source ticket) (λ up.
+    holds-unless _ _ _ (λ t. h (not-false _ t.0) up (not-false _ t.1.0) (not-false _ t.1.1.0) (not-false _ t.1.1.1.0))))
 holds-made Q world (Step.DeliverUrgent n) (moved, taken) =
-    holds-unless Q _ _ (λ t.
-    holds-first Q (deliver_urgent_first world n) world.urgent.frames tt (λ sent rest is.
-    holds-either Q (is_short world.urgent sent.frame n) _ _ (moved sent rest is) (λ full. taken sent rest is full (not-false _ t.0) (not-false _ t.1.0))))
-holds-made Q world Step.Serve h = grind (arith, nat_tests, holds-unless, holds-first, not-false)
-holds-made Q world Step.End h = grind (arith, nat_tests, holds-unless, or_parts, not-false, missing_none)
-holds-made Q world Step.Break h = grind (arith, nat_tests, holds-unless, or_parts, not-false)
-holds-made Q world (Step.Notice side) h = grind (arith, nat_tests, holds-unless, or_parts, not-false)
-holds-made Q world Step.Resume h = grind (arith, nat_tests, holds-unless, and_parts, not-false)
+    let frames = world.urgent.frames in
+    holds-while_up Q world.up _ (λ up.
+    holds-in_phase Q world.destination.has_run _ (λ ran.
+    holds-and_then Q (ok_or (first_of frames) _) _ (holds-ok_or _ (first_of frames) _ (λ sent is.
+    let first = first_and_rest frames sent is in
+    holds-either Q (is_short world.urgent sent.frame n) _ _ (moved sent (rest_of frames) first) (λ full. taken sent (rest_of frames) first full ran up)))))
+holds-made Q world Step.Serve h =
+    holds-and_then Q (while_up world.up (source.serve world.source)) _ (holds-while_up _ world.up (source.serve world.source) (λ up.
+    holds-in_phase _ (is_stopped world.source.phase) _ (λ stopped.
+    let asked = world.source.asked in
+    holds-and_then _ (ok_or (first_of asked) _) _ (holds-ok_or _ (first_of asked) _ (λ page is. h page (rest_of asked) (first_and_rest asked page is) stopped up)))))
+holds-made Q world Step.End h =
+    holds-and_then Q (while_up world.up (source.end world.source)) _ (holds-while_up _ world.up (source.end world.source) (λ up.
+    holds-unless _ _ _ (λ t.
+    let tests = or_parts _ _ t.0 in
+    h (not-false _ tests.0) tests.1 up (missing_none (least_of world.source.remaining) t.1.0))))
+holds-made Q world Step.Break h =
+    holds-while_up Q world.up _ (λ up.
+    holds-in_phase Q (is_under_way world.source) _ (λ going.
+    let parts = neither (is_source_idle world.source.phase) (is_released world.source.phase) going in
+    h (ap not parts.0) parts.1 up))
+holds-made Q world (Step.Notice Side.Source) h =
+    holds-and_then Q (while_down world.up (source.pause world.source)) _ (holds-while_down _ world.up (source.pause world.source) (λ down.
+    holds-in_phase _ (is_under_way world.source && not (is_source_paused world.source.phase)) _ (λ going.
+    let parts = neither (is_source_idle world.source.phase) (is_released world.source.phase) (and_parts _ _ going).0 in
+    h (ap not parts.0) parts.1 down)))
+holds-made Q world (Step.Notice Side.Destination) h =
+    let notices = in_phase (is_under_way world.source) (destination.pause world.destination) in
+    holds-and_then Q (while_down world.up notices) _ (holds-while_down _ world.up notices (λ down.
+    holds-in_phase _ (is_under_way world.source) _ (λ going.
+    let parts = neither (is_source_idle world.source.phase) (is_released world.source.phase) going in
+    holds-in_phase _ (not (is_dest_paused world.destination.phase)) _ (λ unpaused. h (ap not parts.0) parts.1 down))))
+holds-made Q world Step.Resume h =
+    let resumes = in_phase (is_dest_paused world.destination.phase) (source.resume world.source) in
+    holds-and_then Q (while_down world.up resumes) _ (holds-while_down _ world.up resumes (λ down.
+    holds-in_phase _ (is_dest_paused world.destination.phase) _ (λ to. holds-unless _ _ _ (λ t. h (not-false _ t.0) to down t.1.0))))
 
 -- of the new world alone
 abbrev pub MakesWorld : (World → Type 0) → World → Step → Type 0

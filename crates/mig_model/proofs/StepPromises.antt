@@ -14,7 +14,9 @@ use Rattle.mig_base.specs.Commands.{is_access}
 use Rattle.mig_model.specs.Space.{Space}
 use Rattle.mig_model.specs.Guest.{took_by, zero_installed, Act}
 use Rattle.mig_model.specs.Guest.Act.{Zeroed}
-use Rattle.mig_model.specs.Migration.{World, next, outcome, act_effect, act_effect, guest_of, after_dest_act, after_source_act}
+use Rattle.mig_model.specs.Migration.{World, next, outcome, guest_of}
+use Rattle.mig_model.specs.Effects.{act_effect, act_effect}
+use Rattle.mig_model.proofs.StepWorlds.{after_dest_act, after_source_act}
 use Rattle.mig_model.specs.Promises.{IsZeroed, keeps_remaining}
 use Rattle.mig_model.proofs.IoctlLemmas.{get-put_pages}
 use Rattle.mig_model.proofs.PromiseLemmas.{source_zero, destination_zero}

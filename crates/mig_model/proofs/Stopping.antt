@@ -15,8 +15,9 @@ use Rattle.mig_model.specs.Host.{IsSound}
 use Rattle.mig_model.specs.Space.{Space}
 use Rattle.mig_model.specs.Wire.{Sent, Copy, page_frame, kept_after}
 use Rattle.mig_model.specs.Wire.Frame.{End, Discard, Package}
-use Rattle.mig_model.specs.Guest.{is_present}
-use Rattle.mig_model.specs.Migration.{World, after_end, after_push, after_serve, after_switch, is_changing}
+use Rattle.mig_model.specs.Guest.{is_present, is_changing}
+use Rattle.mig_model.specs.Migration.{World}
+use Rattle.mig_model.proofs.StepWorlds.{after_end, after_push, after_serve, after_switch}
 use Rattle.mig_model.specs.Whereabouts.{IsSwitching, copies_of, has_copy, AreFaithful, behind, is_urgent_or_left, IsPrecopying, is_unread, kept_by, package_in}
 use Rattle.mig_model.specs.Invariant.{IsSoundWorld, IsSoundLog, IsSoundPushing, StoppedWires, Flow, flow_after, flow_of, AreWhole, AreSoundPhases, PrecopyWires}
 use Rattle.mig_model.specs.Invariant.Flow.{BeforeAdvise, Copies, BeforePackage, Pushed, AfterEnd}

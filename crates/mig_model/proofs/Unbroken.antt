@@ -15,7 +15,10 @@ use Rattle.mig_model.specs.Host.{Host}
 use Rattle.mig_model.specs.Wire.{Frame, Sent}
 use Rattle.mig_model.specs.Wire.Frame.{Package}
 use Rattle.mig_model.specs.Source.{Source, commands_of, is_precopy, is_stopped, not_clean, space_of}
-use Rattle.mig_model.specs.Migration.{World, after_command, after_deliver, after_steps, frame_effect, is_changing, next, outcome, runs}
+use Rattle.mig_model.specs.Migration.{World, after_steps, next, outcome, runs}
+use Rattle.mig_model.proofs.StepWorlds.{after_command, after_deliver}
+use Rattle.mig_model.specs.Effects.{frame_effect}
+use Rattle.mig_model.specs.Guest.{is_changing}
 use Rattle.mig_model.specs.Whereabouts.{is_package, package_in}
 use Rattle.mig_model.specs.Invariant.{IsSoundWorld}
 use Rattle.mig_model.specs.Promises.{IsReached}

@@ -15,7 +15,8 @@ use Rattle.mig_model.specs.Space.{Space}
 use Rattle.mig_model.specs.Guest.{Act, is_present}
 use Rattle.mig_model.specs.Log.{present}
 use Rattle.mig_model.specs.Wire.{Frame, Sent}
-use Rattle.mig_model.specs.Migration.{World, after_command, after_deliver_back, after_switch, first_world_with, next, runs}
+use Rattle.mig_model.specs.Migration.{World, first_world_with, next, runs}
+use Rattle.mig_model.proofs.StepWorlds.{after_command, after_deliver_back, after_switch}
 use Rattle.mig_model.specs.Source.{is_precopy, is_released, is_stopped, source_act, source_acted_by, space_of}
 use Rattle.mig_model.specs.Invariant.{AreSoundUrgent, IsSoundWorld}
 use Rattle.mig_model.specs.Promises.{IsReached}

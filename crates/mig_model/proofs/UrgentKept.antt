@@ -13,7 +13,8 @@ use Rattle.mig_base.specs.Bytes.{zero_page}
 use Rattle.mig_base.proofs.SetLemmas.{member_removed}
 use Rattle.mig_model.specs.Wire.{Frame, Sent, Copy, page_frame, wire_behind}
 use Rattle.mig_model.specs.Wire.Frame.{Page, Zero}
-use Rattle.mig_model.specs.Migration.{World, after_deliver_urgent, after_push_urgent}
+use Rattle.mig_model.specs.Migration.{World}
+use Rattle.mig_model.proofs.StepWorlds.{after_deliver_urgent, after_push_urgent}
 use Rattle.mig_model.specs.Source.{Source, is_stopped, bytes_of, space_of, urgent_pushed}
 use Rattle.mig_model.specs.Whereabouts.{AreFaithful, IsSwitching, behind, copies_of, has_copy, is_urgent_or_left}
 use Rattle.mig_model.specs.Invariant.{Wires, AreSoundUrgent, IsSoundWorld, StoppedWires, are_copies}

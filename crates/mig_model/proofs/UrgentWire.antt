@@ -7,7 +7,8 @@ use Rattle.mig_base.specs.declared.phase.DestPhase.{DestPhase}
 use Rattle.mig_base.specs.declared.phase.SourcePhase.{SourcePhase}
 use Rattle.mig_model.specs.Wire.{Frame, Sent, Wire, is_copy, page_frame, sending}
 use Rattle.mig_model.specs.Wire.Frame.{End}
-use Rattle.mig_model.specs.Migration.{World, is_early}
+use Rattle.mig_model.specs.Migration.{World}
+use Rattle.mig_model.specs.Faults.{is_early}
 use Rattle.mig_model.specs.Source.{is_stopped, is_precopy, is_source_idle, is_source_paused}
 use Rattle.mig_model.specs.Invariant.{AreTold, IsSoundUrgent, IsSoundWorld, IsTold, SwitchedAt, are_copies, AreSoundUrgent}
 use Rattle.mig_model.proofs.FirstFrame.{comes, first_in_place}

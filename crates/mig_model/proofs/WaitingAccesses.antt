@@ -14,7 +14,8 @@ use Rattle.mig_model.specs.Space.{Space}
 use Rattle.mig_model.specs.Guest.{Guest, read_guest, took_by, tried}
 use Rattle.mig_model.specs.Wire.{Frame, Sent}
 use Rattle.mig_model.specs.Wire.Frame.{Package}
-use Rattle.mig_model.specs.Migration.{World, next, after_deliver, guest_by, with_guest_by, after_command}
+use Rattle.mig_model.specs.Migration.{World, next, guest_by, with_guest_by}
+use Rattle.mig_model.proofs.StepWorlds.{after_deliver, after_command}
 use Rattle.mig_model.specs.Invariant.{IsSoundWorld}
 use Rattle.mig_model.specs.Promises.{IsReached, AllAccess, AreAccesses}
 use Rattle.mig_model.proofs.WaitingCommands.{idle_at, package_next, taken_keeps, waits_read, woken_waits}

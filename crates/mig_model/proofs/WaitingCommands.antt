@@ -18,7 +18,8 @@ use Rattle.mig_model.specs.Guest.{Guest, is_left_by, read_guest, took_by, tried}
 use Rattle.mig_model.specs.Cpus.Took.{Sleep}
 use Rattle.mig_model.specs.Wire.{Frame, Sent}
 use Rattle.mig_model.specs.Wire.Frame.{Package}
-use Rattle.mig_model.specs.Migration.{World, next, guest_by, guest_of, after_command, after_deliver, outcome}
+use Rattle.mig_model.specs.Migration.{World, next, guest_by, guest_of, outcome}
+use Rattle.mig_model.proofs.StepWorlds.{after_command, after_deliver}
 use Rattle.mig_model.specs.Invariant.{IsSoundWorld}
 use Rattle.mig_model.specs.Promises.{is_retry_of, Slept}
 use Rattle.mig_model.proofs.FirstFrame.{delivered}

@@ -13,10 +13,12 @@ use Rattle.mig_model.specs.Wire.Frame.{Recv, Done}
 use Rattle.mig_model.specs.Owed.{home, Owed}
 use Rattle.mig_model.specs.Source.{Source, is_released, source_took}
 use Rattle.mig_model.specs.Destination.{Destination, destination_took, destination_answers, install_by}
-use Rattle.mig_model.specs.Migration.{World, outcome, next, install_effect, after_deliver, after_deliver_back, after_move, after_move_back, is_short, after_deliver_urgent, after_move_urgent}
+use Rattle.mig_model.specs.Migration.{World, outcome, next, is_short}
+use Rattle.mig_model.specs.Effects.{install_effect}
+use Rattle.mig_model.proofs.StepWorlds.{after_deliver, after_deliver_back, after_deliver_urgent}
 use Rattle.mig_model.specs.Invariant.{IsSoundWorld}
 use Rattle.mig_model.specs.Parts.{Grows}
-use Rattle.mig_model.specs.Promises.{IsComplete, IsDelivered, IsDeliveredBack, Completes, takes_forward, takes_back, is_break, is_recv, is_last, IsDeliveredUrgent, takes_urgent}
+use Rattle.mig_model.specs.Promises.{IsComplete, IsDelivered, IsDeliveredBack, Completes, takes_forward, takes_back, is_break, is_recv, is_last, IsDeliveredUrgent, takes_urgent, after_move, after_move_back, after_move_urgent}
 use Rattle.mig_model.proofs.SettledLemmas.{home-is, home_tells}
 use Rattle.mig_model.proofs.StepCases.{MakesWorld, made-next, made-ok, made-outcome}
 use Rattle.mig_model.proofs.PartsChanged.{changes_parts}

@@ -16,7 +16,9 @@ use Rattle.mig_model.specs.Wire.{Copy, Frame, Sent, is_zeros}
 use Rattle.mig_model.specs.Owed.{home}
 use Rattle.mig_model.specs.Source.{Source, bytes_of, is_stopped, source_act, source_acted_by, source_took, space_of}
 use Rattle.mig_model.specs.Destination.{Destination, destination_act, destination_acted_by, destination_took, install_by, urgent_took}
-use Rattle.mig_model.specs.Migration.{Made, World, act_effect, after_deliver, answer, frame_effect, guest_of, install_effect, next}
+use Rattle.mig_model.specs.Migration.{Made, World, answer, guest_of, next}
+use Rattle.mig_model.specs.Effects.{act_effect, frame_effect, install_effect}
+use Rattle.mig_model.proofs.StepWorlds.{after_deliver}
 use Rattle.mig_model.specs.Whereabouts.{is_package}
 use Rattle.mig_model.specs.Promises.{AreFaults}
 use Rattle.mig_model.specs.Invariant.{IsSoundWorld, SwitchedAt}

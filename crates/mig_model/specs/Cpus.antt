@@ -1,11 +1,12 @@
 -- The processors of the guest: the state of each, and how a command, a message that is read and a wake-up change it.
-use Rattle.std.specs.Prelude.{ℕ, zero, suc, Bool, true, false, if◌then◌else◌, Option, Some, None, List, [], ◌∷◌, map, get_or, replicate}
+use Rattle.std.specs.Prelude.{ℕ, zero, suc, nat_lt, Bool, true, false, if◌then◌else◌, Option, Some, None, Result, Ok, Err, List, [], ◌∷◌, length, map, get_or, replicate}
 use Rattle.mig_base.specs.declared.command.Access.{Access}
 use Rattle.mig_base.specs.declared.command.Access.TheVariants.{Answered, Missing, Protected}
 use Rattle.mig_base.specs.declared.command.Command.{Command}
 use Rattle.mig_base.specs.declared.command.Entry.{Entry}
 use Rattle.mig_base.specs.declared.command.Reply.{Reply}
 use Rattle.mig_base.specs.declared.cpu_state.CpuState.{CpuState}
+use Rattle.mig_base.specs.declared.refusal.Refusal.{Refusal}
 use Rattle.mig_base.specs.Commands.{page_of}
 
 -- the state of each processor, in the order of their numbers
@@ -92,3 +93,30 @@ abbrev pub entries_of : ℕ → Command → Took → List Entry
 entries_of cpu command (Answer reply) = record { cpu = cpu; command = command; reply = reply } ∷ []
 entries_of cpu command Sleep = []
 entries_of cpu command (Call reply left) = record { cpu = cpu; command = command; reply = reply } ∷ []
+
+-- Which processor may begin or retry a command
+
+-- what processor k answers, by its state alone; NoCpu if the guest has no such processor
+abbrev pub answer_by : {A : Type 0} → (CpuState → Result A Refusal) → List CpuState → ℕ → Result A Refusal
+answer_by by processors k = if nat_lt k (length processors) then by (processor_at processors k) else Err Refusal.NoCpu
+
+-- only an idle processor begins a command
+abbrev pub idle_by : CpuState → Result (Unit {0}) Refusal
+idle_by CpuState.Idle = Ok tt
+idle_by _ = Err Refusal.Busy
+
+-- whether processor k may begin a command: refused as NoCpu if there is no such processor, Busy unless it is idle
+abbrev pub idle_answer : List CpuState → ℕ → Result (Unit {0}) Refusal
+idle_answer processors k = answer_by idle_by processors k
+
+-- only a processor that was woken retries its command
+abbrev pub woken_by : CpuState → Result Command Refusal
+woken_by CpuState.Idle = Err Refusal.NotAsleep
+woken_by (CpuState.Asleep command) = Err Refusal.NotWoken
+woken_by (CpuState.Woken command) = Ok command
+woken_by (CpuState.InCall reply left) = Err Refusal.NotAsleep
+
+-- the command that processor k retries: refused as NoCpu if there is no such processor, NotAsleep if it is idle or in a map call,
+-- NotWoken while it sleeps
+abbrev pub woken_answer : List CpuState → ℕ → Result Command Refusal
+woken_answer processors k = answer_by woken_by processors k

@@ -173,6 +173,10 @@ destination_answers node (End urgent) = Done ∷ []
 destination_answers node Resume = recv_by (received_of node) node
 destination_answers node _ = []
 
+-- a break of the channel is noticed. If the destination has run, its processors go on
+abbrev pub destination_paused : Destination → Destination
+destination_paused node = record node { phase = DestPhase.Paused }
+
 -- Its handler
 
 -- a message is read: a fault is held, and an event is applied to the owed table at once and wakes those who sleep on pages that are gone

@@ -11,13 +11,13 @@ use Rattle.mig_base.specs.declared.fault.RebuildFault.{RebuildFault}
 use Rattle.mig_base.specs.declared.fault.TakeFault.{TakeFault}
 use Rattle.mig_base.specs.declared.phase.DestPhase.{DestPhase}
 use Rattle.mig_base.specs.declared.phase.Received.{Received}
+use Rattle.mig_base.specs.declared.refusal.Refusal.{Refusal}
 use Rattle.mig_base.specs.Tests.{first_holding, is_empty}
 use Rattle.mig_model.specs.Wire.{Frame, is_copy}
 use Rattle.mig_model.specs.Wire.Frame.{Advise, Page, Zero, Run, Discard, Package, End, Resume, Request, Recv, Done}
 use Rattle.mig_model.specs.Log.{less, present}
 use Rattle.mig_model.specs.Source.{Source, is_source_paused, is_stopped, space_of}
 use Rattle.mig_model.specs.Destination.{Destination, is_running}
-use Rattle.mig_model.specs.Migration.{is_early, is_end}
 
 -- The destination
 
@@ -67,10 +67,27 @@ frame_fault node epoch frame =
     ((not (is_in_place node.phase frame) || is_too_soon node frame, TakeFault.OutOfPlace) ∷ (not (is_of_epoch node.epoch epoch frame), TakeFault.StaleEpoch)
     ∷ (is_bad node frame, TakeFault.BadFrame) ∷ [])
 
+-- whether a frame is End
+abbrev pub is_end : Frame → Bool
+is_end (End urgent) = true
+is_end frame = false
+
+-- whether a frame is an End that announces more urgent frames than the destination has taken
+abbrev pub is_early : Destination → Frame → Bool
+is_early node (End urgent) = nat_lt node.urgent_taken urgent
+is_early node frame = false
+
 -- why a frame has to wait, if it has to: an End waits until each copy that came is installed, and then for the urgent frames
 abbrev pub wait_fault : Destination → Frame → Option TakeFault
 wait_fault node frame =
     first_holding ((is_end frame && not (is_empty node.arrivals), TakeFault.InstallFirst) ∷ (is_early node frame, TakeFault.UrgentFirst) ∷ [])
+
+-- the refusal of a delivery whose frame is not taken: the frame has to wait. In a world a frame has no other fault than these two, so a
+-- call refuses it else for lack of memory
+abbrev pub refusal_of : TakeFault → Refusal
+refusal_of TakeFault.InstallFirst = Refusal.InstallFirst
+refusal_of TakeFault.UrgentFirst = Refusal.UrgentFirst
+refusal_of fault = Refusal.NoMemory
 
 -- why a destination does not take a frame, if it does not: a wrong frame is refused before one that has to wait
 abbrev pub take_fault : Destination → ℕ → Frame → Option TakeFault

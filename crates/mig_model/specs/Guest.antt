@@ -1,6 +1,6 @@
 -- The guest at a node: its memory with the userfault object, and its processors; and how a command, a message that is read and a fault
 -- that is resolved change them.
-use Rattle.std.specs.Prelude.{ℕ, ◌+◌, ◌-◌, ◌/◌, ◌^◌, ◌==◌, ◌||◌, not, Bool, true, false, List, [], ◌∷◌, ◌++◌, set}
+use Rattle.std.specs.Prelude.{ℕ, ◌+◌, ◌-◌, ◌/◌, ◌^◌, ◌==◌, ◌||◌, not, nat_lt, Bool, true, false, List, [], ◌∷◌, ◌++◌, set}
 use Rattle.std.specs.FinMap.{contains_key}
 use Rattle.mig_base.specs.declared.TheConstants.{PAGE_SIZE}
 use Rattle.mig_base.specs.declared.command.Command.{Command}
@@ -10,7 +10,7 @@ use Rattle.mig_base.specs.Ranges.{in_range, lesser}
 use Rattle.mig_base.specs.Bytes.{zero_page}
 use Rattle.mig_base.specs.Flat.{reply_of}
 use Rattle.mig_model.specs.Host.{memory}
-use Rattle.mig_model.specs.Userfault.{is_registered, message_read}
+use Rattle.mig_model.specs.Userfault.{changing, is_registered, message_read}
 use Rattle.mig_model.specs.Space.{Space, access_of, accessed, called, queued_by}
 use Rattle.mig_model.specs.Ioctls.{installed}
 use Rattle.mig_model.specs.Cpus.{Cpus, Took, access_took, call_took, processor_at, processor_after, all_woken, message_less}
@@ -124,3 +124,7 @@ is_forgotten space page = not (contains_key space.host.areas page) || not (is_re
 -- whether a page is present: it has bytes of its own
 abbrev pub is_present : Space → ℕ → Bool
 is_present space page = contains_key space.host.bytes page
+
+-- whether a guest has unread events: its address space is changing, which is the refusal Changing
+abbrev pub is_changing : Guest → Bool
+is_changing guest = nat_lt 0 (changing guest.space.object)

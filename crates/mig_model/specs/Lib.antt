@@ -10,11 +10,16 @@ pub mod Log
 pub mod Owed
 pub mod Source
 pub mod Destination
+pub mod Faults
+pub mod Effects
+pub mod NodeSteps
+pub mod GuestSteps
+pub mod SourceSteps
+pub mod DestinationSteps
 pub mod Migration
 pub mod Views
 pub mod Whereabouts
 pub mod Invariant
-pub mod Faults
 pub mod Bounds
 pub mod Handlers
 pub mod Parts

@@ -21,7 +21,7 @@ use Rattle.mig_model.specs.Host.{memory}
 use Rattle.mig_base.specs.Commands.{is_access}
 use Rattle.mig_model.specs.Space.{Space, fresh_space}
 use Rattle.mig_model.specs.Userfault.{Noted}
-use Rattle.mig_model.specs.Wire.{Frame, Sent, wire_behind, wire_with}
+use Rattle.mig_model.specs.Wire.{Frame, Sent, wire_behind, wire_moved, wire_with}
 use Rattle.mig_model.specs.Wire.Frame.{Recv, Done}
 use Rattle.mig_model.specs.Migration.{World, guest_of, first_world_with, after_steps, outcome, next, is_short}
 use Rattle.mig_model.specs.Whereabouts.{copies_of, has_copy, AreFaithful, is_urgent_or_left}
@@ -178,6 +178,18 @@ pub record AreSoundCalls (world : World) : Type 0 where
   pub destination : HasSoundCalls world.destination.guest
 
 -- Deliveries
+
+-- `n` more bytes of the first frame have reached the destination, and it is not complete
+abbrev pub after_move : World → ℕ → World
+after_move world n = record world { forward = wire_moved world.forward n }
+
+-- the same of the wire back and the source
+abbrev pub after_move_back : World → ℕ → World
+after_move_back world n = record world { back = wire_moved world.back n }
+
+-- the same of the urgent wire and the destination
+abbrev pub after_move_urgent : World → ℕ → World
+after_move_urgent world n = record world { urgent = wire_moved world.urgent n }
 
 -- a Deliver has taken exactly the first frame of the wire. The destination after it, and the frames that it answers, are a function of
 -- the destination as it was and of the frame with its epoch

@@ -1,6 +1,6 @@
 -- The source, in the phases of QEMU's postcopy document (docs/devel/migration/postcopy.rst, "Postcopy states" and "Postcopy
 -- recovery"), and how each of its steps changes it.
-use Rattle.std.specs.Prelude.{ℕ, zero, suc, ◌+◌, ◌&&◌, Bool, true, false, if◌then◌else◌, Option, List, [], ◌∷◌, ◌++◌, map}
+use Rattle.std.specs.Prelude.{ℕ, zero, suc, ◌+◌, ◌&&◌, not, Bool, true, false, if◌then◌else◌, Option, List, [], ◌∷◌, ◌++◌, map}
 use Rattle.std.specs.Ordering.{nat_cmp}
 use Rattle.std.specs.FinSet as finset
 use Rattle.std.specs.FinSet.{FinSet, contains}
@@ -96,6 +96,14 @@ is_source_paused _ = false
 abbrev pub is_released : SourcePhase → Bool
 is_released SourcePhase.Released = true
 is_released _ = false
+
+-- whether a migration has started and is not complete
+abbrev pub is_under_way : Source → Bool
+is_under_way node = not (is_source_idle node.phase) && not (is_released node.phase)
+
+-- whether a migration has started and the source still runs the processors, so that its handler acts: from Start until Switch
+abbrev pub is_handling : Source → Bool
+is_handling node = not (is_source_idle node.phase) && not node.switched
 
 -- the node with another space of its guest
 abbrev pub in_space : Source → Space → Source
@@ -210,6 +218,18 @@ urgent_pushed node page = record (page_pushed node page) { urgent_sent = node.ur
 -- the source keeps these requests in its queue
 abbrev pub request_served : Source → List ℕ → Source
 request_served node pages = record node { asked = pages }
+
+-- End is sent in this epoch
+abbrev pub end_sent : Source → Source
+end_sent node = record node { end_epoch = node.epoch }
+
+-- a break of the channel is noticed
+abbrev pub source_paused : Source → Source
+source_paused node = record node { phase = SourcePhase.Paused }
+
+-- the next epoch begins, in which nothing was put on the urgent wire yet. The source stays paused until it takes the Recv
+abbrev pub resumed : Source → Source
+resumed node = record node { epoch = node.epoch + 1; urgent_sent = 0 }
 
 -- the migration is complete: the source releases its memory, and has no page, request or log left
 abbrev pub released : Source → Source

@@ -7,9 +7,9 @@ use Rattle.mig_base.specs.declared.cpu_state.CpuState.{CpuState}
 use Rattle.mig_base.specs.declared.phase.SourcePhase.{SourcePhase}
 use Rattle.mig_base.specs.declared.refusal.Refusal.{Refusal}
 use Rattle.mig_base.specs.declared.phase.WorldPhase.{WorldPhase}
-use Rattle.mig_model.specs.Cpus.{processor_at}
+use Rattle.mig_model.specs.Cpus.{answer_by}
 use Rattle.mig_model.specs.Guest.{counted}
-use Rattle.mig_model.specs.Migration.{World, first_world_with, guest_of, has_no_cpu}
+use Rattle.mig_model.specs.Migration.{World, first_world_with, guest_of}
 
 -- a new world of `cpus` processors, refused as NoCpu unless there are 1 to MAX_CPUS; its epoch and its number of rounds are those given
 abbrev pub new_world_with : ℕ → ℕ → ℕ → Result World Refusal
@@ -46,4 +46,4 @@ counts_of world =
 
 -- the state of a processor, at the node where the guest runs; while no node runs it, that which the source left. Refused as NoCpu
 abbrev pub cpu_state : World → ℕ → Result CpuState Refusal
-cpu_state world k = if has_no_cpu world k then Err Refusal.NoCpu else Ok (processor_at (guest_of world).cpus k)
+cpu_state world k = answer_by (λ state. Ok state) (guest_of world).cpus k

@@ -25,9 +25,11 @@ ghost use Rattle.mig_model.specs.Source.{is_released, switch_frames, space_of, i
 ghost use Rattle.mig_model.specs.Destination.{settled, is_running};
 ghost use Rattle.mig_model.specs.Wire.{Sent, Copy, empty_wire, wire_with};
 ghost use Rattle.mig_model.specs.Wire.Frame.{Recv};
-ghost use Rattle.mig_model.specs.Migration.{World, guest_of, is_short, after_move, after_move_back, after_move_urgent, frame_effect, outcome, next, first_world, after_steps, has_started, is_used};
+ghost use Rattle.mig_model.specs.Migration.{World, guest_of, is_short, outcome, next, first_world, after_steps, has_started};
+ghost use Rattle.mig_model.specs.Effects.{frame_effect};
+ghost use Rattle.mig_model.specs.NodeSteps.{is_used};
 ghost use Rattle.mig_model.specs.Whereabouts.{IsPrecopying, IsSwitching, IsReceiving, current_host, package_in};
-ghost use Rattle.mig_model.specs.Promises.{AreSoundCalls};
+ghost use Rattle.mig_model.specs.Promises.{AreSoundCalls, after_move, after_move_back, after_move_urgent};
 ghost use Rattle.mig_model.specs.Invariant.{IsSoundWorld, AreSoundUrgent};
 ghost use Rattle.mig_base.specs.declared.phase.WorldPhase.{WorldPhase};
 ghost use Rattle.mig_model.specs.Views.{phase_of, new_world_with, owed_left};

@@ -12,7 +12,8 @@ use Rattle.mig_base.specs.declared.schedule.Step.{Step}
 use Rattle.mig_model.specs.Cpus.{Took, entries_of, outstanding, processor_at}
 use Rattle.mig_model.specs.Cpus.Took.{Answer, Sleep, Call}
 use Rattle.mig_model.specs.Guest.{took_by}
-use Rattle.mig_model.specs.Migration.{World, guest_of, next, outcome, try_effect}
+use Rattle.mig_model.specs.Migration.{World, guest_of, next, outcome}
+use Rattle.mig_model.specs.Effects.{try_effect}
 use Rattle.mig_model.specs.Views.{cpu_state}
 use Rattle.mig_model.specs.Runs.{Happens, Outcome}
 use Rattle.mig_base.specs.declared.refusal.Refusal.{Refusal}
