@@ -50,16 +50,11 @@ pub holds-and_then : {A B : Type 0} (Q : B → Type 0) (found : Result A Refusal
 holds-and_then Q (Ok x) step h = h
 holds-and_then Q (Err refusal) step h = tt
 
--- the link is up, or down, where the step needs it so
+-- the link is up where the step needs it
 pub holds-while_up : {A : Type 0} (Q : A → Type 0) (up : Bool) (result : Result A Refusal) → (up ≡ true → Holds Q result) → Holds Q (while_up up result)
 holds-while_up Q true (Ok done) h = h refl
 holds-while_up Q false (Ok done) h = tt
 holds-while_up Q up (Err refusal) h = grind (arith, nat_tests)
-
-pub holds-while_down : {A : Type 0} (Q : A → Type 0) (up : Bool) (result : Result A Refusal) → (up ≡ false → Holds Q result) → Holds Q (while_down up result)
-holds-while_down Q false (Ok done) h = h refl
-holds-while_down Q true (Ok done) h = tt
-holds-while_down Q up (Err refusal) h = grind (arith, nat_tests)
 
 -- what a step goes on from
 pub holds-ok_or : {A : Type 0} (Q : A → Type 0) (o : Option A) (refusal : Refusal) → ((x : A) → o ≡ Some x → Q x) → Holds Q (ok_or o refusal)
