@@ -7,7 +7,7 @@ use Rattle.mig_model.specs.Userfault.{Noted, changing}
 use Rattle.mig_model.specs.Space.{Space}
 use Rattle.mig_model.specs.Guest.{Guest}
 use Rattle.mig_model.specs.Log.{Log}
-use Rattle.mig_model.specs.Migration.{read_effect}
+use Rattle.mig_model.specs.Effects.{read_effect}
 use Rattle.dirty_log.specs.Spaces.{is_sendable}
 
 -- why the pages of a range may not be sent: the first reason that applies

@@ -1,37 +1,49 @@
--- The machine's steps of the destination's handler.
-use Rattle.std.proofs.Common.{◌≡◌, ℕ, ◌+◌, ◌-◌, ◌*◌, ◌^◌, min, Bool, true, false, Option, Some, None, List, [], ◌∷◌, refl, sym, ap, ◌∙◌, subst, unwrap_or, eqb, drop, ◌/◌, inl, inr, ◌⊎◌, arith}
-use Rattle.std.specs.Prelude.{Ok, Err, IsOk}
+-- The steps of the destination's handler.
+use Rattle.std.proofs.Common.{◌≡◌, ℕ, ◌+◌, ◌-◌, ◌*◌, ◌<◌, ◌≤◌, ◌^◌, min, Bool, true, false, Option, Some, None, List, [], ◌∷◌, length, set, slice_index_or, refl, sym, ap, ◌∙◌, subst, unwrap_or, eqb, drop, ◌/◌, inl, inr, ◌⊎◌, arith}
+use Rattle.std.proofs.lemmas.Bool.Decides.{nat_tests}
+use Rattle.std.specs.Prelude.{Ok, Err, Result}
 use Rattle.std.specs.FinMap.{get}
 use Rattle.std.specs.Option.{option_map}
 use Rattle.mig_base.specs.declared.message.Message.{Message}
+use Rattle.mig_base.specs.declared.TheConstants.{PAGE_SIZE}
 use Rattle.mig_base.specs.declared.effect.Effect.{Effect}
 use Rattle.mig_base.specs.declared.refusal.Refusal.{Refusal}
-use Rattle.mig_base.specs.declared.schedule.Step.{Step}
 use Rattle.mig_model.specs.Cpus.{Cpus, all_woken}
 use Rattle.mig_base.specs.Ranges.{in_range}
 use Rattle.mig_model.proofs.Facts.{only_one, page_again}
 use Rattle.mig_model.specs.Destination.{Destination, act_frames, destination_act, destination_act_by, destination_acted, destination_acted_by, destination_read, settled}
+use Rattle.mig_model.specs.DestinationSteps.{act, read}
+use Rattle.mig_model.specs.Effects.{act_effect, read_effect}
 use Rattle.mig_model.specs.Guest as machine
 use Rattle.mig_model.specs.Guest.{Fault, Guest, counted, fault_count, held_after, in_bytes, is_forgotten, is_present, read_guest, rest_held, zero_installed}
-use Rattle.mig_model.specs.Migration.{act_effect, outcome, read_effect, unless}
+use Rattle.mig_model.specs.GuestSteps.{when_quiet}
+use Rattle.mig_model.specs.NodeSteps.{IsRefusedFor, acted, and_then, first_of, in_phase, sent, unless}
 use Rattle.mig_model.specs.Owed.{Owed, owed_table_after, requesting}
 use Rattle.mig_model.specs.Space.{Space}
 use Rattle.mig_model.specs.Userfault.{Noted, changing, next_message}
 use Rattle.mig_model.specs.Wire.{Frame}
-use Rattle.guest.specs.Answers.{guest_with}
+use Rattle.guest.specs.Guests.{guest_with}
 use Rattle.guest.specs.Lent.{IsLent}
-use Rattle.fault_handler.specs.Answers.{act_refusal, run_answer}
-use Rattle.fault_handler.specs.Order.{IsInOrder}
-use Rattle.fault_handler.specs.Steps.{IsMade, IsRefused, IsRefusedAs, world_of}
+use Rattle.fault_handler.specs.Order.{HasPages, IsInOrder}
 use Rattle.mig_model.proofs.Facts.{counted_is}
+use Rattle.fault_handler.proofs.PageLemmas.{read_paged}
 use Rattle.fault_handler.proofs.ReadyLemmas.{ready_read, ready_zeroed, settled_now, settled_read}
 
--- whether it runs
-pub run_told : (has_run : Bool) (node : Destination) → node.has_run ≡ has_run → run_answer node ≡ Ok tt → has_run ≡ true
-run_told true node is ok = refl
-run_told false node is ok = absurd (grind arith)
+-- what waits first in a queue
+pub first_waits : {A : Type 0} (queue : List A) (first : A) → 0 < length queue → first ≡ slice_index_or queue 0 first → queue ≡ first ∷ drop 1 queue
+first_waits [] first some is = absurd (omega arith)
+first_waits (other ∷ rest) first some is = ap (λ x. x ∷ rest) (sym is)
 
--- DestRead
+pub rest_stays : {A : Type 0} (queue : List A) (first : A) → drop 1 (set queue 0 first) ≡ drop 1 queue
+rest_stays [] first = refl
+rest_stays (other ∷ rest) first = refl
+
+-- whether it runs
+pub run_of : (has_run : Bool) → ◌≡◌ {A = Result (Unit {0}) Refusal} (in_phase has_run (Ok tt)) (Ok tt) → has_run ≡ true
+run_of true ok = refl
+run_of false ok = absurd (cc)
+
+-- Reading a message
 
 -- the message that waits
 pub record IsNext (next : Option Noted) (message : Message) : Type 0 where
@@ -43,98 +55,107 @@ pub some_next : (next : Option Noted) (message : Message) → option_map (λ not
 some_next None message h = absurd (let other : None ≡ Some message = h in cc)
 some_next (Some noted) message h = record { noted = noted; is = refl; same = let same : Some noted.message ≡ Some message = h in cc }
 
-pub none_next : (next : Option Noted) → option_map {U = Message} (λ noted. noted.message) next ≡ None → next ≡ None
-none_next None h = refl
-none_next (Some noted) h = absurd (let other : Some noted.message ≡ None = h in cc)
+read_by : (node : Destination) (noted : Noted) → node.has_run ≡ true → next_message node.guest.space.object ≡ Some noted → read node ≡ acted (read_effect node.guest noted.cpu noted.message) (destination_read node noted)
+read_by node noted run next = grind arith
 
-read_by : (node : Destination) (noted : Noted) → run_answer node ≡ Ok tt → next_message node.guest.space.object ≡ Some noted → IsMade node Step.DestRead (read_effect node.guest noted.cpu noted.message) [] (destination_read node noted)
-unfolding unless
-read_by node noted runs next = grind arith
+pub read_done : (node new : Destination) (effect : Effect) (noted : Noted) → node.has_run ≡ true → next_message node.guest.space.object ≡ Some noted → effect ≡ read_effect node.guest noted.cpu noted.message → new ≡ destination_read node noted →
+    read node ≡ acted effect new
+read_done node new effect noted run next reported is = rw (reported, is) (read_by node noted run next)
 
-pub read_done : (node new : Destination) (effect : Effect) (noted : Noted) → run_answer node ≡ Ok tt → next_message node.guest.space.object ≡ Some noted → effect ≡ read_effect node.guest noted.cpu noted.message → new ≡ destination_read node noted →
-    IsMade node Step.DestRead effect [] new
-read_done node new effect noted runs next told is = rw (told, is) (read_by node noted runs next)
+pub read_effect_is : (message other : Message) (effect same : Effect) → ◌≡◌ {A = Option (Message × Effect)} (Some (message, effect)) (Some (other, same)) → effect ≡ same
+read_effect_is message other effect same h = ap (λ (o : Option (Message × Effect)). (unwrap_or o (message, effect)).1) h
 
-pub told_effect : (message other : Message) (effect same : Effect) → ◌≡◌ {A = Option (Message × Effect)} (Some (message, effect)) (Some (other, same)) → effect ≡ same
-told_effect message other effect same h = ap (λ (o : Option (Message × Effect)). (unwrap_or o (message, effect)).1) h
+-- the message that waits is noted: its fault is held, or it is applied to the owed table
+pub record IsNoted (node was : Destination) : Type 0 where
+  pub noted : Noted
+  pub next : next_message node.guest.space.object ≡ Some noted
+  pub is : was ≡ record node { held = held_after node.held noted.message; owed = owed_table_after noted.message node.owed }
+
+pub noted_next : (node was : Destination) (message : Message) (held : List Fault) (owed : Owed) → option_map (λ noted. noted.message) (next_message node.guest.space.object) ≡ Some message → was ≡ record node { held = held; owed = owed } →
+    held ≡ held_after node.held message → owed ≡ owed_table_after message node.owed → IsNoted node was
+noted_next node was message held owed waits is holds applied =
+    let next = some_next (next_message node.guest.space.object) message waits in
+    record { noted = next.noted; next = next.is; is = is ∙ rw (holds, applied) (ap (λ m. record node { held = held_after node.held m; owed = owed_table_after m node.owed }) (sym next.same)) }
+
+pub noted_waits : (node was : Destination) (noting : IsNoted node was) → next_message was.guest.space.object ≡ Some noting.noted
+noted_waits node was noting = ap (λ (n : Destination). next_message n.guest.space.object) noting.is ∙ noting.next
+
+-- a message that is read is the one that waits
+pub none_waits : (next : Option Noted) → option_map {U = Message} (λ noted. noted.message) next ≡ None → next ≡ None
+none_waits None h = refl
+none_waits (Some noted) h = absurd (let other : Some noted.message ≡ None = h in cc)
 
 -- what is read, part by part
-pub read_is : (node was : Destination) (space : Space) (cpus : Cpus) (held : List Fault) (owed : Owed) (told faults : ℕ) (noted : Noted) (message : Message) → was ≡ node → guest_with space cpus ≡ read_guest was.guest noted.cpu noted.message →
-    noted.message ≡ message → held ≡ held_after was.held message → owed ≡ owed_table_after message was.owed → told ≡ fault_count message → faults ≡ min (was.faults + told) (2 ^ 64 - 1) →
-    record was { guest = record { space = space; cpus = cpus }; held = held; owed = owed; faults = faults } ≡ destination_read node noted
-read_is node was space cpus held owed told faults noted message same guest one noting applied counting count = rw (guest, noting, applied, count, counted_is, counting, ← one, same) refl
+pub read_is : (node was : Destination) (noting : IsNoted node was) (space : Space) (cpus : Cpus) (more faults : ℕ) (message : Message) → guest_with space cpus ≡ read_guest was.guest noting.noted.cpu noting.noted.message → message ≡ noting.noted.message → more ≡ fault_count message →
+    faults ≡ min (was.faults + more) (2 ^ 64 - 1) → record was { guest = record { space = space; cpus = cpus }; faults = faults } ≡ destination_read node noting.noted
+read_is node was noting space cpus more faults message guest same counting count = rw (guest, count, counted_is, counting, same, noting.is) refl
 
-pub settled_done : (node new : Destination) (noted : Noted) (page : ℕ) → next_message node.guest.space.object ≡ Some noted → (run_answer node ≡ Ok tt) → IsInOrder node.has_run node.guest.space node.owed → new ≡ destination_read node noted → settled new page ≡ settled node page
-settled_done node new noted page next runs old is =
-    ap (λ (n : Destination). settled n page) is ∙ settled_read node.guest node.owed noted page next (old.ready (run_told node.has_run node refl runs))
+pub noted_order : (node was : Destination) (noting : IsNoted node was) (space : Space) → space ≡ (read_guest was.guest noting.noted.cpu noting.noted.message).space → IsLent space → IsInOrder node.has_run node.guest.space node.owed → IsInOrder was.has_run space was.owed
+noted_order node was noting space is lent old =
+    let noted = noting.noted in
+    let read = is ∙ ap (λ (n : Destination). (read_guest n.guest noted.cpu noted.message).space) noting.is in
+    subst (λ (n : Destination). IsInOrder n.has_run space n.owed) (sym noting.is)
+    (record { ready = λ run. rw read (ready_read node.guest node.owed noted noting.next (subst IsLent read lent) (old.ready run)) })
 
-pub read_refused : (node : Destination) (refusal : Refusal) → run_answer node ≡ Err refusal → IsRefused node Step.DestRead refusal
-unfolding unless outcome
-read_refused node refusal is = inl (grind arith)
+pub noted_paged : (node was : Destination) (noting : IsNoted node was) → HasPages node.owed node.requests → HasPages was.owed was.requests
+noted_paged node was noting old = subst (λ (n : Destination). HasPages n.owed n.requests) (sym noting.is) (read_paged noting.noted.message node.owed _ node.requests refl old)
 
-pub read_nothing : (node : Destination) → run_answer node ≡ Ok tt → next_message node.guest.space.object ≡ None → IsRefused node Step.DestRead Refusal.NothingThere
-unfolding unless outcome
-read_nothing node runs next = inl (grind arith)
+pub settled_done : (node new : Destination) (noted : Noted) (page : ℕ) → next_message node.guest.space.object ≡ Some noted → node.has_run ≡ true → IsInOrder node.has_run node.guest.space node.owed → new ≡ destination_read node noted → settled new page ≡ settled node page
+settled_done node new noted page next run old is = ap (λ (n : Destination). settled n page) is ∙ settled_read node.guest node.owed noted page next (old.ready run)
 
-pub read_lacks : (node : Destination) (noted : Noted) → run_answer node ≡ Ok tt → next_message node.guest.space.object ≡ Some noted → IsRefused node Step.DestRead Refusal.NoMemory
-unfolding unless outcome
-read_lacks node noted runs next = inr (refl, grind arith)
+-- Resolving a fault
 
-pub read_order : (has_run : Bool) (guest : Guest) (space : Space) (owed now : Owed) (noted : Noted) → next_message guest.space.object ≡ Some noted → space ≡ (read_guest guest noted.cpu noted.message).space → IsLent space →
-    now ≡ owed_table_after noted.message owed → IsInOrder has_run guest.space owed → IsInOrder has_run space now
-read_order has_run guest space owed now noted next is lent applied old =
-    record { ready = λ run. rw (is, applied) (ready_read guest owed noted next (subst IsLent is lent) (old.ready run)) }
+-- the fault that is resolved, or why none is
+abbrev pub next_fault : Destination → Result Fault Refusal
+next_fault node = in_phase node.has_run (when_quiet node.guest (first_of node.held))
 
--- DestAct
-
-acted_by : (node : Destination) (fault : Fault) (rest : List Fault) → act_refusal node ≡ None → node.held ≡ fault ∷ rest →
-    IsMade node Step.DestAct (act_effect (destination_act node fault) (4096 * fault.page)) (act_frames (destination_act node fault) node) (destination_acted node fault)
-unfolding unless
-acted_by node fault rest accepted held = grind arith
-
-pub act_done : (node new : Destination) (effect : Effect) (frames : List Frame) (fault : Fault) (rest : List Fault) (act : machine.Act) → act_refusal node ≡ None → node.held ≡ fault ∷ rest → act ≡ destination_act node fault →
-    effect ≡ act_effect act (4096 * fault.page) → frames ≡ act_frames act node → new ≡ destination_acted_by act node fault.page → IsMade node Step.DestAct effect frames new
-act_done node new effect frames fault rest act accepted held same told sent is = rw (told, sent, is, same) (acted_by node fault rest accepted held)
-
-act_none : (refusal : Refusal) → None ≡ Some refusal → ⊥
-act_none refusal h = cc
-
-pub act_refused_as : (node : Destination) (refusal : Refusal) → act_refusal node ≡ Some refusal → IsRefusedAs node Step.DestAct refusal
-unfolding unless outcome
-act_refused_as node refusal is = by node.held refl is
-  where
-    by : (held : List Fault) → node.held ≡ held → act_refusal (record node { held = held }) ≡ Some refusal → outcome (world_of node) Step.DestAct ≡ Err refusal
-    by [] held is = grind arith
-    by (fault ∷ rest) held is = grind arith
-
-pub act_refused : (node : Destination) (refusal : Refusal) → act_refusal node ≡ Some refusal → IsRefused node Step.DestAct refusal
-act_refused node refusal is = inl (act_refused_as node refusal is)
-
--- the fault that is resolved
-pub record IsHeld (node : Destination) : Type 0 where
-  pub fault : Fault
+-- the fault, at its place in the destination
+pub record IsFirstHeld (node : Destination) (fault : Fault) : Type 0 where
   pub rest : List Fault
   pub is : node.held ≡ fault ∷ rest
   pub run : node.has_run ≡ true
   pub quiet : changing node.guest.space.object ≡ 0
 
-pub some_held : (node : Destination) → act_refusal node ≡ None → IsHeld node
-some_held node accepted = by node.held refl accepted
+pub first_held : (node : Destination) (fault : Fault) → next_fault node ≡ Ok fault → IsFirstHeld node fault
+unfolding unless
+first_held node fault accepted = by node.held refl accepted
   where
-    by : (held : List Fault) → node.held ≡ held → act_refusal (record node { held = held }) ≡ None → IsHeld node
+    by : (held : List Fault) → node.held ≡ held → next_fault (record node { held = held }) ≡ Ok fault → IsFirstHeld node fault
     by [] is h = absurd (grind arith)
-    by (fault ∷ rest) is h = record { fault = fault; rest = rest; is = is; run = grind arith; quiet = grind arith }
+    by (first ∷ rest) is h =
+        let same : first ≡ fault = grind arith in
+        record { rest = rest; is = is ∙ ap (λ f. f ∷ rest) same; run = grind arith; quiet = grind arith }
 
-pub act_allowed : (node : Destination) → act_refusal node ≡ None → IsOk (outcome (world_of node) Step.DestAct)
-unfolding unless outcome
-act_allowed node accepted = by node.held refl accepted
+pub next_changing : (node : Destination) (fault : Fault) (rest : List Fault) → node.has_run ≡ true → node.held ≡ fault ∷ rest → 0 < changing node.guest.space.object → next_fault node ≡ Err Refusal.Changing
+unfolding unless
+next_changing node fault rest run waits unread = grind (arith, nat_tests)
+
+pub next_found : (node : Destination) (fault : Fault) (rest : List Fault) → node.has_run ≡ true → node.held ≡ fault ∷ rest → changing node.guest.space.object ≤ 0 → next_fault node ≡ Ok fault
+unfolding unless
+next_found node fault rest run waits quiet = grind (arith, nat_tests)
+
+-- the fault that waits first is the one that is resolved
+pub same_first : (node : Destination) (fault first : Fault) (rest : List Fault) → next_fault node ≡ Ok first → node.held ≡ fault ∷ rest → first ≡ fault
+unfolding unless
+same_first node fault first rest next waits = grind (arith, nat_tests)
+
+-- memory is no reason why there is none
+pub next_lacks : (node : Destination) → next_fault node ≡ Err Refusal.NoMemory → ⊥
+unfolding unless
+next_lacks node is = by node.held refl is
   where
-    by : (held : List Fault) → node.held ≡ held → act_refusal (record node { held = held }) ≡ None → IsOk (outcome (world_of node) Step.DestAct)
-    by [] is h = absurd (grind arith)
-    by (fault ∷ rest) is h = grind arith
+    by : (held : List Fault) → node.held ≡ held → next_fault (record node { held = held }) ≡ Err Refusal.NoMemory → ⊥
+    by [] waits is = grind arith
+    by (fault ∷ rest) waits is = grind arith
 
-pub act_lacks : (node : Destination) → act_refusal node ≡ None → IsRefused node Step.DestAct Refusal.NoMemory
-act_lacks node accepted = inr (refl, act_allowed node accepted)
+-- the step, by that fault
+act_by : (node : Destination) (next : Result Fault Refusal) → next_fault node ≡ next →
+    act node ≡ and_then next (λ fault. sent (act_effect (destination_act node fault) (PAGE_SIZE * fault.page)) (act_frames (destination_act node fault) node) (destination_acted node fault))
+act_by node next is = grind arith
+
+pub act_done : (node new : Destination) (effect : Effect) (frames : List Frame) (fault : Fault) (act_made : machine.Act) → next_fault node ≡ Ok fault → act_made ≡ destination_act node fault → effect ≡ act_effect act_made (4096 * fault.page) →
+    frames ≡ act_frames act_made node → new ≡ destination_acted_by act_made node fault.page → act node ≡ sent effect frames new
+act_done node new effect frames fault act_made next same reported sends is = rw (reported, sends, is, same) (act_by node (Ok fault) next)
 
 -- what is known of a page that becomes zeros
 pub record IsMissing (space : Space) (owed : Owed) (page : ℕ) : Type 0 where
@@ -169,11 +190,6 @@ one_page page q =
 woken_page : (page addr : ℕ) (cpus : Cpus) → addr ≡ 4096 * page → all_woken (in_bytes addr (addr + 4096)) cpus ≡ all_woken (λ q. eqb q page) cpus
 woken_page page addr cpus is = ap (λ a. all_woken (in_bytes a (a + 4096)) cpus) is ∙ (λ i. all_woken (λ q. one_page page q i) cpus)
 
--- the page is asked for
-pub requested_is : (node was : Destination) (held : List Fault) (origin page : ℕ) → was ≡ record node { requests = requesting node.requests origin } → held ≡ drop 1 was.held →
-    record was { held = held } ≡ destination_acted_by (machine.Act.Requested origin) node page
-requested_is node was held origin page is rest = rw (rest, is, rest_is) refl
-
 -- the page has become zeros
 pub zeroed_is : (node was : Destination) (space : Space) (cpus : Cpus) (held : List Fault) (addr page : ℕ) → was ≡ record node { guest = record node.guest { space = space } } → addr ≡ 4096 * page → space ≡ zero_installed node.guest.space page →
     cpus ≡ all_woken (in_bytes addr (addr + 4096)) was.guest.cpus → held ≡ drop 1 was.held → record was { guest = record { space = was.guest.space; cpus = cpus }; held = held } ≡ destination_acted_by machine.Act.Zeroed node page
@@ -189,18 +205,16 @@ woken_is node was cpus held addr page act same at woken rest (inr is) = rw (is, 
 pub zeroed_order : (has_run : Bool) (space new : Space) (owed : Owed) (page : ℕ) → changing space.object ≡ 0 → get owed page ≡ None → new ≡ zero_installed space page → IsInOrder has_run space owed → IsInOrder has_run new owed
 zeroed_order has_run space new owed page quiet nothing is old = record { ready = λ run. rw is (ready_zeroed space owed page quiet nothing (old.ready run)) }
 
-pub missing_at : (node was : Destination) (fault : Fault) (addr : ℕ) → was ≡ node → destination_act node fault ≡ machine.Act.Zeroed → addr ≡ 4096 * fault.page → IsMissing was.guest.space was.owed (addr / 4096)
-missing_at node was fault addr same is at =
-    subst (λ page. IsMissing was.guest.space was.owed page) (page_again fault.page addr (sym at))
-    (zeroed_missing was.guest.space was.owed fault.page (ap (λ (n : Destination). destination_act n fault) same ∙ is))
+pub missing_at : (node was : Destination) (fault : Fault) → was ≡ node → destination_act node fault ≡ machine.Act.Zeroed → IsMissing was.guest.space was.owed fault.page
+missing_at node was fault same is = zeroed_missing was.guest.space was.owed fault.page (ap (λ (n : Destination). destination_act n fault) same ∙ is)
 
 -- the effect that reports a page of zeros: the page was owed nothing, and was missing
-pub zeroed_told : (node : Destination) (fault : Fault) (effect : Effect) (page : ℕ) → changing node.guest.space.object ≡ 0 → effect ≡ act_effect (destination_act node fault) (4096 * fault.page) → effect ≡ Effect.Zeroed (4096 * page) →
+pub zeroed_tells : (node : Destination) (fault : Fault) (effect : Effect) (page : ℕ) → changing node.guest.space.object ≡ 0 → effect ≡ act_effect (destination_act node fault) (4096 * fault.page) → effect ≡ Effect.Zeroed (4096 * page) →
     (settled node page ≡ None) × (is_present node.guest.space page ≡ false)
-zeroed_told node fault effect page quiet is zeroed =
-    let told = by (destination_act node fault) (4096 * fault.page) (sym is ∙ zeroed) in
-    let same : fault.page ≡ page = let at = told.1 in omega (arith, at) in
-    let missing = subst (λ q. IsMissing node.guest.space node.owed q) same (zeroed_missing node.guest.space node.owed fault.page told.0) in
+zeroed_tells node fault effect page quiet is zeroed =
+    let both = by (destination_act node fault) (4096 * fault.page) (sym is ∙ zeroed) in
+    let same : fault.page ≡ page = let at = both.1 in omega (arith, at) in
+    let missing = subst (λ q. IsMissing node.guest.space node.owed q) same (zeroed_missing node.guest.space node.owed fault.page both.0) in
     (settled_now node.guest.space.object.events (get node.owed) page quiet ∙ missing.nothing, missing.missing)
   where
     by : (act : machine.Act) (addr : ℕ) → act_effect act addr ≡ Effect.Zeroed (4096 * page) → (act ≡ machine.Act.Zeroed) × (addr ≡ 4096 * page)

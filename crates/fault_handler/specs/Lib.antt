@@ -1,10 +1,8 @@
 pub mod Acts
-pub mod Answers
 pub mod Arrivals
 pub mod Codes
 pub mod Kept
 pub mod Memory
 pub mod Order
 pub mod Requests
-pub mod Steps
 pub mod Taking

@@ -4,8 +4,8 @@ ghost use Rattle.std.specs.Prelude.{◌≡◌, ◌<◌, ◌⊎◌};
 ghost use Rattle.std.specs.FinMap.{get};
 ghost use Rattle.mig_base.specs.declared.TheConstants.{HIGH_PAGE};
 ghost use Rattle.mig_model.specs.Destination.{destination_act_by};
+ghost use Rattle.mig_model.specs.Effects.{act_effect};
 ghost use Rattle.mig_model.specs.Guest.{is_forgotten, is_present};
-ghost use Rattle.mig_model.specs.Migration.{act_effect};
 ghost use Rattle.fault_handler.specs.Acts.{act_is};
 
 use guest::Fault;
@@ -52,7 +52,7 @@ impl Act {
     }
 
     /// Its effect, where `addr` is the address of the page.
-    pub fn told(self, addr: Addr) -> Effect
+    pub fn effect(self, addr: Addr) -> Effect
         ensures { result ≡ act_effect (act_is self) addr }
     {
         match self {

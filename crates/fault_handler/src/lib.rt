@@ -6,8 +6,9 @@
 //! moves the frames, and knows whether the link is up.
 //!
 //! Contracts see a destination as the machine's (`mig_model`, `specs/Destination.antt`). A frame is taken as the machine takes it, or
-//! refused for the machine's reason. Each other call is the machine's step of the same name, in a world with this destination, whose
-//! link is up (`specs/Steps.antt`): it is made, or it is refused for the machine's reason or lack of memory, and changes nothing.
+//! refused for the machine's reason. Each other call is the destination's step of the same name (`mig_model`,
+//! `specs/DestinationSteps.antt` and `specs/GuestSteps.antt`): it is made, or it is refused for the step's reason or lack of memory, and
+//! changes nothing.
 #![tactic(auto)]
 
 mod act;

@@ -1,32 +1,41 @@
--- Commands that are tried again.
-use Rattle.std.proofs.Common.{◌≡◌, ◌∙◌, ℕ, Bool, true, false, cond, nat_lt, Option, Some, None, Ok, Err, List, length, ap, refl, unwrap_or, rules, arith}
-use Rattle.std.specs.Result.{result_unwrap_or}
+-- Commands that are begun or tried again: the guest after them.
+use Rattle.std.proofs.Common.{◌≡◌, ◌∙◌, ℕ, Bool, true, false, List, sym, arith}
+use Rattle.std.specs.Prelude.{Result, Ok, Err}
+use Rattle.mig_base.specs.Commands.{is_access}
 use Rattle.mig_base.specs.declared.command.Command.{Command}
-use Rattle.mig_base.specs.declared.cpu_state.CpuState.{CpuState}
+use Rattle.mig_base.specs.declared.command.Entry.{Entry}
+use Rattle.mig_base.specs.declared.effect.Effect.{Effect}
 use Rattle.mig_base.specs.declared.refusal.Refusal.{Refusal}
-use Rattle.mig_model.specs.Cpus.{Cpus, outstanding, processor_at}
-use Rattle.vcpu.specs.Answers.{woken_answer, woken_by}
-use Rattle.guest.specs.Answers.{IsOutstanding, retry_refusal}
+use Rattle.mig_model.specs.Cpus.{idle_answer, woken_answer}
+use Rattle.mig_model.specs.Guest.{Guest, tried}
+use Rattle.mig_model.specs.GuestSteps.{issue, retry, tried_with, try_command}
+use Rattle.mig_model.specs.NodeSteps.{and_then, in_phase}
+use Rattle.mig_model.proofs.StepLemmas.{goes_on, in-phase}
 
-woken_outstanding : (test : Bool) (processor : CpuState) (woken command : Command) → Ok woken ≡ cond test (woken_by processor) (Err Refusal.NoCpu) → outstanding processor ≡ Some command → woken ≡ command
-woken_outstanding true (CpuState.Woken own) woken command made waits = ap (λ r. result_unwrap_or r woken) made ∙ ap (λ o. unwrap_or o own) waits
-woken_outstanding true CpuState.Idle woken command made waits = search rules
-woken_outstanding true (CpuState.Asleep own) woken command made waits = search rules
-woken_outstanding true (CpuState.InCall reply left) woken command made waits = search rules
-woken_outstanding false processor woken command made waits = search rules
+-- a processor that was woken tries its command again, at a node that runs it
+pub again : (guest : Guest) (runs : Bool) (cpu : ℕ) (command : Command) → Ok command ≡ woken_answer guest.cpus cpu → runs ≡ true → retry guest runs cpu ≡ try_command guest cpu command
+again guest runs cpu command woken run = goes_on (woken_answer guest.cpus cpu) command _ (sym woken) ∙ in-phase runs _ run
 
--- it is the one that it still has to make
-pub woken_command : (cpus : List CpuState) (cpu : ℕ) (woken command : Command) → Ok woken ≡ woken_answer cpus cpu → outstanding (processor_at cpus cpu) ≡ Some command → woken ≡ command
-woken_command cpus cpu = woken_outstanding (nat_lt cpu (length cpus)) (processor_at cpus cpu)
+-- the guest after a command that was begun
+begun_by : (idle : Result (Unit {0}) Refusal) (runs : Bool) (guest new : Guest) (cpu : ℕ) (command : Command) (effect : Effect) (entries : List Entry) →
+    and_then idle (λ done. in_phase runs (try_command guest cpu command)) ≡ tried_with effect entries new → new ≡ tried (is_access command) guest cpu command
+begun_by (Ok done) true guest new cpu command effect entries is = grind arith
+begun_by (Ok done) false guest new cpu command effect entries is = absurd (grind arith)
+begun_by (Err refusal) runs guest new cpu command effect entries is = absurd (grind arith)
 
--- the command that a processor tries again
-pub record IsWaiting (cpus : Cpus) (cpu : ℕ) : Type 0 where
+pub begun : (guest new : Guest) (runs : Bool) (cpu : ℕ) (command : Command) (effect : Effect) (entries : List Entry) → issue guest runs cpu command ≡ tried_with effect entries new → new ≡ tried (is_access command) guest cpu command
+begun guest new runs cpu command effect entries = begun_by (idle_answer guest.cpus cpu) runs guest new cpu command effect entries
+
+-- the guest after a command that was tried again
+pub record IsTriedAgain (guest : Guest) (cpu : ℕ) (new : Guest) : Type 0 where
   pub command : Command
-  pub is : IsOutstanding cpus cpu command
+  pub is : new ≡ tried (is_access command) guest cpu command
 
-waiting_by : (cpus : Cpus) (cpu : ℕ) (runs : Bool) (command : Option Command) → outstanding (processor_at cpus cpu) ≡ command → retry_refusal cpus cpu runs ≡ None → IsWaiting cpus cpu
-waiting_by cpus cpu runs None is accepted = absurd (grind arith)
-waiting_by cpus cpu runs (Some command) is accepted = record { command = command; is = is }
+tried_by : (woken : Result Command Refusal) (runs : Bool) (guest new : Guest) (cpu : ℕ) (effect : Effect) (entries : List Entry) →
+    and_then woken (λ command. in_phase runs (try_command guest cpu command)) ≡ tried_with effect entries new → IsTriedAgain guest cpu new
+tried_by (Ok command) true guest new cpu effect entries is = record { command = command; is = grind arith }
+tried_by (Ok command) false guest new cpu effect entries is = absurd (grind arith)
+tried_by (Err refusal) runs guest new cpu effect entries is = absurd (grind arith)
 
-pub waiting : (cpus : Cpus) (cpu : ℕ) (runs : Bool) → retry_refusal cpus cpu runs ≡ None → IsWaiting cpus cpu
-waiting cpus cpu runs accepted = waiting_by cpus cpu runs _ refl accepted
+pub tried_again : (guest new : Guest) (runs : Bool) (cpu : ℕ) (effect : Effect) (entries : List Entry) → retry guest runs cpu ≡ tried_with effect entries new → IsTriedAgain guest cpu new
+tried_again guest new runs cpu effect entries = tried_by (woken_answer guest.cpus cpu) runs guest new cpu effect entries

@@ -1,4 +1,4 @@
-pub mod Answers
+pub mod Guests
 pub mod Outcomes
 pub mod Codes
 pub mod Lent

@@ -1,11 +1,10 @@
 //! The two calls for commands: one begins a command, the other tries it again.
 
-ghost use Rattle.std.specs.Prelude.{◌≡◌, None, option_to_list, unwrap_or, IfOk, IfErr, OnOk, OnErr};
-ghost use Rattle.mig_base.specs.Commands.{is_access};
-ghost use Rattle.mig_model.specs.Cpus.{entries_of};
-ghost use Rattle.mig_model.specs.Guest.{tried};
-ghost use Rattle.mig_model.specs.Migration.{try_effect};
-ghost use Rattle.guest.specs.Answers.{IsOutstanding, guest_with, issue_refusal, retry_refusal, took_in};
+ghost use Rattle.std.specs.Prelude.{◌≡◌, option_to_list, IfOk, IfErr, OnErr};
+ghost use Rattle.mig_model.specs.GuestSteps as machine;
+ghost use Rattle.mig_model.specs.GuestSteps.{tried_with};
+ghost use Rattle.mig_model.specs.NodeSteps.{IsRefusedFor};
+ghost use Rattle.guest.specs.Guests.{guest_with};
 
 use crate::took::Took;
 use crate::tried::Tried;
@@ -24,11 +23,8 @@ pub fn issue(
     command: Command,
     runs: bool,
 ) -> Result<Tried, Refusal>
-    ensures accepted { OnOk result (issue_refusal cpus.old cpu runs ≡ None) }
-    ensures refused { IfErr result (λ refusal. refusal ≡ unwrap_or (issue_refusal cpus.old cpu runs) Refusal.NoMemory) }
-    ensures effect { IfOk result (λ done. done.effect ≡ try_effect cpu (took_in space.old command)) }
-    ensures entry { IfOk result (λ done. option_to_list done.entry ≡ entries_of cpu command (took_in space.old command)) }
-    ensures guest { OnOk result (guest_with space.new cpus.new ≡ tried (is_access command) (guest_with space.old cpus.old) cpu command) }
+    ensures made { IfOk result (λ tried. machine.issue (guest_with space.old cpus.old) runs cpu command ≡ tried_with tried.effect (option_to_list tried.entry) (guest_with space.new cpus.new)) }
+    ensures refused { IfErr result (λ refusal. IsRefusedFor (machine.issue (guest_with space.old cpus.old) runs cpu command) refusal) }
     ensures err { OnErr result ((space.new ≡ space.old) × (cpus.new ≡ cpus.old)) }
 {
     cpus.ensure_idle(cpu)?;
@@ -46,11 +42,8 @@ pub fn issue(
 /// processors, and last `NoMemory`. A refusal changes nothing.
 #[inline(always)]
 pub fn retry(space: &mut Space, cpus: &mut Cpus, cpu: u8, runs: bool) -> Result<Tried, Refusal>
-    ensures accepted { OnOk result (retry_refusal cpus.old cpu runs ≡ None) }
-    ensures refused { IfErr result (λ refusal. refusal ≡ unwrap_or (retry_refusal cpus.old cpu runs) Refusal.NoMemory) }
-    ensures effect { (command : Command) → IsOutstanding cpus.old cpu command → IfOk result (λ done. done.effect ≡ try_effect cpu (took_in space.old command)) }
-    ensures entry { (command : Command) → IsOutstanding cpus.old cpu command → IfOk result (λ done. option_to_list done.entry ≡ entries_of cpu command (took_in space.old command)) }
-    ensures guest { (command : Command) → IsOutstanding cpus.old cpu command → OnOk result (guest_with space.new cpus.new ≡ tried (is_access command) (guest_with space.old cpus.old) cpu command) }
+    ensures made { IfOk result (λ tried. machine.retry (guest_with space.old cpus.old) runs cpu ≡ tried_with tried.effect (option_to_list tried.entry) (guest_with space.new cpus.new)) }
+    ensures refused { IfErr result (λ refusal. IsRefusedFor (machine.retry (guest_with space.old cpus.old) runs cpu) refusal) }
     ensures err { OnErr result ((space.new ≡ space.old) × (cpus.new ≡ cpus.old)) }
 {
     let command = cpus.woken(cpu)?;

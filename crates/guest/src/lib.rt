@@ -9,11 +9,11 @@
 //! it returns what took effect, and whoever keeps the transcript enters it. It resolves no fault, and wakes nobody when it makes a page
 //! present.
 //!
-//! Contracts see the space and the processors as the machine's guest (`mig_model`, `specs/Guest.antt`), a command as its `tried`, and
-//! a message as its `read_guest`, or else a refusal that changes nothing; `specs/Answers.antt` says when each command is refused, and
-//! `specs/Lent.antt` what the calls require of the space. The modules follow: `commands` (commands that begin or are tried again),
-//! `tried` (their result), `took` (the outcome of a command, and the processor then), `messages` (reading messages), `pages` (making
-//! pages present), `fault` (a held fault), and `laws` (what holds across all calls).
+//! Contracts see the space and the processors as the machine's guest (`mig_model`, `specs/Guest.antt`), a command as the machine's step
+//! (there, `specs/GuestSteps.antt`), and a message as its `read_guest`, or else a refusal that changes nothing; `specs/Lent.antt` says
+//! what the calls require of the space. The modules follow: `commands` (commands that begin or are tried again), `tried` (their result),
+//! `took` (the outcome of a command, and the processor then), `messages` (reading messages), `pages` (making pages present), `fault` (a
+//! held fault), and `laws` (what holds across all calls).
 #![tactic(auto)]
 
 mod commands;

@@ -4,8 +4,8 @@ ghost use Rattle.std.specs.Prelude.{◌≡◌, ◌↔◌, Some, None, set};
 ghost use Rattle.mig_model.specs.Userfault.{Noted, next_message};
 ghost use Rattle.mig_model.specs.Cpus.{all_woken, handed_over, message_less, processor_at};
 ghost use Rattle.mig_model.specs.Guest.{fault_count, is_left_by, read_guest};
-ghost use Rattle.mig_model.specs.Migration.{event_effect, read_effect};
-ghost use Rattle.guest.specs.Answers.{guest_with};
+ghost use Rattle.mig_model.specs.Effects.{event_effect, read_effect};
+ghost use Rattle.guest.specs.Guests.{guest_with};
 ghost use Rattle.guest.specs.Lent.{IsLent};
 
 use mig_base::Message;

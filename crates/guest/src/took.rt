@@ -5,8 +5,8 @@ ghost use Rattle.mig_base.specs.Commands.{is_access};
 ghost use Rattle.mig_base.specs.declared.cpu_state.CpuState.{CpuState};
 ghost use Rattle.mig_model.specs.Cpus.{entries_of, processor_after, processor_at};
 ghost use Rattle.mig_model.specs.Guest.{space_by};
-ghost use Rattle.mig_model.specs.Migration.{try_effect};
-ghost use Rattle.guest.specs.Answers.{took_in};
+ghost use Rattle.mig_model.specs.Effects.{try_effect};
+ghost use Rattle.guest.specs.Guests.{took_in};
 ghost use Rattle.guest.specs.Outcomes.{IsOutcome, took_of};
 
 use crate::tried::Tried;

@@ -1,27 +1,20 @@
--- How the machine handles a command of the source's guest.
-use Rattle.std.proofs.Common.{◌≡◌, ℕ, Bool, true, false, not, Option, Some, None, List, refl, inl, inr, unwrap_or, arith}
+-- Commands of the source's guest: the space after them, and their steps in a world.
+use Rattle.std.proofs.Common.{◌≡◌, ℕ, ◌||◌, Bool, true, false, not, refl, ap, ◌∙◌}
 use Rattle.mig_base.specs.Commands.{is_access}
 use Rattle.mig_base.specs.declared.command.Command.{Command}
-use Rattle.mig_base.specs.declared.command.Entry.{Entry}
-use Rattle.mig_base.specs.declared.effect.Effect.{Effect}
 use Rattle.mig_base.specs.declared.phase.SourcePhase.{SourcePhase}
-use Rattle.mig_base.specs.declared.refusal.Refusal.{Refusal}
 use Rattle.mig_base.specs.declared.schedule.Step.{Step}
-use Rattle.mig_model.specs.Cpus.{entries_of, outstanding, processor_at}
 use Rattle.mig_model.specs.Guest.{Guest, space_by, tried}
+use Rattle.mig_model.specs.GuestSteps.{issue, retry}
 use Rattle.mig_model.specs.Log.{Log}
-use Rattle.mig_model.specs.Migration.{outcome, try_effect, unless}
-use Rattle.mig_model.specs.Source.{Source, space_of}
+use Rattle.mig_model.specs.Migration.{World, answer, guest_by, guest_tries}
 use Rattle.mig_model.specs.Space.{IsSoundSpace, Space, access_of}
+use Rattle.std.proofs.Math.Bool.{or-false}
 use Rattle.guest.proofs.LentLemmas.{space_lent}
 use Rattle.dirty_log.specs.Spaces.{AreProtected}
 use Rattle.dirty_log.proofs.KeptLemmas.{access_kept, call_kept}
-use Rattle.guest.specs.Answers.{IsOutstanding, issue_refusal, retry_refusal, took_in}
 use Rattle.precopy.specs.Order.{AreSendable, IsInOrder}
-use Rattle.precopy.specs.Steps.{IsRefused, IsTried}
 use Rattle.precopy.proofs.TodoLemmas.{access_todo, call_todo}
-
--- The space after a command
 
 space_kept : (access : Bool) (log : Log) (space : Space) (cpu : ℕ) (command : Command) → is_access command ≡ access → IsSoundSpace space → AreProtected log space → AreProtected log (space_by access space cpu command)
 space_kept true log space cpu command is sound kept = access_kept (access_of space command) log space cpu command kept
@@ -42,44 +35,13 @@ tried_order phase switched guest space log cpu command sound is old =
       released = old.released;
     }
 
--- Issue
+-- the guest of a world is the source's while the destination has not run
+pub issued_at : (world : World) (cpu : ℕ) (command : Command) → world.destination.has_run ≡ false → answer world (Step.Issue cpu command) ≡ guest_tries world (issue world.source.guest (not world.source.switched) cpu command)
+issued_at world cpu command waits =
+    ap (λ has_run. guest_tries world (issue (guest_by has_run world.source.guest world.destination.guest) (not world.source.switched || has_run) cpu command)) waits
+    ∙ ap (λ runs. guest_tries world (issue world.source.guest runs cpu command)) (or-false (not world.source.switched))
 
-issued_by : (node : Source) (cpu : ℕ) (command : Command) → issue_refusal node.guest.cpus cpu (not node.switched) ≡ None →
-    IsTried node (Step.Issue cpu command) (try_effect cpu (took_in (space_of node) command)) (entries_of cpu command (took_in (space_of node) command)) (record node { guest = tried (is_access command) node.guest cpu command })
-unfolding unless
-issued_by node cpu command accepted = grind arith
-
-pub issue_made : (node new : Source) (cpu : ℕ) (command : Command) (effect : Effect) (entries : List Entry) → issue_refusal node.guest.cpus cpu (not node.switched) ≡ None → effect ≡ try_effect cpu (took_in (space_of node) command) →
-    entries ≡ entries_of cpu command (took_in (space_of node) command) → new ≡ record node { guest = tried (is_access command) node.guest cpu command } → IsTried node (Step.Issue cpu command) effect entries new
-issue_made node new cpu command effect entries accepted told entered is = rw (told, entered, is) (issued_by node cpu command accepted)
-
-issue_why : (node : Source) (cpu : ℕ) (command : Command) (why : Option Refusal) → issue_refusal node.guest.cpus cpu (not node.switched) ≡ why → IsRefused node (Step.Issue cpu command) (unwrap_or why Refusal.NoMemory)
-unfolding unless outcome
-issue_why node cpu command None is = inr (refl, grind arith)
-issue_why node cpu command (Some refusal) is = inl (grind arith)
-
-pub issue_refused : (node : Source) (cpu : ℕ) (command : Command) (refusal : Refusal) → refusal ≡ unwrap_or (issue_refusal node.guest.cpus cpu (not node.switched)) Refusal.NoMemory → IsRefused node (Step.Issue cpu command) refusal
-issue_refused node cpu command refusal is = rw is (issue_why node cpu command _ refl)
-
--- Retry
-
-retried_by : (node : Source) (cpu : ℕ) (command : Command) → IsOutstanding node.guest.cpus cpu command → retry_refusal node.guest.cpus cpu (not node.switched) ≡ None →
-    IsTried node (Step.Retry cpu) (try_effect cpu (took_in (space_of node) command)) (entries_of cpu command (took_in (space_of node) command)) (record node { guest = tried (is_access command) node.guest cpu command })
-unfolding unless
-retried_by node cpu command waits accepted = grind arith
-
-pub retry_made : (node new : Source) (cpu : ℕ) (command : Command) (effect : Effect) (entries : List Entry) → IsOutstanding node.guest.cpus cpu command → retry_refusal node.guest.cpus cpu (not node.switched) ≡ None →
-    effect ≡ try_effect cpu (took_in (space_of node) command) → entries ≡ entries_of cpu command (took_in (space_of node) command) → new ≡ record node { guest = tried (is_access command) node.guest cpu command } →
-    IsTried node (Step.Retry cpu) effect entries new
-retry_made node new cpu command effect entries waits accepted told entered is = rw (told, entered, is) (retried_by node cpu command waits accepted)
-
-retry_why : (node : Source) (cpu : ℕ) (command : Option Command) (why : Option Refusal) → outstanding (processor_at node.guest.cpus cpu) ≡ command → retry_refusal node.guest.cpus cpu (not node.switched) ≡ why →
-    IsRefused node (Step.Retry cpu) (unwrap_or why Refusal.NoMemory)
-unfolding unless outcome
-retry_why node cpu None None waits is = absurd (grind arith)
-retry_why node cpu (Some command) None waits is = inr (refl, grind arith)
-retry_why node cpu None (Some refusal) waits is = inl (grind arith)
-retry_why node cpu (Some command) (Some refusal) waits is = inl (grind arith)
-
-pub retry_refused : (node : Source) (cpu : ℕ) (refusal : Refusal) → refusal ≡ unwrap_or (retry_refusal node.guest.cpus cpu (not node.switched)) Refusal.NoMemory → IsRefused node (Step.Retry cpu) refusal
-retry_refused node cpu refusal is = rw is (retry_why node cpu _ _ refl refl)
+pub retried_at : (world : World) (cpu : ℕ) → world.destination.has_run ≡ false → answer world (Step.Retry cpu) ≡ guest_tries world (retry world.source.guest (not world.source.switched) cpu)
+retried_at world cpu waits =
+    ap (λ has_run. guest_tries world (retry (guest_by has_run world.source.guest world.destination.guest) (not world.source.switched || has_run) cpu)) waits
+    ∙ ap (λ runs. guest_tries world (retry world.source.guest runs cpu)) (or-false (not world.source.switched))

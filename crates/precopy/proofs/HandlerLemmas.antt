@@ -1,31 +1,29 @@
--- How the machine's handler changes a source.
+-- The steps of the source's handler.
 use Rattle.std.proofs.Common.{◌≡◌, ℕ, ◌*◌, Bool, true, false, ltb, Option, Some, None, List, [], ◌∷◌, refl, sym, ap, ◌∙◌, inl, inr, ◌⊎◌, if◌then◌else◌, arith}
-use Rattle.std.specs.Prelude.{Ok, Err, Result}
+use Rattle.std.specs.Prelude.{Ok, Err, Result, ok_or}
 use Rattle.std.specs.Option.{IsSome}
 use Rattle.std.proofs.lemmas.Bool.{false≢true}
 use Rattle.mig_base.specs.declared.message.Message.{Message}
 use Rattle.mig_base.specs.declared.message.Message.TheVariants.{PageFault, Remap, Remove, Unmap}
 use Rattle.mig_base.specs.declared.command.Reply.{Reply}
 use Rattle.mig_model.specs.Cpus.{Cpus, handed_over, processor_at}
-use Rattle.precopy.specs.Telling.{act_told, faults_told}
 use Rattle.mig_base.specs.Tests.{first_holding, is_empty}
 use Rattle.mig_base.specs.declared.effect.Effect.{Effect}
 use Rattle.mig_base.specs.declared.refusal.Refusal.{Refusal}
-use Rattle.mig_base.specs.declared.schedule.Step.{Step}
 use Rattle.mig_model.specs.Userfault.{Noted, changing, next_message}
 use Rattle.mig_model.specs.Guest as machine
-use Rattle.mig_model.specs.Guest.{Fault, Guest, fault_count}
+use Rattle.mig_model.specs.Guest.{Fault, Guest, fault_count, is_changing}
 use Rattle.mig_model.specs.Log.{Log}
 use Rattle.mig_model.specs.Space.{Space}
-use Rattle.mig_model.specs.Migration.{act_effect, event_effect, outcome, read_effect, unless}
-use Rattle.mig_model.specs.Source.{Source, source_act, source_acted, source_acted_by, source_read, space_of}
+use Rattle.mig_model.specs.Effects.{act_effect, event_effect, read_effect}
+use Rattle.mig_model.specs.GuestSteps.{when_quiet}
+use Rattle.mig_model.specs.NodeSteps.{IsRefusedFor as IsStepRefused, acted, first_of, unless}
+use Rattle.mig_model.specs.SourceSteps.{act, read}
+use Rattle.mig_model.proofs.StepLemmas.{goes_on, in-phase, is-quiet}
+use Rattle.mig_model.specs.Source.{Source, is_handling, source_act, source_acted, source_acted_by, source_read, space_of}
 use Rattle.dirty_log.specs.Answers.{IsRefusedFor, act_refusal, read_answer}
 use Rattle.dirty_log.specs.Spaces.{source_of}
-use Rattle.dirty_log.specs.Acts.{act_is}
-use Rattle.dirty_log.specs.declared.act.Act.{Act}
-use Rattle.dirty_log.proofs.SendLemmas.{none_unread}
-use Rattle.precopy.specs.Answers.{run_answer}
-use Rattle.precopy.specs.Steps.{IsMade, IsRefused}
+use Rattle.precopy.proofs.StepLemmas.{stops}
 
 some_is : (one other : Refusal) → Some one ≡ Some other → other ≡ one
 some_is one other is = cc
@@ -35,78 +33,69 @@ err_is one other is = cc
 
 -- SourceRead
 
-read_by : (node : Source) (noted : Noted) → run_answer node ≡ Ok tt → next_message (space_of node).object ≡ Some noted → IsMade node Step.SourceRead (read_effect node.guest noted.cpu noted.message) [] (source_read node noted)
-unfolding unless
-read_by node noted runs next = grind arith
+-- the faults that an effect reports as read
+abbrev pub count_of : Effect → ℕ
+count_of (Effect.ReadFault addr wp) = 1
+count_of effect = 0
 
-told_count : (guest : Guest) (cpu : ℕ) (message : Message) (reply : Option Reply) → faults_told (event_effect message cpu reply) ≡ 0
-told_count guest cpu message None = refl
-told_count guest cpu message (Some reply) = refl
+event_count : (message : Message) (cpu : ℕ) (reply : Option Reply) → count_of (event_effect message cpu reply) ≡ 0
+event_count message cpu None = refl
+event_count message cpu (Some reply) = refl
 
 -- reading a message counts one fault if it is a page fault
-pub faults_read : (guest : Guest) (cpu : ℕ) (message : Message) → faults_told (read_effect guest cpu message) ≡ fault_count message
+pub faults_read : (guest : Guest) (cpu : ℕ) (message : Message) → count_of (read_effect guest cpu message) ≡ fault_count message
 faults_read guest cpu (PageFault addr write wp tid) = refl
-faults_read guest cpu (Remap from to len) = told_count guest cpu (Remap from to len) (handed_over (processor_at guest.cpus cpu))
-faults_read guest cpu (Remove start end) = told_count guest cpu (Remove start end) (handed_over (processor_at guest.cpus cpu))
-faults_read guest cpu (Unmap start end) = told_count guest cpu (Unmap start end) (handed_over (processor_at guest.cpus cpu))
+faults_read guest cpu (Remap from to len) = event_count (Remap from to len) cpu (handed_over (processor_at guest.cpus cpu))
+faults_read guest cpu (Remove start end) = event_count (Remove start end) cpu (handed_over (processor_at guest.cpus cpu))
+faults_read guest cpu (Unmap start end) = event_count (Unmap start end) cpu (handed_over (processor_at guest.cpus cpu))
 
 -- the message that was read
 pub record IsRead (guest : Guest) (next : Option Noted) (effect : Effect) : Type 0 where
   pub noted : Noted
   pub is : next ≡ Some noted
-  pub told : effect ≡ read_effect guest noted.cpu noted.message
+  pub effect_is : effect ≡ read_effect guest noted.cpu noted.message
 
 pub some_noted : (guest : Guest) (next : Option Noted) (effect : Effect) → (Ok effect ≡ read_answer guest next) ⊎ ((Ok effect ≡ Err Refusal.NoMemory) × IsSome next) → IsRead guest next effect
 some_noted guest None effect (inl is) = absurd (let other : Ok effect ≡ Err Refusal.NothingThere = is in cc)
 some_noted guest None effect (inr is) = absurd (let other : Ok effect ≡ Err Refusal.NoMemory = is.0 in cc)
-some_noted guest (Some noted) effect (inl is) = record { noted = noted; is = refl; told = let same : Ok effect ≡ Ok (read_effect guest noted.cpu noted.message) = is in cc }
+some_noted guest (Some noted) effect (inl is) = record { noted = noted; is = refl; effect_is = let same : Ok effect ≡ Ok (read_effect guest noted.cpu noted.message) = is in cc }
 some_noted guest (Some noted) effect (inr is) = absurd (let other : Ok effect ≡ Err Refusal.NoMemory = is.0 in cc)
 
-pub read_done : (node new : Source) (effect : Effect) (noted : Noted) → run_answer node ≡ Ok tt → next_message (space_of node).object ≡ Some noted → effect ≡ read_effect node.guest noted.cpu noted.message → new ≡ source_read node noted →
-    IsMade node Step.SourceRead effect [] new
-read_done node new effect noted runs next told is = rw (told, is) (read_by node noted runs next)
+pub read_made : (node : Source) (noted : Noted) → is_handling node ≡ true → next_message (space_of node).object ≡ Some noted → read node ≡ acted (read_effect node.guest noted.cpu noted.message) (source_read node noted)
+read_made node noted runs next = in-phase (is_handling node) _ runs ∙ goes_on (ok_or (next_message (space_of node).object) Refusal.NothingThere) noted _ (ap (λ o. ok_or o Refusal.NothingThere) next)
 
-pub read_refused : (node : Source) (refusal : Refusal) → run_answer node ≡ Err refusal → IsRefused node Step.SourceRead refusal
-unfolding unless outcome
-read_refused node refusal is = inl (grind arith)
+pub read_done : (node new : Source) (effect : Effect) (noted : Noted) → is_handling node ≡ true → next_message (space_of node).object ≡ Some noted → effect ≡ read_effect node.guest noted.cpu noted.message → new ≡ source_read node noted →
+    read node ≡ acted effect new
+read_done node new effect noted runs next made is = read_made node noted runs next ∙ rw (made, is) refl
 
-pub read_nothing : (node : Source) → run_answer node ≡ Ok tt → next_message (space_of node).object ≡ None → IsRefused node Step.SourceRead Refusal.NothingThere
-unfolding unless outcome
-read_nothing node runs next = inl (grind arith)
+read_nothing : (node : Source) → is_handling node ≡ true → next_message (space_of node).object ≡ None → read node ≡ Err Refusal.NothingThere
+read_nothing node runs next = in-phase (is_handling node) _ runs ∙ stops (ok_or (next_message (space_of node).object) Refusal.NothingThere) _ Refusal.NothingThere (ap (λ o. ok_or o Refusal.NothingThere) next)
 
-pub read_lacks : (node : Source) (noted : Noted) → run_answer node ≡ Ok tt → next_message (space_of node).object ≡ Some noted → IsRefused node Step.SourceRead Refusal.NoMemory
-unfolding unless outcome
-read_lacks node noted runs next = inr (refl, grind arith)
-
-pub read_stopped : (node : Source) (next : Option Noted) (refusal : Refusal) → run_answer node ≡ Ok tt → next_message (space_of node).object ≡ next →
-    (Err refusal ≡ read_answer node.guest next) ⊎ ((◌≡◌ {A = Result Effect Refusal} (Err refusal) (Err Refusal.NoMemory)) × IsSome next) → IsRefused node Step.SourceRead refusal
-read_stopped node None refusal runs next (inl is) = rw (err_is refusal Refusal.NothingThere is) (read_nothing node runs next)
+pub read_stopped : (node : Source) (next : Option Noted) (refusal : Refusal) → is_handling node ≡ true → next_message (space_of node).object ≡ next →
+    (Err refusal ≡ read_answer node.guest next) ⊎ ((◌≡◌ {A = Result Effect Refusal} (Err refusal) (Err Refusal.NoMemory)) × IsSome next) → IsStepRefused (read node) refusal
+read_stopped node None refusal runs next (inl is) = rw (err_is refusal Refusal.NothingThere is) (inl (read_nothing node runs next))
 read_stopped node None refusal runs next (inr is) = absurd (false≢true is.1)
 read_stopped node (Some noted) refusal runs next (inl is) = absurd (let other : Err refusal ≡ Ok (read_effect node.guest noted.cpu noted.message) = is in cc)
-read_stopped node (Some noted) refusal runs next (inr is) = rw (err_is refusal Refusal.NoMemory is.0) (read_lacks node noted runs next)
+read_stopped node (Some noted) refusal runs next (inr is) = rw (err_is refusal Refusal.NoMemory is.0) (inr (refl, rw (read_made node noted runs next) refl))
 
 -- SourceAct
 
-acted_by : (node : Source) (fault : Fault) (rest : List Fault) → run_answer node ≡ Ok tt → node.log.held ≡ fault ∷ rest → changing (space_of node).object ≡ 0 →
-    IsMade node Step.SourceAct (act_effect (source_act node fault) (4096 * fault.page)) [] (source_acted node fault)
+act_made : (node : Source) (fault : Fault) (rest : List Fault) → is_handling node ≡ true → node.log.held ≡ fault ∷ rest → ltb 0 (changing (space_of node).object) ≡ false →
+    act node ≡ acted (act_effect (source_act node fault) (4096 * fault.page)) (source_acted node fault)
+act_made node fault rest runs held quiet =
+    in-phase (is_handling node) _ runs ∙ goes_on (when_quiet node.guest (first_of node.log.held)) fault _ (is-quiet node.guest (first_of node.log.held) fault (ap first_of held) quiet)
+
+act_nothing : (node : Source) → is_handling node ≡ true → node.log.held ≡ [] → act node ≡ Err Refusal.NothingThere
+act_nothing node runs held = in-phase (is_handling node) _ runs ∙ stops (when_quiet node.guest (first_of node.log.held)) _ Refusal.NothingThere (ap (λ l. when_quiet node.guest (first_of l)) held)
+
+busy_by : (guest : Guest) (fault : Fault) → is_changing guest ≡ true → when_quiet guest (Some fault) ≡ Err Refusal.Changing
 unfolding unless
-acted_by node fault rest runs held quiet = grind arith
+busy_by guest fault busy = rw busy refl
 
-pub act_refused : (node : Source) (refusal : Refusal) → run_answer node ≡ Err refusal → IsRefused node Step.SourceAct refusal
-unfolding unless outcome
-act_refused node refusal is = inl (grind arith)
-
-pub act_lacks : (node : Source) (fault : Fault) (rest : List Fault) → run_answer node ≡ Ok tt → node.log.held ≡ fault ∷ rest → changing (space_of node).object ≡ 0 → IsRefused node Step.SourceAct Refusal.NoMemory
-unfolding unless outcome
-act_lacks node fault rest runs held quiet = inr (refl, grind arith)
-
-act_nothing : (node : Source) → run_answer node ≡ Ok tt → node.log.held ≡ [] → IsRefused node Step.SourceAct Refusal.NothingThere
-unfolding unless outcome
-act_nothing node runs held = inl (grind arith)
-
-act_changing : (node : Source) (fault : Fault) (rest : List Fault) → run_answer node ≡ Ok tt → node.log.held ≡ fault ∷ rest → ltb 0 (changing (space_of node).object) ≡ true → IsRefused node Step.SourceAct Refusal.Changing
-unfolding unless outcome
-act_changing node fault rest runs held busy = inl (grind arith)
+act_changing : (node : Source) (fault : Fault) (rest : List Fault) → is_handling node ≡ true → node.log.held ≡ fault ∷ rest → ltb 0 (changing (space_of node).object) ≡ true → act node ≡ Err Refusal.Changing
+act_changing node fault rest runs held busy =
+    in-phase (is_handling node) _ runs
+    ∙ stops (when_quiet node.guest (first_of node.log.held)) _ Refusal.Changing (ap (λ l. when_quiet node.guest (first_of l)) held ∙ busy_by node.guest fault busy)
 
 -- the fault that was resolved
 pub record IsHeld (log : Log) (space : Space) : Type 0 where
@@ -132,22 +121,18 @@ pub acted_is : (node : Source) (space : Space) (cpus : Cpus) (log : Log) (fault 
     record node { guest = record { space = space; cpus = cpus }; log = log } ≡ source_acted node fault
 acted_is node space cpus log fault same = ap (λ other. record node { guest = other.guest; log = other.log }) same ∙ sym (acted_parts (source_act node fault) node fault.page)
 
--- the effect of resolving it
-pub told_is : (done : Act) (act : machine.Act) (addr at : ℕ) → act_is done ≡ act → addr ≡ at → act_told done addr ≡ act_effect act at
-told_is done act addr at is same = rw (is, same) refl
+pub act_done : (node new : Source) (effect : Effect) (fault : Fault) (rest : List Fault) → is_handling node ≡ true → node.log.held ≡ fault ∷ rest → changing (space_of node).object ≡ 0 →
+    effect ≡ act_effect (source_act node fault) (4096 * fault.page) → new ≡ source_acted node fault → act node ≡ acted effect new
+act_done node new effect fault rest runs held quiet made is = act_made node fault rest runs held (ap (ltb 0) quiet) ∙ rw (made, is) refl
 
-pub act_done : (node new : Source) (effect : Effect) (fault : Fault) (rest : List Fault) → run_answer node ≡ Ok tt → node.log.held ≡ fault ∷ rest → changing (space_of node).object ≡ 0 →
-    effect ≡ act_effect (source_act node fault) (4096 * fault.page) → new ≡ source_acted node fault → IsMade node Step.SourceAct effect [] new
-act_done node new effect fault rest runs held quiet told is = rw (told, is) (acted_by node fault rest runs held quiet)
-
-act_why : (node : Source) (held : List Fault) (busy : Bool) (refusal : Refusal) → run_answer node ≡ Ok tt → node.log.held ≡ held → ltb 0 (changing (space_of node).object) ≡ busy →
-    IsRefusedFor (if is_empty held then Some Refusal.NothingThere else if busy then Some Refusal.Changing else None) refusal → IsRefused node Step.SourceAct refusal
-act_why node [] busy refusal runs is now (inl why) = rw (some_is Refusal.NothingThere refusal why) (act_nothing node runs is)
+act_why : (node : Source) (held : List Fault) (busy : Bool) (refusal : Refusal) → is_handling node ≡ true → node.log.held ≡ held → ltb 0 (changing (space_of node).object) ≡ busy →
+    IsRefusedFor (if is_empty held then Some Refusal.NothingThere else if busy then Some Refusal.Changing else None) refusal → IsStepRefused (act node) refusal
+act_why node [] busy refusal runs is now (inl why) = rw (some_is Refusal.NothingThere refusal why) (inl (act_nothing node runs is))
 act_why node [] busy refusal runs is now (inr why) = absurd (let other : Some Refusal.NothingThere ≡ None = why.0 in grind arith)
-act_why node (fault ∷ rest) true refusal runs is now (inl why) = rw (some_is Refusal.Changing refusal why) (act_changing node fault rest runs is now)
+act_why node (fault ∷ rest) true refusal runs is now (inl why) = rw (some_is Refusal.Changing refusal why) (inl (act_changing node fault rest runs is now))
 act_why node (fault ∷ rest) true refusal runs is now (inr why) = absurd (let other : Some Refusal.Changing ≡ None = why.0 in grind arith)
 act_why node (fault ∷ rest) false refusal runs is now (inl why) = absurd (let other : None ≡ Some refusal = why in grind arith)
-act_why node (fault ∷ rest) false refusal runs is now (inr why) = rw why.1 (act_lacks node fault rest runs is (none_unread _ now))
+act_why node (fault ∷ rest) false refusal runs is now (inr why) = rw why.1 (inr (refl, rw (act_made node fault rest runs is now) refl))
 
-pub act_stopped : (node : Source) (refusal : Refusal) → run_answer node ≡ Ok tt → IsRefusedFor (act_refusal node.log (space_of node)) refusal → IsRefused node Step.SourceAct refusal
+pub act_stopped : (node : Source) (refusal : Refusal) → is_handling node ≡ true → IsRefusedFor (act_refusal node.log (space_of node)) refusal → IsStepRefused (act node) refusal
 act_stopped node refusal runs why = act_why node node.log.held (ltb 0 (changing (space_of node).object)) refusal runs refl refl why

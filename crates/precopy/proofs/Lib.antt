@@ -1,4 +1,3 @@
-pub mod CheckLemmas
 pub mod CommandLemmas
 pub mod GuestLemmas
 pub mod HandlerLemmas
@@ -9,4 +8,3 @@ pub mod RunLemmas
 pub mod SendLemmas
 pub mod StepLemmas
 pub mod TodoLemmas
-pub mod WorldLemmas

@@ -1,4 +1,4 @@
--- A source that goes back to pre-copy is in order; and how the machine changes the source in a recovery.
+-- A source that goes back to pre-copy is in order; and how the steps of a recovery change a source.
 use Rattle.std.proofs.Common.{◌≡◌, ◌+◌, Bool, true, false, [], refl, sym, ◌∙◌, arith}
 use Rattle.std.specs.Prelude.{IfOk}
 use Rattle.std.specs.FinSet.{FinSet, len}
@@ -6,11 +6,10 @@ use Rattle.std.specs.Ordering.{nat_cmp}
 use Rattle.std.proofs.lemmas.Bool.{false≢true, false_from_ne_true}
 use Rattle.mig_base.specs.declared.phase.Received.{Received}
 use Rattle.mig_base.specs.declared.phase.SourcePhase.{SourcePhase}
-use Rattle.mig_base.specs.declared.schedule.Side.{Side}
-use Rattle.mig_base.specs.declared.schedule.Step.{Step}
 use Rattle.mig_model.specs.Log.{Log, empty_log, forgotten, present}
-use Rattle.mig_model.specs.Migration.{World, answer, unless}
+use Rattle.mig_model.specs.NodeSteps.{unless}
 use Rattle.mig_model.specs.Source.{Source, is_released, source_took, space_of}
+use Rattle.mig_model.specs.SourceSteps.{pause, resume}
 use Rattle.mig_model.specs.Space.{Space, fresh_space}
 use Rattle.mig_model.specs.Wire.{Frame}
 use Rattle.dirty_log.proofs.KeptLemmas.{none_clean}
@@ -42,22 +41,20 @@ released_order switched is =
       released = λ h. is;
     }
 
--- In any world
+-- The steps of a recovery
 
-pub notice_in : (world : World) → IfOk (answer world (Step.Notice Side.Source)) (λ made. made.world.source ≡ record world.source { phase = SourcePhase.Paused })
+pub paused_by : (node : Source) → IfOk (pause node) (λ paused. paused.node ≡ record node { phase = SourcePhase.Paused })
+paused_by node = grind arith
+
+pub paused_kept : (node : Source) → IfOk (pause node) (λ paused. is_released node.phase ≡ false)
+paused_kept node = grind arith
+
+pub resumed_by : (node : Source) → IfOk (resume node) (λ resumes. resumes.node ≡ record node { epoch = node.epoch + 1; urgent_sent = 0 })
 unfolding unless
-notice_in world = grind arith
+resumed_by node = grind arith
 
-pub noticed_in : (world : World) → IfOk (answer world (Step.Notice Side.Source)) (λ made. is_released world.source.phase ≡ false)
-unfolding unless
-noticed_in world = grind arith
+pub not_switched_by : (node : Source) (owed : FinSet nat_cmp) → node.switched ≡ false → source_took node (Frame.Recv Received.NotRun owed) ≡ record node { phase = SourcePhase.Precopy; asked = []; log = forgotten node.log }
+not_switched_by node owed h = rw h refl
 
-pub resume_in : (world : World) → IfOk (answer world Step.Resume) (λ made. made.world.source ≡ record world.source { epoch = world.source.epoch + 1; urgent_sent = 0 })
-unfolding unless
-resume_in world = grind arith
-
-pub not_switched_in : (node : Source) (owed : FinSet nat_cmp) → node.switched ≡ false → source_took node (Frame.Recv Received.NotRun owed) ≡ record node { phase = SourcePhase.Precopy; asked = []; log = forgotten node.log }
-not_switched_in node owed h = rw h refl
-
-pub not_run_in : (node : Source) (owed : FinSet nat_cmp) → node.switched ≡ true → source_took node (Frame.Recv Received.NotRun owed) ≡ record node { phase = SourcePhase.Stopped; asked = []; remaining = present (space_of node); packaged = len (present (space_of node)) }
-not_run_in node owed h = rw h refl
+pub not_run_by : (node : Source) (owed : FinSet nat_cmp) → node.switched ≡ true → source_took node (Frame.Recv Received.NotRun owed) ≡ record node { phase = SourcePhase.Stopped; asked = []; remaining = present (space_of node); packaged = len (present (space_of node)) }
+not_run_by node owed h = rw h refl

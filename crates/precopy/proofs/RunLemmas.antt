@@ -1,10 +1,9 @@
--- How the machine's SendRun changes a source, and why it is refused; the pages of a run can be sent.
-use Rattle.std.proofs.Common.{◌≡◌, ℕ, ◌+◌, ◌*◌, ◌<◌, ◌≤◌, List, sym, subst, true, false, not, ltb, None, [], ◌∷◌, length, refl, ap, ◌∙◌, inl, inr, arith}
-use Rattle.std.specs.Prelude.{Ok, Err}
+-- A run: the step that sends it, its pages, which can be sent, and its frame.
+use Rattle.std.proofs.Common.{◌≡◌, ℕ, ◌+◌, ◌*◌, ◌<◌, ◌≤◌, List, sym, subst, true, false, not, ltb, None, [], ◌∷◌, length, refl, ap, ◌∙◌, inl, arith}
+use Rattle.std.specs.Prelude.{Ok, Err, Result}
 use Rattle.std.specs.FinSet.{contains}
 use Rattle.mig_base.specs.declared.effect.Effect.{Effect}
 use Rattle.mig_base.specs.declared.refusal.Refusal.{Refusal}
-use Rattle.mig_base.specs.declared.schedule.Step.{Step}
 use Rattle.mig_base.specs.declared.TheConstants.{HIGH_PAGE, LOW_PAGE, MAX_RUN, PAGE_SIZE}
 use Rattle.mig_base.specs.Ranges.{in_range}
 use Rattle.mig_base.specs.Sets.{run_length}
@@ -12,17 +11,17 @@ use Rattle.mig_base.specs.Tests.{is_every}
 use Rattle.mig_base.proofs.RangeLemmas.{in_range-true, least_below_tells, none_below-from}
 use Rattle.mig_base.proofs.SetLemmas.{member_run, run_length-some}
 use Rattle.mig_model.specs.Bounds.{ArePageBytes, IsFrame}
-use Rattle.mig_model.specs.Migration.{outcome, run_bound, unless}
+use Rattle.mig_model.specs.SourceSteps.{next_to_send, run_bound, send, send_run}
+use Rattle.mig_model.specs.NodeSteps.{IsRefusedFor as IsStepRefused, checked, sent}
 use Rattle.mig_model.specs.Source.{Source, run_of, run_sent, space_of}
 use Rattle.mig_model.specs.Space.{Space}
 use Rattle.mig_model.specs.Wire.{Frame}
 use Rattle.mig_model.proofs.HandlerCalls.{some_bound}
 use Rattle.dirty_log.specs.Answers.{IsRefusedFor, send_refusal}
 use Rattle.dirty_log.specs.Spaces.{is_sendable}
-use Rattle.precopy.specs.Answers.{send_answer}
 use Rattle.precopy.specs.Order.{AreSendable}
-use Rattle.precopy.specs.Steps.{IsMade, IsRefused}
-use Rattle.precopy.proofs.SendLemmas.{least_sent, no_unread, only_memory, quiet}
+use Rattle.precopy.proofs.SendLemmas.{least_sent, no_unread, only_memory, quiet, send_checked}
+use Rattle.precopy.proofs.StepLemmas.{lacks, stops}
 use Rattle.frame_texts.proofs.FrameBounds.{length-run_of}
 use Rattle.frame_texts.proofs.FrameSteps.{most_bound}
 
@@ -33,29 +32,26 @@ pages_from node first count = run_length node.log.todo first (run_bound count)
 pub few_are : (node : Source) (first count most pages : ℕ) → pages ≡ run_length node.log.todo first most → most ≡ run_bound count → pages ≡ pages_from node first count
 few_are node first count most pages is bound = is ∙ ap (run_length node.log.todo first) bound
 
--- The machine's step
+-- SendRun
 
-sent_by : (node : Source) (first count : ℕ) → send_answer node ≡ Ok first →
-    IsMade node (Step.SendRun count) (Effect.SentRun (PAGE_SIZE * first) (pages_from node first count)) (Frame.Run first (run_of node first (pages_from node first count)) ∷ []) (run_sent node first (pages_from node first count))
-unfolding unless
-sent_by node first count is = grind arith
+by_found : (node : Source) (count : ℕ) (found : Result ℕ Refusal) → next_to_send node ≡ found → checked (send node) ≡ checked (send_run node count)
+by_found node count (Ok first) is = rw is refl
+by_found node count (Err refusal) is = rw is refl
 
-pub run_done : (node new : Source) (first count pages : ℕ) (effect : Effect) (frame : Frame) → send_answer node ≡ Ok first → pages ≡ pages_from node first count → effect ≡ Effect.SentRun (PAGE_SIZE * first) pages →
-    frame ≡ Frame.Run first (run_of node first pages) → new ≡ run_sent node first pages → IsMade node (Step.SendRun count) effect (frame ∷ []) new
-run_done node new first count pages effect frame is few told carried new_is = rw (new_is, told, carried, few) (sent_by node first count is)
+pub run_checked : (node : Source) (count : ℕ) → checked (send node) ≡ checked (send_run node count)
+run_checked node count = by_found node count (next_to_send node) refl
 
-pub run_refused : (node : Source) (count : ℕ) (refusal : Refusal) → send_answer node ≡ Err refusal → IsRefused node (Step.SendRun count) refusal
-unfolding unless outcome
-run_refused node count refusal is = inl (grind arith)
+pub run_done : (node new : Source) (first count pages : ℕ) (effect : Effect) (frame : Frame) → next_to_send node ≡ Ok first → pages ≡ pages_from node first count → effect ≡ Effect.SentRun (PAGE_SIZE * first) pages →
+    frame ≡ Frame.Run first (run_of node first pages) → new ≡ run_sent node first pages → send_run node count ≡ sent effect (frame ∷ []) new
+run_done node new first count pages effect frame is few made carried new_is = rw (new_is, made, carried, few, is) refl
 
-pub run_lacks : (node : Source) (first count : ℕ) → send_answer node ≡ Ok first → IsRefused node (Step.SendRun count) Refusal.NoMemory
-unfolding unless outcome
-run_lacks node first count is = inr (refl, grind arith)
+pub run_refused : (node : Source) (count : ℕ) (refusal : Refusal) → next_to_send node ≡ Err refusal → IsStepRefused (send_run node count) refusal
+run_refused node count refusal is = inl (stops (next_to_send node) _ refusal is)
 
 -- Its pages
 
 -- the first page is one of the run
-pub run_some : (node : Source) (first count : ℕ) → send_answer node ≡ Ok first → 0 < pages_from node first count
+pub run_some : (node : Source) (first count : ℕ) → next_to_send node ≡ Ok first → 0 < pages_from node first count
 run_some node first count is = run_length-some node.log.todo first (run_bound count) (least_below_tells (contains node.log.todo) HIGH_PAGE first (least_sent node first is)) (some_bound count)
 
 all_sendable : (space : Space) (first pages : ℕ) → ((page : ℕ) → in_range first pages page ≡ true → is_sendable space page ≡ true) → is_every (is_sendable space) first pages ≡ true
@@ -64,16 +60,16 @@ all_sendable space first pages each = none_below-from (λ i. not (is_sendable sp
 quiet_accepted : (space : Space) (first pages : ℕ) → ltb 0 (length space.object.events) ≡ false → is_every (is_sendable space) first pages ≡ true → send_refusal space first pages ≡ None
 quiet_accepted space first pages quiet every = rw (quiet, every) refl
 
-pub run_accepted : (node : Source) (first bound : ℕ) → send_answer node ≡ Ok first → AreSendable node.log (space_of node) → send_refusal (space_of node) first (run_length node.log.todo first bound) ≡ None
+pub run_accepted : (node : Source) (first bound : ℕ) → next_to_send node ≡ Ok first → AreSendable node.log (space_of node) → send_refusal (space_of node) first (run_length node.log.todo first bound) ≡ None
 run_accepted node first bound is kept =
     let none = quiet node first is in
     quiet_accepted (space_of node) first _ none (all_sendable (space_of node) first _ (λ page inside. kept page (member_run node.log.todo first bound page inside) (no_unread (space_of node).object.events page none)))
 
 -- what a run that is refused then lacks is memory
-pub run_stopped : (node : Source) (first count pages : ℕ) (refusal : Refusal) → send_answer node ≡ Ok first → pages ≡ pages_from node first count → AreSendable node.log (space_of node) → IsRefusedFor (send_refusal (space_of node) first pages) refusal →
-    IsRefused node (Step.SendRun count) refusal
+pub run_stopped : (node : Source) (first count pages : ℕ) (refusal : Refusal) → next_to_send node ≡ Ok first → pages ≡ pages_from node first count → AreSendable node.log (space_of node) → IsRefusedFor (send_refusal (space_of node) first pages) refusal →
+    IsStepRefused (send_run node count) refusal
 run_stopped node first count pages refusal is few kept why =
-    rw (only_memory refusal _ (ap (send_refusal (space_of node) first) few ∙ run_accepted node first (run_bound count) is kept) why) (run_lacks node first count is)
+    rw (only_memory refusal _ (ap (send_refusal (space_of node) first) few ∙ run_accepted node first (run_bound count) is kept) why) (lacks (send_run node count) (send_checked node _ is ∙ run_checked node count))
 
 -- Its frame
 

@@ -5,9 +5,9 @@
 //! knows no wire: a call returns its effect and the frames to send, or the page to send, whose bytes stay in the space. The caller moves
 //! the frames, and knows whether the link is up.
 //!
-//! Contracts see a source as the machine's (`mig_model`, `specs/Source.antt`), and each call as the machine's step of the same name in
-//! a world with this source whose link is up (`specs/Steps.antt`): it has the same effect, the same frames and the same source after
-//! it, or the same refusal; or memory runs out and nothing changes.
+//! Contracts see a source as the machine's (`mig_model`, `specs/Source.antt`), and each call as the source's own step of its name (there,
+//! `specs/SourceSteps.antt`; of a command, `specs/GuestSteps.antt`): it has the same effect, the same frames and the same source after it,
+//! or the same refusal; or memory runs out and nothing changes.
 #![tactic(auto)]
 
 pub mod laws;

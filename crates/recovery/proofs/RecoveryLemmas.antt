@@ -1,24 +1,17 @@
--- The effect of a notice on a source, and when all pages of a set are present.
+-- What is sent for a Resume, and when all pages of a set are present.
 use Rattle.std.proofs.lemmas.Bool.{not-false}
 use Rattle.std.proofs.lemmas.Bool.Decides.{nat_tests}
-use Rattle.std.proofs.Common.{◌≡◌, ℕ, ◌<◌, ◌≤◌, ◌&&◌, ◌||◌, Bool, eqb, ltb, not, true, false, Err, List, [], ◌∷◌, map, refl, ap, ◌∙◌, arith}
+use Rattle.std.proofs.Common.{◌≡◌, ℕ, ◌<◌, ◌≤◌, ◌&&◌, Bool, eqb, ltb, not, true, false, List, [], ◌∷◌, map, refl, ap, ◌∙◌, arith}
 use Rattle.std.specs.Ordering.{nat_cmp}
 use Rattle.std.specs.FinSet as finset
 use Rattle.std.specs.FinSet.{FinSet, contains, len-empty}
-use Rattle.mig_base.specs.declared.effect.Effect.{Effect}
-use Rattle.mig_base.specs.declared.phase.DestPhase.{DestPhase}
-use Rattle.mig_base.specs.declared.phase.SourcePhase.{SourcePhase}
-use Rattle.mig_base.specs.declared.refusal.Refusal.{Refusal}
-use Rattle.mig_base.specs.declared.schedule.Side.{Side}
 use Rattle.mig_base.specs.declared.TheConstants.{HIGH_PAGE}
 use Rattle.mig_base.proofs.SetLemmas.{member_below}
 use Rattle.mig_base.proofs.TestLemmas.{and_false}
 use Rattle.mig_base.specs.declared.phase.Received.{Received}
-use Rattle.mig_model.specs.Destination.{Destination, is_dest_paused, received_of, recv_by}
+use Rattle.mig_model.specs.Destination.{Destination, received_of, recv_by}
 use Rattle.mig_model.specs.Guest.{is_present}
 use Rattle.mig_model.specs.Log.{less, present, no_pages}
-use Rattle.mig_model.specs.Migration.{made, notice, unless}
-use Rattle.mig_model.specs.Source.{Source, is_released, is_source_idle}
 use Rattle.mig_model.specs.Space.{IsSoundSpace, Space}
 use Rattle.mig_model.proofs.FrameFaults.{none_empty, present_below}
 use Rattle.mig_model.proofs.SetSizes.{len-some}
@@ -27,70 +20,7 @@ use Rattle.mig_model.proofs.Facts.{no_page}
 use Rattle.mig_model.specs.Bounds.{AreFewPages, AreListed}
 use Rattle.mig_model.specs.Wire as wire
 use Rattle.page_stream.specs.declared.frame.Frame.{Frame}
-use Rattle.recovery.specs.Breaks.{AreWellFormed, broken_world, frames_of, received_by}
-
--- the source with a phase
-abbrev in_phase : Source → SourcePhase → Source
-in_phase node phase = record node { phase = phase }
-
-noticed_in : (phase : SourcePhase) (node : Source) (destination : Destination) → (phase ≡ SourcePhase.Idle → ⊥) → (phase ≡ SourcePhase.Paused → ⊥) → (phase ≡ SourcePhase.Released → ⊥) →
-    notice (broken_world (in_phase node phase) destination) Side.Source ≡ made (Effect.Noticed Side.Source) (broken_world (in_phase node SourcePhase.Paused) destination)
-unfolding unless
-noticed_in SourcePhase.Idle node destination idle paused released = absurd (idle refl)
-noticed_in SourcePhase.Precopy node destination idle paused released = refl
-noticed_in SourcePhase.Stopped node destination idle paused released = refl
-noticed_in SourcePhase.Paused node destination idle paused released = absurd (paused refl)
-noticed_in SourcePhase.Released node destination idle paused released = absurd (released refl)
-
-pub noticed : (node : Source) (phase : SourcePhase) (destination : Destination) → node.phase ≡ phase → (phase ≡ SourcePhase.Idle → ⊥) → (phase ≡ SourcePhase.Paused → ⊥) → (phase ≡ SourcePhase.Released → ⊥) →
-    notice (broken_world node destination) Side.Source ≡ made (Effect.Noticed Side.Source) (broken_world (in_phase node SourcePhase.Paused) destination)
-noticed node phase destination is idle paused released = grind (arith, noticed_in)
-
-refused_in : (phase : SourcePhase) (node : Source) (destination : Destination) → (phase ≡ SourcePhase.Precopy → ⊥) → (phase ≡ SourcePhase.Stopped → ⊥) →
-    notice (broken_world (in_phase node phase) destination) Side.Source ≡ Err Refusal.Phase
-unfolding unless
-refused_in SourcePhase.Idle node destination precopy stopped = refl
-refused_in SourcePhase.Precopy node destination precopy stopped = absurd (precopy refl)
-refused_in SourcePhase.Stopped node destination precopy stopped = absurd (stopped refl)
-refused_in SourcePhase.Paused node destination precopy stopped = refl
-refused_in SourcePhase.Released node destination precopy stopped = refl
-
-pub refused : (node : Source) (destination : Destination) → (node.phase ≡ SourcePhase.Precopy → ⊥) → (node.phase ≡ SourcePhase.Stopped → ⊥) →
-    notice (broken_world node destination) Side.Source ≡ Err Refusal.Phase
-refused node destination precopy stopped = refused_in node.phase node destination precopy stopped
-
--- The destination
-
-not_paused : (phase : DestPhase) → (phase ≡ DestPhase.Paused → ⊥) → is_dest_paused phase ≡ false
-not_paused DestPhase.Paused paused = absurd (paused refl)
-not_paused DestPhase.Idle paused = refl
-not_paused DestPhase.Advised paused = refl
-not_paused DestPhase.Discarding paused = refl
-not_paused DestPhase.Running paused = refl
-not_paused DestPhase.Ended paused = refl
-
-under_way : (phase : SourcePhase) → (phase ≡ SourcePhase.Idle → ⊥) → (phase ≡ SourcePhase.Released → ⊥) → (not (not (is_source_idle phase)) || is_released phase) ≡ false
-under_way SourcePhase.Idle idle released = absurd (idle refl)
-under_way SourcePhase.Released idle released = absurd (released refl)
-under_way SourcePhase.Precopy idle released = refl
-under_way SourcePhase.Stopped idle released = refl
-under_way SourcePhase.Paused idle released = refl
-
-pub before_or_after : (source : Source) (destination : Destination) (phase : SourcePhase) → phase ≡ source.phase → is_source_idle phase || is_released phase ≡ true → notice (broken_world source destination) Side.Destination ≡ Err Refusal.Phase
-unfolding unless
-before_or_after source destination phase is outside = grind (arith, nat_tests)
-
-pub paused_again : (source : Source) (destination : Destination) → destination.phase ≡ DestPhase.Paused → notice (broken_world source destination) Side.Destination ≡ Err Refusal.Phase
-unfolding unless
-paused_again source destination paused = grind (arith, nat_tests)
-
-pub paused_now : (source : Source) (destination new : Destination) → (source.phase ≡ SourcePhase.Idle → ⊥) → (source.phase ≡ SourcePhase.Released → ⊥) → (destination.phase ≡ DestPhase.Paused → ⊥) →
-    new ≡ record destination { phase = DestPhase.Paused } → notice (broken_world source destination) Side.Destination ≡ made (Effect.Noticed Side.Destination) (broken_world source new)
-unfolding unless
-paused_now source destination new idle released paused is =
-    let here = under_way source.phase idle released in
-    let there = not_paused destination.phase paused in
-    grind (arith, nat_tests)
+use Rattle.recovery.specs.Breaks.{AreWellFormed, frames_of, received_by}
 
 pub asked_again : (pages : List ℕ) → frames_of (map Frame.Request pages) ≡ map wire.Frame.Request pages
 asked_again [] = refl

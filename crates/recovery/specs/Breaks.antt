@@ -1,26 +1,13 @@
--- The effect of a break and of the recovery from it on the two nodes.
-use Rattle.std.specs.Prelude.{Bool, true, false, List, [], ◌∷◌, map, Result, Ok, Err}
-use Rattle.mig_base.specs.declared.effect.Effect.{Effect}
-use Rattle.mig_base.specs.declared.refusal.Refusal.{Refusal}
+-- What the recovery from a break sends, and when it needs memory.
+use Rattle.std.specs.Prelude.{Bool, true, false, List, [], ◌∷◌, map}
 use Rattle.mig_base.specs.declared.phase.Received.{Received}
 use Rattle.mig_model.specs.Bounds.{IsFrame}
 use Rattle.mig_model.specs.Destination.{Destination, received_of}
 use Rattle.mig_model.specs.Log.{no_pages}
 use Rattle.mig_model.specs.Owed.{origins}
-use Rattle.mig_model.specs.Migration.{Answer, World, first_world, made}
-use Rattle.mig_model.specs.Source.{Source}
 use Rattle.mig_model.specs.Wire as machine
 use Rattle.page_stream.specs.declared.frame.Frame.{Frame}
 use Rattle.page_stream.specs.Frames.{frame_of}
-
--- a world of these nodes whose channel is broken
-abbrev pub broken_world : Source → Destination → World
-broken_world source destination = record (first_world 0) { source = source; destination = destination; up = false }
-
--- the answer of a step in such a world: this effect with these nodes after it, or this refusal
-abbrev pub answered_with : Source → Destination → Result Effect Refusal → Answer
-answered_with source destination (Ok effect) = made effect (broken_world source destination)
-answered_with source destination (Err refusal) = Err refusal
 
 -- bridges frames of the code to the machine's
 abbrev pub frames_of : List Frame → List machine.Frame

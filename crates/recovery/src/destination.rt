@@ -1,16 +1,15 @@
 //! The destination notices a break, and reports how far it has come.
 
-ghost use Rattle.std.specs.Prelude.{◌≡◌, ◌∷◌, ◌++◌, map, IfOk, OnErr};
-ghost use Rattle.mig_base.specs.declared.schedule.Side.{Side};
-ghost use Rattle.mig_base.specs.declared.schedule.Step.{Step};
+ghost use Rattle.std.specs.Prelude.{◌≡◌, ◌∷◌, ◌++◌, Err, map, IfOk, IfErr, OnErr};
 ghost use Rattle.mig_model.specs.Bounds.{IsFrame};
 ghost use Rattle.mig_model.specs.Destination as machine;
-ghost use Rattle.mig_model.specs.Migration.{answer};
-ghost use Rattle.mig_model.specs.Source.{is_released, is_source_idle};
+ghost use Rattle.mig_model.specs.DestinationSteps.{pause};
+ghost use Rattle.mig_model.specs.NodeSteps.{acted, checked, in_phase};
+ghost use Rattle.mig_model.specs.Source.{is_under_way};
 ghost use Rattle.mig_model.specs.Wire as wire;
 ghost use Rattle.page_stream.specs.Frames.{frame_of};
 ghost use Rattle.page_stream.specs.declared.frame.Frame as frames;
-ghost use Rattle.recovery.specs.Breaks.{AreWellFormed, answered_with, broken_world, frames_of, received_frame};
+ghost use Rattle.recovery.specs.Breaks.{AreWellFormed, frames_of, received_frame};
 
 use fault_handler::Destination;
 use mig_base::effect::Effect;
@@ -26,21 +25,29 @@ use std::alloc::Global;
 /// start and once the migration is complete, both of which the source knows, and if the destination is paused already. The caller
 /// knows that the channel is broken.
 pub fn notice_dest(source: &Source, destination: &mut Destination) -> Result<Effect, Refusal>
-    ensures noticed { answer (broken_world source.now destination.old) (Step.Notice Side.Destination) ≡ answered_with source.now destination.new result }
+    ensures made { IfOk result (λ effect. in_phase (is_under_way source.now) (pause destination.old) ≡ acted effect destination.new) }
+    ensures refused { IfErr result (λ refusal. in_phase (is_under_way source.now) (pause destination.old) ≡ Err refusal) }
     ensures err { OnErr result (destination.new ≡ destination.old) }
+{
+    check_notice_dest(source, destination)?;
+    destination.pause();
+    Ok(Effect::Noticed {
+        side: Side::Destination,
+    })
+}
+
+/// Whether the destination can notice that the channel is broken: the refusal of [`notice_dest`].
+pub fn check_notice_dest(source: &Source, destination: &Destination) -> Result<(), Refusal>
+    ensures { result ≡ checked (in_phase (is_under_way source.now) (pause destination.now)) }
 {
     match source.phase() {
         SourcePhase::Idle | SourcePhase::Released => return Err(Refusal::Phase),
         _ => {}
     }
     match destination.phase() {
-        DestPhase::Paused => return Err(Refusal::Phase),
-        _ => {}
+        DestPhase::Paused => Err(Refusal::Phase),
+        _ => Ok(()),
     }
-    destination.pause();
-    Ok(Effect::Noticed {
-        side: Side::Destination,
-    })
 }
 
 /// The Recv that reports how far the destination has come, with the pages of the source that it still needs if it runs. `NoMemory` comes

@@ -2,14 +2,12 @@
 
 ghost use Rattle.std.specs.Prelude.{◌≡◌, ◌==◌, false, true, [], None, Err, unwrap_or, IfOk, IfErr, OnOk, OnErr};
 ghost use Rattle.std.specs.FinSet.{len};
-ghost use Rattle.mig_base.specs.declared.schedule.Side.{Side};
-ghost use Rattle.mig_base.specs.declared.schedule.Step.{Step};
-ghost use Rattle.mig_model.specs.Destination.{Destination};
 ghost use Rattle.mig_model.specs.Faults.{is_bad_owed, rebuild_fault};
 ghost use Rattle.mig_model.specs.Log as log;
-ghost use Rattle.mig_model.specs.Migration.{answer};
+ghost use Rattle.mig_model.specs.NodeSteps.{acted, checked};
 ghost use Rattle.mig_model.specs.Source as machine;
-ghost use Rattle.recovery.specs.Breaks.{AreWellFormed, answered_with, broken_world, frames_of, takes_pages};
+ghost use Rattle.mig_model.specs.SourceSteps.{pause};
+ghost use Rattle.recovery.specs.Breaks.{AreWellFormed, frames_of, takes_pages};
 
 use mig_base::effect::Effect;
 use mig_base::fault::RebuildFault;
@@ -25,14 +23,21 @@ use uffd_ioctl::Space;
 /// Pauses the source, which notices that the channel is broken. Refused as `Phase` before the start, once the migration is complete, and
 /// if the source is paused already. The caller knows that the channel is broken.
 pub fn notice_source(source: &mut Source) -> Result<Effect, Refusal>
-    ensures noticed { (destination : Destination) → answer (broken_world source.old destination) (Step.Notice Side.Source) ≡ answered_with source.new destination result }
+    ensures noticed { IfOk result (λ effect. pause source.old ≡ acted effect source.new) }
+    ensures refused { IfErr result (λ refusal. pause source.old ≡ Err refusal) }
     ensures err { OnErr result (source.new ≡ source.old) }
 {
+    check_notice_source(source)?;
+    source.pause();
+    Ok(Effect::Noticed { side: Side::Source })
+}
+
+/// Whether the source can notice that the channel is broken: the refusal of [`notice_source`].
+pub fn check_notice_source(source: &Source) -> Result<(), Refusal>
+    ensures { result ≡ checked (pause source.now) }
+{
     match source.phase() {
-        SourcePhase::Precopy | SourcePhase::Stopped => {
-            source.pause();
-            Ok(Effect::Noticed { side: Side::Source })
-        }
+        SourcePhase::Precopy | SourcePhase::Stopped => Ok(()),
         _ => Err(Refusal::Phase),
     }
 }

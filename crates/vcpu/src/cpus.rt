@@ -2,10 +2,10 @@
 
 ghost use Rattle.std.specs.Prelude.{◌≡◌, ℕ, ◌+◌, ◌==◌, ◌<◌, ◌≤◌, ◌↔◌, true, false, map, set, length, OnOk, OnErr, IfOk};
 ghost use Rattle.mig_base.specs.Commands.{is_access};
-ghost use Rattle.mig_model.specs.Cpus.{idle_processors, processor_at, outstanding, taken_over, all_woken, message_less};
+ghost use Rattle.mig_model.specs.Cpus.{all_woken, idle_answer, idle_processors, message_less, outstanding, processor_at, taken_over, woken_answer};
 ghost use Rattle.mig_model.specs.Guest.{in_bytes};
 ghost use Rattle.vcpu.specs.Processors.{HasMessage};
-ghost use Rattle.vcpu.specs.Answers.{is_count, state_answer, idle_answer, outstanding_answer, woken_answer, message_answer};
+ghost use Rattle.vcpu.specs.Answers.{is_count, message_answer, outstanding_answer, state_answer};
 
 use crate::fault::NewFault;
 use crate::sleepers::Sleepers;

@@ -7,9 +7,9 @@
 //! The crate deliberately knows no more. It has no memory and no userfault object, and it executes no command: its callers
 //! decide the outcome of a command, and say which messages were read and which pages are woken.
 //!
-//! Contracts see the processors as a list of [`mig_base::cpu_state::CpuState`], and each call is one step of
-//! `mig_model`'s `specs/Cpus.antt`; `specs/Answers.antt` says what each call answers. The modules follow: `cpus` (the type that
-//! callers see), `fault` (why processors could not be made), and `sleepers` (whom a call wakes).
+//! Contracts see the processors as a list of [`mig_base::cpu_state::CpuState`], and each call as a definition of `mig_model`'s
+//! `specs/Cpus.antt`; `specs/Answers.antt` has what the calls answer that no step of the machine asks. The modules follow: `cpus` (the
+//! type that callers see), `fault` (why processors could not be made), and `sleepers` (whom a call wakes).
 #![tactic(auto)]
 
 mod cpus;

@@ -1,5 +1,5 @@
 -- The first frame on a wire.
-use Rattle.std.proofs.Common.{◌≡◌, ℕ, ◌+◌, ◌-◌, ◌<◌, ◌≤◌, ltb, Option, Some, None, List, [], ◌∷◌, ◌++◌, length, take, drop, ap, refl, sym, subst, arith, ◌∙◌}
+use Rattle.std.proofs.Common.{◌≡◌, ℕ, zero, suc, ◌+◌, inl, inr, ⊎_elim, ◌-◌, ◌<◌, ◌≤◌, ltb, Option, Some, None, List, [], ◌∷◌, ◌++◌, length, take, drop, ap, refl, sym, subst, arith, ◌∙◌}
 use Rattle.std.proofs.lemmas.Bool.{le-ltb, lt-ltb}
 use Rattle.std.proofs.lemmas.List.{drop-drop, length-drop}
 use Rattle.std.proofs.lemmas.Option.{same_Some}
@@ -12,15 +12,11 @@ use Rattle.frame_decoder.specs.Versions.{version_of}
 use Rattle.frame_decoder.specs.declared.version.Version.{Version}
 use Rattle.frame_decoder.specs.declared.version.Version.TheVariants as versions
 use Rattle.page_stream.specs.declared.frame.Frame.{Frame}
-use Rattle.wires.specs.Chunks.{AreChunks, frames_in, in_flight, in_full, left}
-use Rattle.wires.specs.Lanes.{Completes, IsHeld, IsMoved, IsWhole, sent_of}
+use Rattle.wires.specs.Chunks.{AreChunks, IsFrontLen, frames_in, in_flight, in_full, left}
+use Rattle.wires.specs.Lanes.{Completes, IsFirstLen, IsHeld, IsMoved, IsWhole, sent_of}
 use Rattle.wires.specs.declared.chunks.Chunks.{Chunks}
 use Rattle.wires.specs.declared.sent.Sent.{Sent}
 use Rattle.wires.proofs.ChunkLemmas.{AreThose, has_first}
-
--- what a call says that tells the length of the text at the front
-abbrev pub IsFrontLen : List ℕ → ℕ → Type 0
-IsFrontLen bytes len = (version : Version) (sent : machine.Sent) (rest : List ℕ) → IsSent version sent → bytes ≡ text (version_of version) sent.epoch sent.frame ++ rest → len ≡ text_len sent.frame
 
 -- the first frame in flight, where the chunk that is read has a byte left
 pub record HasFront (chunks : Chunks) (bytes : List ℕ) (len : ℕ) : Type 0 where
@@ -33,18 +29,29 @@ pub record HasFront (chunks : Chunks) (bytes : List ℕ) (len : ℕ) : Type 0 wh
   pub behind : in_flight (record chunks { taken = chunks.taken + len }) ≡ rest
   pub are : AreChunks (record chunks { taken = chunks.taken + len })
 
-pub has_front : (chunks : Chunks) (bytes : List ℕ) (len : ℕ) → AreChunks chunks → bytes ≡ left chunks → (bytes ≡ [] → ⊥) → IsFrontLen bytes len → HasFront chunks bytes len
-has_front chunks bytes len are is some tells =
+-- the length of the first frame, which was known or is read from its header
+long_by : (bytes : List ℕ) (frames : List machine.Sent) (known len : ℕ) → IsFirstLen frames known → ((known ≡ 0 → ⊥) → len ≡ known) → (known ≡ 0 → IsFrontLen bytes len) →
+    (sent : machine.Sent) (rest : List machine.Sent) (more : List ℕ) → frames ≡ sent ∷ rest → IsSent versions.Two sent → bytes ≡ text (version_of versions.Two) sent.epoch sent.frame ++ more → len ≡ text_len sent.frame
+long_by bytes frames zero len is kept read sent rest more first each front = read refl versions.Two sent more each front
+long_by bytes frames (suc k) len is kept read sent rest more first each front =
+    ⊎_elim
+    (λ (none : suc k ≡ 0). absurd (let no = none in cc))
+    (λ (known : suc k ≡ text_len sent.frame). kept (λ none. let no = none in cc) ∙ known)
+    (subst (λ (frames : List machine.Sent). IsFirstLen frames (suc k)) first is)
+
+pub has_front : (chunks : Chunks) (bytes : List ℕ) (known len : ℕ) → AreChunks chunks → bytes ≡ left chunks → (bytes ≡ [] → ⊥) → IsFirstLen (in_flight chunks) known → ((known ≡ 0 → ⊥) → len ≡ known) → (known ≡ 0 → IsFrontLen bytes len) → HasFront chunks bytes len
+has_front chunks bytes known len are is some knows kept read =
     let first = has_first (left chunks) are.reading (λ none. some (is ∙ none)) in
-    let long : len ≡ text_len first.sent.frame = tells versions.Two first.sent (drop (text_len first.sent.frame) (left chunks)) first.is (is ∙ first.front) in
     let others = in_full chunks.full.items ++ frames_in chunks.writing.items in
+    let flight = ap (λ (frames : List machine.Sent). frames ++ others) first.frames_are in
+    let long : len ≡ text_len first.sent.frame = long_by bytes (in_flight chunks) known len knows kept read first.sent (first.rest ++ others) (drop (text_len first.sent.frame) (left chunks)) flight first.is (is ∙ first.front) in
     let next : drop (chunks.taken + len) chunks.reading.items ≡ drop (text_len first.sent.frame) (left chunks) = ap (λ (len : ℕ). drop (chunks.taken + len) chunks.reading.items) long ∙ sym (drop-drop (text_len first.sent.frame) chunks.taken chunks.reading.items) in
     let after : AreThose (drop (chunks.taken + len) chunks.reading.items) first.rest = subst (λ (b : List ℕ). AreThose b first.rest) (sym next) first.behind in
     let enough : len ≤ length (left chunks) = let inside = first.inside in omega (arith, long, inside) in
     record {
       sent = first.sent;
       rest = first.rest ++ others;
-      flight = ap (λ (frames : List machine.Sent). frames ++ others) first.frames_are;
+      flight = flight;
       len_is = long;
       inside = let same = ap length is in omega (arith, same, enough);
       text_is = subst (λ (b : List ℕ). IsTextOf versions.Two b first.sent) (λ i. take (sym long i) (sym is i)) first.text_is;
@@ -63,6 +70,14 @@ held_below frames sent rest held is below = subst (λ (frames : List machine.Sen
 
 pub held_there : (frames : List machine.Sent) (sent : machine.Sent) (rest : List machine.Sent) (held : ℕ) → frames ≡ sent ∷ rest → held < text_len sent.frame → IsHeld frames held
 held_there frames sent rest held is below = subst (λ (frames : List machine.Sent). IsHeld frames held) (sym is) below
+
+-- the length of the first frame is known now, and none is known of the next
+pub known_there : (frames : List machine.Sent) (sent : machine.Sent) (rest : List machine.Sent) (len : ℕ) → frames ≡ sent ∷ rest → len ≡ text_len sent.frame → IsFirstLen frames len
+known_there frames sent rest len is long = subst (λ (frames : List machine.Sent). IsFirstLen frames len) (sym is) (inr long)
+
+pub none_known : (frames : List machine.Sent) → IsFirstLen frames 0
+none_known [] = refl
+none_known (sent ∷ rest) = inl refl
 
 -- so none have come of the next
 pub none_held : (frames : List machine.Sent) → IsHeld frames 0

@@ -6,7 +6,11 @@ use Rattle.std.specs.Vec.{vec_capacity, vec_len}
 use Rattle.mig_model.specs.Wire.{Sent}
 use Rattle.frame_decoder.specs.Reading.{Front, next_at}
 use Rattle.frame_decoder.specs.Streams.{IsSent, texts}
+use Rattle.frame_decoder.specs.Versions.{version_of}
+use Rattle.frame_decoder.specs.declared.version.Version.{Version}
 use Rattle.frame_decoder.specs.declared.version.Version.TheVariants as versions
+use Rattle.frame_texts.specs.Texts.{text}
+use Rattle.mig_model.specs.Lengths.{text_len}
 use Rattle.wires.specs.declared.chunks.Chunks.{Chunks}
 use Rattle.wires.specs.declared.chunks.TheConstants.{LONGEST_TEXT}
 
@@ -55,3 +59,7 @@ pub record AreChunks (chunks : Chunks) : Type 0 where
   pub reading : AreTexts (left chunks)
   pub full : AllByRecursion IsFull chunks.full.items
   pub writing : AreTexts chunks.writing.items
+
+-- whatever text stands at the front of the bytes, this is its length
+abbrev pub IsFrontLen : List ℕ → ℕ → Type 0
+IsFrontLen bytes len = (version : Version) (sent : Sent) (rest : List ℕ) → IsSent version sent → bytes ≡ text (version_of version) sent.epoch sent.frame ++ rest → len ≡ text_len sent.frame

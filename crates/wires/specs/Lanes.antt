@@ -30,6 +30,11 @@ abbrev pub IsHeld : List machine.Sent → ℕ → Type 0
 IsHeld [] held = held ≡ 0
 IsHeld (sent ∷ rest) held = held < text_len sent.frame
 
+-- the length of the first frame's text is known, or it is 0; and it is 0 if no frame is in flight
+abbrev pub IsFirstLen : List machine.Sent → ℕ → Type 0
+IsFirstLen [] len = len ≡ 0
+IsFirstLen (sent ∷ rest) len = (len ≡ 0) ⊎ (len ≡ text_len sent.frame)
+
 -- `n` more bytes come and do not complete the first frame: they are counted
 pub record IsMoved (old : machine.Wire) (n : ℕ) (new : machine.Wire) : Type 0 where
   pub sent : machine.Sent

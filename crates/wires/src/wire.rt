@@ -11,6 +11,7 @@ ghost use Rattle.page_stream.specs.Frames.{frame_of};
 ghost use Rattle.frame_decoder.specs.Feeding.{Decodes};
 ghost use Rattle.frame_decoder.specs.Streams.{IsSent, texts};
 ghost use Rattle.frame_decoder.specs.declared.version.Version.TheVariants.{Two};
+ghost use Rattle.wires.specs.Chunks.{IsFrontLen};
 ghost use Rattle.wires.specs.Lanes.{Arrives, IsHeld, bytes_of};
 
 use crate::chunks::Chunks;
@@ -35,11 +36,13 @@ pub struct Wire {
     alloc: Global,
     chunks: Chunks,
     held: u64,
+    /// The length of the first frame in flight once its header was read, else 0.
+    first_len: usize,
 }
 
 impl Model for Wire {
     ghost use Rattle.wires.specs.Chunks.{AreChunks, in_flight, pieces, room};
-    ghost use Rattle.wires.specs.Lanes.{IsHeld, Lane};
+    ghost use Rattle.wires.specs.Lanes.{IsFirstLen, IsHeld, Lane};
     ghost use Rattle.wires.specs.Codes.{coded_lane};
 
     ghost Value = { Lane };
@@ -48,7 +51,7 @@ impl Model for Wire {
 
     ghost view = { λ w. record { wire = record { frames = in_flight w.chunks; held = w.held }; pieces = pieces w.chunks; room = room w.chunks } };
 
-    ghost invariant = { λ w. AreChunks w.chunks × IsHeld (in_flight w.chunks) w.held };
+    ghost invariant = { λ w. AreChunks w.chunks × IsHeld (in_flight w.chunks) w.held × IsFirstLen (in_flight w.chunks) w.first_len };
 }
 
 impl Wire {
@@ -60,6 +63,7 @@ impl Wire {
             alloc,
             chunks: Chunks::new(alloc),
             held: 0,
+            first_len: 0,
         }
     }
 
@@ -73,6 +77,7 @@ impl Wire {
             alloc: self.alloc,
             chunks: self.chunks.copy(self.alloc)?,
             held: self.held,
+            first_len: self.first_len,
         })
     }
 
@@ -158,7 +163,8 @@ impl Wire {
         if left.is_empty() {
             return Ok(None);
         }
-        let len = front_len(left);
+        let len = first_len(self.first_len, left);
+        self.first_len = len;
         if n < len as u64 - self.held {
             self.held += n;
             return Ok(None);
@@ -181,8 +187,9 @@ impl Wire {
         if left.is_empty() {
             return;
         }
-        self.chunks.taken += front_len(left);
+        self.chunks.taken += first_len(self.first_len, left);
         self.held = 0;
+        self.first_len = 0;
     }
 
     /// Drops all that is in flight: the channel breaks. The room stays.
@@ -193,5 +200,14 @@ impl Wire {
     {
         self.chunks.clear();
         self.held = 0;
+        self.first_len = 0;
     }
+}
+
+/// The length of the text at the front of the bytes: the one that is known, or the one that its header says if that is 0.
+fn first_len(known: usize, bytes: &[u8]) -> usize
+    ensures known { (known ≡ 0 → ⊥) → result ≡ known }
+    ensures read { known ≡ 0 → IsFrontLen bytes.now result }
+{
+    if known == 0 { front_len(bytes) } else { known }
 }

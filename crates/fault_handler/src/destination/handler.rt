@@ -1,23 +1,22 @@
 //! The handler of the destination: it reads messages and resolves faults.
 
 ghost use Rattle.std.specs.Option.{IfSome};
-ghost use Rattle.std.specs.Prelude.{◌≡◌, ℕ, ◌*◌, ◌<◌, ◌⊎◌, true, false, None, Some, Err, [], ◌∷◌, List, map, option_to_list, IfOk, IfErr, OnOk, OnErr};
-ghost use Rattle.mig_base.specs.declared.TheConstants.{HIGH, PAGE_SIZE};
+ghost use Rattle.std.specs.Prelude.{◌≡◌, ℕ, ◌*◌, ◌<◌, ◌⊎◌, true, false, None, Some, Ok, Err, ◌∷◌, List, map, option_to_list, IfOk, IfErr, OnOk, OnErr};
+ghost use Rattle.mig_base.specs.declared.TheConstants.{PAGE_SIZE};
 ghost use Rattle.mig_base.specs.declared.effect.Effect as effects;
 ghost use Rattle.mig_base.specs.declared.refusal.Refusal.{Refusal};
-ghost use Rattle.mig_base.specs.declared.schedule.Step.{Step};
 ghost use Rattle.mig_model.specs.Bounds.{IsFrame, IsPage};
 ghost use Rattle.mig_model.specs.Destination.{act_frames, destination_act, settled};
+ghost use Rattle.mig_model.specs.DestinationSteps.{act, read};
 ghost use Rattle.mig_model.specs.Guest as machine;
 ghost use Rattle.mig_model.specs.Guest.{is_present};
+ghost use Rattle.mig_model.specs.GuestSteps.{when_quiet};
+ghost use Rattle.mig_model.specs.NodeSteps.{IsRefusedFor, acted, checked, first_of, in_phase, sent};
 ghost use Rattle.mig_model.specs.Owed.{is_requested, owed_table_after, requesting};
 ghost use Rattle.mig_model.specs.Userfault.{Noted, next_message};
 ghost use Rattle.page_stream.specs.Frames.{frame_of};
-ghost use Rattle.fault_handler.specs.Acts.{act_is};
-ghost use Rattle.fault_handler.specs.Answers.{act_refusal, run_answer};
 ghost use Rattle.fault_handler.specs.Memory.{act_grows, read_grows};
 ghost use Rattle.fault_handler.specs.Order.{LiesInside};
-ghost use Rattle.fault_handler.specs.Steps.{IsChecked, IsMade, IsRefused};
 
 use super::Destination;
 use crate::act::Act;
@@ -25,7 +24,7 @@ use guest::{Fault, make_zeros};
 use mig_base::effect::Effect;
 use mig_base::phase::DestPhase;
 use mig_base::refusal::Refusal;
-use mig_base::{Addr, Message, NoMemory, PAGE_SIZE, PageNo};
+use mig_base::{Message, NoMemory, PAGE_SIZE, PageNo};
 use owed_pages::Owed;
 use page_stream::Frame;
 use std::collections::VecDeque;
@@ -36,8 +35,8 @@ impl Destination {
     /// its processor the reply. Refused as `Phase` before it has run, and as `NothingThere` if no message waits; then as `NoMemory`, for a
     /// page fault or a move alone.
     pub fn read(&mut self) -> Result<Effect, Refusal>
-        ensures made { IfOk result (λ effect. IsMade self.old Step.DestRead effect [] self.new) }
-        ensures refused { IfErr result (λ refusal. IsRefused self.old Step.DestRead refusal) }
+        ensures made { IfOk result (λ effect. read self.old ≡ acted effect self.new) }
+        ensures refused { IfErr result (λ refusal. IsRefusedFor (read self.old) refusal) }
         ensures memory { (noted : Noted) → next_message self.old.guest.space.object ≡ Some noted → result ≡ Err Refusal.NoMemory → read_grows noted.message ≡ true }
         ensures err { OnErr result (self.new ≡ self.old) }
 
@@ -45,15 +44,14 @@ impl Destination {
         ensures settled { (page : ℕ) → settled self.new page ≡ settled self.old page }
     {
         self.ensure_run()?;
-        let Some(message) = self.space.next_message() else {
-            return Err(Refusal::NothingThere);
-        };
         // Both growths come before the message is read, so that lack of memory leaves it unread.
-        let Ok(()) = note(&mut self.held, &mut self.owed, message) else {
-            return Err(Refusal::NoMemory);
-        };
-        let Some((_, effect)) = guest::read(&mut self.space, &mut self.cpus) else {
-            unreachable!();
+        if let Some(message) = self.space.next_message() {
+            let Ok(()) = note(&mut self.held, &mut self.owed, message) else {
+                return Err(Refusal::NoMemory);
+            };
+        }
+        let Some((message, effect)) = guest::read(&mut self.space, &mut self.cpus) else {
+            return Err(Refusal::NothingThere);
         };
         self.faults = self.faults.saturating_add(faults_in(message));
         Ok(effect)
@@ -68,24 +66,26 @@ impl Destination {
     /// Refused as `Phase` before it has run, as `NothingThere` if no fault is held, and as `Changing` while an event is unread; then as
     /// `NoMemory`, for a page that becomes zeros or was not requested before.
     pub fn act(&mut self) -> Result<(Effect, Option<Frame>), Refusal>
-        ensures made { IfOk result (λ told. IsMade self.old Step.DestAct told.0 (map frame_of (option_to_list told.1)) self.new) }
-        ensures well_formed { IfOk result (λ told. IfSome told.1 (λ frame. IsFrame (frame_of frame))) }
-        ensures refused { IfErr result (λ refusal. IsRefused self.old Step.DestAct refusal) }
+        ensures made { IfOk result (λ made. act self.old ≡ sent made.0 (map frame_of (option_to_list made.1)) self.new) }
+        ensures well_formed { IfOk result (λ made. IfSome made.1 (λ frame. IsFrame (frame_of frame))) }
+        ensures refused { IfErr result (λ refusal. IsRefusedFor (act self.old) refusal) }
         ensures memory { (fault : machine.Fault) (rest : List machine.Fault) → self.old.held ≡ fault ∷ rest → result ≡ Err Refusal.NoMemory → act_grows (destination_act self.old fault) self.old ≡ true }
         ensures err { OnErr result (self.new ≡ self.old) }
 
         // For a reader: no page that is owed or present becomes zeros.
-        ensures zeroed { IfOk result (λ told. (page : ℕ) → told.0 ≡ effects.Effect.Zeroed (PAGE_SIZE * page) → (settled self.old page ≡ None) × (is_present self.old.guest.space page ≡ false)) }
+        ensures zeroed { IfOk result (λ made. (page : ℕ) → made.0 ≡ effects.Effect.Zeroed (PAGE_SIZE * page) → (settled self.old page ≡ None) × (is_present self.old.guest.space page ≡ false)) }
     {
-        let (act, addr) = self.next_act()?;
+        let fault = self.next_fault()?;
+        let act = Act::of(&self.space, &self.owed, &fault);
+        let addr = fault.addr();
         match act {
             Act::Requested(origin) => {
                 let request = self.request(origin)?;
                 self.held.pop_front();
-                return Ok((act.told(addr), request));
+                return Ok((act.effect(addr), request));
             }
             Act::Zeroed => {
-                let Ok(()) = make_zeros(&mut self.space, (addr / PAGE_SIZE) as PageNo) else {
+                let Ok(()) = make_zeros(&mut self.space, fault.page() as PageNo) else {
                     return Err(Refusal::NoMemory);
                 };
             }
@@ -93,26 +93,20 @@ impl Destination {
         }
         self.held.pop_front();
         self.cpus.wake_span(addr, PAGE_SIZE);
-        Ok((act.told(addr), None))
+        Ok((act.effect(addr), None))
     }
 
     /// Whether [`Destination::act`] would resolve a fault, or how it would be refused; memory is not considered.
     pub fn check_act(&self) -> Result<(), Refusal>
-        ensures { IsChecked self.now Step.DestAct result }
+        ensures { result ≡ checked (act self.now) }
     {
-        match self.next_act() {
-            Ok(_) => Ok(()),
-            Err(refusal) => Err(refusal),
-        }
+        let _fault = self.next_fault()?;
+        Ok(())
     }
 
-    /// The action on the first held fault, and the address of its page.
-    fn next_act(&self) -> Result<(Act, Addr), Refusal>
-        ensures accepted { OnOk result (act_refusal self.now ≡ None) }
-        ensures refused { IfErr result (λ refusal. act_refusal self.now ≡ Some refusal) }
-        ensures act { (fault : machine.Fault) (rest : List machine.Fault) → self.now.held ≡ fault ∷ rest → IfOk result (λ next. (act_is next.0 ≡ destination_act self.now fault) × (next.1 ≡ 4096 * fault.page)) }
-        ensures low { IfOk result (λ next. (next.0 ≡ Act.Forgot) ⊎ (next.1 < HIGH)) }
-        ensures page { IfOk result (λ next. (origin : ℕ) → next.0 ≡ Act.Requested origin → IsPage origin) }
+    /// The first held fault, or why none can be resolved.
+    fn next_fault(&self) -> Result<Fault, Refusal>
+        ensures { result ≡ in_phase self.now.has_run (when_quiet self.now.guest (first_of self.now.held)) }
     {
         self.ensure_run()?;
         let Some(fault) = self.held.front() else {
@@ -121,7 +115,7 @@ impl Destination {
         if self.space.changing() > 0 {
             return Err(Refusal::Changing);
         }
-        Ok((Act::of(&self.space, &self.owed, fault), fault.addr()))
+        Ok(fault.copy())
     }
 
     /// Appends a page of the source to the requests, and returns the frame that requests it: none if it was requested before, or the
@@ -146,7 +140,7 @@ impl Destination {
 
     /// `Phase` before it has run.
     pub(super) fn ensure_run(&self) -> Result<(), Refusal>
-        ensures { result ≡ run_answer self.now }
+        ensures { result ≡ in_phase self.now.has_run (Ok tt) }
     {
         if self.has_run {
             Ok(())

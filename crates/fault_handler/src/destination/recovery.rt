@@ -1,7 +1,7 @@
 //! The calls of a destination for a broken channel and the recovery from it. None takes memory, and none is refused.
 
 ghost use Rattle.std.specs.Prelude.{◌≡◌};
-ghost use Rattle.mig_model.specs.Destination.{received_of};
+ghost use Rattle.mig_model.specs.Destination.{destination_paused, received_of};
 
 use super::Destination;
 use mig_base::phase::{DestPhase, Received};
@@ -20,7 +20,7 @@ impl Destination {
 
     /// Pauses the destination, since the channel is broken: it waits for a Resume. If it has run, its processors go on.
     pub fn pause(&mut self)
-        ensures { self.new ≡ record self.old { phase = DestPhase.Paused } }
+        ensures { self.new ≡ destination_paused self.old }
     {
         self.phase = DestPhase::Paused;
     }

@@ -1,26 +1,48 @@
-//! Checks before a source sends: the caller makes room for frames first, so it has to know whether there will be any.
+//! Whether a source would make a step, or why it refuses it: each refusal but `NoMemory`, and nothing changes. The steps test most of it
+//! here, and a caller may ask before it makes room for their frames.
 
-ghost use Rattle.mig_base.specs.declared.schedule.Step.{Step};
-ghost use Rattle.precopy.specs.Steps.{IsChecked};
+ghost use Rattle.std.specs.Prelude.{◌≡◌, true, OnOk};
+ghost use Rattle.mig_base.specs.declared.TheConstants.{HIGH_PAGE};
+ghost use Rattle.mig_model.specs.Guest.{is_present};
+ghost use Rattle.mig_model.specs.Log.{least_of};
+ghost use Rattle.mig_model.specs.NodeSteps.{checked};
+ghost use Rattle.mig_model.specs.SourceSteps.{act, end, push, push_urgent, read, round, send, send_run, serve, start, switch};
 
 use super::Source;
+use mig_base::phase::SourcePhase;
 use mig_base::refusal::Refusal;
 use mig_base::schedule::Ticket;
+use mig_base::{HIGH_PAGE, PageNo, PageSet};
 
+#[tactic(auto, unfolding(mig_model::specs::NodeSteps::unless))]
 impl Source {
     /// Whether a migration can begin: the refusal of [`Source::start`], except `NoMemory`.
     pub fn check_start(&self) -> Result<(), Refusal>
-        ensures { IsChecked self.now Step.Start result }
+        ensures { result ≡ checked (start self.now) }
     {
-        match self.next_epoch() {
-            Ok(_) => Ok(()),
-            Err(refusal) => Err(refusal),
+        if self.phase != SourcePhase::Idle {
+            return Err(Refusal::Phase);
         }
+        if self.epoch == u32::MAX {
+            return Err(Refusal::CountUsed);
+        }
+        Ok(())
+    }
+
+    /// Whether a round can begin: the refusal of [`Source::round`], except `NoMemory`.
+    pub fn check_round(&self) -> Result<(), Refusal>
+        ensures { result ≡ checked (round self.now) }
+    {
+        self.check_switch()?;
+        if self.rounds == u32::MAX {
+            return Err(Refusal::CountUsed);
+        }
+        Ok(())
     }
 
     /// Whether the round has a page that can be sent: the refusal of [`Source::send_next`], except `NoMemory`.
     pub fn check_send(&self) -> Result<(), Refusal>
-        ensures { IsChecked self.now Step.Send result }
+        ensures { result ≡ checked (send self.now) }
     {
         match self.next_to_send() {
             Ok(_) => Ok(()),
@@ -28,37 +50,108 @@ impl Source {
         }
     }
 
-    /// The same for [`Source::send_run`].
-    pub fn check_run(&self, count: u8) -> Result<(), Refusal>
-        ensures { IsChecked self.now (Step.SendRun count) result }
+    /// The same for [`Source::send_run`], whatever its count.
+    pub fn check_run(&self, _count: u8) -> Result<(), Refusal>
+        ensures { result ≡ checked (send_run self.now _count) }
     {
-        let _any = count;
-        match self.next_to_send() {
-            Ok(_) => Ok(()),
-            Err(refusal) => Err(refusal),
+        self.check_send()
+    }
+
+    /// Whether a message can be read: the refusal of [`Source::read`], except `NoMemory`.
+    pub fn check_read(&self) -> Result<(), Refusal>
+        ensures { result ≡ checked (read self.now) }
+    {
+        if !self.is_handling() {
+            return Err(Refusal::Phase);
         }
+        match self.space.next_message() {
+            Some(_) => Ok(()),
+            None => Err(Refusal::NothingThere),
+        }
+    }
+
+    /// Whether a fault can be resolved: the refusal of [`Source::act`], except `NoMemory`.
+    pub fn check_act(&self) -> Result<(), Refusal>
+        ensures { result ≡ checked (act self.now) }
+    {
+        if !self.is_handling() {
+            return Err(Refusal::Phase);
+        }
+        if self.log.held() == 0 {
+            return Err(Refusal::NothingThere);
+        }
+        if self.space.changing() > 0 {
+            return Err(Refusal::Changing);
+        }
+        Ok(())
     }
 
     /// Whether the source can stop: the refusal of [`Source::switch`], except `NoMemory`.
     pub fn check_switch(&self) -> Result<(), Refusal>
-        ensures { IsChecked self.now Step.Switch result }
+        ensures { result ≡ checked (switch self.now) }
     {
-        self.ensure_settled()
+        if self.phase != SourcePhase::Precopy {
+            return Err(Refusal::Phase);
+        }
+        if self.space.changing() > 0 {
+            return Err(Refusal::Changing);
+        }
+        Ok(())
     }
 
     /// Whether the page of a ticket can be sent, on either wire: the refusal of [`Source::push`], and that of [`Source::push_urgent`]
     /// except `CountUsed`.
     pub fn check_push(&self, ticket: Ticket) -> Result<(), Refusal>
-        ensures push { IsChecked self.now (Step.Push ticket) result }
-        ensures urgent { IsChecked self.now (Step.PushUrgent ticket) result }
+        ensures push { result ≡ checked (push self.now ticket) }
+        ensures urgent { result ≡ checked (push_urgent self.now ticket) }
+        ensures present { OnOk result (is_present self.now.guest.space ticket.page ≡ true) }
     {
-        self.ensure_owed(ticket)
+        if self.phase != SourcePhase::Stopped {
+            return Err(Refusal::Phase);
+        }
+        if ticket.epoch != self.epoch {
+            return Err(Refusal::StaleEpoch);
+        }
+        if self.space.page(ticket.page).is_none() {
+            return Err(Refusal::PageNotSendable);
+        }
+        if !self.remaining.contains(ticket.page) {
+            return Err(Refusal::NotRemaining);
+        }
+        Ok(())
+    }
+
+    /// Whether a request can be served: the refusal of [`Source::serve`].
+    pub fn check_serve(&self) -> Result<(), Refusal>
+        ensures { result ≡ checked (serve self.now) }
+    {
+        if self.phase != SourcePhase::Stopped {
+            return Err(Refusal::Phase);
+        }
+        if self.asked.is_empty() {
+            return Err(Refusal::NothingThere);
+        }
+        Ok(())
     }
 
     /// Whether End can be sent: the refusal of [`Source::end`].
     pub fn check_end(&self) -> Result<(), Refusal>
-        ensures { IsChecked self.now Step.End result }
+        ensures { result ≡ checked (end self.now) }
     {
-        self.ensure_done()
+        if self.phase != SourcePhase::Stopped || self.end_epoch == self.epoch {
+            return Err(Refusal::Phase);
+        }
+        if least_page(&self.remaining).is_some() {
+            return Err(Refusal::PagesLeft);
+        }
+        Ok(())
     }
+}
+
+/// The lowest page of a set.
+fn least_page(pages: &PageSet) -> Option<PageNo>
+    ensures { result ≡ least_of pages.now }
+{
+    let page = pages.next(0, true);
+    if page < HIGH_PAGE { Some(page) } else { None }
 }

@@ -1,8 +1,8 @@
 //! The guest at the source: commands of its processors.
 
-ghost use Rattle.std.specs.Prelude.{◌≡◌, option_to_list, IfOk, IfErr, OnErr};
-ghost use Rattle.mig_base.specs.declared.schedule.Step.{Step};
-ghost use Rattle.precopy.specs.Steps.{IsRefused, IsTried};
+ghost use Rattle.std.specs.Prelude.{◌≡◌, not, option_to_list, IfOk, IfErr, OnErr};
+ghost use Rattle.mig_model.specs.GuestSteps.{issue, retry, tried_with};
+ghost use Rattle.mig_model.specs.NodeSteps.{IsRefusedFor};
 
 use super::Source;
 use guest::Tried;
@@ -13,8 +13,9 @@ impl Source {
     /// Has a processor make a command. `NoCpu` if there is no such processor, `Busy` unless it is idle, `Phase` once the processors have
     /// stopped, and last `NoMemory`.
     pub fn issue(&mut self, cpu: u8, command: Command) -> Result<Tried, Refusal>
-        ensures made { IfOk result (λ tried. IsTried self.old (Step.Issue cpu command) tried.effect (option_to_list tried.entry) self.new) }
-        ensures refused { IfErr result (λ refusal. IsRefused self.old (Step.Issue cpu command) refusal) }
+        ensures made { IfOk result (λ tried. issue self.old.guest (not self.old.switched) cpu command ≡ tried_with tried.effect (option_to_list tried.entry) self.new.guest) }
+        ensures kept { self.new ≡ record self.old { guest = self.new.guest } }
+        ensures refused { IfErr result (λ refusal. IsRefusedFor (issue self.old.guest (not self.old.switched) cpu command) refusal) }
         ensures err { OnErr result (self.new ≡ self.old) }
     {
         self.space.is_in_order();
@@ -31,8 +32,9 @@ impl Source {
     /// Has a processor that was woken try its load or store again. `NoCpu` if there is no such processor, `NotAsleep` if it is idle
     /// or in a map call, `NotWoken` if it still sleeps, `Phase` once the processors have stopped, and last `NoMemory`.
     pub fn retry(&mut self, cpu: u8) -> Result<Tried, Refusal>
-        ensures made { IfOk result (λ tried. IsTried self.old (Step.Retry cpu) tried.effect (option_to_list tried.entry) self.new) }
-        ensures refused { IfErr result (λ refusal. IsRefused self.old (Step.Retry cpu) refusal) }
+        ensures made { IfOk result (λ tried. retry self.old.guest (not self.old.switched) cpu ≡ tried_with tried.effect (option_to_list tried.entry) self.new.guest) }
+        ensures kept { self.new ≡ record self.old { guest = self.new.guest } }
+        ensures refused { IfErr result (λ refusal. IsRefusedFor (retry self.old.guest (not self.old.switched) cpu) refusal) }
         ensures err { OnErr result (self.new ≡ self.old) }
     {
         self.space.is_in_order();

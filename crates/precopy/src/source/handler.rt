@@ -1,15 +1,16 @@
 //! The handler of the source: it reads messages and resolves faults.
 
-ghost use Rattle.std.specs.Prelude.{◌≡◌, List, [], ◌∷◌, Some, Err, IfOk, IfErr, OnErr};
+ghost use Rattle.std.specs.Prelude.{◌≡◌, ℕ, List, ◌∷◌, Some, Err, IfOk, IfErr, OnErr};
+ghost use Rattle.mig_base.specs.declared.message.Message.{Message};
 ghost use Rattle.mig_base.specs.declared.refusal.Refusal.{Refusal};
-ghost use Rattle.mig_base.specs.declared.schedule.Step.{Step};
+ghost use Rattle.mig_model.specs.Effects.{act_effect, read_effect};
 ghost use Rattle.mig_model.specs.Guest as guest;
-ghost use Rattle.mig_model.specs.Guest.{Fault, fault_count};
-ghost use Rattle.mig_model.specs.Source.{source_act};
+ghost use Rattle.mig_model.specs.Guest.{Fault, Guest, fault_count};
+ghost use Rattle.mig_model.specs.NodeSteps.{IsRefusedFor, acted};
+ghost use Rattle.mig_model.specs.Source.{is_handling, source_act};
+ghost use Rattle.mig_model.specs.SourceSteps.{act, read};
 ghost use Rattle.mig_model.specs.Userfault.{Noted, next_message};
-ghost use Rattle.precopy.specs.Answers.{run_answer};
-ghost use Rattle.precopy.specs.Steps.{IsMade, IsRefused};
-ghost use Rattle.precopy.specs.Telling.{act_told, faults_told};
+ghost use Rattle.dirty_log.specs.Acts.{act_is};
 
 use super::Source;
 use dirty_log::Act;
@@ -24,12 +25,14 @@ impl Source {
     /// handed its reply. Refused with `Phase` before the start and once the processors have stopped, with `NothingThere` if there is
     /// no message, and last with `NoMemory`, for a page fault alone.
     pub fn read(&mut self) -> Result<Effect, Refusal>
-        ensures made { IfOk result (λ effect. IsMade self.old Step.SourceRead effect [] self.new) }
-        ensures refused { IfErr result (λ refusal. IsRefused self.old Step.SourceRead refusal) }
+        ensures made { IfOk result (λ effect. read self.old ≡ acted effect self.new) }
+        ensures refused { IfErr result (λ refusal. IsRefusedFor (read self.old) refusal) }
         ensures memory { (noted : Noted) → next_message self.old.guest.space.object ≡ Some noted → result ≡ Err Refusal.NoMemory → fault_count noted.message ≡ 1 }
         ensures err { OnErr result (self.new ≡ self.old) }
     {
-        self.ensure_running()?;
+        if !self.is_handling() {
+            return Err(Refusal::Phase);
+        }
         self.space.is_in_order();
         let effect = self.log.read(&mut self.space, &mut self.cpus)?;
         self.faults = self.faults.saturating_add(faults_in(effect));
@@ -40,32 +43,30 @@ impl Source {
     /// Refused with `Phase` before the start and once the processors have stopped, with `NothingThere` if no fault is held, with
     /// `Changing` while an event is unread, and last with `NoMemory`, for a page that has to become zeros alone.
     pub fn act(&mut self) -> Result<Effect, Refusal>
-        ensures made { IfOk result (λ effect. IsMade self.old Step.SourceAct effect [] self.new) }
-        ensures refused { IfErr result (λ refusal. IsRefused self.old Step.SourceAct refusal) }
+        ensures made { IfOk result (λ effect. act self.old ≡ acted effect self.new) }
+        ensures refused { IfErr result (λ refusal. IsRefusedFor (act self.old) refusal) }
         ensures memory { (fault : Fault) (rest : List Fault) → self.old.log.held ≡ fault ∷ rest → result ≡ Err Refusal.NoMemory → source_act self.old fault ≡ guest.Act.Zeroed }
         ensures err { OnErr result (self.new ≡ self.old) }
     {
-        self.ensure_running()?;
+        if !self.is_handling() {
+            return Err(Refusal::Phase);
+        }
         self.space.is_in_order();
         let (act, addr) = self.log.act(&mut self.space, &mut self.cpus)?;
-        Ok(told_act(act, addr))
+        Ok(act_effect(act, addr))
     }
 
     /// Whether the source runs the processors in a migration.
-    fn ensure_running(&self) -> Result<(), Refusal>
-        ensures { result ≡ run_answer self.now }
+    pub(super) fn is_handling(&self) -> bool
+        ensures { result ≡ is_handling self.now }
     {
-        match self.phase {
-            SourcePhase::Idle => Err(Refusal::Phase),
-            _ if self.switched => Err(Refusal::Phase),
-            _ => Ok(()),
-        }
+        self.phase != SourcePhase::Idle && !self.switched
     }
 }
 
 /// 1 if a page fault was read, else 0.
 fn faults_in(effect: Effect) -> u64
-    ensures { result ≡ faults_told effect }
+    ensures { (guest : Guest) (cpu : ℕ) (message : Message) → effect ≡ read_effect guest cpu message → result ≡ fault_count message }
 {
     match effect {
         Effect::ReadFault { .. } => 1,
@@ -73,9 +74,9 @@ fn faults_in(effect: Effect) -> u64
     }
 }
 
-/// The effect of resolving a fault.
-fn told_act(act: Act, addr: Addr) -> Effect
-    ensures { result ≡ act_told act addr }
+/// The effect of resolving a fault at an address.
+fn act_effect(act: Act, addr: Addr) -> Effect
+    ensures { result ≡ act_effect (act_is act) addr }
 {
     match act {
         Act::Unprotected => Effect::Unprotected { addr },

@@ -3,12 +3,11 @@
 ghost use Rattle.std.specs.Prelude.{◌≡◌, ◌*◌, [], ◌∷◌, IfOk, IfErr, OnErr};
 ghost use Rattle.mig_base.specs.declared.TheConstants.{MAX_RUN, PAGE_SIZE};
 ghost use Rattle.mig_base.specs.declared.effect.Effect.{Effect};
-ghost use Rattle.mig_base.specs.declared.schedule.Step.{Step};
 ghost use Rattle.mig_model.specs.Bounds.{ArePageBytes, IsFrame};
-ghost use Rattle.mig_model.specs.Migration.{run_bound};
+ghost use Rattle.mig_model.specs.NodeSteps.{IsRefusedFor, sent};
+ghost use Rattle.mig_model.specs.SourceSteps.{run_bound, send_run};
 ghost use Rattle.mig_model.specs.Wire as wire;
 ghost use Rattle.page_stream.specs.Frames.{frame_of};
-ghost use Rattle.precopy.specs.Steps.{IsMade, IsRefused};
 
 use super::Source;
 use mig_base::effect::Effect;
@@ -21,9 +20,9 @@ impl Source {
     /// write-protects them, then reads them; they are clean from then on. A count of 0 means 1, and a count above [`MAX_RUN`] means
     /// [`MAX_RUN`]. Refused like [`Source::send_next`].
     pub fn send_run(&mut self, count: u8) -> Result<(Effect, Frame), Refusal>
-        ensures made { IfOk result (λ told. IsMade self.old (Step.SendRun count) told.0 (frame_of told.1 ∷ []) self.new) }
-        ensures frame { IfOk result (λ told. IsFrame (frame_of told.1)) }
-        ensures refused { IfErr result (λ refusal. IsRefused self.old (Step.SendRun count) refusal) }
+        ensures made { IfOk result (λ made. send_run self.old count ≡ sent made.0 (frame_of made.1 ∷ []) self.new) }
+        ensures frame { IfOk result (λ made. IsFrame (frame_of made.1)) }
+        ensures refused { IfErr result (λ refusal. IsRefusedFor (send_run self.old count) refusal) }
         ensures err { OnErr result (self.new ≡ self.old) }
     {
         let first = self.next_to_send()?;
@@ -31,7 +30,7 @@ impl Source {
         let pages = self.log.run_length(first, most_of(count));
         let sent = self.log.send_run(&mut self.space, first, pages)?;
         self.pages_sent = self.pages_sent.saturating_add(u64::from(pages));
-        Ok(told_run(first, pages, sent))
+        Ok(effect_and_run(first, pages, sent))
     }
 }
 
@@ -43,7 +42,7 @@ fn most_of(count: u8) -> u32
 }
 
 /// The effect of sending a run, and its frame.
-fn told_run(first: PageNo, count: u32, sent: Vec<PageBytes>) -> (Effect, Frame)
+fn effect_and_run(first: PageNo, count: u32, sent: Vec<PageBytes>) -> (Effect, Frame)
     ensures effect { result.0 ≡ Effect.SentRun (PAGE_SIZE * first) count }
     ensures frame { frame_of result.1 ≡ wire.Frame.Run first sent.items }
     ensures whole { ArePageBytes sent.items }

@@ -1,19 +1,20 @@
-use Rattle.precopy.proofs.WorldLemmas.{act_in, end_in, issue_in, push_in, push_urgent_in, read_in, retry_in, round_in, send_in, send_run_in, serve_in, start_in, switch_in}
+use Rattle.std.proofs.Common.{refl}
+use Rattle.precopy.proofs.CommandLemmas.{issued_at, retried_at}
 use Rattle.precopy.proofs.laws.a_step_of_the_source.Goals as goal
 
 pub returns : goal.returns
 returns c = record {
-  start = start_in;
-  round = round_in;
-  send = send_in;
-  send_run = send_run_in;
-  read = read_in;
-  act = act_in;
-  switch = switch_in;
-  push = push_in;
-  push_urgent = push_urgent_in;
-  serve = serve_in;
-  end = end_in;
-  issue = issue_in;
-  retry = retry_in;
+  start = λ world. refl;
+  round = λ world. refl;
+  send = λ world. refl;
+  send_run = λ world count. refl;
+  read = λ world. refl;
+  act = λ world. refl;
+  switch = λ world. refl;
+  push = λ world ticket. refl;
+  push_urgent = λ world ticket. refl;
+  serve = λ world. refl;
+  end = λ world. refl;
+  issue = issued_at;
+  retry = retried_at;
 }

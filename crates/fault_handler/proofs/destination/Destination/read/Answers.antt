@@ -1,53 +1,63 @@
-use Rattle.std.proofs.Common.{◌≡◌, Some, rules, sym, ap, subst, ◌∙◌}
-use Rattle.mig_model.specs.Owed.{owed_table_after}
+use Rattle.std.proofs.Common.{◌≡◌, true, Option, Some, None, sym, ap, unwrap_or, ◌∙◌}
+use Rattle.mig_base.specs.declared.effect.Effect.{Effect}
+use Rattle.mig_base.specs.declared.message.Message.{Message}
+use Rattle.mig_model.specs.Destination.{Destination, destination_read, settled}
+use Rattle.mig_model.specs.DestinationSteps as machine
+use Rattle.mig_model.specs.Effects.{read_effect}
 use Rattle.mig_model.specs.Userfault.{next_message}
-use Rattle.fault_handler.proofs.HandlerLemmas.{IsNext, none_next, read_done, read_is, read_lacks, read_nothing, read_order, read_refused, settled_done, some_next, told_effect}
-use Rattle.fault_handler.proofs.PageLemmas.{read_paged}
-use Rattle.mig_model.specs.Destination.{Destination, destination_read}
-use Rattle.mig_model.specs.Migration.{read_effect}
-use Rattle.fault_handler.specs.Order.{IsInOrder}
 use Rattle.fault_handler.specs.contracts.destination.Destination.{the_view}
+use Rattle.fault_handler.proofs.HandlerLemmas.{IsNoted, none_waits, noted_next, noted_order, noted_paged, noted_waits, read_done, read_effect_is, read_is, run_of, settled_done}
 use Rattle.fault_handler.proofs.destination.Destination.read.Goals as goal
+use Rattle.fault_handler.proofs.destination.Destination.read.Goals.{in-Some+in-Ok, in_default}
 
-pub returns-in_err-ensure_run-clause-refused : goal.returns-in_err-ensure_run-clause-refused
-returns-in_err-ensure_run-clause-refused c = search (rules, read_refused c.args.self.now)
+none_some : {A : Type 0} (x : A) → None ≡ Some x → ⊥
+none_some x h = cc
 
-pub returns-in_default-clause-refused : goal.returns-in_default-clause-refused
-returns-in_default-clause-refused c =
-    read_nothing c.args.self.now (sym c.ensure_run.ensures ∙ c.in_ok-ensure_run.was) (rw (← c.self.view_is) (none_next _ (sym c.next_message.ensures ∙ c.in_default.is)))
+pub invariant_of-self-in_default-read : goal.invariant_of-self-in_default-read
+invariant_of-self-in_default-read c =
+    let none = c.read.ensures.none.0 c.in_default-read.is in
+    elim c.match-next_message.branch [
+      | in-Some+in-Ok w ↦
+          let noting = noted_next (the_view c.self.inside) (the_view c.match-next_message.self-inside) w.in-Some.message _ _ (sym c.next_message.ensures ∙ w.in-Some.is) (ap the_view w.self-inside-is) w.in-Ok.ensures.held w.in-Ok.ensures.owed in
+          absurd (none_some noting.noted (sym none ∙ noted_waits _ _ noting))
+      | in_default w ↦ rw ((c.read.ensures.unchanged none).0, w.self-inside-is) c.self.invariant
+    ]
 
-pub returns-in_default-note-clause-refused : goal.returns-in_default-note-clause-refused
-returns-in_default-note-clause-refused c =
-    let next = some_next (next_message c.self.inside.space.object) c.in-Some.message (sym c.next_message.ensures ∙ c.in-Some.is) in
-    read_lacks c.args.self.now next.noted (sym c.ensure_run.ensures ∙ c.in_ok-ensure_run.was) (rw (← c.self.view_is) next.is)
-
--- the message that is read
-next : (c : goal.After-self-1) → IsNext (next_message c.self.inside.space.object) c.in-Some.message
-next c = some_next (next_message c.self.inside.space.object) c.in-Some.message (sym c.next_message.ensures ∙ c.in-Some.is)
+-- the message is noted before it is read
+noting : (c : goal.After-self-1) → IsNoted (the_view c.self.inside) (the_view c.match-next_message.self-inside)
+noting c = elim c.match-next_message.branch [
+  | in-Some+in-Ok w ↦
+      noted_next (the_view c.self.inside) (the_view c.match-next_message.self-inside) w.in-Some.message _ _ (sym c.next_message.ensures ∙ w.in-Some.is) (ap the_view w.self-inside-is) w.in-Ok.ensures.held w.in-Ok.ensures.owed
+  | in_default w ↦
+      let none = none_waits (next_message c.self.inside.space.object) (sym c.next_message.ensures ∙ w.in_default.is) in
+      let there = ap (λ (n : Destination). next_message n.guest.space.object) (ap the_view w.self-inside-is) in
+      absurd (none_some _ (sym (c.read.ensures.none.1 (there ∙ none)) ∙ c.in-Some-read.is))
+]
 
 pub invariant_of-self-2 : goal.invariant_of-self-2
 invariant_of-self-2 c =
-    let n = next c in
-    let owed = c.in-Ok.ensures.owed ∙ ap (λ m. owed_table_after m c.self.inside.owed) (sym n.same) in (
-      read_order _ (record { space = c.self.inside.space; cpus = c.self.inside.cpus }) _ c.self.inside.owed _ n.noted n.is (ap (λ g. g.space) (c.read.ensures.guest n.noted n.is)) c.read.ensures.lent owed c.self.invariant.0,
-      read_paged n.noted.message c.self.inside.owed _ _ owed c.self.invariant.1,
-    )
+    let it = noting c in
+    let guest = c.read.ensures.guest it.noted (noted_waits _ _ it) in
+    (noted_order _ _ it c.read.new.space (ap (λ g. g.space) guest) c.read.ensures.lent c.self.invariant.0, noted_paged _ _ it c.self.invariant.1)
 
 -- the destination after it
-read : (c : goal.After-self-1) → record (the_view c.self.inside) { guest = record { space = c.read.new.space; cpus = c.read.new.cpus }; held = c.note.new.held.items; owed = c.note.new.owed; faults = c.saturating_add-self-inside.result } ≡ destination_read c.args.self.now (next c).noted
+read : (c : goal.After-self-1) → record (the_view c.match-next_message.self-inside) { guest = record { space = c.read.new.space; cpus = c.read.new.cpus }; faults = c.saturating_add-self-inside.result } ≡ destination_read (the_view c.self.inside) (noting c).noted
 read c =
-    read_is c.args.self.now (the_view c.self.inside) _ _ _ _ _ _ (next c).noted c.in-Some.message c.self.view_is (c.read.ensures.guest (next c).noted (next c).is) (next c).same c.in-Ok.ensures.held c.in-Ok.ensures.owed c.faults_in.ensures
-    c.saturating_add-self-inside.ensures
+    let it = noting c in
+    let waits = noted_waits _ _ it in
+    let same = ap (λ (o : Option (Message × Effect)). (unwrap_or o (c.in-Some-read.message, c.in-Some-read.effect)).0) (sym c.in-Some-read.is ∙ c.read.ensures.told it.noted waits) in
+    read_is _ _ it c.read.new.space c.read.new.cpus c.faults_in.result _ c.in-Some-read.message (c.read.ensures.guest it.noted waits) same c.faults_in.ensures c.saturating_add-self-inside.ensures
 
-waits : (c : goal.After-self-1) → next_message c.args.self.now.guest.space.object ≡ Some (next c).noted
-waits c = subst (λ (node : Destination). next_message node.guest.space.object ≡ Some (next c).noted) c.self.view_is (next c).is
+run : (c : goal.After-self-1) → c.self.inside.has_run ≡ true
+run c = ap (λ (n : Destination). n.has_run) c.self.view_is ∙ run_of _ (sym c.ensure_run.ensures ∙ c.in_ok-ensure_run.was)
 
 pub returns-clause-made : goal.returns-clause-made
 returns-clause-made c =
-    let told = told_effect _ _ _ _ (sym c.in-Some-read.is ∙ c.read.ensures.told (next c).noted (next c).is) in
-    read_done c.args.self.now _ c.in-Some-read.effect (next c).noted (sym c.ensure_run.ensures ∙ c.in_ok-ensure_run.was) (waits c)
-    (subst (λ (node : Destination). c.in-Some-read.effect ≡ read_effect node.guest (next c).noted.cpu (next c).noted.message) c.self.view_is told) (read c)
+    let it = noting c in
+    let reported = read_effect_is _ _ _ _ (sym c.in-Some-read.is ∙ c.read.ensures.told it.noted (noted_waits _ _ it)) in
+    let here = ap (λ (n : Destination). read_effect n.guest it.noted.cpu it.noted.message) it.is in
+    ap machine.read (sym c.self.view_is) ∙ read_done (the_view c.self.inside) _ c.in-Some-read.effect it.noted (run c) it.next (reported ∙ here) (read c)
 
 pub returns-clause-settled : goal.returns-clause-settled
 returns-clause-settled c page =
-    settled_done c.args.self.now _ (next c).noted page (waits c) (sym c.ensure_run.ensures ∙ c.in_ok-ensure_run.was) (subst (λ (node : Destination). IsInOrder node.has_run node.guest.space node.owed) c.self.view_is c.self.invariant.0) (read c)
+    settled_done (the_view c.self.inside) _ (noting c).noted page (noting c).next (run c) c.self.invariant.0 (read c) ∙ ap (λ (n : Destination). settled n page) c.self.view_is

@@ -1,21 +1,6 @@
-use Rattle.std.proofs.Common.{refl, ap}
-use Rattle.std.proofs.lemmas.Result.{err_from_is_err_and}
-use Rattle.fault_handler.proofs.CommandLemmas.{retry_made, retry_refused, tried_order}
-use Rattle.guest.proofs.CommandLemmas.{waiting}
+use Rattle.fault_handler.proofs.CommandLemmas.{retry_kept}
 use Rattle.fault_handler.proofs.destination.Destination.retry.Goals as goal
 
-pub returns-in_err-tried-clause-refused : goal.returns-in_err-tried-clause-refused
-returns-in_err-tried-clause-refused c run =
-    let p = err_from_is_err_and c.from_residual.result c.from_residual.ensures.1 in
-    rw (p.1, p.2) (retry_refused c.args.self.now c.args.cpu _ (rw (← c.self.view_is) c.in_err-tried.ensures.refused) run)
-
-pub invariant_of-self-2 : goal.invariant_of-self-2
-invariant_of-self-2 c =
-    let waits = waiting c.self.inside.cpus c.args.cpu c.self.inside.has_run c.in_ok-tried.ensures.accepted in
-    (tried_order _ (record { space = c.self.inside.space; cpus = c.self.inside.cpus }) _ c.self.inside.owed c.args.cpu waits.command c.is_in_order.ensures (ap (λ g. g.space) (c.in_ok-tried.ensures.guest waits.command waits.is)) c.self.invariant.0, c.self.invariant.1)
-
-pub returns-clause-made : goal.returns-clause-made
-returns-clause-made c =
-    let waits = waiting c.self.inside.cpus c.args.cpu c.self.inside.has_run c.in_ok-tried.ensures.accepted in
-    retry_made c.args.self.now _ c.args.cpu waits.command _ _ (rw (← c.self.view_is) waits.is) (rw (← c.self.view_is) c.in_ok-tried.ensures.accepted) (rw (← c.self.view_is) (c.in_ok-tried.ensures.effect waits.command waits.is))
-    (rw (← c.self.view_is) (c.in_ok-tried.ensures.entry waits.command waits.is)) (rw (c.in_ok-tried.ensures.guest waits.command waits.is, ← c.self.view_is) refl)
+pub invariant_of-self : goal.invariant_of-self
+invariant_of-self c =
+    (retry_kept c.retry.result c.self.inside.has_run (record { space = c.self.inside.space; cpus = c.self.inside.cpus }) (record { space = c.retry.new.space; cpus = c.retry.new.cpus }) c.self.inside.owed c.args.cpu c.is_in_order.ensures c.retry.ensures.made c.retry.ensures.err c.self.invariant.0, c.self.invariant.1)

@@ -1,28 +1,25 @@
-use Rattle.std.proofs.Common.{◌≡◌, rules, refl, subst, sym, ap, ◌∙◌, ◌∷◌, ◌*◌}
+use Rattle.std.proofs.Common.{◌≡◌, refl, subst, sym, ap, ◌∙◌, ◌∷◌, ◌*◌}
 use Rattle.std.proofs.lemmas.Result.{err_from_is_err_and}
-use Rattle.mig_model.specs.Migration.{act_effect}
+use Rattle.mig_model.specs.Effects.{act_effect}
 use Rattle.mig_model.specs.Userfault.{changing}
 use Rattle.precopy.specs.contracts.source.Source.{the_view}
 use Rattle.mig_model.specs.Source.{source_act, source_acted, space_of}
 use Rattle.dirty_log.specs.Spaces.{source_of}
-use Rattle.precopy.proofs.HandlerLemmas.{IsHeld, act_done, act_refused, act_stopped, acted_is, told_is, some_held}
+use Rattle.precopy.proofs.HandlerLemmas.{IsHeld, act_done, act_stopped, acted_is, some_held}
 use Rattle.precopy.proofs.OrderLemmas.{acted_order}
 use Rattle.precopy.proofs.GuestLemmas.{acted_guest}
 use Rattle.precopy.proofs.source.Source.act.Goals as goal
 
-pub returns-in_err-ensure_running-clause-refused : goal.returns-in_err-ensure_running-clause-refused
-returns-in_err-ensure_running-clause-refused c = search (rules, act_refused c.args.self.now)
-
 pub returns-in_err-act-clause-refused : goal.returns-in_err-act-clause-refused
 returns-in_err-act-clause-refused c =
-    let p = err_from_is_err_and c.from_residual-in_err-act.result c.from_residual-in_err-act.ensures.1 in
-    rw (p.1, p.2) (act_stopped c.args.self.now _ (sym c.ensure_running.ensures ∙ c.in_ok-ensure_running.was) (rw (← c.self.view_is) c.in_err-act.ensures.refused))
+    let p = err_from_is_err_and c.from_residual.result c.from_residual.ensures.1 in
+    rw (p.1, p.2) (act_stopped c.args.self.now _ (sym c.is_handling.ensures ∙ c.if-not-is_handling.false) (rw (← c.self.view_is) c.in_err-act.ensures.refused))
 
 -- the fault that was resolved, and how the machine resolves it
-held : (c : goal.After-told_act) → IsHeld c.self.inside.log c.self.inside.space
+held : (c : goal.After-act_effect) → IsHeld c.self.inside.log c.self.inside.space
 held c = some_held c.self.inside.log c.self.inside.space _ refl c.in_ok-act.ensures.accepted
 
-acted : (c : goal.After-told_act) → source_of c.act.new.self c.act.new.space c.act.new.cpus ≡ source_acted (source_of c.self.inside.log c.self.inside.space c.self.inside.cpus) (held c).fault
+acted : (c : goal.After-act_effect) → source_of c.act.new.self c.act.new.space c.act.new.cpus ≡ source_acted (source_of c.self.inside.log c.self.inside.space c.self.inside.cpus) (held c).fault
 acted c = c.in_ok-act.ensures.acted (held c).fault (held c).rest (held c).is
 
 pub invariant_of-self-2 : goal.invariant_of-self-2
@@ -35,8 +32,8 @@ pub returns-clause-made : goal.returns-clause-made
 returns-clause-made c =
     let fault = (held c).fault in
     let done = c.in_ok-act.ensures.act fault (held c).rest (held c).is in
-    act_done c.args.self.now _ c.told_act.result fault (held c).rest (sym c.ensure_running.ensures ∙ c.in_ok-ensure_running.was)
+    act_done c.args.self.now _ c.act_effect.result fault (held c).rest (sym c.is_handling.ensures ∙ c.if-not-is_handling.false)
     (subst (λ node. node.log.held ≡ fault ∷ (held c).rest) c.self.view_is (held c).is)
     (subst (λ node. changing (space_of node).object ≡ 0) c.self.view_is (held c).quiet)
-    (subst (λ node. c.told_act.result ≡ act_effect (source_act node fault) (4096 * fault.page)) c.self.view_is (c.told_act.ensures ∙ told_is _ _ _ _ done.0 done.1))
+    (subst (λ node. c.act_effect.result ≡ act_effect (source_act node fault) (4096 * fault.page)) c.self.view_is (c.act_effect.ensures ∙ (λ i. act_effect (done.0 i) (done.1 i))))
     (acted_is (the_view c.self.inside) c.act.new.space c.act.new.cpus c.act.new.self fault (acted c) ∙ ap (λ node. source_acted node fault) c.self.view_is)

@@ -1,44 +1,42 @@
-use Rattle.std.proofs.Common.{ℕ, refl, sym, ap, ◌∙◌, inl, inr}
+use Rattle.std.proofs.Common.{◌+◌, refl, sym, ap, ◌∙◌, inl, inr}
 use Rattle.std.proofs.lemmas.Result.{err_from_is_err_and}
 use Rattle.mig_model.specs.Guest.{is_present}
-use Rattle.mig_model.specs.Source.{Source, bytes_of, is_released, page_pushed, space_of}
+use Rattle.mig_model.specs.Source.{Source, bytes_of, is_released, space_of}
 use Rattle.mig_model.specs.Wire.{page_frame}
 use Rattle.dirty_log.proofs.SendLemmas.{page_of_present}
-use Rattle.precopy.proofs.PushLemmas.{push_unreleased, urgent_done, urgent_refused, used_is, used_up}
+use Rattle.mig_model.specs.SourceSteps.{push_urgent}
+use Rattle.precopy.proofs.PushLemmas.{push_unreleased, urgent_done}
+use Rattle.precopy.proofs.StepLemmas.{passes_ok, refused_if}
 use Rattle.precopy.proofs.source.Source.push_urgent.Goals as goal
 
-pub returns-in_err-ensure_owed : goal.returns-in_err-ensure_owed
-returns-in_err-ensure_owed c =
+pub returns-in_err-check_push : goal.returns-in_err-check_push
+returns-in_err-check_push c =
     let p = err_from_is_err_and c.from_residual.result c.from_residual.ensures.1 in
     rw (p.1, p.2) (
       (refl, λ _. tt, refl),
-      record { made = tt; sent = tt; frame = tt; present = tt; refused = inl (urgent_refused c.args.self.now c.args.ticket _ (sym c.ensure_owed.ensures.answer ∙ c.in_err-ensure_owed.was)) },
+      record { made = tt; sent = tt; frame = tt; present = tt; refused = inl (refused_if (push_urgent c.args.self.now c.args.ticket) _ (sym c.in_err-check_push.was ∙ c.check_push.ensures.urgent)) },
     )
 
-pub returns-in_err-urgent : goal.returns-in_err-urgent
-returns-in_err-urgent c =
-    let p = err_from_is_err_and c.from_residual-in_err-urgent.result c.from_residual-in_err-urgent.ensures.1 in
-    rw (p.1, p.2) (
-      (refl, λ _. tt, refl),
-      record { made = tt; sent = tt; frame = tt; present = tt; refused = inr (used_up c.args.self.now.urgent_sent _ (sym (rw (← c.self.view_is) c.next_count.ensures) ∙ c.in_err-urgent.was)) },
-    )
+pub returns-then-self : goal.returns-then-self
+returns-then-self c = (
+  (refl, λ _. tt, refl),
+  record { made = tt; sent = tt; frame = tt; present = tt; refused = inr (refl, rw (← c.self.view_is, c.if-self.true) refl, passes_ok (push_urgent c.args.self.now c.args.ticket) (sym c.in_ok-check_push.was ∙ c.check_push.ensures.urgent)) },
+)
 
 pub returns : goal.returns
 returns c =
     let node = c.args.self.now in
     let page = c.args.ticket.page in
-    let answer = sym c.ensure_owed.ensures.answer ∙ c.in_ok-ensure_owed.was in
-    let here = c.in_ok-ensure_owed.ensures.present in
+    let passed = sym c.in_ok-check_push.was ∙ c.check_push.ensures.urgent in
+    let here = c.in_ok-check_push.ensures.present in
     let same = c.self-2.view_is ∙ c.take_owed.ensures in
     let sent = c.read-sent.ensures.sent ∙ ap (λ (n : Source). page_frame page (bytes_of n page)) same in
-    let lent = c.self-2.invariant.0.lent (ap (λ (n : Source). is_released n.phase) same ∙ push_unreleased node c.args.ticket answer) in
-    let counted = ap (λ (n : Source). record n { urgent_sent = c.in_ok-urgent.urgent }) same in
-    let urgent = used_is node.urgent_sent c.in_ok-urgent.urgent (sym (rw (← c.self.view_is) c.next_count.ensures) ∙ c.in_ok-urgent.was) in (
+    let lent = c.self-2.invariant.0.lent (ap (λ (n : Source). is_released n.phase) same ∙ push_unreleased node c.args.ticket (sym c.in_ok-check_push.was ∙ c.check_push.ensures.push)) in (
       (
         refl,
         λ _. tt,
         record {
-          made = urgent_done node _ c.args.ticket c.read-sent.result _ answer sent c.told_page.ensures (counted ∙ ap (λ (count : ℕ). record (page_pushed node page) { urgent_sent = count }) urgent);
+          made = urgent_done node _ c.args.ticket _ _ passed sent (c.page_effect.ensures (bytes_of node page) sent) (ap (λ (n : Source). record n { urgent_sent = n.urgent_sent + 1 }) same);
           epoch = ap (λ (n : Source). n.epoch) same;
         },
       ),

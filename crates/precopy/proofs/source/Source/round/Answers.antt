@@ -1,17 +1,17 @@
 use Rattle.std.proofs.Common.{rules, refl, sym, ap, ◌∙◌}
-use Rattle.std.specs.FinSet as finset
 use Rattle.precopy.proofs.OrderLemmas.{round_order}
-use Rattle.precopy.proofs.StepLemmas.{round_done, round_lacks, round_refused}
+use Rattle.mig_model.specs.SourceSteps.{round}
+use Rattle.precopy.proofs.StepLemmas.{lacks, made_if, refused_if}
 use Rattle.precopy.proofs.source.Source.round.Goals as goal
 
-pub returns-in_err-round-clause-refused : goal.returns-in_err-round-clause-refused
-returns-in_err-round-clause-refused c = search (rules, round_refused c.args.self.now)
+pub returns-in_err-check_round-clause-refused : goal.returns-in_err-check_round-clause-refused
+returns-in_err-check_round-clause-refused c = search (rules, refused_if (round c.args.self.now))
 
 pub returns-in_default-clause-refused : goal.returns-in_default-clause-refused
-returns-in_default-clause-refused c = round_lacks c.args.self.now c.in_ok-round.round (sym c.next_round.ensures ∙ c.in_ok-round.was)
+returns-in_default-clause-refused c = lacks (round c.args.self.now) (sym c.in_ok-check_round.was ∙ c.check_round.ensures)
 
 pub returns-in_default-register_new-clause-refused : goal.returns-in_default-register_new-clause-refused
-returns-in_default-register_new-clause-refused c = round_lacks c.args.self.now c.in_ok-round.round (sym c.next_round.ensures ∙ c.in_ok-round.was)
+returns-in_default-register_new-clause-refused c = lacks (round c.args.self.now) (sym c.in_ok-check_round.was ∙ c.check_round.ensures)
 
 pub invariant_of-self-2 : goal.invariant_of-self-2
 invariant_of-self-2 c = (
@@ -21,5 +21,4 @@ invariant_of-self-2 c = (
 
 pub returns-clause-made : goal.returns-clause-made
 returns-clause-made c =
-    round_done c.args.self.now _ c.in_ok-round.round _ (sym c.next_round.ensures ∙ c.in_ok-round.was) (rw (← c.self.view_is) (c.len-pages.ensures ∙ ap finset.len c.in-Ok.ensures))
-    (rw (c.begin_round.ensures, c.in-Ok-register_new.ensures.ok, c.in-Ok.ensures, ← c.self.view_is) refl)
+    made_if _ _ (sym c.in_ok-check_round.was ∙ c.check_round.ensures) ∙ rw (c.len-pages.ensures, c.begin_round.ensures, c.in-Ok-register_new.ensures.ok, c.in-Ok.ensures, ← c.self.view_is) refl

@@ -8,10 +8,9 @@ use Rattle.mig_model.proofs.Facts.{counted_is}
 use Rattle.dirty_log.specs.Answers.{IsRefusedFor, send_refusal}
 use Rattle.dirty_log.specs.declared.sent.Sent.{Sent}
 use Rattle.dirty_log.proofs.SendLemmas.{one_sent, zero_shown}
-use Rattle.precopy.specs.Answers.{send_answer}
+use Rattle.mig_model.specs.SourceSteps.{next_to_send}
 use Rattle.precopy.proofs.OrderLemmas.{sent_order}
-use Rattle.precopy.proofs.SendLemmas.{send_stopped}
-use Rattle.precopy.proofs.StepLemmas.{send_done, send_refused}
+use Rattle.precopy.proofs.SendLemmas.{send_done, send_refused, send_stopped}
 use Rattle.precopy.proofs.source.Source.send_next.Goals as goal
 
 pub returns-in_err-page : goal.returns-in_err-page
@@ -19,13 +18,13 @@ returns-in_err-page c =
     let p = err_from_is_err_and c.from_residual.result c.from_residual.ensures.1 in
     rw (p.1, p.2) (
       (refl, λ _. tt, c.self.view_is),
-      record { made = tt; sent = tt; frame = tt; refused = send_refused c.args.self.now _ (ap send_answer (sym c.self.view_is) ∙ sym c.next_to_send.ensures.answer ∙ c.in_err-page.was); zero = tt },
+      record { made = tt; sent = tt; frame = tt; refused = send_refused c.args.self.now _ (ap next_to_send (sym c.self.view_is) ∙ sym c.next_to_send.ensures.answer ∙ c.in_err-page.was); zero = tt },
     )
 
 pub returns-in_err-protect_page : goal.returns-in_err-protect_page
 returns-in_err-protect_page c =
     let stopped = λ (refusal : Refusal) (why : IsRefusedFor (send_refusal c.self.inside.space c.in_ok-page.page 1) refusal).
-    send_stopped c.args.self.now c.in_ok-page.page refusal (ap send_answer (sym c.self.view_is) ∙ sym c.next_to_send.ensures.answer ∙ c.in_ok-page.was) (rw (← c.self.view_is) c.self.invariant.0.todo) (rw (← c.self.view_is) why) in
+    send_stopped c.args.self.now c.in_ok-page.page refusal (ap next_to_send (sym c.self.view_is) ∙ sym c.next_to_send.ensures.answer ∙ c.in_ok-page.was) (rw (← c.self.view_is) c.self.invariant.0.todo) (rw (← c.self.view_is) why) in
     let p = err_from_is_err_and c.from_residual-in_err-protect_page.result c.from_residual-in_err-protect_page.ensures.1 in
     let kept = c.in_err-protect_page.ensures.err in
     rw (p.1, p.2) (
@@ -51,7 +50,7 @@ returns c =
         refl,
         λ _. tt,
         record {
-          made = send_done node _ page c.read-sent.result _ (ap send_answer (sym c.self.view_is) ∙ sym c.next_to_send.ensures.answer ∙ c.in_ok-page.was) sent c.told_page.ensures
+          made = send_done node _ page _ _ (ap next_to_send (sym c.self.view_is) ∙ sym c.next_to_send.ensures.answer ∙ c.in_ok-page.was) sent (c.page_effect.ensures (bytes_of node page) sent)
               (rw (done.log, done.space, c.saturating_add-self-inside.ensures, counted_is, ← c.self.view_is) refl);
           epoch = ap (λ (n : Source). n.epoch) c.self.view_is;
           protected = done.protected;

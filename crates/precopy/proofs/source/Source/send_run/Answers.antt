@@ -34,8 +34,8 @@ invariant_of-self-2 c = (
 pub returns-clause-made : goal.returns-clause-made
 returns-clause-made c =
     let few = few_are c.args.self.now c.in_ok-first.first c.args.count c.most_of.result c.run_length-pages.result (rw (← c.self.view_is) c.run_length-pages.ensures.run) c.most_of.ensures in
-    run_done c.args.self.now _ c.in_ok-first.first c.args.count c.run_length-pages.result _ _ (sym c.next_to_send.ensures.answer ∙ c.in_ok-first.was) few c.told_run.ensures.effect
-    (c.told_run.ensures.frame ∙ ap (wire.Frame.Run c.in_ok-first.first) (c.in_ok-sent.ensures.bytes c.args.self.now (rw (← c.self.view_is) refl)))
+    run_done c.args.self.now _ c.in_ok-first.first c.args.count c.run_length-pages.result _ _ (sym c.next_to_send.ensures.answer ∙ c.in_ok-first.was) few c.effect_and_run.ensures.effect
+    (c.effect_and_run.ensures.frame ∙ ap (wire.Frame.Run c.in_ok-first.first) (c.in_ok-sent.ensures.bytes c.args.self.now (rw (← c.self.view_is) refl)))
     (rw (c.in_ok-sent.ensures.log, c.in_ok-sent.ensures.space, c.saturating_add-self-inside.ensures, c.from.ensures, counted_is, ← c.self.view_is) refl)
 
 pub returns-clause-frame : goal.returns-clause-frame
@@ -46,6 +46,6 @@ returns-clause-frame c =
     let some : 0 < pages = rw few (run_some c.args.self.now first c.args.count (sym c.next_to_send.ensures.answer ∙ c.in_ok-first.was)) in
     let lent = c.self.invariant.0.lent (ap (λ (n : Source). is_released n.phase) c.self.view_is ∙ send_unreleased c.args.self.now first (sym c.next_to_send.ensures.answer ∙ c.in_ok-first.was)) in
     let here = page_there c.self.inside.space first pages first c.in_ok-sent.ensures.accepted (omega arith) (omega (arith, some)) in
-    run_frame c.args.self.now first pages c.in_ok-sent.sent.items _ c.told_run.ensures.frame (c.in_ok-sent.ensures.bytes c.args.self.now (rw (← c.self.view_is) refl)) some
+    run_frame c.args.self.now first pages c.in_ok-sent.sent.items _ c.effect_and_run.ensures.frame (c.in_ok-sent.ensures.bytes c.args.self.now (rw (← c.self.view_is) refl)) some
     (few_pages c.args.self.now first c.args.count pages c.most_of.result c.most_of.ensures c.run_length-pages.ensures.few) (page_of_present c.self.inside.space first lent c.is_in_order.ensures here).0
-    c.run_length-pages.ensures.inside c.told_run.ensures.whole
+    c.run_length-pages.ensures.inside c.effect_and_run.ensures.whole

@@ -1,13 +1,14 @@
 use Rattle.std.proofs.Common.{rules, refl, sym, ◌∙◌}
 use Rattle.precopy.proofs.OrderLemmas.{registered_order}
-use Rattle.precopy.proofs.StepLemmas.{start_made, start_refused, start_lacks}
+use Rattle.mig_model.specs.SourceSteps.{start}
+use Rattle.precopy.proofs.StepLemmas.{lacks, made_if, refused_if}
 use Rattle.precopy.proofs.source.Source.start.Goals as goal
 
-pub returns-in_err-epoch-clause-refused : goal.returns-in_err-epoch-clause-refused
-returns-in_err-epoch-clause-refused c = search (rules, start_refused c.args.self.now)
+pub returns-in_err-check_start-clause-refused : goal.returns-in_err-check_start-clause-refused
+returns-in_err-check_start-clause-refused c = search (rules, refused_if (start c.args.self.now))
 
 pub returns-in_default-clause-refused : goal.returns-in_default-clause-refused
-returns-in_default-clause-refused c = start_lacks c.args.self.now c.in_ok-epoch.epoch (sym c.next_epoch.ensures ∙ c.in_ok-epoch.was)
+returns-in_default-clause-refused c = lacks (start c.args.self.now) (sym c.in_ok-check_start.was ∙ c.check_start.ensures)
 
 pub invariant_of-self-2 : goal.invariant_of-self-2
 invariant_of-self-2 c = (
@@ -16,4 +17,4 @@ invariant_of-self-2 c = (
 )
 
 pub returns-clause-made : goal.returns-clause-made
-returns-clause-made c = start_made c.args.self.now _ c.in_ok-epoch.epoch (sym c.next_epoch.ensures ∙ c.in_ok-epoch.was) (rw (c.in-Ok.ensures.ok, ← c.self.view_is) refl)
+returns-clause-made c = made_if _ _ (sym c.in_ok-check_start.was ∙ c.check_start.ensures) ∙ rw (c.in-Ok.ensures.ok, ← c.self.view_is) refl
