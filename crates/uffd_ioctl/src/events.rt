@@ -21,7 +21,7 @@ use page_table::PageTable;
 use userfault::Userfault;
 
 /// Queues a message if it is due, and returns the number of messages queued, 0 or 1. `NoMemory` changes nothing.
-pub(crate) fn tell(
+pub(crate) fn queue_if_due(
     object: &mut Userfault,
     is_due: bool,
     message: Message,
@@ -40,7 +40,7 @@ pub(crate) fn tell(
 
 /// Queues a message if it is due, behind the `queued` messages of its call, and returns how many there are now. `NoMemory`
 /// removes those `queued` messages.
-fn tell_more(
+fn queue_more(
     object: &mut Userfault,
     queued: u8,
     is_due: bool,
@@ -53,7 +53,7 @@ fn tell_more(
     ensures count { IfOk result (λ count. count ≡ queued + length (told is_due message)) }
     ensures err { OnErr result (object.new ≡ record object.old { events = take (changing object.old - queued) object.old.events }) }
 {
-    let Ok(more) = tell(object, is_due, message, cpu) else {
+    let Ok(more) = queue_if_due(object, is_due, message, cpu) else {
         object.take_back_events(queued);
         return Err(NoMemory);
     };
@@ -85,7 +85,7 @@ pub(crate) fn remapped(
         apply(areas, pages, range)?;
         return Ok(0);
     }
-    let queued = tell_remap(object, range, cpu)?;
+    let queued = queue_remap(object, range, cpu)?;
     let room = range.room();
     let Ok(replaced) = object.open_range(room.first, room.count) else {
         object.take_back_events(queued);
@@ -117,22 +117,22 @@ fn move_modes(object: &mut Userfault, range: Remap)
 }
 
 /// Queues the messages of a remap, and returns their number. `NoMemory` changes nothing.
-fn tell_remap(object: &mut Userfault, range: Remap, cpu: u8) -> Result<u8, NoMemory>
+fn queue_remap(object: &mut Userfault, range: Remap, cpu: u8) -> Result<u8, NoMemory>
     requires { IsRemap range }
     ensures object { OnOk result (object.new ≡ all_queued object.old (three_messages object.old range) cpu) }
     ensures count { IfOk result (λ count. count ≡ length (three_messages object.old range)) }
     ensures err { OnErr result (object.new ≡ object.old) }
 {
-    let (is_replaced, replaced) = told_replaced(object, range);
-    let (is_cut, cut) = told_cut(object, range);
-    let (is_moved, moved) = told_moved(object, range);
-    let queued = tell(object, is_replaced, replaced, cpu)?;
-    let queued = tell_more(object, queued, is_cut, cut, cpu)?;
-    tell_more(object, queued, is_moved, moved, cpu)
+    let (is_replaced, replaced) = replaced_if_due(object, range);
+    let (is_cut, cut) = cut_if_due(object, range);
+    let (is_moved, moved) = moved_if_due(object, range);
+    let queued = queue_if_due(object, is_replaced, replaced, cpu)?;
+    let queued = queue_more(object, queued, is_cut, cut, cpu)?;
+    queue_more(object, queued, is_moved, moved, cpu)
 }
 
 /// The UNMAP of the pages that the moved range replaces, and whether it is due.
-fn told_replaced(object: &Userfault, range: Remap) -> (bool, Message)
+fn replaced_if_due(object: &Userfault, range: Remap) -> (bool, Message)
     requires { IsRemap range }
     ensures { told result.0 result.1 ≡ replaced_message object.now range }
 {
@@ -145,7 +145,7 @@ fn told_replaced(object: &Userfault, range: Remap) -> (bool, Message)
 }
 
 /// The UNMAP of the end that is cut off, and whether it is due.
-fn told_cut(object: &Userfault, range: Remap) -> (bool, Message)
+fn cut_if_due(object: &Userfault, range: Remap) -> (bool, Message)
     requires { IsRemap range }
     ensures { told result.0 result.1 ≡ cut_message object.now range }
 {
@@ -160,7 +160,7 @@ fn told_cut(object: &Userfault, range: Remap) -> (bool, Message)
 }
 
 /// The REMAP of the pages that move, and whether it is due.
-fn told_moved(object: &Userfault, range: Remap) -> (bool, Message)
+fn moved_if_due(object: &Userfault, range: Remap) -> (bool, Message)
     requires { IsRemap range }
     ensures { told result.0 result.1 ≡ moved_message object.now range }
 {

@@ -7,7 +7,7 @@ ghost use Rattle.mig_base.specs.Commands.{is_access};
 ghost use Rattle.mig_model.specs.Space as machine;
 
 use super::Space;
-use crate::events::{remapped, tell};
+use crate::events::{remapped, queue_if_due};
 use crate::map_calls::{dontneed_reply, is_invalid, mmap_place, mremap_place, page_count};
 use crate::remap::Remap;
 use mig_base::{
@@ -62,7 +62,7 @@ impl Space {
                 let end = page_address(first + count);
                 let message = Message::Unmap { start, end };
                 let is_due = self.object.is_any_registered(first, count);
-                let queued = tell(&mut self.object, is_due, message, cpu)?;
+                let queued = queue_if_due(&mut self.object, is_due, message, cpu)?;
                 let Ok(()) = self.areas.map(first, count, prot) else {
                     self.object.take_back_events(queued);
                     return Err(NoMemory);
@@ -93,7 +93,7 @@ impl Space {
         let end = page_address(first + count);
         let message = Message::Unmap { start: addr, end };
         let is_due = self.object.is_any_registered(first, count);
-        let queued = tell(&mut self.object, is_due, message, cpu)?;
+        let queued = queue_if_due(&mut self.object, is_due, message, cpu)?;
         let Ok(()) = self.areas.unmap(first, count) else {
             self.object.take_back_events(queued);
             return Err(NoMemory);
@@ -156,7 +156,7 @@ impl Space {
             end: page_address(end),
         };
         let is_due = self.object.is_any_registered(first, end - first);
-        let queued = tell(&mut self.object, is_due, message, cpu)?;
+        let queued = queue_if_due(&mut self.object, is_due, message, cpu)?;
         self.pages.drop_range(first, end - first);
         Ok((reply, queued))
     }

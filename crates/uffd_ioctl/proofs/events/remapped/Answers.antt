@@ -22,7 +22,7 @@ returns-then-not-is_any_registered-clause-count c =
 
 pub returns-in_default-apply-clause-err : goal.returns-in_default-apply-clause-err
 returns-in_default-apply-clause-err c =
-    let closed = c.close_range.ensures c.tell_remap.new.object c.in-Ok.ensures.ok c.in-Ok.ensures.modes in (
+    let closed = c.close_range.ensures c.queue_remap.new.object c.in-Ok.ensures.ok c.in-Ok.ensures.modes in (
       c.in_default-apply.ensures.err.0,
       c.in_default-apply.ensures.err.1,
       c.take_back_events-in_default-apply.ensures
@@ -31,14 +31,14 @@ returns-in_default-apply-clause-err c =
 
 pub move_modes-requires-clause-open : goal.move_modes-requires-clause-open
 move_modes-requires-clause-open c =
-    is_opened c.open_range.new.self c.tell_remap.new.object _ _ (c.in-Ok.ensures.ok ∙ (λ i. opened c.tell_remap.new.object (c.room-room.ensures.first i) (c.room-room.ensures.count i)))
+    is_opened c.open_range.new.self c.queue_remap.new.object _ _ (c.in-Ok.ensures.ok ∙ (λ i. opened c.queue_remap.new.object (c.room-room.ensures.first i) (c.room-room.ensures.count i)))
 
 pub returns-clause-object : goal.returns-clause-object
 returns-clause-object c =
     let told = c.in_ok-queued.ensures.object in
-    let low = still_low c.args.object.now c.tell_remap.new.object (three_messages c.args.object.now c.args.range) c.args.cpu c.requires.low told in
-    remap_done c.args.object.now c.tell_remap.new.object c.move_modes.new.object c.args.range c.args.cpu told
-    (c.move_modes.ensures c.tell_remap.new.object low (c.in-Ok.ensures.ok ∙ (λ i. opened c.tell_remap.new.object (c.room-room.ensures.first i) (c.room-room.ensures.count i))))
+    let low = still_low c.args.object.now c.queue_remap.new.object (three_messages c.args.object.now c.args.range) c.args.cpu c.requires.low told in
+    remap_done c.args.object.now c.queue_remap.new.object c.move_modes.new.object c.args.range c.args.cpu told
+    (c.move_modes.ensures c.queue_remap.new.object low (c.in-Ok.ensures.ok ∙ (λ i. opened c.queue_remap.new.object (c.room-room.ensures.first i) (c.room-room.ensures.count i))))
 
 pub returns-clause-count : goal.returns-clause-count
 returns-clause-count c = c.in_ok-queued.ensures.count ∙ ap length (messages_are c.args.object.now c.args.range)

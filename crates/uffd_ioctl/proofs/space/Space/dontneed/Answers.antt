@@ -10,7 +10,7 @@ use Rattle.uffd_ioctl.proofs.space.Space.dontneed.Goals as goal
 pub invariant_of-self-2 : goal.invariant_of-self-2
 invariant_of-self-2 c =
     sound_called _ (space_of c.self.inside.areas c.self.inside.pages c.self.inside.object) c.args.cpu (DontNeed c.args.addr c.args.len) refl c.self.invariant
-    (space_dropped (space_of c.self.inside.areas c.self.inside.pages c.self.inside.object) c.drop_range.new.self c.tell.new.object c.args.cpu c.args.addr c.args.len c.min-first.result c.min-end.result c.page_address.result c.dontneed_reply-reply.result c.self.invariant
+    (space_dropped (space_of c.self.inside.areas c.self.inside.pages c.self.inside.object) c.drop_range.new.self c.queue_if_due.new.object c.args.cpu c.args.addr c.args.len c.min-first.result c.min-end.result c.page_address.result c.dontneed_reply-reply.result c.self.invariant
     (c.dontneed_reply-reply.ensures c.self.inside.pages.bytes c.self.invariant.host)
     (λ same. false≢true (sym c.if-is_invalid.false ∙ c.is_invalid.ensures.1 same))
     (c.min-first.ensures ∙ ap (min (c.args.addr / 4096)) c.from-high.ensures)
@@ -30,7 +30,7 @@ returns-clause-queued c =
 
 pub returns-clause-space : goal.returns-clause-space
 returns-clause-space c =
-    space_dropped (space_of c.self.inside.areas c.self.inside.pages c.self.inside.object) c.drop_range.new.self c.tell.new.object c.args.cpu c.args.addr c.args.len c.min-first.result c.min-end.result c.page_address.result c.dontneed_reply-reply.result c.self.invariant
+    space_dropped (space_of c.self.inside.areas c.self.inside.pages c.self.inside.object) c.drop_range.new.self c.queue_if_due.new.object c.args.cpu c.args.addr c.args.len c.min-first.result c.min-end.result c.page_address.result c.dontneed_reply-reply.result c.self.invariant
     (c.dontneed_reply-reply.ensures c.self.inside.pages.bytes c.self.invariant.host)
     (λ same. false≢true (sym c.if-is_invalid.false ∙ c.is_invalid.ensures.1 same))
     (c.min-first.ensures ∙ ap (min (c.args.addr / 4096)) c.from-high.ensures)

@@ -9,4 +9,4 @@ pub invariant_of-self-2 : goal.invariant_of-self-2
 invariant_of-self-2 c =
     sound_called _ (space_of c.self.inside.areas c.self.inside.pages c.self.inside.object) c.args.cpu (Munmap c.args.addr c.args.len) refl c.self.invariant
     (space_unmapped (space_of c.self.inside.areas c.self.inside.pages c.self.inside.object) c.unmap.new.self c.drop_range.new.self c.forget_range.new.self c.args.cpu c.args.addr c.args.len c.page_count-count.result c.page_address-end.result
-    c.if-addr-ne0.false (omega arith) c.page_count-count.ensures (omega (arith, c.from.ensures)) c.page_address-end.ensures c.in-Ok.ensures.ok c.drop_range.ensures.bytes c.drop_range.ensures.protected (told_of c.self.inside.object c.tell.new.object c.forget_range.new.self _ _ c.args.cpu _ _ c.in_ok-queued.ensures.object c.forget_range.ensures c.is_any_registered-is_due.ensures))
+    c.if-addr-ne0.false (omega arith) c.page_count-count.ensures (omega (arith, c.from.ensures)) c.page_address-end.ensures c.in-Ok.ensures.ok c.drop_range.ensures.bytes c.drop_range.ensures.protected (told_of c.self.inside.object c.queue_if_due.new.object c.forget_range.new.self _ _ c.args.cpu _ _ c.in_ok-queued.ensures.object c.forget_range.ensures c.is_any_registered-is_due.ensures))
