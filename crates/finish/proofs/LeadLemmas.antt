@@ -31,7 +31,7 @@ ok_is : (effect : Effect) (refusal : Refusal) → Ok effect ≡ Err refusal → 
 ok_is effect refusal h = cc
 
 -- a step that was made
-made_next : (mid new : World) (step : Step) (effect : Effect) → Happens mid step (Ok effect) new → new ≡ next mid step
+pub made_next : (mid new : World) (step : Step) (effect : Effect) → Happens mid step (Ok effect) new → new ≡ next mid step
 made_next mid new step effect happens = ⊎_elim (λ (h : (Ok effect ≡ outcome mid step) × (new ≡ next mid step)). h.1) (λ (h : (Ok effect ≡ Err Refusal.NoMemory) × (may_lack step (outcome mid step) ≡ true) × (new ≡ mid)). absurd (ok_is effect Refusal.NoMemory h.0)) happens
 
 refused_not : (mid : World) (step : Step) (refusal : Refusal) → Err refusal ≡ outcome mid step → IsOk (outcome mid step) → ⊥

@@ -2,3 +2,4 @@ pub mod DueSteps
 pub mod StoppedSteps
 pub mod Strategy
 pub mod LeadLemmas
+pub mod PushedLemmas

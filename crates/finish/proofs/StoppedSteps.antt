@@ -38,7 +38,7 @@ use Rattle.mig_model.proofs.SetSizes.{len-removed, len-some}
 use Rattle.mig_model.proofs.UrgentWire.{placed}
 use Rattle.frame_texts.specs.Flight.{AreFrames, HasGoodFrames}
 use Rattle.frame_texts.proofs.LengthBounds.{text_short}
-use Rattle.finish.specs.Finishing.{IsDue, all_bytes, before_push, one_if, paused_step, reported, running_step, steps_left, stopped_by, stopped_step, told_step, unread, waiting}
+use Rattle.finish.specs.Finishing.{IsDue, all_bytes, before_push, one_if, paused_step, reported, running_step, steps_left, stopped_by, stopped_step, delivering_step, unread, waiting}
 use Rattle.finish.proofs.DueSteps.{due_by, few_next, goes_up, left_up, one_if-most, read_unread, sent_one}
 use Rattle.mig_model.proofs.StepAnswers.{answers-deliver, answers-deliver_back, answers-deliver_urgent, answers-dest_read, answers-end, answers-install, answers-push}
 
@@ -305,7 +305,7 @@ waiting_due to world phase waits told is = waiting_by world.forward.frames world
 
 -- Once End is sent
 
-told_due : (to : DestPhase) (world : World) → world.destination.phase ≡ to → eqb world.source.end_epoch world.source.epoch ≡ true → IsStopped world → IsDue world (told_step to world)
+told_due : (to : DestPhase) (world : World) → world.destination.phase ≡ to → eqb world.source.end_epoch world.source.epoch ≡ true → IsStopped world → IsDue world (delivering_step to world)
 told_due DestPhase.Idle world phase told is = waiting_due DestPhase.Idle world phase refl told is
 told_due DestPhase.Advised world phase told is = waiting_due DestPhase.Advised world phase refl told is
 told_due DestPhase.Discarding world phase told is = waiting_due DestPhase.Discarding world phase refl told is

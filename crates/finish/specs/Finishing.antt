@@ -3,8 +3,9 @@
 -- While the link is down both sides notice it, and the source resumes. A source that waits for the destination's report gets it; one that makes
 -- rounds reads its events and switches; one that has stopped pushes what remains, the least page first, sends End, and has what is
 -- in flight delivered, read and installed, until Done comes.
-use Rattle.std.specs.Prelude.{◌≡◌, false, List, IsOk, ℕ, ◌<◌, ◌+◌, ◌*◌, ◌-◌, ◌^◌, ◌==◌, ◌&&◌, ◌||◌, not, Bool, if◌then◌else◌, Option, None, Some, length}
-use Rattle.std.specs.FinSet.{len}
+use Rattle.std.specs.Prelude.{◌≡◌, false, List, IsOk, ℕ, ◌<◌, ◌≤◌, ◌+◌, ◌*◌, ◌-◌, ◌^◌, ◌==◌, ◌&&◌, ◌||◌, not, Bool, if◌then◌else◌, Option, None, Some, length}
+use Rattle.std.specs.FinSet.{FinSet, contains, len}
+use Rattle.std.specs.Ordering.{nat_cmp}
 use Rattle.mig_base.specs.Tests.{is_empty}
 use Rattle.mig_base.specs.declared.phase.DestPhase.{DestPhase}
 use Rattle.mig_base.specs.declared.phase.SourcePhase.{SourcePhase}
@@ -52,15 +53,15 @@ running_step world =
     else Step.Install
 
 -- End was sent: what is in flight is delivered
-abbrev pub told_step : DestPhase → World → Step
-told_step DestPhase.Ended world = Step.DeliverBack all_bytes
-told_step DestPhase.Running world = running_step world
-told_step phase world = Step.Deliver all_bytes
+abbrev pub delivering_step : DestPhase → World → Step
+delivering_step DestPhase.Ended world = Step.DeliverBack all_bytes
+delivering_step DestPhase.Running world = running_step world
+delivering_step phase world = Step.Deliver all_bytes
 
 -- by the least page that remains: it is pushed, and where there is none End is sent
 abbrev pub stopped_by : Option ℕ → World → Step
 stopped_by (Some page) world = Step.Push (record { epoch = world.source.epoch; page = page })
-stopped_by None world = if world.source.end_epoch == world.source.epoch then told_step world.destination.phase world else Step.End
+stopped_by None world = if world.source.end_epoch == world.source.epoch then delivering_step world.destination.phase world else Step.End
 
 -- the source has stopped
 abbrev pub stopped_step : World → Step
@@ -86,6 +87,19 @@ needs_epoch world =
 -- no epoch is left for the Start or the Resume without which the migration is not completed
 abbrev pub lacks_epoch : World → Bool
 lacks_epoch world = is_used world.source.epoch && (not world.up || is_source_idle world.source.phase)
+
+-- the set has no page below this one
+abbrev pub HasNoneBelow : FinSet nat_cmp → ℕ → Type 0
+HasNoneBelow pages from = (page : ℕ) → page < from → contains pages page ≡ false
+
+-- no page below this one remains to be pushed
+abbrev pub HasPushed : World → ℕ → Type 0
+HasPushed world from = HasNoneBelow world.source.remaining from
+
+-- the page is not behind the one that the step pushes
+abbrev pub IsUpTo : Step → ℕ → Type 0
+IsUpTo (Step.Push ticket) page = page ≤ ticket.page
+IsUpTo step page = ⊥
 
 -- How many steps there are at most
 

@@ -1,16 +1,18 @@
 //! All steps that are due, in turn.
 
-ghost use Rattle.std.specs.Prelude.{◌≡◌, ◌≤◌, ◌⊎◌, ◌↔◌, Err, true, length, IfOk, IfErr, OnErr, List};
+ghost use Rattle.std.specs.Prelude.{◌≡◌, ◌<◌, ◌≤◌, ◌⊎◌, ◌↔◌, ℕ, Err, true, length, IfOk, IfErr, OnErr, List};
+ghost use Rattle.mig_base.specs.declared.TheConstants.{HIGH_PAGE};
 ghost use Rattle.mig_base.specs.declared.refusal.Refusal.{Refusal};
 ghost use Rattle.mig_base.specs.declared.schedule.Step.{Step};
 ghost use Rattle.mig_model.specs.Promises.{IsComplete};
 ghost use Rattle.world.specs.Headline.{Headline};
-ghost use Rattle.finish.specs.Finishing.{Leads, lacks_epoch, steps_left};
+ghost use Rattle.finish.specs.Finishing.{IsUpTo, Leads, lacks_epoch, steps_left};
 
-use crate::next_step::next_to_finish;
+use crate::next_step::next_from;
 use mig_base::phase::SourcePhase;
 use mig_base::refusal::Refusal;
 use mig_base::schedule::Step;
+use mig_base::{HIGH_PAGE, PageNo};
 use std::alloc::Global;
 use world::World;
 
@@ -34,7 +36,8 @@ pub fn finish(world: &mut World, alloc: Global) -> Result<Vec<Step>, Refusal>
     if has_no_epoch(world) {
         return Err(Refusal::CountUsed);
     }
-    while let Some(step) = next_to_finish(world) {
+    let mut from = 0;
+    while let Some(step) = next_from(world, from) {
         let Ok(()) = steps.try_reserve(1) else {
             return Err(Refusal::NoMemory);
         };
@@ -42,8 +45,20 @@ pub fn finish(world: &mut World, alloc: Global) -> Result<Vec<Step>, Refusal>
             return Err(Refusal::NoMemory);
         };
         steps.push_reserved(step);
+        from = pushed_below(step);
     }
     Ok(steps)
+}
+
+/// The page from which the next one to push is looked for, once this step was made: a push is of the least page that remains.
+fn pushed_below(step: Step) -> PageNo
+    ensures range { result ≤ HIGH_PAGE }
+    ensures below { (page : ℕ) → page < result → IsUpTo step page }
+{
+    match step {
+        Step::Push(ticket) => ticket.page.saturating_add(1).min(HIGH_PAGE),
+        _ => 0,
+    }
 }
 
 /// Whether no epoch is left for the Start or the Resume that the migration needs.

@@ -1,12 +1,13 @@
 //! The step that is due next.
 
 ghost use Rattle.std.specs.Option.{IfSome};
-ghost use Rattle.std.specs.Prelude.{◌≡◌, ◌↔◌, ◌⊎◌, true, None};
+ghost use Rattle.std.specs.Prelude.{◌≡◌, ◌≤◌, ◌↔◌, ◌⊎◌, true, None};
+ghost use Rattle.mig_base.specs.declared.TheConstants.{HIGH_PAGE};
 ghost use Rattle.mig_model.specs.Log.{least_of};
 ghost use Rattle.mig_model.specs.Promises.{IsComplete};
 ghost use Rattle.mig_model.specs.Source.{is_stopped};
 ghost use Rattle.finish.specs.Finishing as strategy;
-ghost use Rattle.finish.specs.Finishing.{IsDue, finishing_step, needs_epoch};
+ghost use Rattle.finish.specs.Finishing.{HasNoneBelow, HasPushed, IsDue, finishing_step, needs_epoch};
 
 use mig_base::phase::{DestPhase, SourcePhase};
 use mig_base::schedule::{Side, Step, Ticket};
@@ -26,13 +27,26 @@ pub fn next_to_finish(world: &World) -> Option<Step>
     ensures due { IfSome result (IsDue world.now) }
     ensures none { (result ≡ None) ↔ (IsComplete world.now ⊎ (needs_epoch world.now ≡ true)) }
 {
+    next_from(world, 0)
+}
+
+/// The same for a world of whose pages none below `from` remains to be pushed: it looks for the next one from there.
+pub(crate) fn next_from(world: &World, from: PageNo) -> Option<Step>
+    requires range { from ≤ HIGH_PAGE }
+    requires pushed { HasPushed world.now from }
+    ensures step { result ≡ finishing_step world.now }
+    ensures due { IfSome result (IsDue world.now) }
+    ensures none { (result ≡ None) ↔ (IsComplete world.now ⊎ (needs_epoch world.now ≡ true)) }
+{
     world.headline();
     let _cpus = world.cpus();
-    named_step(world)
+    named_step(world, from)
 }
 
 /// The step that the strategy names.
-fn named_step(world: &World) -> Option<Step>
+fn named_step(world: &World, from: PageNo) -> Option<Step>
+    requires range { from ≤ HIGH_PAGE }
+    requires pushed { HasPushed world.now from }
     ensures { result ≡ finishing_step world.now }
 {
     if !world.is_up() {
@@ -41,7 +55,7 @@ fn named_step(world: &World) -> Option<Step>
     match world.source_phase() {
         SourcePhase::Idle => unless_used(world, Step::Start),
         SourcePhase::Precopy => Some(precopy_step(world)),
-        SourcePhase::Stopped => Some(stopped_step(world)),
+        SourcePhase::Stopped => Some(stopped_step(world, from)),
         SourcePhase::Paused => Some(paused_step(world)),
         SourcePhase::Released => None,
     }
@@ -91,23 +105,25 @@ fn paused_step(world: &World) -> Step
 }
 
 /// A source that has stopped pushes what remains, and then sends End.
-fn stopped_step(world: &World) -> Step
-    requires { is_stopped world.now.source.phase ≡ true }
+fn stopped_step(world: &World, from: PageNo) -> Step
+    requires stopped { is_stopped world.now.source.phase ≡ true }
+    requires range { from ≤ HIGH_PAGE }
+    requires pushed { HasPushed world.now from }
     ensures { result ≡ strategy.stopped_step world.now }
 {
-    if let Some(page) = least_page(world.remaining()) {
+    if let Some(page) = least_page(world.remaining(), from) {
         let epoch = world.epoch();
         return Step::Push(Ticket { epoch, page });
     }
     if world.has_sent_end() {
-        return told_step(world);
+        return delivering_step(world);
     }
     Step::End
 }
 
 /// Once End is sent, what is in flight is delivered until the destination has ended, and then its requests and Done.
-fn told_step(world: &World) -> Step
-    ensures { result ≡ strategy.told_step world.now.destination.phase world.now }
+fn delivering_step(world: &World) -> Step
+    ensures { result ≡ strategy.delivering_step world.now.destination.phase world.now }
 {
     match world.destination_phase() {
         DestPhase::Ended => Step::DeliverBack { n: ALL },
@@ -132,10 +148,12 @@ fn running_step(world: &World) -> Step
     Step::Install
 }
 
-/// The least page of a set.
-fn least_page(pages: &PageSet) -> Option<PageNo>
+/// The least page of a set that has none below `from`.
+fn least_page(pages: &PageSet, from: PageNo) -> Option<PageNo>
+    requires range { from ≤ HIGH_PAGE }
+    requires below { HasNoneBelow pages.now from }
     ensures { result ≡ least_of pages.now }
 {
-    let page = pages.next(0, true);
+    let page = pages.next(from, true);
     if page < HIGH_PAGE { Some(page) } else { None }
 }

@@ -1,4 +1,4 @@
--- What is sent for a Resume, and when all pages of a set are present.
+-- What a destination sends for a Resume, and when all pages of a set are present.
 use Rattle.std.proofs.lemmas.Bool.{not-false}
 use Rattle.std.proofs.lemmas.Bool.Decides.{nat_tests}
 use Rattle.std.proofs.Common.{◌≡◌, ℕ, ◌<◌, ◌≤◌, ◌&&◌, Bool, eqb, ltb, not, true, false, List, [], ◌∷◌, map, refl, ap, ◌∙◌, arith}

@@ -1,4 +1,4 @@
--- What the recovery from a break sends, and when it needs memory.
+-- The frames of a recovery, and when the source needs memory for it.
 use Rattle.std.specs.Prelude.{Bool, true, false, List, [], ◌∷◌, map}
 use Rattle.mig_base.specs.declared.phase.Received.{Received}
 use Rattle.mig_model.specs.Bounds.{IsFrame}

@@ -6,7 +6,7 @@
 //!
 //! Contracts see the nodes as the machine's (`mig_model`), and each call as the node's own step of a Notice, a Resume or a Recv. The caller
 //! knows whether the channel is broken.
-#![tactic(auto)]
+#![tactic(auto, unfolding(mig_model::specs::NodeSteps::unless))]
 
 mod destination;
 pub mod laws;

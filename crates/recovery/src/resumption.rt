@@ -16,7 +16,6 @@ use precopy::Source;
 
 /// Begins the next epoch, in which both sides go on over a new channel, and returns the frame to send, a Resume. Both stay paused until
 /// they take the Resume or the Recv that answers it. Refused as `Phase` unless both are paused, and as `CountUsed` if no epoch is left.
-#[tactic(auto, unfolding(mig_model::specs::NodeSteps::unless))]
 pub fn resume(source: &mut Source, destination: &Destination) -> Result<(Effect, Frame), Refusal>
     ensures made { IfOk result (λ made. in_phase (is_dest_paused destination.now.phase) (step.resume source.old) ≡ sent made.0 (frame_of made.1 ∷ []) source.new) }
     ensures frame { IfOk result (λ made. IsFrame (frame_of made.1)) }
@@ -30,17 +29,11 @@ pub fn resume(source: &mut Source, destination: &Destination) -> Result<(Effect,
 }
 
 /// Whether both sides can go on: the refusal of [`resume`].
-#[tactic(auto, unfolding(mig_model::specs::NodeSteps::unless))]
 pub fn check_resume(source: &Source, destination: &Destination) -> Result<(), Refusal>
     ensures { result ≡ checked (in_phase (is_dest_paused destination.now.phase) (step.resume source.now)) }
 {
-    match destination.phase() {
-        DestPhase::Paused => {}
-        _ => return Err(Refusal::Phase),
-    }
-    match source.phase() {
-        SourcePhase::Paused => {}
-        _ => return Err(Refusal::Phase),
+    if source.phase() != SourcePhase::Paused || destination.phase() != DestPhase::Paused {
+        return Err(Refusal::Phase);
     }
     if source.epoch() == u32::MAX {
         return Err(Refusal::CountUsed);

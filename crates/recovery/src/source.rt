@@ -23,7 +23,7 @@ use uffd_ioctl::Space;
 /// Pauses the source, which notices that the channel is broken. Refused as `Phase` before the start, once the migration is complete, and
 /// if the source is paused already. The caller knows that the channel is broken.
 pub fn notice_source(source: &mut Source) -> Result<Effect, Refusal>
-    ensures noticed { IfOk result (λ effect. pause source.old ≡ acted effect source.new) }
+    ensures made { IfOk result (λ effect. pause source.old ≡ acted effect source.new) }
     ensures refused { IfErr result (λ refusal. pause source.old ≡ Err refusal) }
     ensures err { OnErr result (source.new ≡ source.old) }
 {

@@ -2,12 +2,13 @@ use Rattle.std.proofs.Common.{sym, arith}
 use Rattle.std.specs.FinSet.{contains}
 use Rattle.mig_base.specs.declared.TheConstants.{HIGH_PAGE}
 use Rattle.mig_base.proofs.RangeLemmas.{least_below-is, least_below-none}
+use Rattle.finish.proofs.PushedLemmas.{none_before}
 use Rattle.finish.proofs.next_step.least_page.Goals as goal
 
 pub returns-then-page-lt-HIGH_PAGE : goal.returns-then-page-lt-HIGH_PAGE
 returns-then-page-lt-HIGH_PAGE c =
-    sym (least_below-is (contains c.args.pages.now) HIGH_PAGE c.next-page.result c.if-page-lt-HIGH_PAGE.true (c.next-page.ensures.here c.if-page-lt-HIGH_PAGE.true) (λ q l. c.next-page.ensures.before q (omega arith) l))
+    sym (least_below-is (contains c.args.pages.now) HIGH_PAGE c.next-page.result c.if-page-lt-HIGH_PAGE.true (c.next-page.ensures.here c.if-page-lt-HIGH_PAGE.true) (none_before c.args.pages.now c.args.from c.next-page.result c.requires.below c.next-page.ensures.before))
 
 pub returns-else-page-lt-HIGH_PAGE : goal.returns-else-page-lt-HIGH_PAGE
 returns-else-page-lt-HIGH_PAGE c =
-    sym (least_below-none (contains c.args.pages.now) HIGH_PAGE (λ q l. c.next-page.ensures.before q (omega arith) (omega (arith, c.if-page-lt-HIGH_PAGE.false))))
+    sym (least_below-none (contains c.args.pages.now) HIGH_PAGE (none_before c.args.pages.now c.args.from HIGH_PAGE c.requires.below (λ page from l. c.next-page.ensures.before page from (omega (arith, c.if-page-lt-HIGH_PAGE.false)))))

@@ -4,7 +4,7 @@ use Rattle.std.specs.Prelude.{◌≡◌, ◌↔◌, ◌⊎◌, true}
 use Rattle.mig_model.specs.Promises.{IsComplete}
 use Rattle.finish.specs.Finishing.{IsDue, needs_epoch}
 use Rattle.finish.proofs.Strategy.{none_exactly, step_is_due}
-use Rattle.finish.proofs.next_step.next_to_finish.Goals as goal
+use Rattle.finish.proofs.next_step.next_from.Goals as goal
 
 pub returns-clause-due : goal.returns-clause-due
 returns-clause-due c =
