@@ -92,7 +92,6 @@ by_step mid new step page named made is none = grind (arith, nat_tests)
 pub still_pushed : (mid new : World) (step : Step) (effect : Effect) (from : ℕ) → finishing_step mid ≡ Some step → IsOk (outcome mid step) → Happens mid step (Ok effect) new → ((page : ℕ) → page < from → IsUpTo step page) → HasPushed new from
 still_pushed mid new step effect from named made happens up_to page l = by_step mid new step page named made (made_next mid new step effect happens) (up_to page l)
 
-
 -- no page before a bound is in the set, if none below a page is and none from there on
 pub none_before : (pages : FinSet nat_cmp) (from bound : ℕ) → HasNoneBelow pages from → ((page : ℕ) → from ≤ page → page < bound → contains pages page ≡ false) → (page : ℕ) → page < bound → contains pages page ≡ false
 none_before pages from bound below behind page l = grind (arith, nat_tests)

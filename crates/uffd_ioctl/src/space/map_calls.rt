@@ -7,7 +7,7 @@ ghost use Rattle.mig_base.specs.Commands.{is_access};
 ghost use Rattle.mig_model.specs.Space as machine;
 
 use super::Space;
-use crate::events::{remapped, queue_if_due};
+use crate::events::{queue_if_due, remapped};
 use crate::map_calls::{dontneed_reply, is_invalid, mmap_place, mremap_place, page_count};
 use crate::remap::Remap;
 use mig_base::{
