@@ -1,5 +1,5 @@
 -- The steps of the destination's handler.
-use Rattle.std.proofs.Common.{◌≡◌, ℕ, ◌+◌, ◌-◌, ◌*◌, ◌<◌, ◌≤◌, ◌^◌, min, Bool, true, false, Option, Some, None, List, [], ◌∷◌, length, set, slice_index_or, refl, sym, ap, ◌∙◌, subst, unwrap_or, eqb, drop, ◌/◌, inl, inr, ◌⊎◌, arith}
+use Rattle.std.proofs.Common.{◌≡◌, ℕ, ◌+◌, ◌-◌, ◌*◌, ◌<◌, ◌^◌, min, Bool, true, false, Option, Some, None, List, [], ◌∷◌, length, set, slice_index_or, refl, sym, ap, ◌∙◌, subst, unwrap_or, eqb, drop, ◌/◌, inl, inr, ◌⊎◌, arith}
 use Rattle.std.proofs.lemmas.Bool.Decides.{nat_tests}
 use Rattle.std.specs.Prelude.{Ok, Err, Result}
 use Rattle.std.specs.FinMap.{get}
@@ -10,15 +10,15 @@ use Rattle.mig_base.specs.declared.effect.Effect.{Effect}
 use Rattle.mig_base.specs.declared.refusal.Refusal.{Refusal}
 use Rattle.mig_model.specs.Cpus.{Cpus, all_woken}
 use Rattle.mig_base.specs.Ranges.{in_range}
-use Rattle.mig_model.proofs.Facts.{only_one, page_again}
+use Rattle.mig_model.proofs.Facts.{only_one}
 use Rattle.mig_model.specs.Destination.{Destination, act_frames, destination_act, destination_act_by, destination_acted, destination_acted_by, destination_read, settled}
 use Rattle.mig_model.specs.DestinationSteps.{act, read}
 use Rattle.mig_model.specs.Effects.{act_effect, read_effect}
 use Rattle.mig_model.specs.Guest as machine
 use Rattle.mig_model.specs.Guest.{Fault, Guest, counted, fault_count, held_after, in_bytes, is_forgotten, is_present, read_guest, rest_held, zero_installed}
 use Rattle.mig_model.specs.GuestSteps.{when_quiet}
-use Rattle.mig_model.specs.NodeSteps.{IsRefusedFor, acted, and_then, first_of, in_phase, sent, unless}
-use Rattle.mig_model.specs.Owed.{Owed, owed_table_after, requesting}
+use Rattle.mig_model.specs.NodeSteps.{acted, and_then, first_of, in_phase, sent, unless}
+use Rattle.mig_model.specs.Owed.{Owed, owed_table_after}
 use Rattle.mig_model.specs.Space.{Space}
 use Rattle.mig_model.specs.Userfault.{Noted, changing, next_message}
 use Rattle.mig_model.specs.Wire.{Frame}
@@ -28,15 +28,6 @@ use Rattle.fault_handler.specs.Order.{HasPages, IsInOrder}
 use Rattle.mig_model.proofs.Facts.{counted_is}
 use Rattle.fault_handler.proofs.PageLemmas.{read_paged}
 use Rattle.fault_handler.proofs.ReadyLemmas.{ready_read, ready_zeroed, settled_now, settled_read}
-
--- what waits first in a queue
-pub first_waits : {A : Type 0} (queue : List A) (first : A) → 0 < length queue → first ≡ slice_index_or queue 0 first → queue ≡ first ∷ drop 1 queue
-first_waits [] first some is = absurd (omega arith)
-first_waits (other ∷ rest) first some is = ap (λ x. x ∷ rest) (sym is)
-
-pub rest_stays : {A : Type 0} (queue : List A) (first : A) → drop 1 (set queue 0 first) ≡ drop 1 queue
-rest_stays [] first = refl
-rest_stays (other ∷ rest) first = refl
 
 -- whether it runs
 pub run_of : (has_run : Bool) → ◌≡◌ {A = Result (Unit {0}) Refusal} (in_phase has_run (Ok tt)) (Ok tt) → has_run ≡ true
@@ -125,14 +116,6 @@ first_held node fault accepted = by node.held refl accepted
     by (first ∷ rest) is h =
         let same : first ≡ fault = grind arith in
         record { rest = rest; is = is ∙ ap (λ f. f ∷ rest) same; run = grind arith; quiet = grind arith }
-
-pub next_changing : (node : Destination) (fault : Fault) (rest : List Fault) → node.has_run ≡ true → node.held ≡ fault ∷ rest → 0 < changing node.guest.space.object → next_fault node ≡ Err Refusal.Changing
-unfolding unless
-next_changing node fault rest run waits unread = grind (arith, nat_tests)
-
-pub next_found : (node : Destination) (fault : Fault) (rest : List Fault) → node.has_run ≡ true → node.held ≡ fault ∷ rest → changing node.guest.space.object ≤ 0 → next_fault node ≡ Ok fault
-unfolding unless
-next_found node fault rest run waits quiet = grind (arith, nat_tests)
 
 -- the fault that waits first is the one that is resolved
 pub same_first : (node : Destination) (fault first : Fault) (rest : List Fault) → next_fault node ≡ Ok first → node.held ≡ fault ∷ rest → first ≡ fault

@@ -1,7 +1,7 @@
 -- The step that installs a copy.
-use Rattle.std.proofs.Common.{◌≡◌, ℕ, ◌*◌, ◌<◌, ◌≤◌, Bool, true, false, not, ◌||◌, Option, Some, None, List, [], ◌∷◌, drop, length, slice_index_or, refl, sym, ap, ◌∙◌, cond, eqb, inr, arith}
+use Rattle.std.proofs.Common.{◌≡◌, ℕ, ◌*◌, Bool, true, false, not, ◌||◌, Option, Some, None, List, [], ◌∷◌, drop, refl, sym, ap, ◌∙◌, cond, eqb, arith}
 use Rattle.std.proofs.lemmas.Bool.Decides.{nat_tests}
-use Rattle.std.specs.Prelude.{Ok, Err, Result}
+use Rattle.std.specs.Prelude.{Ok, Result}
 use Rattle.std.specs.Cmp.{nat_cmp_total, unsigned_tied}
 use Rattle.std.specs.FinMap as finmap
 use Rattle.std.specs.FinMap.{contains_key, get, get-remove}
@@ -14,58 +14,65 @@ use Rattle.mig_model.specs.DestinationSteps.{install}
 use Rattle.mig_model.specs.Effects.{install_effect}
 use Rattle.mig_model.specs.Guest.{counted, is_forgotten, is_present}
 use Rattle.mig_model.specs.Ioctls.{installed}
-use Rattle.mig_model.specs.NodeSteps.{IsRefusedFor, acted, in_phase, unless}
+use Rattle.mig_model.specs.GuestSteps.{when_quiet}
+use Rattle.mig_model.specs.NodeSteps.{acted, and_then, first_of, in_phase, unless}
 use Rattle.mig_model.specs.Owed.{Owed, home, without_request}
 use Rattle.mig_model.specs.Space.{IsSoundSpace, Space}
 use Rattle.mig_model.specs.Userfault.{changing}
 use Rattle.mig_model.specs.Wire.{Copy}
 use Rattle.mig_model.proofs.Facts.{eqb-self}
 use Rattle.fault_handler.specs.Order.{IsInOrder, IsReady}
-use Rattle.fault_handler.proofs.HandlerLemmas.{first_waits, run_of}
 use Rattle.fault_handler.proofs.ReadyLemmas.{pairs_now, ready_installed, settled_now}
 
 -- The step
 
--- a copy waits, and the step may go on from it
-pub record IsFirst (node : Destination) (copy : Copy) (rest : List Copy) : Type 0 where
+-- the copy that is installed, or why none is
+abbrev pub next_copy : Destination → Result Copy Refusal
+next_copy node = in_phase node.has_run (when_quiet node.guest (first_of node.arrivals))
+
+-- the copy of a page of the source, at its place in the destination
+pub record IsFirst (node : Destination) (origin : ℕ) : Type 0 where
+  pub copy : Copy
+  pub rest : List Copy
   pub is : node.arrivals ≡ copy ∷ rest
+  pub same : copy.page ≡ origin
   pub run : node.has_run ≡ true
   pub quiet : changing node.guest.space.object ≡ 0
 
-pub first_copy : (node now : Destination) (copy : Copy) (unread : ℕ) → node ≡ now → ◌≡◌ {A = Result (Unit {0}) Refusal} (in_phase now.has_run (Ok tt)) (Ok tt) → 0 < length node.arrivals → copy ≡ slice_index_or node.arrivals 0 copy →
-    unread ≡ changing node.guest.space.object → unread ≤ 0 → IsFirst node copy (drop 1 node.arrivals)
-first_copy node now copy unread same runs some first counts none = record {
-  is = first_waits node.arrivals copy some first;
-  run = ap (λ (n : Destination). n.has_run) same ∙ run_of now.has_run runs;
-  quiet = omega arith;
-}
-
-pub install_changing : (node : Destination) (copy : Copy) (rest : List Copy) → node.has_run ≡ true → node.arrivals ≡ copy ∷ rest → 0 < changing node.guest.space.object → install node ≡ Err Refusal.Changing
+pub some_arrival : (node : Destination) (origin : ℕ) → and_then (next_copy node) (λ copy. Ok copy.page) ≡ Ok origin → IsFirst node origin
 unfolding unless
-install_changing node copy rest run waits unread = grind (arith, nat_tests)
+some_arrival node origin accepted = by node.arrivals refl accepted
+  where
+    by : (arrivals : List Copy) → node.arrivals ≡ arrivals → and_then (next_copy (record node { arrivals = arrivals })) (λ copy. Ok copy.page) ≡ Ok origin → IsFirst node origin
+    by [] is h = absurd (grind arith)
+    by (copy ∷ rest) is h = record { copy = copy; rest = rest; is = is; same = grind arith; run = grind arith; quiet = grind arith }
 
-made_by : (node : Destination) (copy : Copy) (rest : List Copy) → IsFirst node copy rest →
+made_by : (node : Destination) (copy : Copy) (rest : List Copy) → node.has_run ≡ true → changing node.guest.space.object ≡ 0 → node.arrivals ≡ copy ∷ rest →
     install node ≡ acted (install_effect (home node.owed copy.page) copy.page) (install_by (home node.owed copy.page) node copy rest)
 unfolding unless
-made_by node copy rest first = grind (arith, nat_tests)
+made_by node copy rest run quiet waits = grind (arith, nat_tests)
 
-pub install_done : (node new : Destination) (effect : Effect) (copy : Copy) (rest : List Copy) (there : Option ℕ) → IsFirst node copy rest → there ≡ home node.owed copy.page → effect ≡ install_effect there copy.page →
-    new ≡ install_by there node copy rest → install node ≡ acted effect new
-install_done node new effect copy rest there first found reported is = rw (reported, is, found) (made_by node copy rest first)
+pub install_done : (node new : Destination) (effect : Effect) (origin : ℕ) (there : Option ℕ) (first : IsFirst node origin) → there ≡ home node.owed origin → effect ≡ install_effect there origin → new ≡ install_by there node first.copy first.rest →
+    install node ≡ acted effect new
+install_done node new effect origin there first found reported is =
+    let at = found ∙ ap (home node.owed) (sym first.same) in
+    let effects : effect ≡ install_effect (home node.owed first.copy.page) first.copy.page = reported ∙ ap (λ o. install_effect o origin) at ∙ ap (install_effect (home node.owed first.copy.page)) (sym first.same) in
+    rw (effects, is ∙ ap (λ o. install_by o node first.copy first.rest) at) (made_by node first.copy first.rest first.run first.quiet first.is)
 
-pub install_lacks : (node : Destination) (copy : Copy) (rest : List Copy) → IsFirst node copy rest → IsRefusedFor (install node) Refusal.NoMemory
-install_lacks node copy rest first = inr (refl, rw (made_by node copy rest first) refl)
+rest_is : (arrivals rest : List Copy) (copy : Copy) → arrivals ≡ copy ∷ rest → drop 1 arrivals ≡ rest
+rest_is arrivals rest copy is = ap (drop 1) is
 
 -- a copy is dropped
-pub dropped_is : (node : Destination) (rest arrivals : List Copy) (count : ℕ) → arrivals ≡ rest → count ≡ counted node.dropped 1 → record node { arrivals = arrivals; dropped = count } ≡ copy_dropped node rest
-dropped_is node rest arrivals count left counting = rw (left, counting) refl
+pub dropped_is : (node was : Destination) (origin count : ℕ) (arrivals : List Copy) (first : IsFirst node origin) → was ≡ node → arrivals ≡ drop 1 was.arrivals → count ≡ counted was.dropped 1 →
+    record was { arrivals = arrivals; dropped = count } ≡ copy_dropped node first.rest
+dropped_is node was origin count arrivals first same left counting = rw (left, counting, same, rest_is node.arrivals first.rest first.copy first.is) refl
 
 -- a copy is installed
-pub installed_is : (node : Destination) (space : Space) (cpus : Cpus) (owed : Owed) (requests : List ℕ) (copy : Copy) (rest arrivals : List Copy) (page count : ℕ) →
-    space ≡ installed node.guest.space page 1 (λ i. copy.bytes) false → cpus ≡ all_woken (λ q. eqb q page) node.guest.cpus → owed ≡ finmap.remove node.owed page → requests ≡ without_request node.requests copy.page →
-    arrivals ≡ rest → count ≡ counted node.installed 1 →
-    record node { guest = record { space = space; cpus = cpus }; owed = owed; requests = requests; arrivals = arrivals; installed = count } ≡ installed_at node copy rest page
-installed_is node space cpus owed requests copy rest arrivals page count put woken settles ended left counting = rw (put, woken, settles, ended, left, counting) refl
+pub installed_is : (node was : Destination) (space : Space) (cpus : Cpus) (owed : Owed) (requests : List ℕ) (arrivals : List Copy) (origin page count : ℕ) (first : IsFirst node origin) → was ≡ node →
+    space ≡ installed was.guest.space page 1 (λ i. first.copy.bytes) false → cpus ≡ all_woken (λ q. eqb q page) was.guest.cpus → owed ≡ finmap.remove was.owed page → requests ≡ without_request was.requests origin →
+    arrivals ≡ first.rest → count ≡ counted was.installed 1 →
+    record was { guest = record { space = space; cpus = cpus }; owed = owed; requests = requests; arrivals = arrivals; installed = count } ≡ installed_at node first.copy first.rest page
+installed_is node was space cpus owed requests arrivals origin page count first same put woken settles ended left counting = rw (put, woken, settles, ended, left, counting, same, ← first.same) refl
 
 -- What is known of the page of a copy
 

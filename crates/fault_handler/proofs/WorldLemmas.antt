@@ -1,5 +1,5 @@
 -- A command of the guest in a world whose destination has run.
-use Rattle.std.proofs.Common.{◌≡◌, ℕ, Bool, true, arith}
+use Rattle.std.proofs.Common.{◌≡◌, ℕ, true, arith}
 use Rattle.mig_base.specs.declared.command.Command.{Command}
 use Rattle.mig_base.specs.declared.schedule.Step.{Step}
 use Rattle.mig_model.specs.GuestSteps.{issue, retry}

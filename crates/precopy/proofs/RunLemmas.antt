@@ -1,10 +1,9 @@
 -- A run: the step that sends it, its pages, which can be sent, and its frame.
-use Rattle.std.proofs.Common.{◌≡◌, ℕ, ◌+◌, ◌*◌, ◌<◌, ◌≤◌, List, sym, subst, true, false, not, ltb, None, [], ◌∷◌, length, refl, ap, ◌∙◌, inl, arith}
+use Rattle.std.proofs.Common.{◌≡◌, ℕ, ◌+◌, ◌<◌, ◌≤◌, List, sym, subst, true, false, not, ltb, None, length, refl, ap, ◌∙◌, arith}
 use Rattle.std.specs.Prelude.{Ok, Err, Result}
 use Rattle.std.specs.FinSet.{contains}
-use Rattle.mig_base.specs.declared.effect.Effect.{Effect}
 use Rattle.mig_base.specs.declared.refusal.Refusal.{Refusal}
-use Rattle.mig_base.specs.declared.TheConstants.{HIGH_PAGE, LOW_PAGE, MAX_RUN, PAGE_SIZE}
+use Rattle.mig_base.specs.declared.TheConstants.{HIGH_PAGE, LOW_PAGE, MAX_RUN}
 use Rattle.mig_base.specs.Ranges.{in_range}
 use Rattle.mig_base.specs.Sets.{run_length}
 use Rattle.mig_base.specs.Tests.{is_every}
@@ -12,8 +11,8 @@ use Rattle.mig_base.proofs.RangeLemmas.{in_range-true, least_below_tells, none_b
 use Rattle.mig_base.proofs.SetLemmas.{member_run, run_length-some}
 use Rattle.mig_model.specs.Bounds.{ArePageBytes, IsFrame}
 use Rattle.mig_model.specs.SourceSteps.{next_to_send, run_bound, send, send_run}
-use Rattle.mig_model.specs.NodeSteps.{IsRefusedFor as IsStepRefused, checked, sent}
-use Rattle.mig_model.specs.Source.{Source, run_of, run_sent, space_of}
+use Rattle.mig_model.specs.NodeSteps.{IsRefusedFor as IsStepRefused, checked}
+use Rattle.mig_model.specs.Source.{Source, run_of, space_of}
 use Rattle.mig_model.specs.Space.{Space}
 use Rattle.mig_model.specs.Wire.{Frame}
 use Rattle.mig_model.proofs.HandlerCalls.{some_bound}
@@ -21,7 +20,7 @@ use Rattle.dirty_log.specs.Answers.{IsRefusedFor, send_refusal}
 use Rattle.dirty_log.specs.Spaces.{is_sendable}
 use Rattle.precopy.specs.Order.{AreSendable}
 use Rattle.precopy.proofs.SendLemmas.{least_sent, no_unread, only_memory, quiet, send_checked}
-use Rattle.precopy.proofs.StepLemmas.{lacks, stops}
+use Rattle.precopy.proofs.StepLemmas.{lacks}
 use Rattle.frame_texts.proofs.FrameBounds.{length-run_of}
 use Rattle.frame_texts.proofs.FrameSteps.{most_bound}
 
@@ -40,13 +39,6 @@ by_found node count (Err refusal) is = rw is refl
 
 pub run_checked : (node : Source) (count : ℕ) → checked (send node) ≡ checked (send_run node count)
 run_checked node count = by_found node count (next_to_send node) refl
-
-pub run_done : (node new : Source) (first count pages : ℕ) (effect : Effect) (frame : Frame) → next_to_send node ≡ Ok first → pages ≡ pages_from node first count → effect ≡ Effect.SentRun (PAGE_SIZE * first) pages →
-    frame ≡ Frame.Run first (run_of node first pages) → new ≡ run_sent node first pages → send_run node count ≡ sent effect (frame ∷ []) new
-run_done node new first count pages effect frame is few made carried new_is = rw (new_is, made, carried, few, is) refl
-
-pub run_refused : (node : Source) (count : ℕ) (refusal : Refusal) → next_to_send node ≡ Err refusal → IsStepRefused (send_run node count) refusal
-run_refused node count refusal is = inl (stops (next_to_send node) _ refusal is)
 
 -- Its pages
 

@@ -8,7 +8,7 @@
 //! Contracts see a source as the machine's (`mig_model`, `specs/Source.antt`), and each call as the source's own step of its name (there,
 //! `specs/SourceSteps.antt`; of a command, `specs/GuestSteps.antt`): it has the same effect, the same frames and the same source after it,
 //! or the same refusal; or memory runs out and nothing changes.
-#![tactic(auto)]
+#![tactic(auto, unfolding(mig_model::specs::NodeSteps::unless))]
 
 pub mod laws;
 pub mod source;

@@ -1,326 +1,129 @@
 -- Deliveries: what is refused, what moves bytes alone, and what a node takes.
-use Rattle.std.proofs.Common.{◌≡◌, ℕ, ◌≤◌, Bool, true, false, not, ◌&&◌, Option, Some, None, Ok, Err, List, [], ◌∷◌, length, refl, sym, ap, ◌∙◌, subst, inl, inr, ⊎_elim, arith, is_some, unwrap_or}
-use Rattle.std.proofs.lemmas.Bool.{false≢true, not-false}
+use Rattle.std.proofs.Common.{◌≡◌, ℕ, ◌≤◌, ◌⊎◌, ◌||◌, Bool, true, false, not, ◌&&◌, Option, Some, None, Ok, Err, IsOk, Result, List, [], ◌∷◌, ◌++◌, length, map, refl, sym, ap, ◌∙◌, subst, inl, inr, ⊎_elim, arith, unwrap_or, if◌then◌else◌}
+use Rattle.std.specs.Prelude.{ok_or}
+use Rattle.std.proofs.lemmas.Bool.{false≢true}
 use Rattle.std.proofs.lemmas.Bool.Decides.{nat_tests}
+use Rattle.std.proofs.lemmas.List.{length-map}
 use Rattle.std.specs.Ordering.{nat_cmp}
 use Rattle.std.specs.FinSet.{FinSet}
-use Rattle.mig_base.specs.Tests.{is_empty}
 use Rattle.mig_base.specs.declared.effect.Effect.{Effect}
 use Rattle.mig_base.specs.declared.fault.TakeFault.{TakeFault}
 use Rattle.mig_base.specs.declared.phase.Received.{Received}
 use Rattle.mig_base.specs.declared.refusal.Refusal.{Refusal}
 use Rattle.mig_base.specs.declared.schedule.Step.{Step}
 use Rattle.mig_model.specs.Destination.{Destination, destination_answers, destination_took, urgent_took}
-use Rattle.mig_model.specs.Faults.{back_fault, frame_fault, rebuild_fault, take_fault, urgent_fault, wait_fault}
-use Rattle.mig_model.specs.Migration.{Answer, World, after_deliver, after_deliver_back, after_deliver_urgent, after_move, after_move_back, after_move_urgent, answer, deliver_back_first, deliver_first, deliver_urgent_first, frame_effect, is_early, is_end, is_short, made, outcome, outcome_by, unless}
+use Rattle.mig_model.specs.DestinationSteps.{take, take_by, take_urgent}
+use Rattle.mig_model.specs.Effects.{frame_effect}
+use Rattle.mig_model.specs.Faults.{back_fault, frame_fault, rebuild_fault, refusal_of, take_fault, urgent_fault, wait_fault}
+use Rattle.mig_model.specs.Migration.{Answer, World, answer, delivered, deliver, deliver_back, deliver_urgent, destination_acts, destination_sends, has_started, is_short, made, outcome, outcome_by, source_sends}
+use Rattle.mig_model.specs.NodeSteps.{acted, and_then, checked, first_of, in_phase, is_out_of_phase, rest_of, sent, while_up}
+use Rattle.mig_model.specs.Promises.{IsReached}
 use Rattle.mig_model.specs.Runs.{Happens, is_move, may_lack}
-use Rattle.mig_model.specs.Source.{Source, rebuild_frames, source_answers, source_took}
+use Rattle.mig_model.specs.Source.{Source, rebuild_frames, source_answers, source_took, space_of}
+use Rattle.mig_model.specs.SourceSteps as source
 use Rattle.mig_model.specs.Wire.{Frame, Sent, Wire, wire_behind, wire_if, wire_with}
 use Rattle.mig_model.specs.Wire.Frame.{Recv}
 use Rattle.mig_model.proofs.EveryStep.{kept-reached, urgent-reached}
 use Rattle.mig_model.proofs.FrameFaults.{no_back_fault, no_frame_fault, no_rebuild_fault, no_urgent_fault, present_below}
 use Rattle.mig_model.proofs.FramesTaken.{back_epoch, is_taken, is_taken_back}
+use Rattle.mig_model.proofs.StepLemmas.{delivers, delivers_back, delivers_urgent}
 use Rattle.mig_model.proofs.UrgentKept.{is_taken_urgent}
 use Rattle.mig_model.proofs.WaitingAccesses.{as_many}
-use Rattle.mig_model.specs.Promises.{IsReached}
-use Rattle.mig_model.specs.Source.{space_of}
-use Rattle.std.proofs.lemmas.List.{length-map}
-use Rattle.frame_texts.specs.Flight as flight
 use Rattle.page_stream.specs.Frames.{frame_of}
 use Rattle.page_stream.specs.declared.frame.Frame.{Frame as CodeFrame}
 use Rattle.recovery.specs.Breaks.{frames_of}
-use Rattle.wires.specs.Lanes.{Arrives, IsMoved, IsWhole, sent_of}
+use Rattle.wires.specs.Lanes.{Arrives, Completes, IsMoved, IsWhole, sent_of}
 use Rattle.wires.specs.declared.sent.Sent.{Sent as CodeSent}
-use Rattle.world.specs.Answers.{moving_answer}
-use Rattle.world.specs.Deliveries.{AreFrames, IsRefused, IsReceived, waiting_refusal}
-use Rattle.world.specs.Worlds.{IsWorld}
-use Rattle.world.proofs.FlightLemmas.{all_good, good, world_happens}
-use Rattle.world.proofs.StepLemmas.{happens_made, happens_refused}
+use Rattle.world.proofs.StepLemmas.{destination_acted, destination_sent, happens_made, happens_refused, source_sent}
+use Rattle.world.proofs.WouldLemmas.{Always, checked-and_then, checked-if, checked-while_up}
 
--- The first frame of a wire
+-- Whether a frame can arrive
 
-pub no_first : (frames : List Sent) (sent : Sent) (rest : List Sent) → is_empty frames ≡ true → frames ≡ sent ∷ rest → ⊥
-no_first frames sent rest none first = false≢true (sym (ap is_empty first) ∙ none)
+-- the first frame in flight, where the link is up and the phase allows a delivery
+abbrev pub front : Bool → Bool → Wire → Result Sent Refusal
+front up allowed wire = while_up up (in_phase allowed (ok_or (first_of wire.frames) Refusal.NothingThere))
 
-pub none_there : (frames : List Sent) → is_empty frames ≡ true → frames ≡ []
-none_there [] h = refl
-none_there (sent ∷ rest) h = absurd (false≢true h)
-
-pub not_empty : (frames : List Sent) → is_empty frames ≡ false → frames ≡ [] → ⊥
-not_empty frames h none = false≢true (sym h ∙ ap is_empty none)
-
-pub record HasFirst (frames : List Sent) : Type 0 where
+-- what is known where a frame can arrive
+pub record CanArrive (link may : Bool) (wire : Wire) : Type 0 where
+  pub up : link ≡ true
+  pub allowed : may ≡ true
   pub sent : Sent
   pub rest : List Sent
-  pub is : frames ≡ sent ∷ rest
+  pub first : wire.frames ≡ sent ∷ rest
 
-pub first_there : (frames : List Sent) → is_empty frames ≡ false → HasFirst frames
-first_there [] h = absurd (false≢true (sym h))
-first_there (sent ∷ rest) h = record { sent = sent; rest = rest; is = refl }
+arrives_by : (up allowed : Bool) (frames : List Sent) (held : ℕ) → Ok tt ≡ checked (front up allowed (record { frames = frames; held = held })) → CanArrive up allowed (record { frames = frames; held = held })
+arrives_by true true (sent ∷ rest) held h = record { up = refl; allowed = refl; sent = sent; rest = rest; first = refl }
+arrives_by false true (sent ∷ rest) held h = absurd (let no = h in cc)
+arrives_by up true [] held h = absurd (grind (arith, nat_tests))
+arrives_by up false frames held h = absurd (grind (arith, nat_tests))
 
--- Deliver
+pub can_arrive : (up may allowed : Bool) (wire : Wire) → may ≡ allowed → Ok tt ≡ checked (front up may wire) → CanArrive up allowed wire
+can_arrive up may allowed wire is h = subst (λ b. CanArrive up b wire) is (arrives_by up may wire.frames wire.held h)
 
-pub moving_up : (world : World) → moving_answer world ≡ Ok tt → world.up ≡ true
-moving_up world h = grind (arith, nat_tests)
+-- where no frame can arrive, the delivery is refused so
+abbrev refused : (A : Type 0) → Refusal → Result A Refusal
+refused A refusal = Err refusal
 
-pub deliver_stopped : (world : World) (n : ℕ) (refusal : Refusal) → moving_answer world ≡ Err refusal → outcome world (Step.Deliver n) ≡ Err refusal
-unfolding unless outcome
-deliver_stopped world n refusal h = grind (arith, nat_tests)
+refused_so : (A B : Type 0) (one other : Refusal) → refused A one ≡ refused A other → refused B other ≡ refused B one
+refused_so A B one other h = ap (λ (r : Result A Refusal). elim r as (λ _. Result B Refusal) [ Ok x ↦ Err one | Err refusal ↦ Err refusal ]) (sym h)
 
-deliver_moving : (world : World) (n : ℕ) → moving_answer world ≡ Ok tt → answer world (Step.Deliver n) ≡ deliver_first world n world.forward.frames
-unfolding unless
-deliver_moving world n h = grind (arith, nat_tests)
+not_arrived : {A B : Type 0} (up allowed : Bool) (found : Option A) (go : A → Result B Refusal) (refusal : Refusal) → ((x : A) → is_out_of_phase (go x) ≡ false) → Err refusal ≡ checked (while_up up (in_phase allowed (ok_or found Refusal.NothingThere))) →
+    while_up up (in_phase allowed (and_then (ok_or found Refusal.NothingThere) go)) ≡ Err refusal
+not_arrived {A} {B} up false found go refusal phase h = refused_so (Unit {0}) B refusal Refusal.Phase h
+not_arrived {A} {B} true true None go refusal phase h = refused_so (Unit {0}) B refusal Refusal.NothingThere h
+not_arrived {A} {B} false true None go refusal phase h = refused_so (Unit {0}) B refusal Refusal.Broken h
+not_arrived true true (Some x) go refusal phase h = absurd (let no = h in cc)
+not_arrived {A} {B} false true (Some x) go refusal phase h = ap (λ b. if b || false then go x else Err Refusal.Broken) (phase x) ∙ refused_so (Unit {0}) B refusal Refusal.Broken h
 
-pub deliver_nothing : (world : World) (n : ℕ) → moving_answer world ≡ Ok tt → is_empty world.forward.frames ≡ true → outcome world (Step.Deliver n) ≡ Err Refusal.NothingThere
-unfolding outcome
-deliver_nothing world n h none = ap outcome_by (deliver_moving world n h ∙ ap (deliver_first world n) (none_there world.forward.frames none))
+phase-if : {A : Type 0} (test : Bool) (one other : Result A Refusal) → is_out_of_phase one ≡ false → is_out_of_phase other ≡ false → is_out_of_phase (if test then one else other) ≡ false
+phase-if true one other h k = h
+phase-if false one other h k = k
 
-deliver_short : (world : World) (n : ℕ) (sent : Sent) (rest : List Sent) → is_short world.forward sent.frame n ≡ true → deliver_first world n (sent ∷ rest) ≡ made (Effect.Moved n) (after_move world n)
-deliver_short world n sent rest short = rw short refl
+-- a frame that has to wait is not refused for the phase
+take_phase : (world : World) (node : Destination) (epoch : ℕ) (frame : Frame) (fault : Option TakeFault) → is_out_of_phase (destination_sends world (take_by fault node epoch frame)) ≡ false
+take_phase world node epoch frame None = refl
+take_phase world node epoch frame (Some fault) = grind (arith, nat_tests)
 
-pub deliver_moved : (world : World) (n : ℕ) (sent : Sent) (rest : List Sent) → moving_answer world ≡ Ok tt → world.forward.frames ≡ sent ∷ rest → is_short world.forward sent.frame n ≡ true → Happens world (Step.Deliver n) (Ok (Effect.Moved n)) (after_move world n)
-deliver_moved world n sent rest h first short = happens_made world (after_move world n) (Step.Deliver n) (Effect.Moved n) (deliver_moving world n h ∙ ap (deliver_first world n) first ∙ deliver_short world n sent rest short)
+pub deliver_refused : (world : World) (n : ℕ) (refusal : Refusal) (may : Bool) → may ≡ has_started world → Err refusal ≡ checked (front world.up may world.forward) → answer world (Step.Deliver n) ≡ Err refusal
+deliver_refused world n refusal may is h =
+    not_arrived world.up (has_started world) (first_of world.forward.frames) _ refusal
+    (λ sent. phase-if (is_short world.forward sent.frame n) _ _ refl (take_phase (record world { forward = wire_behind (rest_of world.forward.frames) }) world.destination sent.epoch sent.frame (wait_fault world.destination sent.frame)))
+    (subst (λ b. Err refusal ≡ checked (front world.up b world.forward)) is h)
 
--- what a frame that is complete answers
-abbrev complete_answer : World → Sent → List Sent → Answer
-complete_answer world sent rest =
-    unless ((is_end sent.frame && not (is_empty world.destination.arrivals), Refusal.InstallFirst) ∷ (is_early world.destination sent.frame, Refusal.UrgentFirst) ∷ [])
-    (made (frame_effect sent.frame) (after_deliver world sent rest))
+pub back_refused : (world : World) (n : ℕ) (refusal : Refusal) (may : Bool) → may ≡ has_started world → Err refusal ≡ checked (front world.up may world.back) → answer world (Step.DeliverBack n) ≡ Err refusal
+back_refused world n refusal may is h =
+    not_arrived world.up (has_started world) (first_of world.back.frames) _ refusal (λ sent. phase-if (is_short world.back sent.frame n) _ _ refl refl)
+    (subst (λ b. Err refusal ≡ checked (front world.up b world.back)) is h)
 
-deliver_full : (world : World) (n : ℕ) (sent : Sent) (rest : List Sent) → is_short world.forward sent.frame n ≡ false → deliver_first world n (sent ∷ rest) ≡ complete_answer world sent rest
-deliver_full world n sent rest full = rw full refl
+pub urgent_refused : (world : World) (n : ℕ) (refusal : Refusal) (may : Bool) → may ≡ world.destination.has_run → Err refusal ≡ checked (front world.up may world.urgent) → answer world (Step.DeliverUrgent n) ≡ Err refusal
+urgent_refused world n refusal may is h =
+    not_arrived world.up world.destination.has_run (first_of world.urgent.frames) _ refusal (λ sent. phase-if (is_short world.urgent sent.frame n) _ _ refl refl)
+    (subst (λ b. Err refusal ≡ checked (front world.up b world.urgent)) is h)
 
-pub deliver_complete : (world : World) (n : ℕ) (sent : Sent) (rest : List Sent) → moving_answer world ≡ Ok tt → world.forward.frames ≡ sent ∷ rest → is_short world.forward sent.frame n ≡ false → answer world (Step.Deliver n) ≡ complete_answer world sent rest
-deliver_complete world n sent rest h first full = deliver_moving world n h ∙ ap (deliver_first world n) first ∙ deliver_full world n sent rest full
+-- a delivery to the source, or on the urgent wire, is refused for no other reason
+pub always-if : {A : Type 0} (test : Bool) (one other : Result A Refusal) → checked one ≡ Ok tt → checked other ≡ Ok tt → checked (if test then one else other) ≡ Ok tt
+always-if true one other h k = h
+always-if false one other h k = k
 
-takes_it : (world : World) (sent : Sent) (rest : List Sent) → take_fault world.destination sent.epoch sent.frame ≡ None → complete_answer world sent rest ≡ made (frame_effect sent.frame) (after_deliver world sent rest)
-unfolding unless
-takes_it world sent rest fits = grind (arith, nat_tests)
+checked-flight : {A B : Type 0} (up allowed : Bool) (found : Result A Refusal) (go : A → Result B Refusal) → Always go → checked (while_up up (in_phase allowed found)) ≡ checked (while_up up (in_phase allowed (and_then found go)))
+checked-flight up allowed found go always =
+    checked-while_up up (in_phase allowed found)
+    ∙ ap (while_up up) (checked-if allowed found Refusal.Phase ∙ ap (in_phase allowed) (sym (checked-and_then found go always)) ∙ sym (checked-if allowed (and_then found go) Refusal.Phase))
+    ∙ sym (checked-while_up up (in_phase allowed (and_then found go)))
 
-pub deliver_takes : (world : World) (n : ℕ) (sent : Sent) (rest : List Sent) → moving_answer world ≡ Ok tt → world.forward.frames ≡ sent ∷ rest → is_short world.forward sent.frame n ≡ false → take_fault world.destination sent.epoch sent.frame ≡ None →
-    answer world (Step.Deliver n) ≡ made (frame_effect sent.frame) (after_deliver world sent rest)
-deliver_takes world n sent rest h first full fits = deliver_complete world n sent rest h first full ∙ takes_it world sent rest fits
+pub back_checked : (world : World) (n : ℕ) → checked (front world.up (has_started world) world.back) ≡ checked (answer world (Step.DeliverBack n))
+back_checked world n = checked-flight world.up (has_started world) (ok_or (first_of world.back.frames) Refusal.NothingThere) _ (λ sent. always-if (is_short world.back sent.frame n) _ _ refl refl)
 
--- what is sent for a frame that is taken may be sent
-pub answers_good : (world : World) (n : ℕ) (sent : Sent) (rest : List Sent) → IsWorld world → moving_answer world ≡ Ok tt → world.forward.frames ≡ sent ∷ rest → is_short world.forward sent.frame n ≡ false → take_fault world.destination sent.epoch sent.frame ≡ None →
-    AreFrames (destination_answers world.destination sent.frame)
-answers_good world n sent rest is h first full fits =
-    all_good world.back.frames (destination_took world.destination sent.epoch sent.frame).epoch (destination_answers world.destination sent.frame)
-    (subst (λ up. flight.AreFrames (wire_if up world.back (destination_took world.destination sent.epoch sent.frame).epoch (destination_answers world.destination sent.frame)).frames) (moving_up world h)
-    (good _ (world_happens world _ (Step.Deliver n) (Ok (frame_effect sent.frame)) is (happens_made world _ (Step.Deliver n) (frame_effect sent.frame) (deliver_takes world n sent rest h first full fits)))).back)
+pub urgent_checked : (world : World) (n : ℕ) → checked (front world.up world.destination.has_run world.urgent) ≡ checked (answer world (Step.DeliverUrgent n))
+urgent_checked world n = checked-flight world.up world.destination.has_run (ok_or (first_of world.urgent.frames) Refusal.NothingThere) _ (λ sent. always-if (is_short world.urgent sent.frame n) _ _ refl refl)
 
-left_is : (left : Wire) → left.held ≡ 0 → left ≡ wire_behind left.frames
-left_is left held = λ i. record left { held = held i }
+-- Bytes that arrive
 
-pub deliver_took : (world : World) (n : ℕ) (sent : Sent) (left back : Wire) (effect : Effect) (node : Destination) → moving_answer world ≡ Ok tt → world.forward.frames ≡ sent ∷ left.frames → left.held ≡ 0 → is_short world.forward sent.frame n ≡ false →
-    IsReceived world.destination sent effect node → back ≡ wire_with world.back node.epoch (destination_answers world.destination sent.frame) → Happens world (Step.Deliver n) (Ok effect) (record world { destination = node; forward = left; back = back })
-deliver_took world n sent left back effect node h first held full received answered =
-    happens_made world (record world { destination = node; forward = left; back = back }) (Step.Deliver n) effect
-    (deliver_takes world n sent left.frames h first full received.fits
-    ∙ (λ i. made (sym received.told i) (record world {
-      destination = sym received.node i;
-      forward = sym (left_is left held) i;
-      back = wire_if (moving_up world h i) world.back (sym received.node i).epoch (destination_answers world.destination sent.frame);
-    }))
-    ∙ (λ i. made effect (record world { destination = node; forward = left; back = sym answered i })))
+pub not_none : (wire : Wire) (sent : Sent) (rest : List Sent) → wire.frames ≡ sent ∷ rest → wire.frames ≡ [] → ⊥
+not_none wire sent rest first none = let no : sent ∷ rest ≡ [] = sym first ∙ none in cc
 
--- A frame that is refused
-
-some_told : {refusal : Refusal} (told : Option Refusal) → is_some told ≡ true → refusal ≡ unwrap_or told Refusal.NoMemory → told ≡ Some refusal
-some_told {refusal} (Some other) some is = ap Some (sym is)
-some_told {refusal} None some is = absurd (false≢true some)
-
-take_is : (node : Destination) (sent : Sent) → frame_fault node sent.epoch sent.frame ≡ None → take_fault node sent.epoch sent.frame ≡ wait_fault node sent.frame
-take_is node sent right = ap (λ o. elim o [ None ↦ wait_fault node sent.frame | Some other ↦ Some other ]) right
-
-waits_alone : (node : Destination) (frame : Frame) (fault : TakeFault) → wait_fault node frame ≡ Some fault → is_some (waiting_refusal fault) ≡ true
-waits_alone node frame fault h = grind (arith, nat_tests)
-
-refused_by : (node : Destination) (sent : Sent) (fault : TakeFault) (refusal : Refusal) (waits : Option TakeFault) → take_fault node sent.epoch sent.frame ≡ waits → wait_fault node sent.frame ≡ waits → fault ≡ unwrap_or waits TakeFault.NoMemory →
-    refusal ≡ unwrap_or (waiting_refusal fault) Refusal.NoMemory → IsRefused node sent refusal
-refused_by node sent fault refusal None take wait is told = inl (told ∙ ap (λ f. unwrap_or (waiting_refusal f) Refusal.NoMemory) is)
-refused_by node sent fault refusal (Some other) take wait is told =
-    inr (other, take, some_told (waiting_refusal other) (waits_alone node sent.frame other wait) (told ∙ ap (λ f. unwrap_or (waiting_refusal f) Refusal.NoMemory) is))
-
-wait_refused : (world : World) (sent : Sent) (rest : List Sent) (fault : TakeFault) (refusal : Refusal) → frame_fault world.destination sent.epoch sent.frame ≡ None → take_fault world.destination sent.epoch sent.frame ≡ Some fault → waiting_refusal fault ≡ Some refusal →
-    complete_answer world sent rest ≡ Err refusal
-unfolding unless
-wait_refused world sent rest fault refusal right waits is = grind (arith, nat_tests)
-
--- a frame that has no fault of its own is refused for one of the two for which it has to wait, or there is no memory for it
-pub refused_waits : (node : Destination) (sent : Sent) (fault : TakeFault) (refusal : Refusal) → frame_fault node sent.epoch sent.frame ≡ None → fault ≡ unwrap_or (take_fault node sent.epoch sent.frame) TakeFault.NoMemory →
-    refusal ≡ unwrap_or (waiting_refusal fault) Refusal.NoMemory → IsRefused node sent refusal
-refused_waits node sent fault refusal right is told = refused_by node sent fault refusal (wait_fault node sent.frame) (take_is node sent right) refl (is ∙ ap (λ o. unwrap_or o TakeFault.NoMemory) (take_is node sent right)) told
-
-no_move : {b : Bool} → b ≡ false → (true && not (true && b)) ≡ true
-no_move {b} h = rw h refl
-
--- the taking of a frame moves no bytes alone
-frame_no_move : (frame : Frame) → is_move (frame_effect frame) ≡ false
-frame_no_move frame = grind (arith, nat_tests)
-
-lacks_at_all : (world : World) (n : ℕ) (sent : Sent) (rest : List Sent) → may_lack (Step.Deliver n) (outcome_by (complete_answer world sent rest)) ≡ true
-unfolding unless
-lacks_at_all world n sent rest = grind (arith, nat_tests, frame_no_move)
-
-lacks_first : (world : World) (n : ℕ) (sent : Sent) (rest : List Sent) → is_short world.forward sent.frame n ≡ false → may_lack (Step.Deliver n) (outcome_by (deliver_first world n (sent ∷ rest))) ≡ true
-lacks_first world n sent rest full = rw full (lacks_at_all world n sent rest)
-
--- memory may be refused for a frame that is complete, and for its answer
-pub deliver_lacking : (world : World) (n : ℕ) (sent : Sent) (rest : List Sent) → moving_answer world ≡ Ok tt → world.forward.frames ≡ sent ∷ rest → is_short world.forward sent.frame n ≡ false → Happens world (Step.Deliver n) (Err Refusal.NoMemory) world
-unfolding outcome
-deliver_lacking world n sent rest h first full =
-    inr (refl, ap (λ a. may_lack (Step.Deliver n) (outcome_by a)) (deliver_moving world n h ∙ ap (deliver_first world n) first) ∙ lacks_first world n sent rest full, refl)
-
-deliver_waits : (world : World) (n : ℕ) (sent : Sent) (rest : List Sent) (fault : TakeFault) (refusal : Refusal) → moving_answer world ≡ Ok tt → world.forward.frames ≡ sent ∷ rest → is_short world.forward sent.frame n ≡ false → frame_fault world.destination sent.epoch sent.frame ≡ None →
-    take_fault world.destination sent.epoch sent.frame ≡ Some fault → waiting_refusal fault ≡ Some refusal → outcome world (Step.Deliver n) ≡ Err refusal
-unfolding outcome
-deliver_waits world n sent rest fault refusal h first full right waits is = ap outcome_by (deliver_complete world n sent rest h first full ∙ wait_refused world sent rest fault refusal right waits is)
-
-pub deliver_refused : (world : World) (n : ℕ) (sent : Sent) (rest : List Sent) (refusal : Refusal) → moving_answer world ≡ Ok tt → world.forward.frames ≡ sent ∷ rest → is_short world.forward sent.frame n ≡ false → frame_fault world.destination sent.epoch sent.frame ≡ None →
-    IsRefused world.destination sent refusal → Happens world (Step.Deliver n) (Err refusal) world
-deliver_refused world n sent rest refusal h first full right back =
-    ⊎_elim
-    (λ (short : refusal ≡ Refusal.NoMemory). subst (λ r. Happens world (Step.Deliver n) (Err r) world) (sym short) (deliver_lacking world n sent rest h first full))
-    (λ (waits : (fault : TakeFault) × (take_fault world.destination sent.epoch sent.frame ≡ Some fault) × (waiting_refusal fault ≡ Some refusal)).
-    happens_refused world (Step.Deliver n) refusal (deliver_waits world n sent rest waits.0 refusal h first full right waits.1 waits.2))
-    back
-
--- no frame is refused but for having to wait
-pub forward_right : (world : World) (sent : Sent) (rest : List Sent) → IsReached world → moving_answer world ≡ Ok tt → world.forward.frames ≡ sent ∷ rest → frame_fault world.destination sent.epoch sent.frame ≡ None
-forward_right world sent rest reached h first = no_frame_fault world.destination sent (is_taken world sent rest (kept-reached world reached) (urgent-reached world reached) (as_many world reached) (moving_up world h) first)
-
--- DeliverBack
-
-pub back_stopped : (world : World) (n : ℕ) (refusal : Refusal) → moving_answer world ≡ Err refusal → outcome world (Step.DeliverBack n) ≡ Err refusal
-unfolding unless outcome
-back_stopped world n refusal h = grind (arith, nat_tests)
-
-back_moving : (world : World) (n : ℕ) → moving_answer world ≡ Ok tt → answer world (Step.DeliverBack n) ≡ deliver_back_first world n world.back.frames
-unfolding unless
-back_moving world n h = grind (arith, nat_tests)
-
-pub back_nothing : (world : World) (n : ℕ) → moving_answer world ≡ Ok tt → is_empty world.back.frames ≡ true → outcome world (Step.DeliverBack n) ≡ Err Refusal.NothingThere
-unfolding outcome
-back_nothing world n h none = ap outcome_by (back_moving world n h ∙ ap (deliver_back_first world n) (none_there world.back.frames none))
-
-back_short : (world : World) (n : ℕ) (sent : Sent) (rest : List Sent) → is_short world.back sent.frame n ≡ true → deliver_back_first world n (sent ∷ rest) ≡ made (Effect.Moved n) (after_move_back world n)
-back_short world n sent rest short = rw short refl
-
-pub back_moved : (world : World) (n : ℕ) (sent : Sent) (rest : List Sent) → moving_answer world ≡ Ok tt → world.back.frames ≡ sent ∷ rest → is_short world.back sent.frame n ≡ true → Happens world (Step.DeliverBack n) (Ok (Effect.Moved n)) (after_move_back world n)
-back_moved world n sent rest h first short = happens_made world (after_move_back world n) (Step.DeliverBack n) (Effect.Moved n) (back_moving world n h ∙ ap (deliver_back_first world n) first ∙ back_short world n sent rest short)
-
-back_full : (world : World) (n : ℕ) (sent : Sent) (rest : List Sent) → is_short world.back sent.frame n ≡ false → deliver_back_first world n (sent ∷ rest) ≡ made (frame_effect sent.frame) (after_deliver_back world sent rest)
-back_full world n sent rest full = rw full refl
-
-pub back_takes : (world : World) (n : ℕ) (sent : Sent) (rest : List Sent) → moving_answer world ≡ Ok tt → world.back.frames ≡ sent ∷ rest → is_short world.back sent.frame n ≡ false →
-    answer world (Step.DeliverBack n) ≡ made (frame_effect sent.frame) (after_deliver_back world sent rest)
-back_takes world n sent rest h first full = back_moving world n h ∙ ap (deliver_back_first world n) first ∙ back_full world n sent rest full
-
-pub back_good : (world : World) (n : ℕ) (sent : Sent) (rest : List Sent) → IsWorld world → moving_answer world ≡ Ok tt → world.back.frames ≡ sent ∷ rest → is_short world.back sent.frame n ≡ false → AreFrames (source_answers world.source sent.frame)
-back_good world n sent rest is h first full =
-    all_good world.forward.frames (source_took world.source sent.frame).epoch (source_answers world.source sent.frame)
-    (good _ (world_happens world _ (Step.DeliverBack n) (Ok (frame_effect sent.frame)) is (happens_made world _ (Step.DeliverBack n) (frame_effect sent.frame) (back_takes world n sent rest h first full)))).forward
-
-pub back_took : (world : World) (n : ℕ) (sent : Sent) (left forward : Wire) (node : Source) → moving_answer world ≡ Ok tt → world.back.frames ≡ sent ∷ left.frames → left.held ≡ 0 → is_short world.back sent.frame n ≡ false →
-    node ≡ source_took world.source sent.frame → forward ≡ wire_with world.forward node.epoch (source_answers world.source sent.frame) → Happens world (Step.DeliverBack n) (Ok (frame_effect sent.frame)) (record world { source = node; back = left; forward = forward })
-back_took world n sent left forward node h first held full took answered =
-    happens_made world (record world { source = node; back = left; forward = forward }) (Step.DeliverBack n) (frame_effect sent.frame)
-    (back_takes world n sent left.frames h first full
-    ∙ (λ i. made (frame_effect sent.frame) (record world {
-      source = sym took i;
-      back = sym (left_is left held) i;
-      forward = wire_with world.forward (sym took i).epoch (source_answers world.source sent.frame);
-    }))
-    ∙ (λ i. made (frame_effect sent.frame) (record world { source = node; back = left; forward = sym answered i })))
-
-back_lacks_first : (world : World) (n : ℕ) (sent : Sent) (rest : List Sent) → is_short world.back sent.frame n ≡ false → may_lack (Step.DeliverBack n) (outcome_by (deliver_back_first world n (sent ∷ rest))) ≡ true
-back_lacks_first world n sent rest full = rw full (no_move (frame_no_move sent.frame))
-
-pub back_lacking : (world : World) (n : ℕ) (sent : Sent) (rest : List Sent) → moving_answer world ≡ Ok tt → world.back.frames ≡ sent ∷ rest → is_short world.back sent.frame n ≡ false → Happens world (Step.DeliverBack n) (Err Refusal.NoMemory) world
-unfolding outcome
-back_lacking world n sent rest h first full =
-    inr (refl, ap (λ a. may_lack (Step.DeliverBack n) (outcome_by a)) (back_moving world n h ∙ ap (deliver_back_first world n) first) ∙ back_lacks_first world n sent rest full, refl)
-
-pub back_right : (world : World) (sent : Sent) (rest : List Sent) → IsReached world → moving_answer world ≡ Ok tt → world.back.frames ≡ sent ∷ rest → back_fault world.source sent.epoch sent.frame ≡ None
-back_right world sent rest reached h first =
-    no_back_fault world.source sent (is_taken_back world sent rest (kept-reached world reached) (moving_up world h) first) (back_epoch world sent rest (kept-reached world reached) first)
-
-rebuilt_few : (switched : Bool) (node : Source) → node.switched ≡ switched → length (rebuild_frames Received.NotRun node) ≤ 2
-rebuilt_few true node is = grind (arith, nat_tests)
-rebuilt_few false node is = grind (arith, nat_tests)
-
-answers_few : (node : Source) (frame : Frame) → length (source_answers node frame) ≤ 2
-answers_few node (Recv Received.NotRun owed) = rebuilt_few node.switched node refl
-answers_few node (Recv Received.Running owed) = omega arith
-answers_few node (Recv Received.Ended owed) = omega arith
-answers_few node _ = omega arith
-
--- there is room for what the source answers
-pub back_room : (node : Source) (sent : Sent) (frames : List CodeFrame) (room : ℕ) → frames_of frames ≡ source_answers node sent.frame → 2 ≤ room → length frames ≤ room
-back_room node sent frames room is enough =
-    let few = answers_few node sent.frame in
-    let same = sym (length-map frames frame_of) ∙ ap length is in
-    omega (arith, few, same, enough)
-
-pub recv_right : (world : World) (epoch : ℕ) (state : Received) (owed : FinSet nat_cmp) (rest : List Sent) → IsReached world → moving_answer world ≡ Ok tt → world.back.frames ≡ record { epoch = epoch; frame = Recv state owed } ∷ rest → rebuild_fault world.source state owed ≡ None
-recv_right world epoch state owed rest reached h first =
-    no_rebuild_fault world.source state owed (present_below (space_of world.source) (kept-reached world reached).spaces.source_space) (is_taken_back world _ rest (kept-reached world reached) (moving_up world h) first)
-
--- DeliverUrgent
-
-pub urgent_outside : (world : World) (n : ℕ) → not world.destination.has_run ≡ true → outcome world (Step.DeliverUrgent n) ≡ Err Refusal.Phase
-unfolding unless outcome
-urgent_outside world n h = grind (arith, nat_tests)
-
-pub urgent_down : (world : World) (n : ℕ) → not world.destination.has_run ≡ false → not world.up ≡ true → outcome world (Step.DeliverUrgent n) ≡ Err Refusal.Broken
-unfolding unless outcome
-urgent_down world n h down = grind (arith, nat_tests)
-
-urgent_moving : (world : World) (n : ℕ) → not world.destination.has_run ≡ false → not world.up ≡ false → answer world (Step.DeliverUrgent n) ≡ deliver_urgent_first world n world.urgent.frames
-unfolding unless
-urgent_moving world n ran up = grind (arith, nat_tests)
-
-pub urgent_nothing : (world : World) (n : ℕ) → not world.destination.has_run ≡ false → not world.up ≡ false → is_empty world.urgent.frames ≡ true → outcome world (Step.DeliverUrgent n) ≡ Err Refusal.NothingThere
-unfolding outcome
-urgent_nothing world n ran up none = ap outcome_by (urgent_moving world n ran up ∙ ap (deliver_urgent_first world n) (none_there world.urgent.frames none))
-
-urgent_short : (world : World) (n : ℕ) (sent : Sent) (rest : List Sent) → is_short world.urgent sent.frame n ≡ true → deliver_urgent_first world n (sent ∷ rest) ≡ made (Effect.Moved n) (after_move_urgent world n)
-urgent_short world n sent rest short = rw short refl
-
-pub urgent_moved : (world : World) (n : ℕ) (sent : Sent) (rest : List Sent) → not world.destination.has_run ≡ false → not world.up ≡ false → world.urgent.frames ≡ sent ∷ rest → is_short world.urgent sent.frame n ≡ true →
-    Happens world (Step.DeliverUrgent n) (Ok (Effect.Moved n)) (after_move_urgent world n)
-urgent_moved world n sent rest ran up first short =
-    happens_made world (after_move_urgent world n) (Step.DeliverUrgent n) (Effect.Moved n) (urgent_moving world n ran up ∙ ap (deliver_urgent_first world n) first ∙ urgent_short world n sent rest short)
-
-urgent_full : (world : World) (n : ℕ) (sent : Sent) (rest : List Sent) → is_short world.urgent sent.frame n ≡ false → deliver_urgent_first world n (sent ∷ rest) ≡ made (frame_effect sent.frame) (after_deliver_urgent world sent rest)
-urgent_full world n sent rest full = rw full refl
-
-urgent_takes : (world : World) (n : ℕ) (sent : Sent) (rest : List Sent) → not world.destination.has_run ≡ false → not world.up ≡ false → world.urgent.frames ≡ sent ∷ rest → is_short world.urgent sent.frame n ≡ false →
-    answer world (Step.DeliverUrgent n) ≡ made (frame_effect sent.frame) (after_deliver_urgent world sent rest)
-urgent_takes world n sent rest ran up first full = urgent_moving world n ran up ∙ ap (deliver_urgent_first world n) first ∙ urgent_full world n sent rest full
-
-pub urgent_did : (world : World) (n : ℕ) (sent : Sent) (left : Wire) (node : Destination) → not world.destination.has_run ≡ false → not world.up ≡ false → world.urgent.frames ≡ sent ∷ left.frames → left.held ≡ 0 → is_short world.urgent sent.frame n ≡ false →
-    node ≡ urgent_took world.destination sent.frame → Happens world (Step.DeliverUrgent n) (Ok (frame_effect sent.frame)) (record world { destination = node; urgent = left })
-urgent_did world n sent left node ran up first held full took =
-    happens_made world (record world { destination = node; urgent = left }) (Step.DeliverUrgent n) (frame_effect sent.frame)
-    (urgent_takes world n sent left.frames ran up first full ∙ (λ i. made (frame_effect sent.frame) (record world { destination = sym took i; urgent = sym (left_is left held) i })))
-
-urgent_lacks_first : (world : World) (n : ℕ) (sent : Sent) (rest : List Sent) → is_short world.urgent sent.frame n ≡ false → may_lack (Step.DeliverUrgent n) (outcome_by (deliver_urgent_first world n (sent ∷ rest))) ≡ true
-urgent_lacks_first world n sent rest full = rw full (no_move (frame_no_move sent.frame))
-
-pub urgent_lacking : (world : World) (n : ℕ) (sent : Sent) (rest : List Sent) → not world.destination.has_run ≡ false → not world.up ≡ false → world.urgent.frames ≡ sent ∷ rest → is_short world.urgent sent.frame n ≡ false → Happens world (Step.DeliverUrgent n) (Err Refusal.NoMemory) world
-unfolding outcome
-urgent_lacking world n sent rest ran up first full =
-    inr (refl, ap (λ a. may_lack (Step.DeliverUrgent n) (outcome_by a)) (urgent_moving world n ran up ∙ ap (deliver_urgent_first world n) first) ∙ urgent_lacks_first world n sent rest full, refl)
-
-pub urgent_right : (world : World) (sent : Sent) (rest : List Sent) → IsReached world → not world.destination.has_run ≡ false → not world.up ≡ false → world.urgent.frames ≡ sent ∷ rest → urgent_fault world.destination sent.epoch sent.frame ≡ None
-urgent_right world sent rest reached ran up first = no_urgent_fault world.destination sent (is_taken_urgent world sent rest (kept-reached world reached) (urgent-reached world reached) (not-false _ ran) (not-false _ up) first)
-
--- What comes of bytes that arrive
-
-pub arrived_moved : (old : Wire) (n : ℕ) (read : Option CodeSent) (new : Wire) → is_empty old.frames ≡ false → read ≡ None → Arrives old n (Ok read) new → IsMoved old n new
-arrived_moved old n None new some is arrived = ⊎_elim (λ (none : (old.frames ≡ []) × (new ≡ old)). absurd (not_empty old.frames some none.0)) (λ (moved : IsMoved old n new). moved) arrived
+pub arrived_moved : (old : Wire) (n : ℕ) (read : Option CodeSent) (new : Wire) → (old.frames ≡ [] → ⊥) → read ≡ None → Arrives old n (Ok read) new → IsMoved old n new
+arrived_moved old n None new some is arrived = ⊎_elim (λ (none : (old.frames ≡ []) × (new ≡ old)). absurd (some none.0)) (λ (moved : IsMoved old n new). moved) arrived
 arrived_moved old n (Some sent) new some is arrived = absurd (let no = is in cc)
 
 pub arrived_whole : (old : Wire) (n : ℕ) (read : Option CodeSent) (sent : CodeSent) (new : Wire) → read ≡ Some sent → Arrives old n (Ok read) new → IsWhole old n sent × (new ≡ old)
@@ -329,3 +132,131 @@ arrived_whole old n read sent new is arrived = subst (λ read. Arrives old n (Ok
 -- the wire once its first frame is taken
 pub taken_off : (old new left : Wire) (n : ℕ) (sent : CodeSent) (whole : IsWhole old n sent) → new ≡ old → ((first : Sent) (rest : List Sent) → new.frames ≡ first ∷ rest → left ≡ wire_behind rest) → left ≡ wire_behind whole.rest
 taken_off old new left n sent whole same off = off (sent_of sent) whole.rest (ap (λ wire. wire.frames) same ∙ whole.first)
+
+-- Deliver
+
+-- the taking of a frame moves no bytes alone
+frame_no_move : (frame : Frame) → is_move (frame_effect frame) ≡ false
+frame_no_move frame = grind (arith, nat_tests)
+
+lacks_taking : (world : World) (n : ℕ) (node : Destination) (epoch : ℕ) (frame : Frame) → may_lack (Step.Deliver n) (outcome_by (destination_sends world (take node epoch frame))) ≡ true
+lacks_taking world n node epoch frame = grind (arith, nat_tests, frame_no_move)
+
+pub deliver_moved : (world : World) (n : ℕ) (new : Wire) → CanArrive world.up (has_started world) world.forward → (moved : IsMoved world.forward n new) → Happens world (Step.Deliver n) (Ok (Effect.Moved n)) (record world { forward = new })
+deliver_moved world n new can moved =
+    rw moved.moved (happens_made world _ (Step.Deliver n) (Effect.Moved n) (delivers world n moved.sent moved.rest true can.allowed can.up moved.first moved.short))
+
+-- memory may be refused for a frame that is complete, and for its answer
+pub deliver_lacking : (world : World) (n : ℕ) (sent : Sent) (rest : List Sent) → CanArrive world.up (has_started world) world.forward → world.forward.frames ≡ sent ∷ rest → is_short world.forward sent.frame n ≡ false → Happens world (Step.Deliver n) (Err Refusal.NoMemory) world
+unfolding outcome
+deliver_lacking world n sent rest can first full =
+    inr (refl, ap (λ a. may_lack (Step.Deliver n) (outcome_by a)) (delivers world n sent rest false can.allowed can.up first full) ∙ lacks_taking (record world { forward = wire_behind rest }) n world.destination sent.epoch sent.frame, refl)
+
+pub deliver_took : (world : World) (n : ℕ) (one : CodeSent) (effect : Effect) (node : Destination) (back : Wire) → CanArrive world.up (has_started world) world.forward → (whole : IsWhole world.forward n one) →
+    take world.destination one.epoch (frame_of one.frame) ≡ sent effect (destination_answers world.destination (frame_of one.frame)) node → back ≡ wire_with world.back node.epoch (destination_answers world.destination (frame_of one.frame)) →
+    Happens world (Step.Deliver n) (Ok effect) (record world { destination = node; forward = wire_behind whole.rest; back = back })
+deliver_took world n one effect node back can whole took answered =
+    let answers = destination_answers world.destination (frame_of one.frame) in
+    destination_sent world (record world { forward = wire_behind whole.rest }) (Step.Deliver n) (take world.destination one.epoch (frame_of one.frame)) effect answers node back
+    (delivers world n (sent_of one) whole.rest false can.allowed can.up whole.first whole.whole) took (answered ∙ (λ i. wire_if (sym can.up i) world.back node.epoch answers))
+
+-- a frame is refused only for what it has to wait for, or for lack of memory
+pub deliver_not : (world : World) (n : ℕ) (one : CodeSent) (refusal : Refusal) → CanArrive world.up (has_started world) world.forward → IsWhole world.forward n one → (refusal ≡ Refusal.NoMemory) ⊎ (take world.destination one.epoch (frame_of one.frame) ≡ Err refusal) →
+    Happens world (Step.Deliver n) (Err refusal) world
+deliver_not world n one refusal can whole refused =
+    ⊎_elim
+    (λ (short : refusal ≡ Refusal.NoMemory). subst (λ r. Happens world (Step.Deliver n) (Err r) world) (sym short) (deliver_lacking world n (sent_of one) whole.rest can whole.first whole.whole))
+    (λ (waits : take world.destination one.epoch (frame_of one.frame) ≡ Err refusal).
+    happens_refused world (Step.Deliver n) refusal
+    (delivers world n (sent_of one) whole.rest false can.allowed can.up whole.first whole.whole ∙ ap (destination_sends (record world { forward = wire_behind whole.rest })) waits))
+    refused
+
+pub forward_right : (world : World) (n : ℕ) (one : CodeSent) → IsReached world → CanArrive world.up (has_started world) world.forward → IsWhole world.forward n one → frame_fault world.destination one.epoch (frame_of one.frame) ≡ None
+forward_right world n one reached can whole =
+    no_frame_fault world.destination (sent_of one) (is_taken world (sent_of one) whole.rest (kept-reached world reached) (urgent-reached world reached) (as_many world reached) can.up whole.first)
+
+-- the destination's taking of a frame that has no fault of its own
+take_is : (node : Destination) (epoch : ℕ) (frame : Frame) → frame_fault node epoch frame ≡ None → take_fault node epoch frame ≡ wait_fault node frame
+take_is node epoch frame right = ap (λ o. elim o [ None ↦ wait_fault node frame | Some other ↦ Some other ]) right
+
+pub took_so : (node : Destination) (epoch : ℕ) (frame : Frame) (effect : Effect) (new : Destination) → frame_fault node epoch frame ≡ None → take_fault node epoch frame ≡ None → effect ≡ frame_effect frame → new ≡ destination_took node epoch frame →
+    take node epoch frame ≡ sent effect (destination_answers node frame) new
+took_so node epoch frame effect new right fits is made_ =
+    ap (λ fault. take_by fault node epoch frame) (sym (take_is node epoch frame right) ∙ fits) ∙ (λ i. sent (sym is i) (destination_answers node frame) (sym made_ i))
+
+refused_by : (node : Destination) (epoch : ℕ) (frame : Frame) (fault : TakeFault) (refusal : Refusal) (waits : Option TakeFault) → wait_fault node frame ≡ waits → fault ≡ unwrap_or waits TakeFault.NoMemory → refusal ≡ refusal_of fault →
+    (refusal ≡ Refusal.NoMemory) ⊎ (take node epoch frame ≡ Err refusal)
+refused_by node epoch frame fault refusal None wait is so = inl (so ∙ ap refusal_of is)
+refused_by node epoch frame fault refusal (Some other) wait is so = inr (ap (λ fault. take_by fault node epoch frame) wait ∙ ap Err (sym (so ∙ ap refusal_of is)))
+
+pub not_taken : (node : Destination) (epoch : ℕ) (frame : Frame) (fault : TakeFault) (refusal : Refusal) → frame_fault node epoch frame ≡ None → fault ≡ unwrap_or (take_fault node epoch frame) TakeFault.NoMemory → refusal ≡ refusal_of fault →
+    (refusal ≡ Refusal.NoMemory) ⊎ (take node epoch frame ≡ Err refusal)
+not_taken node epoch frame fault refusal right is so =
+    refused_by node epoch frame fault refusal (wait_fault node frame) refl (is ∙ ap (λ o. unwrap_or o TakeFault.NoMemory) (take_is node epoch frame right)) so
+
+-- DeliverBack
+
+no_move : {b : Bool} → b ≡ false → (true && not (true && b)) ≡ true
+no_move {b} h = rw h refl
+
+pub back_moved : (world : World) (n : ℕ) (new : Wire) → CanArrive world.up (has_started world) world.back → (moved : IsMoved world.back n new) → Happens world (Step.DeliverBack n) (Ok (Effect.Moved n)) (record world { back = new })
+back_moved world n new can moved =
+    rw moved.moved (happens_made world _ (Step.DeliverBack n) (Effect.Moved n) (delivers_back world n moved.sent moved.rest true can.allowed can.up moved.first moved.short))
+
+pub back_lacking : (world : World) (n : ℕ) (sent : Sent) (rest : List Sent) → CanArrive world.up (has_started world) world.back → world.back.frames ≡ sent ∷ rest → is_short world.back sent.frame n ≡ false → Happens world (Step.DeliverBack n) (Err Refusal.NoMemory) world
+unfolding outcome
+back_lacking world n sent rest can first full =
+    inr (refl, ap (λ a. may_lack (Step.DeliverBack n) (outcome_by a)) (delivers_back world n sent rest false can.allowed can.up first full) ∙ no_move (frame_no_move sent.frame), refl)
+
+pub back_took : (world : World) (n : ℕ) (one : CodeSent) (effect : Effect) (node : Source) (forward : Wire) → CanArrive world.up (has_started world) world.back → (whole : IsWhole world.back n one) →
+    source.take world.source (frame_of one.frame) ≡ sent effect (source_answers world.source (frame_of one.frame)) node → forward ≡ wire_with world.forward node.epoch (source_answers world.source (frame_of one.frame)) →
+    Happens world (Step.DeliverBack n) (Ok effect) (record world { source = node; back = wire_behind whole.rest; forward = forward })
+back_took world n one effect node forward can whole took answered =
+    source_sent world (record world { back = wire_behind whole.rest }) (Step.DeliverBack n) (source.take world.source (frame_of one.frame)) effect (source_answers world.source (frame_of one.frame)) node forward
+    (delivers_back world n (sent_of one) whole.rest false can.allowed can.up whole.first whole.whole) took answered
+
+pub back_right : (world : World) (n : ℕ) (one : CodeSent) → IsReached world → CanArrive world.up (has_started world) world.back → IsWhole world.back n one → back_fault world.source one.epoch (frame_of one.frame) ≡ None
+back_right world n one reached can whole =
+    no_back_fault world.source (sent_of one) (is_taken_back world (sent_of one) whole.rest (kept-reached world reached) can.up whole.first) (back_epoch world (sent_of one) whole.rest (kept-reached world reached) whole.first)
+
+pub recv_right : (world : World) (n : ℕ) (one : CodeSent) (state : Received) (owed : FinSet nat_cmp) → IsReached world → CanArrive world.up (has_started world) world.back → (whole : IsWhole world.back n one) → frame_of one.frame ≡ Recv state owed → rebuild_fault world.source state owed ≡ None
+recv_right world n one state owed reached can whole is =
+    no_rebuild_fault world.source state owed (present_below (space_of world.source) (kept-reached world reached).spaces.source_space)
+    (is_taken_back world (record { epoch = one.epoch; frame = Recv state owed }) whole.rest (kept-reached world reached) can.up (whole.first ∙ ap (λ frame. record { epoch = one.epoch; frame = frame } ∷ whole.rest) is))
+
+rebuilt_few : (switched : Bool) (node : Source) → node.switched ≡ switched → length (rebuild_frames Received.NotRun node) ≤ 2
+rebuilt_few true node is = grind (arith, nat_tests)
+rebuilt_few false node is = grind (arith, nat_tests)
+
+answers_few : (state : Received) (node : Source) → length (rebuild_frames state node) ≤ 2
+answers_few Received.NotRun node = rebuilt_few node.switched node refl
+answers_few Received.Running node = omega arith
+answers_few Received.Ended node = omega arith
+
+-- there is room for what the source answers to a Recv
+pub rebuilt_room : (state : Received) (node : Source) (frames : List CodeFrame) (room : ℕ) → frames_of frames ≡ rebuild_frames state node → 2 ≤ room → length frames ≤ room
+rebuilt_room state node frames room is enough =
+    let few = answers_few state node in
+    let same = sym (length-map frames frame_of) ∙ ap length is in
+    omega (arith, few, same, enough)
+
+-- DeliverUrgent
+
+pub urgent_moved : (world : World) (n : ℕ) (new : Wire) → CanArrive world.up world.destination.has_run world.urgent → (moved : IsMoved world.urgent n new) → Happens world (Step.DeliverUrgent n) (Ok (Effect.Moved n)) (record world { urgent = new })
+urgent_moved world n new can moved =
+    rw moved.moved (happens_made world _ (Step.DeliverUrgent n) (Effect.Moved n) (delivers_urgent world n moved.sent moved.rest true can.allowed can.up moved.first moved.short))
+
+pub urgent_lacking : (world : World) (n : ℕ) (sent : Sent) (rest : List Sent) → CanArrive world.up world.destination.has_run world.urgent → world.urgent.frames ≡ sent ∷ rest → is_short world.urgent sent.frame n ≡ false → Happens world (Step.DeliverUrgent n) (Err Refusal.NoMemory) world
+unfolding outcome
+urgent_lacking world n sent rest can first full =
+    inr (refl, ap (λ a. may_lack (Step.DeliverUrgent n) (outcome_by a)) (delivers_urgent world n sent rest false can.allowed can.up first full) ∙ no_move (frame_no_move sent.frame), refl)
+
+pub urgent_did : (world : World) (n : ℕ) (one : CodeSent) (effect : Effect) (node : Destination) → CanArrive world.up world.destination.has_run world.urgent → (whole : IsWhole world.urgent n one) → take_urgent world.destination (frame_of one.frame) ≡ acted effect node →
+    Happens world (Step.DeliverUrgent n) (Ok effect) (record world { destination = node; urgent = wire_behind whole.rest })
+urgent_did world n one effect node can whole took =
+    destination_acted world (record world { urgent = wire_behind whole.rest }) (Step.DeliverUrgent n) (take_urgent world.destination (frame_of one.frame)) effect node
+    (delivers_urgent world n (sent_of one) whole.rest false can.allowed can.up whole.first whole.whole) took
+
+pub urgent_right : (world : World) (n : ℕ) (one : CodeSent) → IsReached world → CanArrive world.up world.destination.has_run world.urgent → IsWhole world.urgent n one → urgent_fault world.destination one.epoch (frame_of one.frame) ≡ None
+urgent_right world n one reached can whole =
+    no_urgent_fault world.destination (sent_of one) (is_taken_urgent world (sent_of one) whole.rest (kept-reached world reached) (urgent-reached world reached) can.allowed can.up whole.first)

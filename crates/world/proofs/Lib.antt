@@ -1,13 +1,11 @@
-pub mod BreakLemmas
-pub mod CommandLemmas
 pub mod DeliveryLemmas
-pub mod FlightLemmas
+pub mod EndLemmas
 pub mod HeadlineLemmas
+pub mod NewLemmas
 pub mod PieceLemmas
+pub mod ReachedLemmas
 pub mod RunLemmas
-pub mod SendingLemmas
 pub mod StepLemmas
 pub mod UrgentLemmas
-pub mod WouldLemmas
-pub mod NewLemmas
 pub mod WithinLemmas
+pub mod WouldLemmas

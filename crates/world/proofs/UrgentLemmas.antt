@@ -1,5 +1,5 @@
 -- The count of urgent frames is never at its greatest value, so that no push on the urgent wire is refused for it.
-use Rattle.std.proofs.Common.{◌≡◌, ℕ, ◌+◌, ◌≤◌, ◌⊎◌, refl, true, false, IsOk, Err, sym, ◌∙◌, arith, inl, ⊎_elim}
+use Rattle.std.proofs.Common.{◌≡◌, ℕ, ◌+◌, ◌≤◌, ◌⊎◌, refl, true, false, IsOk, Err, sym, ap, ◌∙◌, arith, ⊎_elim}
 use Rattle.std.proofs.lemmas.Bool.{false≢true}
 use Rattle.std.proofs.lemmas.Bool.Decides.{nat_tests}
 use Rattle.std.specs.FinSet.{len}
@@ -7,18 +7,20 @@ use Rattle.mig_base.specs.declared.refusal.Refusal.{Refusal}
 use Rattle.mig_base.specs.declared.schedule.Step.{Step}
 use Rattle.mig_base.specs.declared.schedule.Ticket.{Ticket}
 use Rattle.mig_model.specs.Log.{present}
-use Rattle.mig_model.specs.Migration.{World, is_used, outcome, unless}
+use Rattle.mig_model.specs.Migration.{World, source_sends_urgently}
+use Rattle.mig_model.specs.NodeSteps.{is_used, unless}
 use Rattle.mig_model.specs.Runs.{Happens}
 use Rattle.mig_model.specs.Source.{Source, is_stopped, space_of}
+use Rattle.mig_model.specs.SourceSteps.{push_urgent}
 use Rattle.mig_model.proofs.Bounded.{memory_bounded}
 use Rattle.mig_model.proofs.EveryStep.{kept-reached}
+use Rattle.mig_model.proofs.StepLemmas.{is-up}
 use Rattle.mig_model.proofs.UrgentFew.{few-reached}
 use Rattle.mig_model.proofs.WokenSteps.{stopped_switched}
 use Rattle.frame_texts.proofs.FrameBounds.{member_present, present_pages}
 use Rattle.frame_texts.proofs.FrameSteps.{stopped_unreleased}
-use Rattle.precopy.specs.Steps.{IsRefusedAs, world_of}
 use Rattle.world.specs.Worlds.{IsWorld}
-use Rattle.world.proofs.StepLemmas.{IsOfSource, source_refused}
+use Rattle.world.proofs.StepLemmas.{happens_refused}
 
 below_most : (count left pages : ℕ) → count + left ≤ pages → pages ≤ 262144 → is_used count ≡ false
 below_most count left pages few most = grind (arith, nat_tests)
@@ -32,14 +34,15 @@ urgent_unused world is stopped =
     let pages = present_pages space.host (present space) kept.spaces.source_space.host (memory_bounded world is.reached).source (member_present space) in
     below_most world.source.urgent_sent (len world.source.remaining) (len (present space)) few pages.1
 
-stopped_by : (node : Source) (ticket : Ticket) → IsOk (outcome (world_of node) (Step.PushUrgent ticket)) → is_stopped node.phase ≡ true
-unfolding unless outcome
+stopped_by : (node : Source) (ticket : Ticket) → IsOk (push_urgent node ticket) → is_stopped node.phase ≡ true
+unfolding unless
 stopped_by node ticket ok = grind (arith, nat_tests)
 
-pub urgent_refused : (world : World) (ticket : Ticket) (refusal : Refusal) → IsWorld world → IsOfSource world (Step.PushUrgent ticket) → IsOk (outcome (world_of world.source) (Step.PushUrgent ticket)) →
-    IsRefusedAs world.source (Step.PushUrgent ticket) refusal ⊎ ((refusal ≡ Refusal.CountUsed) × (is_used world.source.urgent_sent ≡ true)) → Happens world (Step.PushUrgent ticket) (Err refusal) world
-urgent_refused world ticket refusal is of ok refused =
+pub urgent_refused : (world : World) (ticket : Ticket) (refusal : Refusal) → IsWorld world → world.up ≡ true →
+    (push_urgent world.source ticket ≡ Err refusal) ⊎ ((refusal ≡ Refusal.CountUsed) × (is_used world.source.urgent_sent ≡ true) × IsOk (push_urgent world.source ticket)) → Happens world (Step.PushUrgent ticket) (Err refusal) world
+urgent_refused world ticket refusal is up refused =
     ⊎_elim
-    (λ (h : IsRefusedAs world.source (Step.PushUrgent ticket) refusal). source_refused world (Step.PushUrgent ticket) refusal of refl (inl h))
-    (λ (h : (refusal ≡ Refusal.CountUsed) × (is_used world.source.urgent_sent ≡ true)). absurd (false≢true (sym (urgent_unused world is (stopped_by world.source ticket ok)) ∙ h.1)))
+    (λ (h : push_urgent world.source ticket ≡ Err refusal). happens_refused world (Step.PushUrgent ticket) refusal (ap (source_sends_urgently world) (is-up world.up (push_urgent world.source ticket) up ∙ h)))
+    (λ (h : (refusal ≡ Refusal.CountUsed) × (is_used world.source.urgent_sent ≡ true) × IsOk (push_urgent world.source ticket)).
+    absurd (false≢true (sym (urgent_unused world is (stopped_by world.source ticket h.2)) ∙ h.1)))
     refused

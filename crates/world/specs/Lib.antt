@@ -1,5 +1,4 @@
 pub mod Answers
 pub mod Codes
-pub mod Deliveries
 pub mod Headline
 pub mod Worlds

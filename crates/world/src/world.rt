@@ -2,10 +2,12 @@
 
 ghost use Rattle.std.specs.Prelude.{◌≡◌, ◌↔◌, ◌==◌, ◌||◌, nat_lt, true, false, Ok, Err, ◌⊎◌, IfOk, IfErr, OnErr, All, ◌<◌, length};
 ghost use Rattle.mig_base.specs.Flat.{IsFlatRun};
+ghost use Rattle.mig_model.specs.Migration.{answer};
+ghost use Rattle.mig_model.specs.NodeSteps.{checked};
 ghost use Rattle.mig_model.specs.Runs.{Happens, IsRun};
 ghost use Rattle.mig_model.specs.Views.{new_world_with};
 ghost use Rattle.vcpu.specs.Answers.{is_count};
-ghost use Rattle.world.specs.Answers.{IsAnswered, new_refusal};
+ghost use Rattle.world.specs.Answers.{new_refusal};
 ghost use Rattle.world.specs.Headline.{Headline};
 
 mod views;
@@ -118,7 +120,7 @@ impl World {
     /// How [`World::step`] would refuse a step, memory aside: the refusal exactly where the machine refuses the step with it, and `Ok`
     /// else. It changes nothing, takes no memory, and takes constant time, whatever the number of pages and of frames in flight.
     pub fn would(&self, step: Step) -> Result<(), Refusal>
-        ensures { IsAnswered self.now step result }
+        ensures { result ≡ checked (answer self.now step) }
     {
         self.parts.would(step)
     }

@@ -57,6 +57,17 @@ impl Destination {
         Ok(effect)
     }
 
+    /// Whether [`Destination::read`] would read a message, or how it would be refused; memory is not considered.
+    pub fn check_read(&self) -> Result<(), Refusal>
+        ensures { result ≡ checked (read self.now) }
+    {
+        self.ensure_run()?;
+        match self.space.next_message() {
+            Some(_) => Ok(()),
+            None => Err(Refusal::NothingThere),
+        }
+    }
+
     /// Resolves the first held fault, by the present state of its page, and returns the effect and the frame to send, if any.
     ///
     /// An owed page is requested: its page at the source is appended to the requests, and those that sleep on it sleep on. The frame is a
@@ -105,6 +116,7 @@ impl Destination {
     }
 
     /// The first held fault, or why none can be resolved.
+    #[tactic(auto, unfolding(mig_model::specs::NodeSteps::unless))]
     fn next_fault(&self) -> Result<Fault, Refusal>
         ensures { result ≡ in_phase self.now.has_run (when_quiet self.now.guest (first_of self.now.held)) }
     {

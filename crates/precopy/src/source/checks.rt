@@ -14,7 +14,6 @@ use mig_base::refusal::Refusal;
 use mig_base::schedule::Ticket;
 use mig_base::{HIGH_PAGE, PageNo, PageSet};
 
-#[tactic(auto, unfolding(mig_model::specs::NodeSteps::unless))]
 impl Source {
     /// Whether a migration can begin: the refusal of [`Source::start`], except `NoMemory`.
     pub fn check_start(&self) -> Result<(), Refusal>

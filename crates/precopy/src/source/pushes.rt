@@ -38,7 +38,6 @@ impl Source {
     /// The Package has the mappings, the present pages that are not clean, which are now owed, and the commands that the processors
     /// still have to make. The destination takes these commands over, so unread and held faults are dropped. Refused with `Phase`
     /// outside pre-copy, with `Changing` while an event is unread, and last with `NoMemory`.
-    #[tactic(auto, unfolding(mig_model::specs::NodeSteps::unless))]
     pub fn switch(&mut self) -> Result<(Effect, Frame, Frame), Refusal>
         ensures made { IfOk result (λ made. switch self.old ≡ sent made.0 (frame_of made.1 ∷ frame_of made.2 ∷ []) self.new) }
         ensures frames { IfOk result (λ made. IsFrame (frame_of made.1) × IsFrame (frame_of made.2)) }

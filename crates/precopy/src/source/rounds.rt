@@ -28,7 +28,6 @@ impl Source {
     /// Begins a migration, in the next epoch: registers every mapped page for missing faults and for write-protect faults, area by area,
     /// and returns the frame Advise. Refused with `Phase` if a migration has begun, with `CountUsed` if no epoch is left, and last with
     /// `NoMemory`.
-    #[tactic(auto, unfolding(mig_model::specs::NodeSteps::unless))]
     pub fn start(&mut self) -> Result<(Effect, Frame), Refusal>
         ensures made { IfOk result (λ made. start self.old ≡ sent made.0 (frame_of made.1 ∷ []) self.new) }
         ensures frame { IfOk result (λ made. IsFrame (frame_of made.1)) }
@@ -49,7 +48,6 @@ impl Source {
     /// Begins the next round of pre-copy: registers the pages that were mapped since the last one, area by area; the round has to
     /// send the present pages that are not clean. Refused with `Phase` outside pre-copy, with `Changing` while an event is unread,
     /// with `CountUsed` if no number is left for the round, and last with `NoMemory`.
-    #[tactic(auto, unfolding(mig_model::specs::NodeSteps::unless))]
     pub fn round(&mut self) -> Result<Effect, Refusal>
         ensures made { IfOk result (λ effect. round self.old ≡ acted effect self.new) }
         ensures refused { IfErr result (λ refusal. IsRefusedFor (round self.old) refusal) }
@@ -94,7 +92,6 @@ impl Source {
     }
 
     /// The page that the round would send next.
-    #[tactic(auto, unfolding(mig_model::specs::NodeSteps::unless))]
     pub(super) fn next_to_send(&self) -> Result<PageNo, Refusal>
         ensures answer { result ≡ next_to_send self.now }
         ensures below { IfOk result (λ page. page < HIGH_PAGE) }

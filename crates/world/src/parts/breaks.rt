@@ -1,22 +1,17 @@
 //! Broken channels, and the resume after them.
 
-ghost use Rattle.std.specs.Prelude.{◌≡◌, ◌||◌, not};
+ghost use Rattle.std.specs.Prelude.{◌≡◌};
 ghost use Rattle.mig_base.specs.declared.schedule.Step.{Step};
-ghost use Rattle.mig_model.specs.Migration.{has_started, is_paused_at};
+ghost use Rattle.mig_model.specs.Migration.{answer};
+ghost use Rattle.mig_model.specs.NodeSteps.{checked};
 ghost use Rattle.mig_model.specs.Runs.{Happens};
-ghost use Rattle.mig_model.specs.Source.{is_released};
-ghost use Rattle.precopy.specs.Answers.{next_count};
-ghost use Rattle.world.specs.Answers.{IsAnswered, resume_answer};
 ghost use Rattle.world.specs.Worlds.{IsWorld, world_of};
 
 use super::Parts;
 use mig_base::effect::Effect;
-use mig_base::phase::{DestPhase, SourcePhase};
+use mig_base::phase::SourcePhase;
 use mig_base::refusal::Refusal;
-use mig_base::schedule::Side;
-use page_stream::Frame;
-use precopy::Source;
-use recovery::{notice_dest, notice_source};
+use mig_base::schedule::{Side, Step};
 
 impl Parts {
     /// The channel breaks: all frames in flight are lost. It takes no memory.
@@ -37,10 +32,12 @@ impl Parts {
         requires { IsWorld (world_of self.old) }
         ensures { Happens (world_of self.old) (Step.Notice side) result (world_of self.new) }
     {
-        self.check_notice(side)?;
+        if self.up {
+            return Err(self.refused(Step::Notice(side)));
+        }
         match side {
-            Side::Source => notice_source(&mut self.source),
-            Side::Destination => notice_dest(&self.source, &mut self.destination),
+            Side::Source => recovery::notice_source(&mut self.source),
+            Side::Destination => recovery::notice_dest(&self.source, &mut self.destination),
         }
     }
 
@@ -49,99 +46,41 @@ impl Parts {
         requires { IsWorld (world_of self.old) }
         ensures { Happens (world_of self.old) Step.Resume result (world_of self.new) }
     {
-        let epoch = self.resumed_epoch()?;
-        let Ok(()) = self.forward.reserve(1) else {
-            return Err(Refusal::NoMemory);
-        };
-        self.source.set_epoch(epoch);
-        self.forward.push(epoch, Frame::Resume);
+        if self.up || self.forward.reserve(1).is_err() {
+            return Err(self.refused(Step::Resume));
+        }
+        let (effect, frame) = recovery::resume(&mut self.source, &self.destination)?;
+        self.forward.push(self.source.epoch(), frame);
         self.up = true;
-        Ok(Effect::Resumed { epoch })
+        Ok(effect)
     }
 
     /// Whether the channel can break.
     pub(super) fn check_break(&self) -> Result<(), Refusal>
-        ensures { IsAnswered (world_of self.now) Step.Break result }
+        ensures { result ≡ checked (answer (world_of self.now) Step.Break) }
     {
-        if !self.is_under_way() {
-            return Err(Refusal::Phase);
+        match self.source.phase() {
+            SourcePhase::Idle | SourcePhase::Released => Err(Refusal::Phase),
+            _ => self.while_up(Ok(())),
         }
-        if !self.up {
-            return Err(Refusal::Broken);
-        }
-        Ok(())
     }
 
     /// Whether a side can notice that the channel is broken.
     pub(super) fn check_notice(&self, side: Side) -> Result<(), Refusal>
-        ensures { IsAnswered (world_of self.now) (Step.Notice side) result }
-    {
-        if !self.is_under_way() {
-            return Err(Refusal::Phase);
-        }
-        if self.is_paused(side) {
-            return Err(Refusal::Phase);
-        }
-        if self.up {
-            return Err(Refusal::NotBroken);
-        }
-        Ok(())
-    }
-
-    /// Whether both sides can go on; memory is not considered.
-    pub(super) fn check_resume(&self) -> Result<(), Refusal>
-        ensures { IsAnswered (world_of self.now) Step.Resume result }
-    {
-        match self.resumed_epoch() {
-            Ok(_) => Ok(()),
-            Err(refusal) => Err(refusal),
-        }
-    }
-
-    /// The epoch in which both sides can go on.
-    fn resumed_epoch(&self) -> Result<u32, Refusal>
-        ensures { result ≡ resume_answer (world_of self.now) }
-    {
-        if !self.is_paused(Side::Source) {
-            return Err(Refusal::Phase);
-        }
-        if !self.is_paused(Side::Destination) {
-            return Err(Refusal::Phase);
-        }
-        if self.up {
-            return Err(Refusal::NotBroken);
-        }
-        next_epoch(&self.source)
-    }
-
-    /// Whether a migration has begun, and is not complete.
-    fn is_under_way(&self) -> bool
-        ensures { not result ≡ (not (has_started (world_of self.now)) || is_released self.now.source.phase) }
-    {
-        !matches!(
-            self.source.phase(),
-            SourcePhase::Idle | SourcePhase::Released
-        )
-    }
-
-    /// Whether a side has noticed that the channel is broken.
-    fn is_paused(&self, side: Side) -> bool
-        ensures { result ≡ is_paused_at (world_of self.now) side }
+        ensures { result ≡ checked (answer (world_of self.now) (Step.Notice side)) }
     {
         match side {
-            Side::Source => self.source.phase() == SourcePhase::Paused,
-            Side::Destination => self.destination.phase() == DestPhase::Paused,
+            Side::Source => self.while_down(recovery::check_notice_source(&self.source)),
+            Side::Destination => {
+                self.while_down(recovery::check_notice_dest(&self.source, &self.destination))
+            }
         }
     }
-}
 
-/// The epoch that a Resume begins. `CountUsed` if it would not fit 32 bits.
-fn next_epoch(source: &Source) -> Result<u32, Refusal>
-    ensures { result ≡ next_count source.now.epoch }
-{
-    let epoch = source.epoch();
-    if epoch == u32::MAX {
-        return Err(Refusal::CountUsed);
+    /// Whether both sides can go on.
+    pub(super) fn check_resume(&self) -> Result<(), Refusal>
+        ensures { result ≡ checked (answer (world_of self.now) Step.Resume) }
+    {
+        self.while_down(recovery::check_resume(&self.source, &self.destination))
     }
-    Ok(epoch + 1)
 }

@@ -3,15 +3,14 @@
 ghost use Rattle.std.specs.Prelude.{◌≡◌, ◌++◌, option_to_list};
 ghost use Rattle.std.specs.Vec.{vec_capacity};
 ghost use Rattle.std.specs.Prelude.{◌<◌, length};
-ghost use Rattle.mig_base.specs.declared.command.Command.{Command};
 ghost use Rattle.mig_base.specs.declared.schedule.Step.{Step};
 ghost use Rattle.mig_model.specs.Runs.{Happens};
-ghost use Rattle.world.specs.Answers.{IsAnswered};
 ghost use Rattle.world.specs.Worlds.{IsWorld, world_of};
 
 use super::Parts;
 use mig_base::effect::Effect;
 use mig_base::refusal::Refusal;
+use mig_base::schedule::Step;
 use mig_base::{Command, Entry};
 
 impl Parts {
@@ -20,10 +19,9 @@ impl Parts {
         requires { IsWorld (world_of self.old) }
         ensures { Happens (world_of self.old) (Step.Issue cpu command) result (world_of self.new) }
     {
-        self.check_issue(cpu)?;
-        let Ok(()) = self.transcript.try_reserve(1) else {
-            return Err(Refusal::NoMemory);
-        };
+        if self.transcript.try_reserve(1).is_err() {
+            return Err(self.refused(Step::Issue { cpu, command }));
+        }
         if self.destination.has_run() {
             let there = self.destination.issue(cpu, command)?;
             enter(&mut self.transcript, there.entry);
@@ -39,10 +37,9 @@ impl Parts {
         requires { IsWorld (world_of self.old) }
         ensures { Happens (world_of self.old) (Step.Retry cpu) result (world_of self.new) }
     {
-        self.check_retry(cpu)?;
-        let Ok(()) = self.transcript.try_reserve(1) else {
-            return Err(Refusal::NoMemory);
-        };
+        if self.transcript.try_reserve(1).is_err() {
+            return Err(self.refused(Step::Retry { cpu }));
+        }
         if self.destination.has_run() {
             let there = self.destination.retry(cpu)?;
             enter(&mut self.transcript, there.entry);
@@ -51,28 +48,6 @@ impl Parts {
         let again = self.source.retry(cpu)?;
         enter(&mut self.transcript, again.entry);
         Ok(again.effect)
-    }
-
-    /// Whether a processor can begin a command; memory is not considered.
-    pub(super) fn check_issue(&self, cpu: u8) -> Result<(), Refusal>
-        ensures { (command : Command) → IsAnswered (world_of self.now) (Step.Issue cpu command) result }
-    {
-        self.cpus().ensure_idle(cpu)?;
-        if !self.runs() {
-            return Err(Refusal::Phase);
-        }
-        Ok(())
-    }
-
-    /// Whether a processor can try its load or store again; memory is not considered.
-    pub(super) fn check_retry(&self, cpu: u8) -> Result<(), Refusal>
-        ensures { IsAnswered (world_of self.now) (Step.Retry cpu) result }
-    {
-        let _command = self.cpus().woken(cpu)?;
-        if !self.runs() {
-            return Err(Refusal::Phase);
-        }
-        Ok(())
     }
 }
 

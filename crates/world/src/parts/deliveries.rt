@@ -1,16 +1,19 @@
 //! Deliveries: bytes reach a node, which takes the frame that they complete, and sends its answers.
 
-ghost use Rattle.std.specs.Prelude.{◌≡◌};
+ghost use Rattle.std.specs.Prelude.{◌≡◌, ok_or};
+ghost use Rattle.mig_base.specs.declared.refusal.Refusal as refusals;
 ghost use Rattle.mig_base.specs.declared.schedule.Step.{Step};
+ghost use Rattle.mig_model.specs.Migration.{has_started};
+ghost use Rattle.mig_model.specs.NodeSteps.{checked, first_of, in_phase, while_up};
 ghost use Rattle.mig_model.specs.Runs.{Happens};
-ghost use Rattle.world.specs.Answers.{moving_answer};
 ghost use Rattle.world.specs.Worlds.{IsWorld, world_of};
 
 use super::Parts;
-use crate::frames::{hear, push_all, receive, receive_urgent, told};
+use crate::frames::{receive, receive_back, receive_urgent};
 use mig_base::effect::Effect;
 use mig_base::phase::SourcePhase;
 use mig_base::refusal::Refusal;
+use wires::Wire;
 
 impl Parts {
     /// `n` bytes of the wire to the destination arrive, and the destination takes the frame that they complete.
@@ -18,10 +21,7 @@ impl Parts {
         requires { IsWorld (world_of self.old) }
         ensures { Happens (world_of self.old) (Step.Deliver n) result (world_of self.new) }
     {
-        self.ensure_moving()?;
-        if self.forward.is_empty() {
-            return Err(Refusal::NothingThere);
-        }
+        self.ensure_in_flight(self.has_started(), &self.forward)?;
         let Ok(arrived) = self.forward.arrive(n) else {
             return Err(Refusal::NoMemory);
         };
@@ -39,26 +39,18 @@ impl Parts {
         requires { IsWorld (world_of self.old) }
         ensures { Happens (world_of self.old) (Step.DeliverBack n) result (world_of self.new) }
     {
-        self.ensure_moving()?;
-        if self.back.is_empty() {
-            return Err(Refusal::NothingThere);
-        }
+        self.ensure_in_flight(self.has_started(), &self.back)?;
         let Ok(arrived) = self.back.arrive(n) else {
             return Err(Refusal::NoMemory);
         };
         let Some(sent) = arrived else {
             return Ok(Effect::Moved { bytes: n });
         };
-        // A source that sends all its pages anew sends two frames, a Discard and a Package.
-        let Ok(()) = self.forward.reserve(2) else {
-            return Err(Refusal::NoMemory);
-        };
-        let Ok(frames) = hear(self.alloc, &mut self.source, &sent) else {
+        let Ok(effect) = receive_back(self.alloc, &mut self.source, &mut self.forward, &sent) else {
             return Err(Refusal::NoMemory);
         };
         self.back.drop_first();
-        push_all(&mut self.forward, self.source.epoch(), frames);
-        Ok(told(&sent.frame))
+        Ok(effect)
     }
 
     /// `n` bytes of the urgent wire arrive at the destination, which takes the frame that they complete.
@@ -66,15 +58,7 @@ impl Parts {
         requires { IsWorld (world_of self.old) }
         ensures { Happens (world_of self.old) (Step.DeliverUrgent n) result (world_of self.new) }
     {
-        if !self.destination.has_run() {
-            return Err(Refusal::Phase);
-        }
-        if !self.up {
-            return Err(Refusal::Broken);
-        }
-        if self.urgent.is_empty() {
-            return Err(Refusal::NothingThere);
-        }
+        self.ensure_in_flight(self.destination.has_run(), &self.urgent)?;
         let Ok(arrived) = self.urgent.arrive(n) else {
             return Err(Refusal::NoMemory);
         };
@@ -88,16 +72,27 @@ impl Parts {
         Ok(effect)
     }
 
-    /// `Phase` unless a migration has begun, and then `Broken` unless the link is up.
-    pub(super) fn ensure_moving(&self) -> Result<(), Refusal>
-        ensures { result ≡ moving_answer (world_of self.now) }
+    /// Whether bytes of a wire can arrive: `Phase` unless the phase allows it, then `Broken` unless the link is up, then `NothingThere`
+    /// if nothing is in flight.
+    pub(super) fn ensure_in_flight(&self, allowed: bool, wire: &Wire) -> Result<(), Refusal>
+        ensures { result ≡ checked (while_up self.now.up (in_phase allowed (ok_or (first_of wire.now.wire.frames) refusals.Refusal.NothingThere))) }
     {
-        if self.source.phase() == SourcePhase::Idle {
+        if !allowed {
             return Err(Refusal::Phase);
         }
         if !self.up {
             return Err(Refusal::Broken);
         }
+        if wire.is_empty() {
+            return Err(Refusal::NothingThere);
+        }
         Ok(())
+    }
+
+    /// Whether a migration has begun.
+    pub(super) fn has_started(&self) -> bool
+        ensures { result ≡ has_started (world_of self.now) }
+    {
+        self.source.phase() != SourcePhase::Idle
     }
 }

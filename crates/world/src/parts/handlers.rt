@@ -8,6 +8,7 @@ use super::Parts;
 use crate::frames::send_back;
 use mig_base::effect::Effect;
 use mig_base::refusal::Refusal;
+use mig_base::schedule::Step;
 
 impl Parts {
     /// The handler of the source reads the next message.
@@ -40,10 +41,9 @@ impl Parts {
         requires { IsWorld (world_of self.old) }
         ensures { Happens (world_of self.old) Step.DestAct result (world_of self.new) }
     {
-        self.destination.check_act()?;
-        let Ok(()) = self.back.reserve(1) else {
-            return Err(Refusal::NoMemory);
-        };
+        if self.back.reserve(1).is_err() {
+            return Err(self.refused(Step::DestAct));
+        }
         let (effect, request) = self.destination.act()?;
         send_back(&mut self.back, self.up, self.destination.epoch(), request);
         Ok(effect)

@@ -6,16 +6,14 @@ ghost use Rattle.mig_model.specs.Bounds.{IsFrame};
 ghost use Rattle.mig_model.specs.Runs.{Happens};
 ghost use Rattle.mig_model.specs.Wire.{wire_with};
 ghost use Rattle.dirty_log.specs.Sending.{frame_sent};
-ghost use Rattle.world.specs.Answers.{stopped_answer};
 ghost use Rattle.world.specs.Worlds.{IsWorld, world_of};
 
 use super::Parts;
 use dirty_log::Sent;
 use mig_base::PageNo;
 use mig_base::effect::Effect;
-use mig_base::phase::SourcePhase;
 use mig_base::refusal::Refusal;
-use mig_base::schedule::Ticket;
+use mig_base::schedule::{Step, Ticket};
 use page_stream::Frame;
 use wires::Wire;
 
@@ -25,10 +23,9 @@ impl Parts {
         requires { IsWorld (world_of self.old) }
         ensures { Happens (world_of self.old) (Step.Push ticket) result (world_of self.new) }
     {
-        self.unless_down(self.source.check_push(ticket))?;
-        let Ok(()) = self.forward.reserve(1) else {
-            return Err(Refusal::NoMemory);
-        };
+        if !self.up || self.forward.reserve(1).is_err() {
+            return Err(self.refused(Step::Push(ticket)));
+        }
         let epoch = self.source.epoch();
         let (effect, sent) = self.source.push(ticket)?;
         send_page(&mut self.forward, epoch, ticket.page, sent);
@@ -40,10 +37,9 @@ impl Parts {
         requires { IsWorld (world_of self.old) }
         ensures { Happens (world_of self.old) (Step.PushUrgent ticket) result (world_of self.new) }
     {
-        self.unless_down(self.source.check_push(ticket))?;
-        let Ok(()) = self.urgent.reserve(1) else {
-            return Err(Refusal::NoMemory);
-        };
+        if !self.up || self.urgent.reserve(1).is_err() {
+            return Err(self.refused(Step::PushUrgent(ticket)));
+        }
         let epoch = self.source.epoch();
         let (effect, sent) = self.source.push_urgent(ticket)?;
         send_page(&mut self.urgent, epoch, ticket.page, sent);
@@ -55,7 +51,9 @@ impl Parts {
         requires { IsWorld (world_of self.old) }
         ensures { Happens (world_of self.old) Step.Serve result (world_of self.new) }
     {
-        self.ensure_stopped_up()?;
+        if !self.up {
+            return Err(self.refused(Step::Serve));
+        }
         self.source.serve()
     }
 
@@ -64,26 +62,12 @@ impl Parts {
         requires { IsWorld (world_of self.old) }
         ensures { Happens (world_of self.old) Step.End result (world_of self.new) }
     {
-        self.unless_down(self.source.check_end())?;
-        let Ok(()) = self.forward.reserve(1) else {
-            return Err(Refusal::NoMemory);
-        };
+        if !self.up || self.forward.reserve(1).is_err() {
+            return Err(self.refused(Step::End));
+        }
         let (effect, frame) = self.source.end()?;
         self.forward.push(self.source.epoch(), frame);
         Ok(effect)
-    }
-
-    /// `Phase` unless the source has stopped and is not paused, and then `Broken` unless the link is up.
-    pub(super) fn ensure_stopped_up(&self) -> Result<(), Refusal>
-        ensures { result ≡ stopped_answer (world_of self.now) }
-    {
-        if self.source.phase() != SourcePhase::Stopped {
-            return Err(Refusal::Phase);
-        }
-        if !self.up {
-            return Err(Refusal::Broken);
-        }
-        Ok(())
     }
 }
 

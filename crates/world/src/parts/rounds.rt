@@ -2,14 +2,13 @@
 
 ghost use Rattle.mig_base.specs.declared.schedule.Step.{Step};
 ghost use Rattle.mig_model.specs.Runs.{Happens};
-ghost use Rattle.std.specs.Prelude.{◌≡◌};
-ghost use Rattle.world.specs.Answers.{unless_down};
 ghost use Rattle.world.specs.Worlds.{IsWorld, world_of};
 
 use super::Parts;
 use super::pushes::send_page;
 use mig_base::effect::Effect;
 use mig_base::refusal::Refusal;
+use mig_base::schedule::Step;
 
 impl Parts {
     /// A migration begins: the source sends Advise.
@@ -17,10 +16,9 @@ impl Parts {
         requires { IsWorld (world_of self.old) }
         ensures { Happens (world_of self.old) Step.Start result (world_of self.new) }
     {
-        self.source.check_start()?;
-        let Ok(()) = self.forward.reserve(1) else {
-            return Err(Refusal::NoMemory);
-        };
+        if self.forward.reserve(1).is_err() {
+            return Err(self.refused(Step::Start));
+        }
         let (effect, frame) = self.source.start()?;
         self.forward.push(self.source.epoch(), frame);
         Ok(effect)
@@ -39,10 +37,9 @@ impl Parts {
         requires { IsWorld (world_of self.old) }
         ensures { Happens (world_of self.old) Step.Send result (world_of self.new) }
     {
-        self.unless_down(self.source.check_send())?;
-        let Ok(()) = self.forward.reserve(1) else {
-            return Err(Refusal::NoMemory);
-        };
+        if !self.up || self.forward.reserve(1).is_err() {
+            return Err(self.refused(Step::Send));
+        }
         let epoch = self.source.epoch();
         let (effect, page, sent) = self.source.send_next()?;
         send_page(&mut self.forward, epoch, page, sent);
@@ -54,10 +51,9 @@ impl Parts {
         requires { IsWorld (world_of self.old) }
         ensures { Happens (world_of self.old) (Step.SendRun count) result (world_of self.new) }
     {
-        self.unless_down(self.source.check_run(count))?;
-        let Ok(()) = self.forward.reserve(1) else {
-            return Err(Refusal::NoMemory);
-        };
+        if !self.up || self.forward.reserve(1).is_err() {
+            return Err(self.refused(Step::SendRun { count }));
+        }
         let (effect, frame) = self.source.send_run(count)?;
         self.forward.push(self.source.epoch(), frame);
         Ok(effect)
@@ -68,25 +64,13 @@ impl Parts {
         requires { IsWorld (world_of self.old) }
         ensures { Happens (world_of self.old) Step.Switch result (world_of self.new) }
     {
-        self.unless_down(self.source.check_switch())?;
-        let Ok(()) = self.forward.reserve(2) else {
-            return Err(Refusal::NoMemory);
-        };
+        if !self.up || self.forward.reserve(2).is_err() {
+            return Err(self.refused(Step::Switch));
+        }
         let (effect, discard, package) = self.source.switch()?;
         let epoch = self.source.epoch();
         self.forward.push(epoch, discard);
         self.forward.push(epoch, package);
         Ok(effect)
-    }
-
-    /// The refusal of a step that sends, from that of its source: a wrong phase counts before a broken link, all else behind it.
-    pub(super) fn unless_down(&self, checked: Result<(), Refusal>) -> Result<(), Refusal>
-        ensures { result ≡ unless_down self.now.up checked }
-    {
-        match checked {
-            Err(Refusal::Phase) => Err(Refusal::Phase),
-            _ if !self.up => Err(Refusal::Broken),
-            _ => checked,
-        }
     }
 }

@@ -1,11 +1,16 @@
-//! Why a step is refused, asked before it is made: the nodes' checks, and what the parts show.
+//! Why a step is refused: the nodes' checks, the link, and what the parts show. Phase comes first, then the link, then all else, and lack of
+//! memory last.
 
-ghost use Rattle.std.specs.Prelude.{◌≡◌, ◌∷◌, List, not, nat_lt, true};
+ghost use Rattle.std.specs.Prelude.{◌≡◌, ◌∷◌, List, Ok, not, nat_lt, true};
+ghost use Rattle.mig_base.specs.declared.command.Command.{Command};
 ghost use Rattle.mig_base.specs.declared.schedule.Step.{Step};
+ghost use Rattle.mig_model.specs.Faults.{is_end};
 ghost use Rattle.mig_model.specs.Guest.{counted};
-ghost use Rattle.mig_model.specs.Migration.{is_end};
+ghost use Rattle.mig_model.specs.Migration.{answer, has_started};
+ghost use Rattle.mig_model.specs.NodeSteps as steps;
+ghost use Rattle.mig_model.specs.NodeSteps.{IsRefusedFor, checked};
 ghost use Rattle.mig_model.specs.Wire.{Sent};
-ghost use Rattle.world.specs.Answers.{IsAnswered, has_told, in_flight_len, is_out_of_phase, source_runs_answer};
+ghost use Rattle.world.specs.Answers.{has_sent_end, in_flight_len};
 ghost use Rattle.world.specs.Worlds.{IsWorld, world_of};
 
 use super::Parts;
@@ -18,69 +23,90 @@ use wires::Wire;
 const END_LEN: u64 = 12 + 4;
 
 impl Parts {
+    /// Why a step is not made for which there is no room, or no link: its own refusal, and `NoMemory` where it has none.
+    pub(super) fn refused(&self, step: Step) -> Refusal
+        requires { IsWorld (world_of self.now) }
+        ensures { IsRefusedFor (answer (world_of self.now) step) result }
+    {
+        match self.would(step) {
+            Ok(()) => Refusal::NoMemory,
+            Err(refusal) => refusal,
+        }
+    }
+
     /// Whether a step would be made; memory is not considered. Takes no memory.
     pub(crate) fn would(&self, step: Step) -> Result<(), Refusal>
         requires { IsWorld (world_of self.now) }
-        ensures { IsAnswered (world_of self.now) step result }
+        ensures { result ≡ checked (answer (world_of self.now) step) }
     {
         match step {
             Step::Issue { cpu, .. } => self.check_issue(cpu),
             Step::Retry { cpu } => self.check_retry(cpu),
             Step::Start => self.source.check_start(),
-            Step::Round => self.check_round(),
-            Step::Send => self.unless_down(self.source.check_send()),
-            Step::SendRun { count } => self.unless_down(self.source.check_run(count)),
-            Step::SourceRead => self.check_source_read(),
-            Step::SourceAct => self.check_source_act(),
-            Step::Switch => self.unless_down(self.source.check_switch()),
+            Step::Round => self.source.check_round(),
+            Step::Send => self.while_up(self.source.check_send()),
+            Step::SendRun { count } => self.while_up(self.source.check_run(count)),
+            Step::SourceRead => self.source.check_read(),
+            Step::SourceAct => self.source.check_act(),
+            Step::Switch => self.while_up(self.source.check_switch()),
             Step::Deliver { n } => self.check_deliver(n),
-            Step::DeliverBack { n } => self.check_deliver_back(n),
-            Step::DestRead => self.check_destination_read(),
+            Step::DeliverBack { .. } => self.ensure_in_flight(self.has_started(), &self.back),
+            Step::DestRead => self.destination.check_read(),
             Step::DestAct => self.destination.check_act(),
-            Step::Install => self.check_install(),
-            Step::Push(ticket) => self.unless_down(self.source.check_push(ticket)),
-            Step::PushUrgent(ticket) => self.unless_down(self.source.check_push(ticket)),
-            Step::DeliverUrgent { n } => self.check_deliver_urgent(n),
-            Step::Serve => self.check_serve(),
-            Step::End => self.unless_down(self.source.check_end()),
+            Step::Install => self.destination.check_install(),
+            Step::Push(ticket) => self.while_up(self.source.check_push(ticket)),
+            Step::PushUrgent(ticket) => self.while_up(self.source.check_push(ticket)),
+            Step::DeliverUrgent { .. } => {
+                self.ensure_in_flight(self.destination.has_run(), &self.urgent)
+            }
+            Step::Serve => self.while_up(self.source.check_serve()),
+            Step::End => self.while_up(self.source.check_end()),
             Step::Break => self.check_break(),
             Step::Notice(side) => self.check_notice(side),
             Step::Resume => self.check_resume(),
         }
     }
 
-    /// Whether a round can begin: where the source could switch, and a number is left for the round.
-    fn check_round(&self) -> Result<(), Refusal>
-        ensures { IsAnswered (world_of self.now) Step.Round result }
+    /// The result of a check for a step that needs the link: `Phase` comes first, then `Broken` while the link is down, then all else.
+    pub(super) fn while_up(&self, checked: Result<(), Refusal>) -> Result<(), Refusal>
+        ensures { result ≡ steps.while_up self.now.up checked }
     {
-        self.source.check_switch()?;
-        if self.source.rounds() == u32::MAX {
-            return Err(Refusal::CountUsed);
+        match checked {
+            Err(Refusal::Phase) => Err(Refusal::Phase),
+            _ if !self.up => Err(Refusal::Broken),
+            _ => checked,
+        }
+    }
+
+    /// The same for a step that needs a broken link: `NotBroken` while it is up.
+    pub(super) fn while_down(&self, checked: Result<(), Refusal>) -> Result<(), Refusal>
+        ensures { result ≡ steps.while_down self.now.up checked }
+    {
+        match checked {
+            Err(Refusal::Phase) => Err(Refusal::Phase),
+            _ if self.up => Err(Refusal::NotBroken),
+            _ => checked,
+        }
+    }
+
+    /// Whether a processor can begin a command.
+    fn check_issue(&self, cpu: u8) -> Result<(), Refusal>
+        ensures { (command : Command) → result ≡ checked (answer (world_of self.now) (Step.Issue cpu command)) }
+    {
+        self.cpus().ensure_idle(cpu)?;
+        if !self.runs() {
+            return Err(Refusal::Phase);
         }
         Ok(())
     }
 
-    /// Whether the source's handler can read a message.
-    fn check_source_read(&self) -> Result<(), Refusal>
-        ensures { IsAnswered (world_of self.now) Step.SourceRead result }
+    /// Whether a processor can try its load or store again.
+    fn check_retry(&self, cpu: u8) -> Result<(), Refusal>
+        ensures { result ≡ checked (answer (world_of self.now) (Step.Retry cpu)) }
     {
-        self.ensure_source_runs()?;
-        match self.source.space().next_message() {
-            Some(_) => Ok(()),
-            None => Err(Refusal::NothingThere),
-        }
-    }
-
-    /// Whether the source's handler can resolve a fault.
-    fn check_source_act(&self) -> Result<(), Refusal>
-        ensures { IsAnswered (world_of self.now) Step.SourceAct result }
-    {
-        self.ensure_source_runs()?;
-        if self.source.log().held() == 0 {
-            return Err(Refusal::NothingThere);
-        }
-        if self.source.space().changing() > 0 {
-            return Err(Refusal::Changing);
+        let _command = self.cpus().woken(cpu)?;
+        if !self.runs() {
+            return Err(Refusal::Phase);
         }
         Ok(())
     }
@@ -88,12 +114,9 @@ impl Parts {
     /// Whether bytes can arrive at the destination. A frame that they complete has to wait only if it is End.
     fn check_deliver(&self, n: u64) -> Result<(), Refusal>
         requires { IsWorld (world_of self.now) }
-        ensures { IsAnswered (world_of self.now) (Step.Deliver n) result }
+        ensures { result ≡ checked (answer (world_of self.now) (Step.Deliver n)) }
     {
-        self.ensure_moving()?;
-        if self.forward.is_empty() {
-            return Err(Refusal::NothingThere);
-        }
+        self.ensure_in_flight(self.has_started(), &self.forward)?;
         if !self.is_end_first() {
             return Ok(());
         }
@@ -105,85 +128,6 @@ impl Parts {
         }
         if !self.urgent.is_empty() {
             return Err(Refusal::UrgentFirst);
-        }
-        Ok(())
-    }
-
-    /// Whether bytes can arrive at the source.
-    fn check_deliver_back(&self, n: u64) -> Result<(), Refusal>
-        ensures { IsAnswered (world_of self.now) (Step.DeliverBack n) result }
-    {
-        let _any = n;
-        self.ensure_moving()?;
-        if self.back.is_empty() {
-            return Err(Refusal::NothingThere);
-        }
-        Ok(())
-    }
-
-    /// Whether bytes of the urgent wire can arrive at the destination.
-    fn check_deliver_urgent(&self, n: u64) -> Result<(), Refusal>
-        ensures { IsAnswered (world_of self.now) (Step.DeliverUrgent n) result }
-    {
-        let _any = n;
-        if !self.destination.has_run() {
-            return Err(Refusal::Phase);
-        }
-        if !self.up {
-            return Err(Refusal::Broken);
-        }
-        if self.urgent.is_empty() {
-            return Err(Refusal::NothingThere);
-        }
-        Ok(())
-    }
-
-    /// Whether the destination's handler can read a message.
-    fn check_destination_read(&self) -> Result<(), Refusal>
-        ensures { IsAnswered (world_of self.now) Step.DestRead result }
-    {
-        if !self.destination.has_run() {
-            return Err(Refusal::Phase);
-        }
-        match self.destination.space().next_message() {
-            Some(_) => Ok(()),
-            None => Err(Refusal::NothingThere),
-        }
-    }
-
-    /// Whether a copy can be installed.
-    fn check_install(&self) -> Result<(), Refusal>
-        ensures { IsAnswered (world_of self.now) Step.Install result }
-    {
-        if !self.destination.has_run() {
-            return Err(Refusal::Phase);
-        }
-        if self.destination.arrivals() == 0 {
-            return Err(Refusal::NothingThere);
-        }
-        if self.destination.space().changing() > 0 {
-            return Err(Refusal::Changing);
-        }
-        Ok(())
-    }
-
-    /// Whether the source has a request to serve.
-    fn check_serve(&self) -> Result<(), Refusal>
-        ensures { IsAnswered (world_of self.now) Step.Serve result }
-    {
-        self.ensure_stopped_up()?;
-        if self.source.asked() == 0 {
-            return Err(Refusal::NothingThere);
-        }
-        Ok(())
-    }
-
-    /// Whether the source runs the processors in a migration.
-    fn ensure_source_runs(&self) -> Result<(), Refusal>
-        ensures { result ≡ source_runs_answer (world_of self.now) }
-    {
-        if self.source.phase() == SourcePhase::Idle || self.source.has_switched() {
-            return Err(Refusal::Phase);
         }
         Ok(())
     }
@@ -202,7 +146,7 @@ impl Parts {
 
     /// Whether the source has stopped, and has sent End in its epoch.
     pub(crate) fn has_sent_end(&self) -> bool
-        ensures { result ≡ has_told self.now.source }
+        ensures { result ≡ has_sent_end self.now.source }
     {
         match self.source.phase() {
             SourcePhase::Stopped => is_out_of_phase(self.source.check_end()),
@@ -213,7 +157,7 @@ impl Parts {
 
 /// Whether a step is refused for a wrong phase.
 fn is_out_of_phase(checked: Result<(), Refusal>) -> bool
-    ensures { result ≡ is_out_of_phase checked }
+    ensures { result ≡ steps.is_out_of_phase checked }
 {
     match checked {
         Err(Refusal::Phase) => true,

@@ -7,7 +7,7 @@ ghost use Rattle.mig_model.specs.Guest.{counted};
 ghost use Rattle.mig_model.specs.Source.{not_clean};
 ghost use Rattle.mig_model.specs.Userfault.{changing, next_message};
 ghost use Rattle.mig_model.specs.Views as views;
-ghost use Rattle.world.specs.Answers.{has_told, in_flight_len};
+ghost use Rattle.world.specs.Answers.{has_sent_end, in_flight_len};
 ghost use Rattle.world.specs.Headline.{IsMoved};
 
 use super::World;
@@ -122,7 +122,7 @@ impl World {
 
     /// Whether the source has stopped, and has sent End in its epoch.
     pub fn has_sent_end(&self) -> bool
-        ensures { result ≡ has_told self.now.source }
+        ensures { result ≡ has_sent_end self.now.source }
     {
         self.parts.has_sent_end()
     }

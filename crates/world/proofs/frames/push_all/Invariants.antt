@@ -1,14 +1,13 @@
 use Rattle.std.proofs.Common.{◌≡◌, ◌+◌, ◌≤◌, length, vec_len}
 use Rattle.std.specs.Prelude.{reverse}
 use Rattle.mig_model.specs.Wire.{wire_with}
-use Rattle.recovery.specs.Breaks.{frames_of}
-use Rattle.world.specs.Deliveries.{AreFrames}
+use Rattle.recovery.specs.Breaks.{AreWellFormed, frames_of}
 use Rattle.world.proofs.frames.push_all.Given as goal
 
 abbrev pub invariant-loop-frame : goal.invariant-loop-frame
 invariant-loop-frame l = record {
   sent : wire_with l.wire.wire l.epoch (frames_of (reverse l.frames.items)) ≡ wire_with l.fn.wire.wire l.epoch (frames_of l.fn.frames.items);
-  good : AreFrames (frames_of (reverse l.frames.items));
+  well_formed : AreWellFormed (frames_of (reverse l.frames.items));
   room : l.fn.wire.room + length l.frames.items ≤ l.wire.room + length l.fn.frames.items;
 }
 

@@ -1,5 +1,5 @@
-use Rattle.std.proofs.Common.{◌≡◌, ◌*◌, ◌∷◌, [], ◌⊎◌, ⊎_elim, inl, inr, true, not, refl, sym, ap, ◌∙◌, arith}
-use Rattle.std.specs.Prelude.{Ok, Err, Result}
+use Rattle.std.proofs.Common.{◌≡◌, ◌*◌, [], ◌⊎◌, ⊎_elim, inl, inr, not, refl, sym, ap, ◌∙◌}
+use Rattle.std.specs.Prelude.{Err}
 use Rattle.std.proofs.lemmas.Result.{err_from_is_err_and}
 use Rattle.mig_base.specs.declared.refusal.Refusal.{Refusal}
 use Rattle.mig_model.specs.Destination.{Destination, act_frames, destination_act}
@@ -13,7 +13,7 @@ use Rattle.fault_handler.specs.Acts.{act_is}
 use Rattle.fault_handler.specs.Memory.{act_grows}
 use Rattle.fault_handler.specs.contracts.destination.Destination.{the_view}
 use Rattle.fault_handler.specs.declared.act.Act.{Act}
-use Rattle.fault_handler.proofs.HandlerLemmas.{IsFirstHeld, IsMissing, act_done, first_held, missing_at, next_lacks, same_first, woken_is, zeroed_is, zeroed_order, zeroed_tells}
+use Rattle.fault_handler.proofs.HandlerLemmas.{IsFirstHeld, act_done, first_held, missing_at, next_lacks, same_first, woken_is, zeroed_is, zeroed_order, zeroed_tells}
 use Rattle.fault_handler.proofs.PageLemmas.{requested_page}
 use Rattle.fault_handler.proofs.destination.Destination.act.Goals as goal
 use Rattle.fault_handler.proofs.destination.Destination.act.Goals.{in-Zeroed+in-Ok, in-Woke}

@@ -1,19 +1,13 @@
 use Rattle.std.proofs.Common.{◌≡◌, refl, subst, sym, ap, ◌∙◌, ◌∷◌, ◌*◌}
-use Rattle.std.proofs.lemmas.Result.{err_from_is_err_and}
 use Rattle.mig_model.specs.Effects.{act_effect}
 use Rattle.mig_model.specs.Userfault.{changing}
 use Rattle.precopy.specs.contracts.source.Source.{the_view}
 use Rattle.mig_model.specs.Source.{source_act, source_acted, space_of}
 use Rattle.dirty_log.specs.Spaces.{source_of}
-use Rattle.precopy.proofs.HandlerLemmas.{IsHeld, act_done, act_stopped, acted_is, some_held}
+use Rattle.precopy.proofs.HandlerLemmas.{IsHeld, act_done, acted_is, some_held}
 use Rattle.precopy.proofs.OrderLemmas.{acted_order}
 use Rattle.precopy.proofs.GuestLemmas.{acted_guest}
 use Rattle.precopy.proofs.source.Source.act.Goals as goal
-
-pub returns-in_err-act-clause-refused : goal.returns-in_err-act-clause-refused
-returns-in_err-act-clause-refused c =
-    let p = err_from_is_err_and c.from_residual.result c.from_residual.ensures.1 in
-    rw (p.1, p.2) (act_stopped c.args.self.now _ (sym c.is_handling.ensures ∙ c.if-not-is_handling.false) (rw (← c.self.view_is) c.in_err-act.ensures.refused))
 
 -- the fault that was resolved, and how the machine resolves it
 held : (c : goal.After-act_effect) → IsHeld c.self.inside.log c.self.inside.space

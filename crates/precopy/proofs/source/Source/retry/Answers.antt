@@ -1,15 +1,9 @@
 use Rattle.std.proofs.Common.{ap, not}
-use Rattle.std.proofs.lemmas.Result.{err_from_is_err_and}
 use Rattle.guest.proofs.CommandLemmas.{tried_again}
 use Rattle.guest.specs.Guests.{guest_with}
 use Rattle.precopy.proofs.CommandLemmas.{tried_order}
 use Rattle.precopy.proofs.GuestLemmas.{tried_guest}
 use Rattle.precopy.proofs.source.Source.retry.Goals as goal
-
-pub returns-in_err-tried-clause-refused : goal.returns-in_err-tried-clause-refused
-returns-in_err-tried-clause-refused c =
-    let p = err_from_is_err_and c.from_residual.result c.from_residual.ensures.1 in
-    rw (p.1, p.2) (rw (← c.self.view_is) c.in_err-tried.ensures.refused)
 
 pub invariant_of-self-2 : goal.invariant_of-self-2
 invariant_of-self-2 c =
@@ -18,6 +12,3 @@ invariant_of-self-2 c =
       tried_order _ _ old _ c.self.inside.log c.args.cpu made.command c.is_in_order.ensures (ap (λ g. g.space) made.is) c.self.invariant.0,
       tried_guest old _ c.args.cpu made.command c.is_in_order.ensures made.is c.self.invariant.1,
     )
-
-pub returns-clause-made : goal.returns-clause-made
-returns-clause-made c = rw (← c.self.view_is) c.in_ok-tried.ensures.made

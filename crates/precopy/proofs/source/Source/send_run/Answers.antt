@@ -1,18 +1,13 @@
-use Rattle.std.proofs.Common.{rules, refl, sym, ap, ◌∙◌, arith, ◌<◌}
+use Rattle.std.proofs.Common.{refl, sym, ap, ◌∙◌, arith, ◌<◌}
 use Rattle.std.proofs.lemmas.Result.{err_from_is_err_and}
 use Rattle.mig_base.specs.declared.refusal.Refusal.{Refusal}
 use Rattle.mig_model.specs.Source.{Source, is_released}
-use Rattle.mig_model.specs.Wire as wire
 use Rattle.dirty_log.specs.Answers.{IsRefusedFor, send_refusal}
 use Rattle.precopy.proofs.OrderLemmas.{sent_order}
 use Rattle.dirty_log.proofs.SendLemmas.{page_of_present, page_there}
 use Rattle.precopy.proofs.SendLemmas.{send_unreleased}
-use Rattle.precopy.proofs.RunLemmas.{few_are, few_pages, run_done, run_frame, run_refused, run_some, run_stopped}
-use Rattle.mig_model.proofs.Facts.{counted_is}
+use Rattle.precopy.proofs.RunLemmas.{few_are, few_pages, run_frame, run_some, run_stopped}
 use Rattle.precopy.proofs.source.Source.send_run.Goals as goal
-
-pub returns-in_err-first-clause-refused : goal.returns-in_err-first-clause-refused
-returns-in_err-first-clause-refused c = search (rules, run_refused c.args.self.now c.args.count)
 
 pub send_run-requires-clause-some : goal.send_run-requires-clause-some
 send_run-requires-clause-some c = rw (few_are c.args.self.now c.in_ok-first.first c.args.count c.most_of.result c.run_length-pages.result (rw (← c.self.view_is) c.run_length-pages.ensures.run) c.most_of.ensures) (run_some c.args.self.now c.in_ok-first.first c.args.count (sym c.next_to_send.ensures.answer ∙ c.in_ok-first.was))
@@ -30,13 +25,6 @@ invariant_of-self-2 c = (
   sent_order _ _ c.self.inside.space _ c.self.inside.log _ c.in_ok-first.first c.run_length-pages.result c.is_in_order.ensures c.in_ok-sent.ensures.accepted c.in_ok-sent.ensures.space c.send_run.ensures.lent c.in_ok-sent.ensures.log c.self.invariant.0,
   rw c.in_ok-sent.ensures.space c.self.invariant.1,
 )
-
-pub returns-clause-made : goal.returns-clause-made
-returns-clause-made c =
-    let few = few_are c.args.self.now c.in_ok-first.first c.args.count c.most_of.result c.run_length-pages.result (rw (← c.self.view_is) c.run_length-pages.ensures.run) c.most_of.ensures in
-    run_done c.args.self.now _ c.in_ok-first.first c.args.count c.run_length-pages.result _ _ (sym c.next_to_send.ensures.answer ∙ c.in_ok-first.was) few c.effect_and_run.ensures.effect
-    (c.effect_and_run.ensures.frame ∙ ap (wire.Frame.Run c.in_ok-first.first) (c.in_ok-sent.ensures.bytes c.args.self.now (rw (← c.self.view_is) refl)))
-    (rw (c.in_ok-sent.ensures.log, c.in_ok-sent.ensures.space, c.saturating_add-self-inside.ensures, c.from.ensures, counted_is, ← c.self.view_is) refl)
 
 pub returns-clause-frame : goal.returns-clause-frame
 returns-clause-frame c =

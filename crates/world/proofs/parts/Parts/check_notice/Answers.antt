@@ -1,19 +1,15 @@
-use Rattle.std.proofs.Common.{ap, not, sym, ◌∙◌}
-use Rattle.world.specs.Worlds.{world_of}
-use Rattle.world.proofs.BreakLemmas.{notice_again, notice_ok, notice_outside, notice_up}
+use Rattle.std.proofs.Common.{refl}
+use Rattle.mig_model.specs.DestinationSteps as destination
+use Rattle.mig_model.specs.NodeSteps.{in_phase}
+use Rattle.mig_model.specs.Source.{is_under_way}
+use Rattle.mig_model.specs.SourceSteps as source
+use Rattle.world.proofs.WouldLemmas.{down_checked}
 use Rattle.world.proofs.parts.Parts.check_notice.Goals as goal
 
-pub returns-then-not-is_under_way : goal.returns-then-not-is_under_way
-returns-then-not-is_under_way c = notice_outside (world_of c.args.self.now) c.args.side (sym c.is_under_way.ensures ∙ ap not c.if-not-is_under_way.true)
+pub returns-in-Source : goal.returns-in-Source
+returns-in-Source c = rw (c.in-Source.is) (down_checked c.args.self.now.up (source.pause c.args.self.now.source) _ c.check_notice_source.result _ (λ x. refl) c.check_notice_source.ensures c.while_down.ensures)
 
-pub returns-then-is_paused : goal.returns-then-is_paused
-returns-then-is_paused c =
-    notice_again (world_of c.args.self.now) c.args.side (sym c.is_under_way.ensures ∙ ap not c.if-not-is_under_way.false) (sym c.is_paused.ensures ∙ c.if-is_paused.true)
-
-pub returns-then-self : goal.returns-then-self
-returns-then-self c =
-    notice_up (world_of c.args.self.now) c.args.side (sym c.is_under_way.ensures ∙ ap not c.if-not-is_under_way.false) (sym c.is_paused.ensures ∙ c.if-is_paused.false) c.if-self.true
-
-pub returns : goal.returns
-returns c =
-    notice_ok (world_of c.args.self.now) c.args.side (sym c.is_under_way.ensures ∙ ap not c.if-not-is_under_way.false) (sym c.is_paused.ensures ∙ c.if-is_paused.false) c.if-self.false
+pub returns-in-Destination : goal.returns-in-Destination
+returns-in-Destination c =
+    rw (c.in-Destination.is)
+    (down_checked c.args.self.now.up (in_phase (is_under_way c.args.self.now.source) (destination.pause c.args.self.now.destination)) _ c.check_notice_dest.result _ (λ x. refl) c.check_notice_dest.ensures c.while_down-in-Destination.ensures)

@@ -1,10 +1,10 @@
-use Rattle.std.proofs.Common.{sym}
-use Rattle.world.specs.Worlds.{world_of}
-use Rattle.world.proofs.BreakLemmas.{resume_could, resume_refused}
+use Rattle.std.proofs.Common.{refl}
+use Rattle.mig_model.specs.Destination.{is_dest_paused}
+use Rattle.mig_model.specs.NodeSteps.{in_phase}
+use Rattle.mig_model.specs.SourceSteps as source
+use Rattle.world.proofs.WouldLemmas.{down_checked}
 use Rattle.world.proofs.parts.Parts.check_resume.Goals as goal
 
-pub returns-in-Ok : goal.returns-in-Ok
-returns-in-Ok c = resume_could (world_of c.args.self.now) c.in-Ok.field-0 (sym c.in-Ok.ensures)
-
-pub returns-in-Err : goal.returns-in-Err
-returns-in-Err c = resume_refused (world_of c.args.self.now) c.in-Err.refusal (sym c.in-Err.ensures)
+pub returns : goal.returns
+returns c =
+    down_checked c.args.self.now.up (in_phase (is_dest_paused c.args.self.now.destination.phase) (source.resume c.args.self.now.source)) _ c.check_resume.result _ (λ x. refl) c.check_resume.ensures c.while_down.ensures

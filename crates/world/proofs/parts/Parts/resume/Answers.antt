@@ -1,33 +1,35 @@
-use Rattle.std.proofs.Common.{arith, refl, sym, ◌∙◌}
+use Rattle.std.proofs.Common.{[], true, ap, inl, refl, ◌∙◌, ◌∷◌}
 use Rattle.std.proofs.lemmas.Result.{err_from_is_err_and}
 use Rattle.mig_base.specs.declared.schedule.Step.{Step}
-use Rattle.mig_model.specs.Wire.Frame.{Resume}
+use Rattle.mig_model.specs.Destination.{is_dest_paused}
+use Rattle.mig_model.specs.Migration.{source_sends}
+use Rattle.mig_model.specs.NodeSteps.{in_phase}
+use Rattle.mig_model.specs.SourceSteps as source
 use Rattle.mig_model.specs.Wire.{wire_with}
-use Rattle.std.specs.Prelude.{[], ◌∷◌}
-use Rattle.precopy.proofs.PushLemmas.{used_is}
+use Rattle.mig_model.proofs.StepLemmas.{is-down}
+use Rattle.page_stream.specs.Frames.{frame_of}
 use Rattle.world.specs.Worlds.{world_of}
-use Rattle.world.proofs.BreakLemmas.{can_resume, resume_could, resume_done, resume_refused}
-use Rattle.world.proofs.StepLemmas.{happens_lacking, happens_refused}
+use Rattle.world.proofs.StepLemmas.{happens_kept, node_refused, source_sent}
 use Rattle.world.proofs.parts.Parts.resume.Goals as goal
+use Rattle.world.proofs.parts.Parts.resume.Goals.{then-self-via-else-self+then-is_err, then-self-via-then-self}
 
-pub returns-in_err-epoch : goal.returns-in_err-epoch
-returns-in_err-epoch c =
-    let p = err_from_is_err_and c.from_residual.result c.from_residual.ensures.1 in
-    rw (p.1, p.2) (happens_refused (world_of c.args.self.now) Step.Resume _ (resume_refused (world_of c.args.self.now) _ (sym c.in_err-epoch.ensures)))
+pub returns-then-self : goal.returns-then-self
+returns-then-self c =
+    happens_kept (world_of c.args.self.now) (world_of c.then-self.self) Step.Resume _
+    (elim c.then-self.branch [ then-self-via-then-self w ↦ ap world_of w.self-is | then-self-via-else-self+then-is_err w ↦ ap world_of w.self-is ∙ (λ i. record (world_of c.args.self.now) { forward = w.reserve.ensures.stays i }) ])
+    refl c.refused.ensures
 
-pub returns-in_default : goal.returns-in_default
-returns-in_default c =
+pub returns-in_err-effect : goal.returns-in_err-effect
+returns-in_err-effect c =
     let world = world_of c.args.self.now in
-    rw (c.reserve.ensures.stays) (happens_lacking world Step.Resume (resume_could world _ (sym c.in_ok-epoch.ensures)) refl)
+    let resumes = in_phase (is_dest_paused world.destination.phase) (source.resume world.source) in
+    let p = err_from_is_err_and c.from_residual.result c.from_residual.ensures.1 in
+    rw (p.1, p.2, c.reserve.ensures.stays, c.in_err-effect.ensures.err)
+    (node_refused world Step.Resume resumes _ _ (λ x. refl) (ap (source_sends (record world { up = true })) (is-down world.up resumes c.if-self.false)) refl (inl c.in_err-effect.ensures.refused))
 
 pub returns : goal.returns
 returns c =
-    let can = can_resume (world_of c.args.self.now) c.in_ok-epoch.epoch (sym c.in_ok-epoch.ensures) in
-    resume_done (world_of c.args.self.now) _ _ _ can.from can.to can.down can.free c.set_epoch.ensures
-    (c.push.ensures.wire ∙ (λ i. wire_with (c.reserve.ensures.stays i) c.in_ok-epoch.epoch (Resume ∷ [])))
-
-pub set_epoch-requires : goal.set_epoch-requires
-set_epoch-requires c =
-    let can = can_resume (world_of c.args.self.now) c.in_ok-epoch.epoch (sym c.in_ok-epoch.ensures) in
-    let is = used_is _ c.in_ok-epoch.epoch can.free in
-    omega (arith, is)
+    let world = world_of c.args.self.now in
+    let resumes = in_phase (is_dest_paused world.destination.phase) (source.resume world.source) in
+    source_sent world (record world { up = true }) Step.Resume resumes _ (frame_of c.in_ok-effect.frame ∷ []) _ _ (ap (source_sends (record world { up = true })) (is-down world.up resumes c.if-self.false)) c.in_ok-effect.ensures.made
+    (c.push.ensures.wire ∙ (λ i. wire_with (c.reserve.ensures.stays i) (c.epoch.ensures i) (frame_of c.in_ok-effect.frame ∷ [])))

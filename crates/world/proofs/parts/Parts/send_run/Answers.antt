@@ -1,36 +1,27 @@
-use Rattle.std.proofs.Common.{[], ◌∷◌, refl, ◌∙◌}
+use Rattle.std.proofs.Common.{[], ap, refl, ◌∙◌, ◌∷◌}
 use Rattle.std.proofs.lemmas.Result.{err_from_is_err_and}
 use Rattle.mig_base.specs.declared.schedule.Step.{Step}
+use Rattle.mig_model.specs.SourceSteps as source
 use Rattle.mig_model.specs.Wire.{wire_with}
 use Rattle.page_stream.specs.Frames.{frame_of}
 use Rattle.world.specs.Worlds.{world_of}
-use Rattle.world.proofs.FlightLemmas.{source_good}
-use Rattle.world.proofs.SendingLemmas.{sends_run, sends_answered, sends_up}
-use Rattle.world.proofs.StepLemmas.{happens_lacking, happens_refused, source_made, source_refused}
+use Rattle.world.proofs.StepLemmas.{happens_kept, node_refused, source_sent, up_sends}
 use Rattle.world.proofs.parts.Parts.send_run.Goals as goal
+use Rattle.world.proofs.parts.Parts.send_run.Goals.{then-not-self-via-else-not-self+then-is_err, then-not-self-via-then-not-self}
 
-pub returns-in_err-unless_down : goal.returns-in_err-unless_down
-returns-in_err-unless_down c =
-    let p = err_from_is_err_and c.from_residual.result c.from_residual.ensures.1 in
-    rw (p.1, p.2) (happens_refused (world_of c.args.self.now) (Step.SendRun c.args.count) _ (sends_answered (world_of c.args.self.now) (Step.SendRun c.args.count) c.check_run.result _ (sends_run (world_of c.args.self.now) c.args.count) c.check_run.ensures c.in_err-unless_down.ensures))
-
-pub returns-in_default : goal.returns-in_default
-returns-in_default c =
-    rw (c.reserve.ensures.stays) (happens_lacking (world_of c.args.self.now) (Step.SendRun c.args.count) (sends_answered (world_of c.args.self.now) (Step.SendRun c.args.count) c.check_run.result _ (sends_run (world_of c.args.self.now) c.args.count) c.check_run.ensures c.in_ok-unless_down.ensures) refl)
+pub returns-then-not-self : goal.returns-then-not-self
+returns-then-not-self c =
+    happens_kept (world_of c.args.self.now) (world_of c.then-not-self.self) (Step.SendRun c.args.count) _
+    (elim c.then-not-self.branch [ then-not-self-via-then-not-self w ↦ ap world_of w.self-is | then-not-self-via-else-not-self+then-is_err w ↦ ap world_of w.self-is ∙ (λ i. record (world_of c.args.self.now) { forward = w.reserve.ensures.stays i }) ])
+    refl c.refused.ensures
 
 pub returns-in_err-effect : goal.returns-in_err-effect
 returns-in_err-effect c =
-    let up = sends_up (world_of c.args.self.now) c.check_run.result _ c.in_ok-unless_down.ensures in
-    let p = err_from_is_err_and c.from_residual-in_err-effect.result c.from_residual-in_err-effect.ensures.1 in
-    rw (p.1, p.2, c.reserve.ensures.stays, c.in_err-effect.ensures.err) (source_refused (world_of c.args.self.now) (Step.SendRun c.args.count) _ ((sends_run (world_of c.args.self.now) c.args.count).with_link up) refl c.in_err-effect.ensures.refused)
-
-pub push-requires-clause-well_formed : goal.push-requires-clause-well_formed
-push-requires-clause-well_formed c =
-    let up = sends_up (world_of c.args.self.now) c.check_run.result _ c.in_ok-unless_down.ensures in
-    (source_good (world_of c.args.self.now) (Step.SendRun c.args.count) _ (frame_of c.in_ok-effect.frame ∷ []) _ c.requires ((sends_run (world_of c.args.self.now) c.args.count).with_link up) c.in_ok-effect.ensures.made).0
+    let p = err_from_is_err_and c.from_residual.result c.from_residual.ensures.1 in
+    rw (p.1, p.2, c.reserve.ensures.stays, c.in_err-effect.ensures.err)
+    (node_refused (world_of c.args.self.now) (Step.SendRun c.args.count) (source.send_run c.args.self.now.source c.args.count) _ _ (λ x. refl) (up_sends (world_of c.args.self.now) (source.send_run c.args.self.now.source c.args.count) c.if-not-self.false) refl c.in_err-effect.ensures.refused)
 
 pub returns : goal.returns
 returns c =
-    let up = sends_up (world_of c.args.self.now) c.check_run.result _ c.in_ok-unless_down.ensures in
-    source_made (world_of c.args.self.now) (Step.SendRun c.args.count) _ (frame_of c.in_ok-effect.frame ∷ []) _ _ ((sends_run (world_of c.args.self.now) c.args.count).with_link up) c.in_ok-effect.ensures.made
+    source_sent (world_of c.args.self.now) (world_of c.args.self.now) (Step.SendRun c.args.count) (source.send_run c.args.self.now.source c.args.count) _ (frame_of c.in_ok-effect.frame ∷ []) _ _ (up_sends (world_of c.args.self.now) (source.send_run c.args.self.now.source c.args.count) c.if-not-self.false) c.in_ok-effect.ensures.made
     (c.push.ensures.wire ∙ (λ i. wire_with (c.reserve.ensures.stays i) (c.epoch.ensures i) (frame_of c.in_ok-effect.frame ∷ [])))

@@ -1,5 +1,5 @@
 use Rattle.world.specs.Worlds.{world_of}
-use Rattle.world.proofs.FlightLemmas.{world_happens}
+use Rattle.world.proofs.ReachedLemmas.{world_happens}
 use Rattle.world.proofs.HeadlineLemmas.{headline_of}
 use Rattle.world.proofs.world.World.step.Goals as goal
 
