@@ -1,7 +1,6 @@
 -- Deliveries: what is refused, what moves bytes alone, and what a node takes.
-use Rattle.std.proofs.Common.{◌≡◌, ℕ, ◌≤◌, ◌⊎◌, ◌||◌, Bool, true, false, not, ◌&&◌, Option, Some, None, Ok, Err, IsOk, Result, List, [], ◌∷◌, ◌++◌, length, map, refl, sym, ap, ◌∙◌, subst, inl, inr, ⊎_elim, arith, unwrap_or, if◌then◌else◌}
+use Rattle.std.proofs.Common.{◌≡◌, ℕ, ◌≤◌, ◌⊎◌, ◌||◌, Bool, true, false, not, ◌&&◌, Option, Some, None, Ok, Err, Result, List, [], ◌∷◌, length, refl, sym, ap, ◌∙◌, subst, inl, inr, ⊎_elim, arith, unwrap_or, if◌then◌else◌}
 use Rattle.std.specs.Prelude.{ok_or}
-use Rattle.std.proofs.lemmas.Bool.{false≢true}
 use Rattle.std.proofs.lemmas.Bool.Decides.{nat_tests}
 use Rattle.std.proofs.lemmas.List.{length-map}
 use Rattle.std.specs.Ordering.{nat_cmp}
@@ -11,15 +10,15 @@ use Rattle.mig_base.specs.declared.fault.TakeFault.{TakeFault}
 use Rattle.mig_base.specs.declared.phase.Received.{Received}
 use Rattle.mig_base.specs.declared.refusal.Refusal.{Refusal}
 use Rattle.mig_base.specs.declared.schedule.Step.{Step}
-use Rattle.mig_model.specs.Destination.{Destination, destination_answers, destination_took, urgent_took}
+use Rattle.mig_model.specs.Destination.{Destination, destination_answers, destination_took}
 use Rattle.mig_model.specs.DestinationSteps.{take, take_by, take_urgent}
 use Rattle.mig_model.specs.Effects.{frame_effect}
 use Rattle.mig_model.specs.Faults.{back_fault, frame_fault, rebuild_fault, refusal_of, take_fault, urgent_fault, wait_fault}
-use Rattle.mig_model.specs.Migration.{Answer, World, answer, delivered, deliver, deliver_back, deliver_urgent, destination_acts, destination_sends, has_started, is_short, made, outcome, outcome_by, source_sends}
+use Rattle.mig_model.specs.Migration.{World, answer, destination_sends, has_started, is_short, outcome, outcome_by}
 use Rattle.mig_model.specs.NodeSteps.{acted, and_then, checked, first_of, in_phase, is_out_of_phase, rest_of, sent, while_up}
 use Rattle.mig_model.specs.Promises.{IsReached}
 use Rattle.mig_model.specs.Runs.{Happens, is_move, may_lack}
-use Rattle.mig_model.specs.Source.{Source, rebuild_frames, source_answers, source_took, space_of}
+use Rattle.mig_model.specs.Source.{Source, rebuild_frames, source_answers, space_of}
 use Rattle.mig_model.specs.SourceSteps as source
 use Rattle.mig_model.specs.Wire.{Frame, Sent, Wire, wire_behind, wire_if, wire_with}
 use Rattle.mig_model.specs.Wire.Frame.{Recv}
@@ -32,7 +31,7 @@ use Rattle.mig_model.proofs.WaitingAccesses.{as_many}
 use Rattle.page_stream.specs.Frames.{frame_of}
 use Rattle.page_stream.specs.declared.frame.Frame.{Frame as CodeFrame}
 use Rattle.recovery.specs.Breaks.{frames_of}
-use Rattle.wires.specs.Lanes.{Arrives, Completes, IsMoved, IsWhole, sent_of}
+use Rattle.wires.specs.Lanes.{Arrives, IsMoved, IsWhole, sent_of}
 use Rattle.wires.specs.declared.sent.Sent.{Sent as CodeSent}
 use Rattle.world.proofs.StepLemmas.{destination_acted, destination_sent, happens_made, happens_refused, source_sent}
 use Rattle.world.proofs.WouldLemmas.{Always, checked-and_then, checked-if, checked-while_up}

@@ -1,8 +1,6 @@
-use Rattle.std.proofs.Common.{refl, sym, ◌∙◌}
 use Rattle.std.proofs.lemmas.Result.{err_from_is_err_and}
 use Rattle.mig_base.specs.declared.schedule.Step.{Step}
 use Rattle.mig_model.specs.Migration.{has_started}
-use Rattle.wires.specs.Lanes.{sent_of}
 use Rattle.world.specs.Worlds.{world_of}
 use Rattle.world.proofs.DeliveryLemmas.{arrived_moved, arrived_whole, can_arrive, deliver_lacking, deliver_moved, deliver_not, deliver_refused, deliver_took, forward_right, not_none, taken_off}
 use Rattle.world.proofs.StepLemmas.{happens_refused}

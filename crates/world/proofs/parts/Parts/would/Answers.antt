@@ -1,5 +1,4 @@
-use Rattle.std.proofs.Common.{refl, ◌∙◌}
-use Rattle.mig_base.specs.declared.schedule.Step.{Step}
+use Rattle.std.proofs.Common.{refl}
 use Rattle.mig_model.specs.DestinationSteps as destination
 use Rattle.mig_model.specs.SourceSteps as source
 use Rattle.world.specs.Worlds.{world_of}
