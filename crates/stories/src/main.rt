@@ -3,7 +3,7 @@
 //! The file `stories` names one a line, by a [`Kind`] and the name of its files. For each story one line goes to standard output,
 //! which says whether the story printed what is stored, and of a script also what a check says of its transcript, or after how many lines
 //! its migration was finished. The exit status is 1 where one did not pass, and 2 where a file cannot be read. A further story is a line
-//! and its files. Runs have two processors. The folder `examples` at the top has links to files of `data/`.
+//! and its files. Runs have two processors.
 #![tactic(auto)]
 
 mod finished;
