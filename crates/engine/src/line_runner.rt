@@ -102,7 +102,7 @@ pub fn progress(world: &World) -> Progress
 }
 
 /// Replaces a text by the mode's output for the progress of a world.
-fn tell_progress(world: &World, mode: Mode, text: &mut String) -> Result<(), RunFault>
+fn report_progress(world: &World, mode: Mode, text: &mut String) -> Result<(), RunFault>
     ensures ok { OnOk result (string_bytes text.new ≡ told mode world.now) }
     ensures fault { IfErr result (λ fault. fault ≡ OutOfMemory) }
 {
@@ -128,7 +128,7 @@ pub fn carry_out(
 {
     match order.step(world.epoch()) {
         Some(step) => make_step(world, mode, step, text),
-        None => tell_progress(world, mode, text),
+        None => report_progress(world, mode, text),
     }
 }
 

@@ -120,7 +120,7 @@ fn obey(world: &mut World, order: Order, answer: &mut String) -> Result<Option<E
     match order.step(world.epoch()) {
         Some(step) => make_step(world, step, answer),
         None => {
-            tell_progress(world, answer)?;
+            report_progress(world, answer)?;
             Ok(None)
         }
     }
@@ -140,7 +140,7 @@ fn make_step(world: &mut World, step: Step, answer: &mut String) -> Result<Optio
 }
 
 /// Replaces a text by the report of a world's progress.
-fn tell_progress(world: &World, answer: &mut String) -> Result<(), RunFault>
+fn report_progress(world: &World, answer: &mut String) -> Result<(), RunFault>
     ensures { OnOk result (string_bytes answer.new ≡ told Lines world.now) }
 {
     answer.clear();

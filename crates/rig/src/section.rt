@@ -36,7 +36,7 @@ pub(crate) fn issue_in(world: &mut World, cpu: u8, command: Command) -> Result<T
     ensures refused { OnErr result (world.new ≡ world.old) }
 {
     match world.step(Step::Issue { cpu, command }) {
-        Ok(effect) => Ok(told(world, effect)),
+        Ok(effect) => Ok(tried_as(world, effect)),
         Err(refusal) => Err(refusal),
     }
 }
@@ -52,7 +52,7 @@ pub(crate) fn retry_in(world: &mut World, cpu: u8) -> Result<(Command, Tried), R
     match world.cpu_state(cpu) {
         Ok(CpuState::Asleep(command)) => Ok((command, Tried::Asleep)),
         Ok(CpuState::Woken(command)) => match world.step(Step::Retry { cpu }) {
-            Ok(effect) => Ok((command, told(world, effect))),
+            Ok(effect) => Ok((command, tried_as(world, effect))),
             Err(refusal) => Err(refusal),
         },
         Ok(CpuState::Idle | CpuState::InCall { .. }) => Err(Refusal::NotAsleep),
@@ -101,7 +101,7 @@ pub(crate) fn send_in(
 }
 
 /// The outcome of a try, by its effect. A map call that waits has the reply of the last entry, its own.
-fn told(world: &World, effect: Effect) -> Tried
+fn tried_as(world: &World, effect: Effect) -> Tried
     ensures { (old : List Entry) (cpu : ℕ) (command : Command) → IsEntered effect old world.now.transcript cpu command → world.now.transcript ≡ old ++ entries_by cpu command result }
 {
     match effect {

@@ -1,8 +1,7 @@
 -- Deliveries: what is refused, what moves bytes alone, and what a node takes.
-use Rattle.std.proofs.Common.{◌≡◌, ℕ, ◌≤◌, ◌⊎◌, ◌||◌, Bool, true, false, not, ◌&&◌, Option, Some, None, Ok, Err, Result, List, [], ◌∷◌, length, refl, sym, ap, ◌∙◌, subst, inl, inr, ⊎_elim, arith, unwrap_or, if◌then◌else◌}
+use Rattle.std.proofs.Common.{◌≡◌, ℕ, ◌⊎◌, ◌||◌, Bool, true, false, not, ◌&&◌, Option, Some, None, Ok, Err, Result, List, [], ◌∷◌, refl, sym, ap, ◌∙◌, subst, inr, ⊎_elim, arith, if◌then◌else◌}
 use Rattle.std.specs.Prelude.{ok_or}
 use Rattle.std.proofs.lemmas.Bool.Decides.{nat_tests}
-use Rattle.std.proofs.lemmas.List.{length-map}
 use Rattle.std.specs.Ordering.{nat_cmp}
 use Rattle.std.specs.FinSet.{FinSet}
 use Rattle.mig_base.specs.declared.effect.Effect.{Effect}
@@ -10,15 +9,15 @@ use Rattle.mig_base.specs.declared.fault.TakeFault.{TakeFault}
 use Rattle.mig_base.specs.declared.phase.Received.{Received}
 use Rattle.mig_base.specs.declared.refusal.Refusal.{Refusal}
 use Rattle.mig_base.specs.declared.schedule.Step.{Step}
-use Rattle.mig_model.specs.Destination.{Destination, destination_answers, destination_took}
+use Rattle.mig_model.specs.Destination.{Destination, destination_answers}
 use Rattle.mig_model.specs.DestinationSteps.{take, take_by, take_urgent}
 use Rattle.mig_model.specs.Effects.{frame_effect}
-use Rattle.mig_model.specs.Faults.{back_fault, frame_fault, rebuild_fault, refusal_of, take_fault, urgent_fault, wait_fault}
+use Rattle.mig_model.specs.Faults.{back_fault, frame_fault, rebuild_fault, urgent_fault, wait_fault}
 use Rattle.mig_model.specs.Migration.{World, answer, destination_sends, has_started, is_short, outcome, outcome_by}
 use Rattle.mig_model.specs.NodeSteps.{acted, and_then, checked, first_of, in_phase, is_out_of_phase, rest_of, sent, while_up}
 use Rattle.mig_model.specs.Promises.{IsReached}
 use Rattle.mig_model.specs.Runs.{Happens, is_move, may_lack}
-use Rattle.mig_model.specs.Source.{Source, rebuild_frames, source_answers, space_of}
+use Rattle.mig_model.specs.Source.{Source, source_answers, space_of}
 use Rattle.mig_model.specs.SourceSteps as source
 use Rattle.mig_model.specs.Wire.{Frame, Sent, Wire, wire_behind, wire_if, wire_with}
 use Rattle.mig_model.specs.Wire.Frame.{Recv}
@@ -29,8 +28,6 @@ use Rattle.mig_model.proofs.StepLemmas.{delivers, delivers_back, delivers_urgent
 use Rattle.mig_model.proofs.UrgentKept.{is_taken_urgent}
 use Rattle.mig_model.proofs.WaitingAccesses.{as_many}
 use Rattle.page_stream.specs.Frames.{frame_of}
-use Rattle.page_stream.specs.declared.frame.Frame.{Frame as CodeFrame}
-use Rattle.recovery.specs.Breaks.{frames_of}
 use Rattle.wires.specs.Lanes.{Arrives, IsMoved, IsWhole, sent_of}
 use Rattle.wires.specs.declared.sent.Sent.{Sent as CodeSent}
 use Rattle.world.proofs.StepLemmas.{destination_acted, destination_sent, happens_made, happens_refused, source_sent}
@@ -174,25 +171,6 @@ pub forward_right : (world : World) (n : ℕ) (one : CodeSent) → IsReached wor
 forward_right world n one reached can whole =
     no_frame_fault world.destination (sent_of one) (is_taken world (sent_of one) whole.rest (kept-reached world reached) (urgent-reached world reached) (as_many world reached) can.up whole.first)
 
--- the destination's taking of a frame that has no fault of its own
-take_is : (node : Destination) (epoch : ℕ) (frame : Frame) → frame_fault node epoch frame ≡ None → take_fault node epoch frame ≡ wait_fault node frame
-take_is node epoch frame right = ap (λ o. elim o [ None ↦ wait_fault node frame | Some other ↦ Some other ]) right
-
-pub took_so : (node : Destination) (epoch : ℕ) (frame : Frame) (effect : Effect) (new : Destination) → frame_fault node epoch frame ≡ None → take_fault node epoch frame ≡ None → effect ≡ frame_effect frame → new ≡ destination_took node epoch frame →
-    take node epoch frame ≡ sent effect (destination_answers node frame) new
-took_so node epoch frame effect new right fits is made_ =
-    ap (λ fault. take_by fault node epoch frame) (sym (take_is node epoch frame right) ∙ fits) ∙ (λ i. sent (sym is i) (destination_answers node frame) (sym made_ i))
-
-refused_by : (node : Destination) (epoch : ℕ) (frame : Frame) (fault : TakeFault) (refusal : Refusal) (waits : Option TakeFault) → wait_fault node frame ≡ waits → fault ≡ unwrap_or waits TakeFault.NoMemory → refusal ≡ refusal_of fault →
-    (refusal ≡ Refusal.NoMemory) ⊎ (take node epoch frame ≡ Err refusal)
-refused_by node epoch frame fault refusal None wait is so = inl (so ∙ ap refusal_of is)
-refused_by node epoch frame fault refusal (Some other) wait is so = inr (ap (λ fault. take_by fault node epoch frame) wait ∙ ap Err (sym (so ∙ ap refusal_of is)))
-
-pub not_taken : (node : Destination) (epoch : ℕ) (frame : Frame) (fault : TakeFault) (refusal : Refusal) → frame_fault node epoch frame ≡ None → fault ≡ unwrap_or (take_fault node epoch frame) TakeFault.NoMemory → refusal ≡ refusal_of fault →
-    (refusal ≡ Refusal.NoMemory) ⊎ (take node epoch frame ≡ Err refusal)
-not_taken node epoch frame fault refusal right is so =
-    refused_by node epoch frame fault refusal (wait_fault node frame) refl (is ∙ ap (λ o. unwrap_or o TakeFault.NoMemory) (take_is node epoch frame right)) so
-
 -- DeliverBack
 
 no_move : {b : Bool} → b ≡ false → (true && not (true && b)) ≡ true
@@ -222,22 +200,6 @@ pub recv_right : (world : World) (n : ℕ) (one : CodeSent) (state : Received) (
 recv_right world n one state owed reached can whole is =
     no_rebuild_fault world.source state owed (present_below (space_of world.source) (kept-reached world reached).spaces.source_space)
     (is_taken_back world (record { epoch = one.epoch; frame = Recv state owed }) whole.rest (kept-reached world reached) can.up (whole.first ∙ ap (λ frame. record { epoch = one.epoch; frame = frame } ∷ whole.rest) is))
-
-rebuilt_few : (switched : Bool) (node : Source) → node.switched ≡ switched → length (rebuild_frames Received.NotRun node) ≤ 2
-rebuilt_few true node is = grind (arith, nat_tests)
-rebuilt_few false node is = grind (arith, nat_tests)
-
-answers_few : (state : Received) (node : Source) → length (rebuild_frames state node) ≤ 2
-answers_few Received.NotRun node = rebuilt_few node.switched node refl
-answers_few Received.Running node = omega arith
-answers_few Received.Ended node = omega arith
-
--- there is room for what the source answers to a Recv
-pub rebuilt_room : (state : Received) (node : Source) (frames : List CodeFrame) (room : ℕ) → frames_of frames ≡ rebuild_frames state node → 2 ≤ room → length frames ≤ room
-rebuilt_room state node frames room is enough =
-    let few = answers_few state node in
-    let same = sym (length-map frames frame_of) ∙ ap length is in
-    omega (arith, few, same, enough)
 
 -- DeliverUrgent
 

@@ -28,7 +28,7 @@ use Rattle.mig_model.proofs.Facts.{by_test, eqb-self}
 use Rattle.mig_model.proofs.FirstFrame.{comes, nothing_behind}
 use Rattle.mig_model.proofs.StepLemmas.{delivers}
 use Rattle.mig_model.proofs.UrgentWire.{placed}
-use Rattle.world.proofs.DeliveryLemmas.{CanArrive, always-if}
+use Rattle.world.proofs.DeliveryLemmas.{CanArrive}
 use Rattle.world.specs.Answers.{has_sent_end, in_flight_len}
 
 -- What the source says of an End that it would send
@@ -144,21 +144,12 @@ first_sent world sent rest few h is done = few_bytes few world sent rest (sym (h
 
 -- A frame that arrives whole
 
-short_by : (n length held : ℕ) → length ≡ 16 → n < 16 - held → ltb n (length - held) ≡ true
-short_by n length held is h = grind (arith, nat_tests)
-
 full_by : (n length held : ℕ) → length ≡ 16 → 16 - held ≤ n → ltb n (length - held) ≡ false
 full_by n length held is h = grind (arith, nat_tests)
 
--- a frame that is no End, and an End that has nothing to wait for
-other_fits : (node : Destination) (frame : Frame) → is_end frame ≡ false → wait_fault node frame ≡ None
-other_fits node frame other = grind (arith, nat_tests)
-
+-- what an End has to wait for
 fits_by : (node : Destination) (frame : Frame) → is_end frame ≡ true → is_empty node.arrivals ≡ true → is_early node frame ≡ false → wait_fault node frame ≡ None
 fits_by node frame end none late = grind (arith, nat_tests)
-
-installs_by : (node : Destination) (frame : Frame) → is_end frame ≡ true → is_empty node.arrivals ≡ false → wait_fault node frame ≡ Some TakeFault.InstallFirst
-installs_by node frame end some = grind (arith, nat_tests)
 
 waits_by : (node : Destination) (frame : Frame) → is_empty node.arrivals ≡ true → is_early node frame ≡ true → wait_fault node frame ≡ Some TakeFault.UrgentFirst
 waits_by node frame none early = grind (arith, nat_tests)
@@ -170,27 +161,12 @@ full_checked world n can waits full is =
     ap (λ fault. checked (destination_sends (record world { forward = wire_behind can.rest }) (take_by fault world.destination can.sent.epoch can.sent.frame))) (sym is)
     ∙ ap checked (sym (delivers world n can.sent can.rest false can.allowed can.up can.first full))
 
-pub other_checked : (world : World) (n : ℕ) (can : CanArrive world.up (has_started world) world.forward) → false ≡ is_end can.sent.frame → Ok tt ≡ checked (answer world (Step.Deliver n))
-other_checked world n can other =
-    let short = is_short world.forward can.sent.frame n in
-    sym
-    (ap checked (delivers world n can.sent can.rest short can.allowed can.up can.first refl)
-    ∙ always-if short _ _ refl (ap (λ fault. checked (destination_sends (record world { forward = wire_behind can.rest }) (take_by fault world.destination can.sent.epoch can.sent.frame))) (other_fits world.destination can.sent.frame (sym other))))
-
-pub short_checked : (world : World) (n : ℕ) (can : CanArrive world.up (has_started world) world.forward) → true ≡ is_end can.sent.frame → n < 16 - world.forward.held → Ok tt ≡ checked (answer world (Step.Deliver n))
-short_checked world n can end few =
-    ap checked (sym (delivers world n can.sent can.rest true can.allowed can.up can.first (short_by n (text_len can.sent.frame) world.forward.held (end_len can.sent.frame (sym end)) few)))
-
 -- fewer bytes of an End have come than it has
 pub held_few : (world : World) (can : CanArrive world.up (has_started world) world.forward) → IsReached world → true ≡ is_end can.sent.frame → world.forward.held < 16
 held_few world can reached end =
     let fits = subst (λ frames. HeldFits frames world.forward.held) can.first (kept-reached world reached).held.forward_held in
     let len = end_len can.sent.frame (sym end) in
     omega (arith, fits, len)
-
-some_copies : (copies : List Copy) → 0 < length copies → is_empty copies ≡ false
-some_copies [] h = absurd (grind (arith, nat_tests))
-some_copies (copy ∷ copies) h = refl
 
 no_copies : (copies : List Copy) → length copies ≤ 0 → is_empty copies ≡ true
 no_copies [] h = refl
@@ -199,10 +175,6 @@ no_copies (copy ∷ copies) h = absurd (grind (arith, nat_tests))
 -- an End of which the last byte comes
 end_full : (world : World) (n : ℕ) (can : CanArrive world.up (has_started world) world.forward) → true ≡ is_end can.sent.frame → 16 - world.forward.held ≤ n → is_short world.forward can.sent.frame n ≡ false
 end_full world n can end enough = full_by n (text_len can.sent.frame) world.forward.held (end_len can.sent.frame (sym end)) enough
-
-pub end_installs : (world : World) (n : ℕ) (can : CanArrive world.up (has_started world) world.forward) → true ≡ is_end can.sent.frame → 16 - world.forward.held ≤ n → 0 < length world.destination.arrivals → Err Refusal.InstallFirst ≡ checked (answer world (Step.Deliver n))
-end_installs world n can end enough some =
-    full_checked world n can (Some TakeFault.InstallFirst) (end_full world n can end enough) (installs_by world.destination can.sent.frame (sym end) (some_copies world.destination.arrivals some))
 
 -- End is early exactly while urgent frames are in flight
 early_by : (node : Destination) (epoch end_epoch count flying : ℕ) (frame : Frame) → IsTold epoch end_epoch count frame → count ≡ node.urgent_taken + flying → is_end frame ≡ true → is_early node frame ≡ ltb 0 flying

@@ -1,13 +1,8 @@
 -- Why a step is refused: what a check says of a step that goes on from what a node finds.
-use Rattle.std.proofs.Common.{◌≡◌, ℕ, ◌||◌, Bool, true, false, not, Ok, Err, Result, if◌then◌else◌, refl, sym, ap, ◌∙◌, arith}
+use Rattle.std.proofs.Common.{◌≡◌, ◌||◌, Bool, true, false, not, Ok, Err, Result, if◌then◌else◌, refl, sym, ap, ◌∙◌, arith}
 use Rattle.std.proofs.lemmas.Bool.Decides.{nat_tests}
-use Rattle.mig_base.specs.declared.command.Command.{Command}
 use Rattle.mig_base.specs.declared.refusal.Refusal.{Refusal}
-use Rattle.mig_base.specs.declared.schedule.Step.{Step}
-use Rattle.mig_model.specs.Cpus.{idle_answer, woken_answer}
-use Rattle.mig_model.specs.GuestSteps.{try_command}
-use Rattle.mig_model.specs.Migration.{World, answer, guest_of, guest_tries, runs}
-use Rattle.mig_model.specs.NodeSteps.{and_then, checked, in_phase, is_out_of_phase, while_down, while_up}
+use Rattle.mig_model.specs.NodeSteps.{and_then, checked, is_out_of_phase, while_down, while_up}
 
 -- a step goes on, whatever is found
 abbrev pub Always : {A B : Type 0} → (A → Result B Refusal) → Type 0
@@ -43,23 +38,3 @@ up_checked up found go check result always h is = is ∙ ap (while_up up) h ∙ 
 
 pub down_checked : {A B : Type 0} (up : Bool) (found : Result A Refusal) (go : A → Result B Refusal) (check result : Result (Unit {0}) Refusal) → Always go → check ≡ checked found → result ≡ while_down up check → result ≡ checked (and_then (while_down up found) go)
 down_checked up found go check result always h is = is ∙ ap (while_down up) h ∙ sym (checked-while_down up found) ∙ sym (checked-and_then (while_down up found) go always)
-
--- Commands
-
-pub issue_refused : (world : World) (cpu : ℕ) (command : Command) (refusal : Refusal) → Err refusal ≡ idle_answer (guest_of world).cpus cpu → Err refusal ≡ checked (answer world (Step.Issue cpu command))
-issue_refused world cpu command refusal h = ap (λ found. checked (guest_tries world (and_then found (λ idle. in_phase (runs world) (try_command (guest_of world) cpu command))))) h
-
-pub issue_stopped : (world : World) (cpu : ℕ) (command : Command) (done : Unit {0}) → Ok done ≡ idle_answer (guest_of world).cpus cpu → false ≡ runs world → Err Refusal.Phase ≡ checked (answer world (Step.Issue cpu command))
-issue_stopped world cpu command done h stopped = λ i. checked (guest_tries world (and_then (h i) (λ idle. in_phase (stopped i) (try_command (guest_of world) cpu command))))
-
-pub issue_made : (world : World) (cpu : ℕ) (command : Command) (done : Unit {0}) → Ok done ≡ idle_answer (guest_of world).cpus cpu → true ≡ runs world → Ok tt ≡ checked (answer world (Step.Issue cpu command))
-issue_made world cpu command done h running = λ i. checked (guest_tries world (and_then (h i) (λ idle. in_phase (running i) (try_command (guest_of world) cpu command))))
-
-pub retry_refused : (world : World) (cpu : ℕ) (refusal : Refusal) → Err refusal ≡ woken_answer (guest_of world).cpus cpu → Err refusal ≡ checked (answer world (Step.Retry cpu))
-retry_refused world cpu refusal h = ap (λ found. checked (guest_tries world (and_then found (λ command. in_phase (runs world) (try_command (guest_of world) cpu command))))) h
-
-pub retry_stopped : (world : World) (cpu : ℕ) (command : Command) → Ok command ≡ woken_answer (guest_of world).cpus cpu → false ≡ runs world → Err Refusal.Phase ≡ checked (answer world (Step.Retry cpu))
-retry_stopped world cpu command h stopped = λ i. checked (guest_tries world (and_then (h i) (λ waits. in_phase (stopped i) (try_command (guest_of world) cpu waits))))
-
-pub retry_made : (world : World) (cpu : ℕ) (command : Command) → Ok command ≡ woken_answer (guest_of world).cpus cpu → true ≡ runs world → Ok tt ≡ checked (answer world (Step.Retry cpu))
-retry_made world cpu command h running = λ i. checked (guest_tries world (and_then (h i) (λ waits. in_phase (running i) (try_command (guest_of world) cpu waits))))

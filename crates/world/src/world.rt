@@ -1,6 +1,6 @@
 //! A world: the type that callers see.
 
-ghost use Rattle.std.specs.Prelude.{◌≡◌, ◌↔◌, ◌==◌, ◌||◌, nat_lt, true, false, Ok, Err, ◌⊎◌, IfOk, IfErr, OnErr, All, ◌<◌, length};
+ghost use Rattle.std.specs.Prelude.{◌≡◌, ◌↔◌, true, false, Ok, Err, ◌⊎◌, IfOk, IfErr, OnErr, All, ◌<◌, length};
 ghost use Rattle.mig_base.specs.Flat.{IsFlatRun};
 ghost use Rattle.mig_model.specs.Migration.{answer};
 ghost use Rattle.mig_model.specs.NodeSteps.{checked};

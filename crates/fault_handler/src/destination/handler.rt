@@ -1,7 +1,7 @@
 //! The handler of the destination: it reads messages and resolves faults.
 
 ghost use Rattle.std.specs.Option.{IfSome};
-ghost use Rattle.std.specs.Prelude.{◌≡◌, ℕ, ◌*◌, ◌<◌, ◌⊎◌, true, false, None, Some, Ok, Err, ◌∷◌, List, map, option_to_list, IfOk, IfErr, OnOk, OnErr};
+ghost use Rattle.std.specs.Prelude.{◌≡◌, ℕ, ◌*◌, true, false, None, Some, Ok, Err, ◌∷◌, List, map, option_to_list, IfOk, IfErr, OnOk, OnErr};
 ghost use Rattle.mig_base.specs.declared.TheConstants.{PAGE_SIZE};
 ghost use Rattle.mig_base.specs.declared.effect.Effect as effects;
 ghost use Rattle.mig_base.specs.declared.refusal.Refusal.{Refusal};
