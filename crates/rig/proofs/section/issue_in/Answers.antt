@@ -4,7 +4,7 @@ use Rattle.rig.proofs.section.issue_in.Goals as goal
 
 pub returns-in-Ok-clause-entered : goal.returns-in-Ok-clause-entered
 returns-in-Ok-clause-entered c =
-    c.told.ensures c.args.world.now.transcript c.args.cpu c.args.command
+    c.tried_as.ensures c.args.world.now.transcript c.args.cpu c.args.command
     (issue_enters c.args.world.now c.step.new.self c.args.cpu c.args.command c.in-Ok.effect c.step.result c.in-Ok.is c.step.ensures.happens)
 
 pub returns-in-Err-clause-refused : goal.returns-in-Err-clause-refused

@@ -6,7 +6,7 @@ use Rattle.rig.proofs.section.retry_in.Goals as goal
 
 pub returns-in-Ok-clause-entered : goal.returns-in-Ok-clause-entered
 returns-in-Ok-clause-entered c =
-    c.told.ensures c.args.world.now.transcript c.args.cpu c.in-Ok-Woken.command
+    c.tried_as.ensures c.args.world.now.transcript c.args.cpu c.in-Ok-Woken.command
     (retry_enters c.args.world.now c.step.new.self c.args.cpu c.in-Ok-Woken.command c.in-Ok.effect c.step.result (sym c.cpu_state.ensures ∙ c.in-Ok-Woken.is ∙ ap (λ s. Ok s) c.in-Ok-Woken.field-0-is) c.in-Ok.is c.step.ensures.happens)
 
 pub returns-in-Err-step-clause-refused : goal.returns-in-Err-step-clause-refused
