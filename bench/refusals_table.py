@@ -149,6 +149,9 @@ def allows_no_memory(call):
     # one named fault implies excludes no other)
     if not said or re.search(r"NoMemory|OutOfMemory|↔|≡ Err [\w.]+ →", said):
         return True
+    # (a check answers as a step of the machine, and the law a_run_short_of_memory says that no such step is refused for lack of memory)
+    if re.search(r"result ≡ checked \(", said):
+        return False
     waiting, seen = [it[1:] for it in imports(call.file.read_text()) if names(it[0], said)], set()
     while waiting:
         at = waiting.pop()
