@@ -12,7 +12,7 @@ use Rattle.mig_base.specs.Ranges.{in_range}
 use Rattle.mig_base.proofs.RangeLemmas.{ranges}
 use Rattle.mig_base.proofs.SetLemmas.{member_below, member_removed, member_with_range}
 use Rattle.mig_model.specs.Host.{memory}
-use Rattle.mig_model.specs.Userfault.{Noted, Object, first_noted, next_of, next_message, read_by, rest_noted, waits_fault}
+use Rattle.mig_base.specs.Userfault.{Noted, Object, first_noted, next_of, next_message, read_by, rest_noted, waits_fault}
 use Rattle.mig_model.specs.Space.{Space, IsSoundSpace, accessed_by, all_queued, call_messages, called, modes_after}
 use Rattle.mig_model.specs.Guest as machine
 use Rattle.mig_model.specs.Guest.{Fault, Guest, is_changed_by, is_present, read_guest}
@@ -26,8 +26,8 @@ use Rattle.mig_model.proofs.SourceKept.{no_page_absurd}
 use Rattle.mig_model.proofs.SourceMessages.{events_queued, is_unread-append, noted_all, tells}
 use Rattle.mig_model.proofs.SourceRounds.{watched_below, present_mapped}
 use Rattle.mig_model.proofs.SourceSending.{protected_now}
-use Rattle.guest.proofs.LentLemmas.{read_space}
-use Rattle.guest.proofs.SpaceLemmas.{below_high}
+use Rattle.uffd_ioctl.proofs.LentLemmas.{read_space}
+use Rattle.uffd_ioctl.proofs.LentPages.{below_high}
 use Rattle.dirty_log.specs.Answers.{send_refusal}
 use Rattle.dirty_log.specs.Spaces.{AreProtected}
 use Rattle.dirty_log.proofs.PageLemmas.{member_kept}

@@ -17,7 +17,7 @@ use Rattle.mig_base.proofs.ChunkSets.{without_one}
 use Rattle.mig_base.proofs.RangeLemmas.{in_range-true}
 use Rattle.mig_base.proofs.SetLemmas.{member_below}
 use Rattle.mig_model.specs.Space.{Space, IsSoundSpace}
-use Rattle.mig_model.specs.Userfault.{changing}
+use Rattle.mig_base.specs.Userfault.{changing}
 use Rattle.mig_model.specs.Bounds.{IsPage}
 use Rattle.mig_model.specs.Guest.{is_present}
 use Rattle.mig_model.specs.Host.{Host, IsSound}
@@ -28,7 +28,7 @@ use Rattle.mig_model.specs.Wire.{Frame, is_zeros, page_frame}
 use Rattle.mig_model.proofs.Facts.{zero_bytes}
 use Rattle.mig_model.proofs.IoctlLemmas.{every_page}
 use Rattle.mig_model.proofs.SourceSending.{present_bytes, protected_now, whole_bytes}
-use Rattle.guest.specs.Lent.{IsLent}
+use Rattle.uffd_ioctl.specs.Lent.{IsLent}
 use Rattle.dirty_log.specs.Answers.{send_refusal}
 use Rattle.dirty_log.specs.Sending.{frame_sent}
 use Rattle.dirty_log.specs.Spaces.{is_sendable}

@@ -10,7 +10,7 @@ use Rattle.mig_model.specs.Bounds.{ArePages}
 use Rattle.mig_model.specs.Log.{no_pages}
 use Rattle.mig_model.specs.Space.{Space, IsSoundSpace}
 use Rattle.mig_model.proofs.SourceKept.{no_page_absurd}
-use Rattle.guest.specs.Lent.{IsLent}
+use Rattle.uffd_ioctl.specs.Lent.{IsLent}
 use Rattle.dirty_log.specs.Answers.{send_refusal}
 use Rattle.dirty_log.specs.Rounds.{HasComeTo}
 use Rattle.dirty_log.proofs.KeptLemmas.{in_from, in_to}

@@ -15,7 +15,7 @@ use Rattle.mig_base.specs.Sets.{pages_where}
 use Rattle.mig_base.specs.Tests.{first_holding, is_every}
 use Rattle.mig_base.proofs.RangeLemmas.{none_below-from, none_below_tells, ranges}
 use Rattle.mig_model.specs.Space.{Space, IsSoundSpace}
-use Rattle.mig_model.specs.Userfault.{changing, has_modes, registered_where}
+use Rattle.mig_base.specs.Userfault.{changing, has_modes, registered_where}
 use Rattle.mig_model.specs.Guest.{is_present}
 use Rattle.mig_model.specs.Ioctls.{answered_by, has_events, is_bad_range, is_bare, is_mapped_in, left_by, mode_of, protected_in, register_error, registered, registered_in, write_protected, writeprotect_answer, writeprotect_error}
 use Rattle.mig_model.specs.Log.{present}
@@ -27,8 +27,8 @@ use Rattle.uffd_ioctl.specs.Spaces.{ioctl_result}
 use Rattle.uffd_ioctl.specs.declared.fault.IoctlFault.{IoctlFault}
 use Rattle.uffd_ioctl.specs.declared.fault.IoctlFault.TheVariants as fault
 use Rattle.uffd_ioctl.proofs.RegisterLemmas.{nothing_where, sound_low}
-use Rattle.guest.specs.Lent.{IsLent}
-use Rattle.guest.proofs.SpaceLemmas.{below_high, five_none, from_low, ok_no_err, protected_past, right_range, some_no_none}
+use Rattle.uffd_ioctl.specs.Lent.{IsLent}
+use Rattle.uffd_ioctl.proofs.LentPages.{below_high, five_none, from_low, ok_no_err, protected_past, right_range, some_no_none}
 use Rattle.dirty_log.specs.Spaces.{is_sendable}
 use Rattle.mig_model.proofs.SourceRounds.{present_mapped}
 use Rattle.mig_model.proofs.FrameFaults.{no_fewer}

@@ -3,7 +3,7 @@ use Rattle.std.specs.Prelude.{◌≡◌, ℕ, ◌⊎◌, nat_lt, not, Option, So
 use Rattle.mig_base.specs.declared.effect.Effect.{Effect}
 use Rattle.mig_base.specs.declared.refusal.Refusal.{Refusal}
 use Rattle.mig_base.specs.Tests.{first_holding, is_empty, is_every}
-use Rattle.mig_model.specs.Userfault.{Noted, changing}
+use Rattle.mig_base.specs.Userfault.{Noted, changing}
 use Rattle.mig_model.specs.Space.{Space}
 use Rattle.mig_model.specs.Guest.{Guest}
 use Rattle.mig_model.specs.Log.{Log}
@@ -22,7 +22,7 @@ act_refusal log space = first_holding ((is_empty log.held, Refusal.NothingThere)
 -- the answer to reading the next message
 abbrev pub read_answer : Guest → Option Noted → Result Effect Refusal
 read_answer guest None = Err Refusal.NothingThere
-read_answer guest (Some noted) = Ok (read_effect guest noted.cpu noted.message)
+read_answer guest (Some noted) = Ok (read_effect guest.cpus noted.cpu noted.message)
 
 -- a call is refused for this reason, or, if there is no reason, because memory ran out
 abbrev pub IsRefusedFor : Option Refusal → Refusal → Type 0

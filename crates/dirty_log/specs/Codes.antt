@@ -5,7 +5,7 @@ use Rattle.std.specs.FinSet as set
 use Rattle.std.specs.Coded.{Coded, code_by, coded×, coded_ℕ, coded_list}
 use Rattle.mig_model.specs.Guest.{Fault}
 use Rattle.mig_model.specs.Log.{Log}
-use Rattle.guest.specs.Codes.{coded_fault}
+use Rattle.uffd_ioctl.specs.PageFaults.{coded_fault}
 
 -- the code of a log
 abbrev pub coded_log : Coded Log

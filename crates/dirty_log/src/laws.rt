@@ -5,7 +5,7 @@ ghost use Rattle.std.specs.Prelude.{◌≡◌, ℕ, true, false, Some, None};
 ghost use Rattle.std.specs.FinSet.{contains};
 ghost use Rattle.mig_base.specs.Commands.{is_access};
 ghost use Rattle.mig_base.specs.declared.command.Command.{Command};
-ghost use Rattle.mig_model.specs.Userfault.{Noted, next_message};
+ghost use Rattle.mig_base.specs.Userfault.{Noted, next_message};
 ghost use Rattle.mig_model.specs.Space.{Space, IsSoundSpace, accessed, called};
 ghost use Rattle.mig_model.specs.Guest.{Fault, Guest, is_present, read_guest};
 ghost use Rattle.mig_model.specs.Whereabouts.{is_unread};

@@ -8,11 +8,11 @@ mod handler;
 mod rounds;
 
 use crate::sets::subtract;
-use guest::{Fault, copy_faults};
 use mig_base::{NoMemory, PageNo, PageSet};
 use std::alloc::Global;
 use std::collections::VecDeque;
 use std::marker::Model;
+use uffd_ioctl::{PageFault, copy_faults};
 
 /// What a source knows about its pages, and the faults that its handler holds.
 ///
@@ -27,7 +27,7 @@ pub struct DirtyLog {
     /// No page of `todo` lies below this one: the search for the next begins here.
     from: PageNo,
     sent: PageSet,
-    held: VecDeque<Fault>,
+    held: VecDeque<PageFault>,
 }
 
 impl Model for DirtyLog {

@@ -4,20 +4,19 @@ ghost use Rattle.std.specs.Prelude.{◌≡◌, ◌+◌, ◌<◌, ◌≤◌, ◌�
 ghost use Rattle.std.specs.FinSet.{contains};
 ghost use Rattle.mig_base.specs.Tests.{is_every};
 ghost use Rattle.mig_base.specs.declared.TheConstants.{HIGH_PAGE};
-ghost use Rattle.mig_model.specs.Userfault as object;
+ghost use Rattle.mig_base.specs.Userfault as object;
 ghost use Rattle.mig_model.specs.Guest.{is_forgotten, is_present};
 ghost use Rattle.mig_model.specs.Ioctls.{protected_in};
 ghost use Rattle.mig_model.specs.Source.{all_registered, source_act_by};
-ghost use Rattle.guest.specs.Lent.{IsLent};
+ghost use Rattle.uffd_ioctl.specs.Lent.{IsLent};
 ghost use Rattle.dirty_log.specs.Spaces.{is_sendable as sendable};
 ghost use Rattle.dirty_log.specs.Acts.{act_is};
 
 use crate::act::Act;
-use guest::Fault;
 use mig_base::flags::{REGISTER_MISSING_BIT, REGISTER_WP_BIT, WRITEPROTECT_WP_BIT};
 use mig_base::refusal::Refusal;
 use mig_base::{HIGH, HIGH_PAGE, LOW, NoMemory, PAGE_SIZE, PageNo, page_address};
-use uffd_ioctl::{IoctlFault, Space};
+use uffd_ioctl::{IoctlFault, PageFault, Space};
 
 /// The mode bits of UFFDIO_REGISTER for both modes.
 const BOTH_MODES: u64 = (1 << REGISTER_MISSING_BIT) | (1 << REGISTER_WP_BIT);
@@ -87,7 +86,7 @@ pub fn unprotect(space: &mut Space, page: PageNo)
 }
 
 /// How a fault has to be resolved, according to the present state of its page.
-pub fn act_of(space: &Space, fault: &Fault) -> Act
+pub fn act_of(space: &Space, fault: &PageFault) -> Act
     ensures low { (result ≡ Act.Forgot) ⊎ (fault.now.page < HIGH_PAGE) }
     ensures act { act_is result ≡ source_act_by (is_forgotten space.now fault.now.page) (is_present space.now fault.now.page) (contains space.now.protected fault.now.page && fault.now.wp) }
 {

@@ -1,4 +1,5 @@
 pub mod Checking
 pub mod Engine
 pub mod Script
+pub mod Spelled
 pub mod WorldState

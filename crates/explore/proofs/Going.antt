@@ -14,7 +14,7 @@ use Rattle.mig_base.specs.declared.schedule.Step.{Step}
 use Rattle.mig_model.specs.Migration.{next}
 use Rattle.mig_model.specs.Promises.{IsComplete}
 use Rattle.finish.specs.Finishing.{needs_epoch, IsDue, steps_left}
-use Rattle.finishing.specs.Finished.{HasStep}
+use Rattle.engine.specs.Spelled.{HasStep}
 use Rattle.explore.specs.Explorations.{IsComment, Adds, Explores, Explored, Gone, Going, GoesOn, StopsOn, IsCount, IsFinished, AreFew, IsScript, MakesIt, Writes, Stops, tail}
 
 -- ---- lines one after the other

@@ -13,7 +13,7 @@ use Rattle.engine.specs.declared.line_runner.Mode.TheVariants.{Lines}
 use Rattle.engine.specs.Script.{Obeys, Runs}
 use Rattle.engine.specs.WorldState.{WorldState}
 use Rattle.finish.specs.Finishing.{needs_epoch}
-use Rattle.finishing.specs.Finished.{IsLine}
+use Rattle.engine.specs.Spelled.{IsLine}
 
 -- what stands behind the text of a line: its line feed, or with answers => and the line that a run prints
 abbrev pub tail : Bool → List ℕ → List ℕ

@@ -7,8 +7,7 @@ ghost use Rattle.explore.specs.Explorations.{IsComment, Adds, MakesIt, tail};
 
 use crate::course::Memo;
 use crate::plan::{Plan, VERSION};
-use engine::{RunFault, progress};
-use finishing::{print_order, read_back, spell};
+use engine::{RunFault, print_order, progress, read_back, spell};
 use grammar::{Line, Order, Token, print_line, print_progress};
 use mig_base::effect::Effect;
 use mig_base::refusal::Refusal;

@@ -10,7 +10,7 @@ use Rattle.mig_model.specs.Owed.{Owed}
 use Rattle.mig_model.specs.Space.{IsSoundSpace, Space}
 use Rattle.guest.specs.declared.tried.Tried.{Tried}
 use Rattle.guest.proofs.CommandLemmas.{begun, tried_again}
-use Rattle.guest.proofs.LentLemmas.{space_lent}
+use Rattle.uffd_ioctl.proofs.LentLemmas.{space_lent}
 use Rattle.fault_handler.specs.Order.{IsInOrder}
 use Rattle.fault_handler.proofs.ReadyLemmas.{ready_tried}
 

@@ -20,10 +20,10 @@ use Rattle.mig_model.specs.GuestSteps.{when_quiet}
 use Rattle.mig_model.specs.NodeSteps.{acted, and_then, first_of, in_phase, sent, unless}
 use Rattle.mig_model.specs.Owed.{Owed, owed_table_after}
 use Rattle.mig_model.specs.Space.{Space}
-use Rattle.mig_model.specs.Userfault.{Noted, changing, next_message}
+use Rattle.mig_base.specs.Userfault.{Noted, changing, next_message}
 use Rattle.mig_model.specs.Wire.{Frame}
 use Rattle.guest.specs.Guests.{guest_with}
-use Rattle.guest.specs.Lent.{IsLent}
+use Rattle.uffd_ioctl.specs.Lent.{IsLent}
 use Rattle.fault_handler.specs.Order.{HasPages, IsInOrder}
 use Rattle.mig_model.proofs.Facts.{counted_is}
 use Rattle.fault_handler.proofs.PageLemmas.{read_paged}
@@ -46,10 +46,10 @@ pub some_next : (next : Option Noted) (message : Message) → option_map (λ not
 some_next None message h = absurd (let other : None ≡ Some message = h in cc)
 some_next (Some noted) message h = record { noted = noted; is = refl; same = let same : Some noted.message ≡ Some message = h in cc }
 
-read_by : (node : Destination) (noted : Noted) → node.has_run ≡ true → next_message node.guest.space.object ≡ Some noted → read node ≡ acted (read_effect node.guest noted.cpu noted.message) (destination_read node noted)
+read_by : (node : Destination) (noted : Noted) → node.has_run ≡ true → next_message node.guest.space.object ≡ Some noted → read node ≡ acted (read_effect node.guest.cpus noted.cpu noted.message) (destination_read node noted)
 read_by node noted run next = grind arith
 
-pub read_done : (node new : Destination) (effect : Effect) (noted : Noted) → node.has_run ≡ true → next_message node.guest.space.object ≡ Some noted → effect ≡ read_effect node.guest noted.cpu noted.message → new ≡ destination_read node noted →
+pub read_done : (node new : Destination) (effect : Effect) (noted : Noted) → node.has_run ≡ true → next_message node.guest.space.object ≡ Some noted → effect ≡ read_effect node.guest.cpus noted.cpu noted.message → new ≡ destination_read node noted →
     read node ≡ acted effect new
 read_done node new effect noted run next reported is = rw (reported, is) (read_by node noted run next)
 

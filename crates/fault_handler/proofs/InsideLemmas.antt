@@ -18,7 +18,7 @@ use Rattle.mig_base.proofs.RangeLemmas.{none_below-from, none_below_tells}
 use Rattle.mig_base.proofs.ReplyLemmas.{done_passed, mmap_inside, mremap_told}
 use Rattle.mig_model.specs.Host.{Host, IsSound, memory}
 use Rattle.mig_model.specs.Space.{IsSoundSpace, Space, all_queued, call_messages, told}
-use Rattle.mig_model.specs.Userfault.{Noted, Object, is_registered, is_watched}
+use Rattle.mig_base.specs.Userfault.{Noted, Object, is_registered, is_watched}
 use Rattle.mig_model.proofs.CalledLemmas.{IsLaid, remapped_laid}
 use Rattle.mig_model.proofs.CommandLemmas.{remapped_place}
 use Rattle.mig_model.proofs.Facts.{lesser_left, lesser_right, low_or}

@@ -18,7 +18,7 @@ use Rattle.mig_model.specs.GuestSteps.{when_quiet}
 use Rattle.mig_model.specs.NodeSteps.{acted, and_then, first_of, in_phase, unless}
 use Rattle.mig_model.specs.Owed.{Owed, home, without_request}
 use Rattle.mig_model.specs.Space.{IsSoundSpace, Space}
-use Rattle.mig_model.specs.Userfault.{changing}
+use Rattle.mig_base.specs.Userfault.{changing}
 use Rattle.mig_model.specs.Wire.{Copy}
 use Rattle.mig_model.proofs.Facts.{eqb-self}
 use Rattle.fault_handler.specs.Order.{IsInOrder, IsReady}

@@ -10,7 +10,8 @@ use Rattle.mig_model.specs.Destination.{Destination}
 use Rattle.mig_model.specs.Guest.{Fault, Guest}
 use Rattle.mig_model.specs.Owed.{Owed}
 use Rattle.mig_model.specs.Wire.{Copy}
-use Rattle.guest.specs.Codes.{coded_fault, coded_guest}
+use Rattle.guest.specs.Codes.{coded_guest}
+use Rattle.uffd_ioctl.specs.PageFaults.{coded_fault}
 
 -- the code of a copy
 abbrev pub coded_copy : Coded Copy

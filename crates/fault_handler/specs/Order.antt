@@ -12,8 +12,8 @@ use Rattle.mig_model.specs.Promises.{AreFaults}
 use Rattle.mig_model.specs.Invariant.{AreRight}
 use Rattle.mig_model.specs.Owed.{Owed, settled_by}
 use Rattle.mig_model.specs.Space.{Space}
-use Rattle.mig_model.specs.Userfault.{Noted}
-use Rattle.guest.specs.Lent.{IsLent}
+use Rattle.mig_base.specs.Userfault.{Noted}
+use Rattle.uffd_ioctl.specs.Lent.{IsLent}
 
 -- the pages of an event lie in the address space, and the two ranges of a move do not overlap
 abbrev pub LiesInside : Message → Type 0

@@ -8,11 +8,10 @@ ghost use Rattle.mig_model.specs.Effects.{act_effect};
 ghost use Rattle.mig_model.specs.Guest.{is_forgotten, is_present};
 ghost use Rattle.fault_handler.specs.Acts.{act_is};
 
-use guest::Fault;
 use mig_base::effect::Effect;
 use mig_base::{Addr, HIGH_PAGE, PageNo, page_address};
 use owed_pages::Owed;
-use uffd_ioctl::Space;
+use uffd_ioctl::{PageFault, Space};
 
 /// The action on a fault.
 #[derive(Clone, Copy)]
@@ -29,7 +28,7 @@ pub enum Act {
 
 impl Act {
     /// The action on a fault, by the present state of its page. The page may lie past the address space.
-    pub fn of(space: &Space, owed: &Owed, fault: &Fault) -> Self
+    pub fn of(space: &Space, owed: &Owed, fault: &PageFault) -> Self
         ensures low { (result ≡ Act.Forgot) ⊎ (fault.now.page < HIGH_PAGE) }
         ensures act { act_is result ≡ destination_act_by (is_forgotten space.now fault.now.page) (is_present space.now fault.now.page) (get owed.now fault.now.page) }
     {

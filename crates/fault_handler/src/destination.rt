@@ -17,14 +17,13 @@ mod recovery;
 use crate::arrival::{Arrival, copy_arrivals};
 use crate::kept::Kept;
 use crate::requests::Requests;
-use guest::{Fault, copy_faults};
 use mig_base::phase::DestPhase;
 use mig_base::{NoMemory, PageNo};
 use owed_pages::Owed;
 use std::alloc::Global;
 use std::collections::VecDeque;
 use std::marker::Model;
-use uffd_ioctl::Space;
+use uffd_ioctl::{PageFault, Space, copy_faults};
 use vcpu::{Cpus, NewFault};
 
 /// The destination of a migration.
@@ -42,7 +41,7 @@ pub struct Destination {
     kept: Kept,
     space: Space,
     cpus: Cpus,
-    held: VecDeque<Fault>,
+    held: VecDeque<PageFault>,
     owed: Owed,
     requests: Requests,
     arrivals: VecDeque<Arrival>,

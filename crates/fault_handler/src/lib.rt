@@ -16,6 +16,7 @@ mod arrival;
 pub mod destination;
 mod kept;
 pub mod laws;
+mod messages;
 mod requests;
 
 pub use crate::destination::Destination;

@@ -21,7 +21,7 @@ use Rattle.mig_model.proofs.StepWorlds.{after_notice, after_resume, after_source
 use Rattle.mig_model.specs.NodeSteps.{is_used}
 use Rattle.mig_model.specs.Source.{Source, commands_of, is_precopy, is_released, is_source_idle, is_source_paused, is_stopped, not_clean, space_of}
 use Rattle.mig_model.specs.Destination.{Destination, is_dest_paused}
-use Rattle.mig_model.specs.Userfault.{Noted, Object, message_read, next_message}
+use Rattle.mig_base.specs.Userfault.{Noted, Object, message_read, next_message}
 use Rattle.mig_model.specs.Wire.{Sent}
 use Rattle.mig_model.specs.Wire.Frame.{Advise, Discard, Package}
 use Rattle.mig_model.specs.Space.{Space}

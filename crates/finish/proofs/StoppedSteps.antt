@@ -27,7 +27,7 @@ use Rattle.mig_model.proofs.StepWorlds.{after_deliver, after_deliver_back, after
 use Rattle.mig_model.specs.Owed.{home}
 use Rattle.mig_model.specs.Promises.{IsReached}
 use Rattle.mig_model.specs.Source.{Source, bytes_of, is_released, is_source_idle, is_stopped, package_frames, rebuild_frames, released, source_rebuilt, space_of}
-use Rattle.mig_model.specs.Userfault.{Noted, Object}
+use Rattle.mig_base.specs.Userfault.{Noted, Object}
 use Rattle.mig_model.specs.Whereabouts.{IsReceiving, is_request}
 use Rattle.mig_model.specs.Wire.{Copy, Frame, Sent, page_frame, sending, sending_if, wire_behind, wire_with}
 use Rattle.mig_model.specs.Wire.Frame.{Done, End, Recv, Request, Resume}

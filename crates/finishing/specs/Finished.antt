@@ -1,37 +1,25 @@
 -- What finishes a script: the lines of the steps that complete its migration.
-use Rattle.std.specs.Prelude.{◌≡◌, ℕ, ◌+◌, ◌≤◌, ◌⊎◌, List, [], ◌∷◌, ◌++◌, length, Option, Some, true}
+use Rattle.std.specs.Prelude.{◌≡◌, ℕ, ◌+◌, ◌⊎◌, List, [], ◌∷◌, ◌++◌, length, Option, true}
 use Rattle.std.specs.Io.KnownBytes.{Appends}
-use Rattle.std.specs.Str.Lines.{strip_carriage_return}
 use Rattle.mig_base.specs.declared.schedule.Step.{Step}
 use Rattle.mig_model.specs.Promises.{IsComplete}
 use Rattle.grammar.specs.declared.line.Language.TheVariants.{Script}
 use Rattle.grammar.specs.declared.line.Line.{Line}
 use Rattle.grammar.specs.declared.line.Line.TheVariants.{Do}
 use Rattle.grammar.specs.declared.order.Order.{Order}
-use Rattle.grammar.specs.Lines.{HasNoFeed, Reads, BeginsWrong}
-use Rattle.grammar.specs.Orders.{step_of}
-use Rattle.grammar.specs.Spelling.{Spells}
+use Rattle.grammar.specs.Lines.{Reads, BeginsWrong}
 use Rattle.engine.specs.declared.line_runner.Mode.TheVariants.{Lines}
 use Rattle.engine.specs.declared.fault.RunFault.{RunFault}
 use Rattle.engine.specs.declared.fault.RunFault.TheVariants as faults
 use Rattle.engine.specs.Engine.{Front}
 use Rattle.engine.specs.Script.{Runs}
+use Rattle.engine.specs.Spelled.{HasStep, IsLine}
 use Rattle.engine.specs.WorldState.{WorldState}
 use Rattle.finish.specs.Finishing.{Leads, lacks_epoch}
 use Rattle.finishing.specs.declared.ending.Ending.{Ending}
 use Rattle.finishing.specs.declared.ending.Ending.TheVariants.{Complete, NoEpoch}
 
 -- Lines
-
--- the text, without a line feed, is a line of a script that says this
-pub record IsLine (raw : List ℕ) (line : Line) : Type 0 where
-  pub one : HasNoFeed raw
-  pub short : length raw ≤ 256
-  pub spells : Spells Script (strip_carriage_return raw) line
-
--- the order makes this step, whatever the epoch of the world
-abbrev pub HasStep : Order → Step → Type 0
-HasStep order step = (epoch : ℕ) → step_of order epoch ≡ Some step
 
 -- the text is a line that spells this step
 pub record IsStepLine (raw : List ℕ) (step : Step) : Type 0 where

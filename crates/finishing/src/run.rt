@@ -6,10 +6,9 @@ ghost use Rattle.engine.specs.WorldState.{first_state};
 ghost use Rattle.finishing.specs.Finished.{Adds, AreBehind, Ends, Finishes, Fails, Stops};
 
 use crate::ending::Ending;
-use crate::lines::spell;
 use engine::line_runner::write_out;
 use engine::run::read_lines;
-use engine::{LineRunner, Mode, RunFault, ScriptReader};
+use engine::{LineRunner, Mode, RunFault, ScriptReader, spell};
 use finish::finish;
 use mig_base::refusal::Refusal;
 use mig_base::schedule::Step;

@@ -1,6 +1,5 @@
-use finishing::OrderText;
 use grammar::parse::parse;
-use grammar::{Language, Line, Order};
+use grammar::{Language, Line, Order, OrderText};
 use mig_base::schedule::{Side, Step};
 use mig_base::{Command, NoMemory, Place, Prot};
 use std::alloc::{AllocError, Global};

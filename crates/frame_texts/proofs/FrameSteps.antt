@@ -21,7 +21,7 @@ use Rattle.mig_base.specs.Sets.{run_length, with_range}
 use Rattle.mig_model.specs.Host.{Host, bare_host}
 use Rattle.mig_model.specs.Guest.{Act, Fault, Guest, is_forgotten, is_present, tried, is_changing}
 use Rattle.mig_model.specs.Guest.Act.{Requested}
-use Rattle.mig_model.specs.Userfault.{Noted}
+use Rattle.mig_base.specs.Userfault.{Noted}
 use Rattle.mig_model.specs.Log.{least_of, no_pages}
 use Rattle.mig_model.specs.Owed.{home}
 use Rattle.mig_model.specs.Wire.{Copy, Frame, Sent, page_frame, wire_behind}

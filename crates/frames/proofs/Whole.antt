@@ -15,6 +15,7 @@ use Rattle.frames.specs.Answers.{answer_lines}
 use Rattle.frames.specs.Endings.{IsAnswered, IsAnsweredInPart, Stops}
 use Rattle.frames.specs.Parts.{EndsBy, EndsWhole, Halts, Passes, WritesSome}
 use Rattle.frames.proofs.Pieces.{Taken, taken_then, lines_then, taken_fault, taken_some, taken_nothing}
+use Rattle.engine.proofs.Whole.{input_is}
 
 -- the run so far: what was read, the frames that it has, and their lines, which were written
 pub record Ran (start : Destination) (r0 r1 : Option (List ℕ)) (reader : FrameReader) (w0 w1 : Option (List ℕ)) : Type 0 where
@@ -85,12 +86,6 @@ ran_halts start p chunk fault r0 r1 r2 w0 w1 w2 ran more q = by_input r0 r2 (Con
 
 -- ---- the end of the input
 
--- at the end of the input, what was read is the input
-input_is : (x consumed : List ℕ) (r1 r2 : Option (List ℕ)) → Consumes (Some x) r1 consumed → Consumes r1 r2 [] → IsAtEnd r2 → x ≡ consumed
-input_is x consumed None r2 p q e = absurd p
-input_is x consumed (Some y) None p q e = absurd q
-input_is x consumed (Some y) (Some z) p q e = p ∙ ap (λ (t : List ℕ). consumed ++ t) (q ∙ e) ∙ append-nil consumed
-
 -- the last piece, which is empty, was answered, and these bytes are held then
 answered : (start : Destination) (p q : FrameReader) (input consumed held : List ℕ) (frames : List Sent) (w0 w1 w2 : Option (List ℕ)) → input ≡ consumed → Taken start consumed frames p.decoder p.taker.destination
     → Appends w0 w1 (answer_lines start frames) → (passed : Passes p [] q w1 w2) → q.decoder.fault ≡ None → q.decoder.bytes ≡ held → IsAnswered start input held None w0 w2
@@ -117,7 +112,7 @@ ends_whole : (start : Destination) (p q : FrameReader) (r0 r1 r2 w0 w1 w2 : Opti
 ends_whole start p q None r1 r2 w0 w1 w2 ran last e c = tt
 ends_whole start p q (Some x) r1 r2 w0 w1 w2 ran last e c =
     let none = no_fault start p q ran.consumed ran.frames w1 w2 ran.taken c.0 in
-    answered start p q x ran.consumed [] ran.frames w0 w1 w2 (input_is x ran.consumed r1 r2 ran.consumes last e) ran.taken ran.appends c.0 none (c.1 none)
+    answered start p q x ran.consumed [] ran.frames w0 w1 w2 (input_is x ran.consumed r1 r2 ran.consumes last e).0 ran.taken ran.appends c.0 none (c.1 none)
 
 pub ran_finished : {T E : Type 0} (result : Result T E) (start : Destination) (p q : FrameReader) (r0 r1 r2 w0 w1 w2 : Option (List ℕ)) → Ran start r0 r1 p w0 w1 → Consumes r1 r2 [] → IsAtEnd r2
     → OnOk result (EndsWhole p q w1 w2) → OnOk result (IfSome r0 (λ input. IsAnswered start input [] None w0 w2))
@@ -130,7 +125,7 @@ ends_by start p q (faults.Stream fault) r0 r1 r2 w0 w1 w2 ran last e c = ran_hal
 ends_by start p q faults.Truncated None r1 r2 w0 w1 w2 ran last e c = tt
 ends_by start p q faults.Truncated (Some x) r1 r2 w0 w1 w2 ran last e c =
     let none = no_fault start p q ran.consumed ran.frames w1 w2 ran.taken c.0 in
-    (q.decoder.bytes, c.1 none, answered start p q x ran.consumed q.decoder.bytes ran.frames w0 w1 w2 (input_is x ran.consumed r1 r2 ran.consumes last e) ran.taken ran.appends c.0 none refl)
+    (q.decoder.bytes, c.1 none, answered start p q x ran.consumed q.decoder.bytes ran.frames w0 w1 w2 (input_is x ran.consumed r1 r2 ran.consumes last e).0 ran.taken ran.appends c.0 none refl)
 ends_by start p q faults.ReadFault r0 r1 r2 w0 w1 w2 ran last e c = absurd c
 ends_by start p q faults.WriteFault r0 r1 r2 w0 w1 w2 ran last e c = ran_halts start p [] faults.WriteFault r0 r1 r2 w0 w1 w2 ran last c
 ends_by start p q faults.NoMemory r0 r1 r2 w0 w1 w2 ran last e c = ran_halts start p [] faults.NoMemory r0 r1 r2 w0 w1 w2 ran last c

@@ -1,3 +1,1 @@
 pub mod CommandLemmas
-pub mod SpaceLemmas
-pub mod LentLemmas

@@ -1,9 +1,9 @@
--- Codes of guests and of held faults: proofs about models that contain them compare them by these.
-use Rattle.std.specs.Prelude.{ℕ, Bool, List, refl}
-use Rattle.std.specs.Coded.{Coded, code_by, coded×, coded_ℕ, coded_bool, coded_list}
+-- The code of guests: proofs about models that contain them compare them by it.
+use Rattle.std.specs.Prelude.{List, refl}
+use Rattle.std.specs.Coded.{Coded, code_by, coded×, coded_list}
 use Rattle.mig_base.specs.declared.cpu_state.CpuState.{CpuState}
 use Rattle.mig_base.specs.contracts.cpu_state.CpuState as cpu_state
-use Rattle.mig_model.specs.Guest.{Fault, Guest}
+use Rattle.mig_model.specs.Guest.{Guest}
 use Rattle.mig_model.specs.Space.{Space}
 use Rattle.uffd_ioctl.specs.Spaces.{coded_space}
 
@@ -11,7 +11,3 @@ use Rattle.uffd_ioctl.specs.Spaces.{coded_space}
 abbrev pub coded_guest : Coded Guest
 coded_guest =
     code_by (Space × List CpuState) (coded× coded_space (coded_list cpu_state.the_row.coded)) (λ guest. (guest.space, guest.cpus)) (λ p. record { space = p.0; cpus = p.1 }) (λ _. refl)
-
--- the code of a held fault
-abbrev pub coded_fault : Coded Fault
-coded_fault = code_by (ℕ × Bool) (coded× coded_ℕ coded_bool) (λ fault. (fault.page, fault.wp)) (λ p. record { page = p.0; wp = p.1 }) (λ _. refl)

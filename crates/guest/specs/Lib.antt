@@ -1,4 +1,3 @@
 pub mod Guests
 pub mod Outcomes
 pub mod Codes
-pub mod Lent

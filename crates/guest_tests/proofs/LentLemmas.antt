@@ -6,7 +6,7 @@ use Rattle.mig_base.specs.Bits.{is_one}
 use Rattle.mig_base.specs.Ranges.{none_below}
 use Rattle.mig_model.specs.Space.{fresh_space}
 use Rattle.mig_model.specs.Ioctls.{handshaken}
-use Rattle.guest.specs.Lent.{IsLent}
+use Rattle.uffd_ioctl.specs.Lent.{IsLent}
 
 pub opened_lent : IsLent (handshaken fresh_space 170 333)
 unfolding is_one none_below

@@ -1,11 +1,11 @@
-//! `read`, `make_zeros` and `install`, call by call.
+//! The reading of messages, `make_zeros` and `install`, call by call.
 
 ghost use Rattle.std.specs.Prelude.{◌≡◌, true, false};
-ghost use Rattle.mig_model.specs.Userfault as object;
+ghost use Rattle.mig_base.specs.Userfault as object;
 ghost use Rattle.mig_model.specs.Guest.{is_forgotten, is_present};
-ghost use Rattle.guest.specs.Lent.{IsLent};
+ghost use Rattle.uffd_ioctl.specs.Lent.{IsLent};
 
-use guest::{install, issue, make_zeros, read};
+use guest::issue;
 use mig_base::cpu_state::CpuState;
 use mig_base::effect::Effect;
 use mig_base::flags::{ALL_FEATURES, API};
@@ -16,7 +16,7 @@ use mig_base::{
 use std::alloc::Global;
 use std::process::Abort;
 use std::test::Fail;
-use uffd_ioctl::{IoctlFault, Space};
+use uffd_ioctl::{IoctlFault, Space, install, make_zeros};
 use vcpu::{Cpus, NewFault};
 
 /// A call with its arguments.
@@ -72,6 +72,16 @@ fn register(space: &mut Space) -> Result<Answer, Refusal>
         Ok(()) => Ok(Answer::Done),
         Err(IoctlFault::NoMemory) => Err(Refusal::NoMemory),
         Err(IoctlFault::Errno(_)) => Err(Refusal::NothingThere),
+    }
+}
+
+fn read(space: &mut Space, cpus: &mut Cpus) -> Result<Answer, Refusal>
+    requires lent { IsLent space.old }
+    ensures { IsLent space.new }
+{
+    match space.read_message() {
+        Ok((message, cpu)) => Ok(Answer::Message(message, cpus.read(message, cpu))),
+        Err(_) => Err(Refusal::NothingThere),
     }
 }
 
@@ -159,10 +169,7 @@ fn make(
     match call {
         Call::Issue(cpu, command) => issued(space, cpus, cpu, command),
         Call::Register => register(space),
-        Call::Read => match read(space, cpus) {
-            Some((message, effect)) => Ok(Answer::Message(message, effect)),
-            None => Err(Refusal::NothingThere),
-        },
+        Call::Read => read(space, cpus),
         Call::MakeZeros(page) => zeros(space, cpus, page),
         Call::Install(page, byte) => filled(rt, alloc, space, cpus, page, byte),
         _ => shown(space, cpus, call),

@@ -1,5 +1,5 @@
-//! Tests of the crate `guest`: commands of processors, messages, and pages that are made present, over a space and processors that are
-//! lent.
+//! Tests of a guest: commands of processors (`guest`), messages (`vcpu`), and pages that are made present (`uffd_ioctl`), over a space and
+//! processors that are lent.
 //!
 //! A test is a table of calls with the answers that are wanted, worked out by hand, and one loop plays it. Where a call is refused it
 //! looks that the space and the processors are as before; where memory was refused it makes the call again. So a test passes

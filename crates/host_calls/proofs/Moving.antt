@@ -18,6 +18,7 @@ use Rattle.engine.specs.Script.{MakesAny, Runs as Printed}
 use Rattle.engine.specs.WorldState.{WorldState, epoch_in, first_state}
 use Rattle.engine.proofs.Lines.{reads_more, reads_then, reads_last}
 use Rattle.engine.proofs.Transcripts.{run_promised}
+use Rattle.engine.proofs.Whole.{input_is}
 use Rattle.host_calls.specs.declared.lines.LineReader.{LineReader}
 use Rattle.host_calls.specs.Parts.{Ends, Holds, IsNew, IsOpen, Moves, ReadsAll}
 use Rattle.host_calls.specs.Stepped.{IsLine, MakesAny as Steps, Runs, Writes}
@@ -128,12 +129,6 @@ ran_then a b c chunk r0 r1 r2 w0 w1 w2 ran more moves = record {
   moves = moves_then a b c ran.consumed chunk w0 w1 w2 ran.moves moves;
 }
 
--- at the end of the input, what was read is the input
-input_is : (x consumed : List ℕ) (r1 r2 : Option (List ℕ)) → Consumes (Some x) r1 consumed → Consumes r1 r2 [] → IsAtEnd r2 → x ≡ consumed
-input_is x consumed None r2 p q e = absurd p
-input_is x consumed (Some y) None p q e = absurd q
-input_is x consumed (Some y) (Some z) p q e = p ∙ ap (λ (t : List ℕ). consumed ++ t) (q ∙ e) ∙ append-nil consumed
-
 ran_ends : (a b c : LineReader) (start : WorldState) (r0 r1 r2 w0 w1 w2 : Option (List ℕ)) → IsNew a start → Ran a r0 r1 b w0 w1 → Consumes r1 r2 [] → IsAtEnd r2 → Ends b c w1 w2
     → IfSome r0 (λ input. ReadsAll start input c.stepper.world w0 w2)
 ran_ends a b c start None r1 r2 w0 w1 w2 fresh ran last e ends = tt
@@ -142,7 +137,7 @@ ran_ends a b c start (Some x) r1 r2 w0 w1 w2 fresh ran last e ends =
     record {
       lines = ran.moves.lines ++ ends.lines;
       text = ran.moves.text ++ ends.text;
-      reads = subst (λ (t : List ℕ). Reads Script t (ran.moves.lines ++ ends.lines) []) (sym (input_is x ran.consumed r1 r2 ran.consumes last e))
+      reads = subst (λ (t : List ℕ). Reads Script t (ran.moves.lines ++ ends.lines) []) (sym (input_is x ran.consumed r1 r2 ran.consumes last e).0)
           (reads_last Script ran.consumed ran.moves.lines b.line.items ends.lines [] read ends.reads);
       runs = subst (λ (w : WorldState). Runs w (ran.moves.lines ++ ends.lines) c.stepper.world (ran.moves.text ++ ends.text)) fresh.world
           (runs_then a.stepper.world ran.moves.lines b.stepper.world ran.moves.text ends.lines c.stepper.world ends.text ran.moves.runs ends.runs);

@@ -13,7 +13,7 @@ use Rattle.mig_model.specs.Guest.{Guest, in_bytes, is_left_by, read_guest}
 use Rattle.mig_model.specs.Ioctls.{is_bad_range, read_error, read_space, wake_answer}
 use Rattle.mig_model.specs.Effects.{event_effect, read_effect}
 use Rattle.mig_model.specs.Space.{Space}
-use Rattle.mig_model.specs.Userfault.{Noted, Object, message_read, next_message}
+use Rattle.mig_base.specs.Userfault.{Noted, Object, message_read, next_message}
 use Rattle.mig_model.proofs.Registering.{left_new}
 use Rattle.mig_model.proofs.RightCommands.{AllRight}
 use Rattle.mig_model.proofs.WaitingCommands.{less_same, set_same}
@@ -71,7 +71,7 @@ event_calls event cpu None = refl
 event_calls event cpu (Some reply) = refl
 
 pub read_made : (bytes : List ℕ) (guest : Guest) (noted : Noted) (cpu : ℕ) (message : Message) → guest.space.object.enabled ≡ true → next_message guest.space.object ≡ Some noted → AllRight guest.cpus
-    → AreMade bytes (read_calls (read_effect guest cpu message)) guest (read_guest guest cpu message)
+    → AreMade bytes (read_calls (read_effect guest.cpus cpu message)) guest (read_guest guest cpu message)
 read_made bytes guest noted cpu (PageFault addr write wp tid) enabled some right = (
   record guest { space = read_of guest.space },
   record { answer = not_refused guest.space noted enabled some; leaves = read_leaves guest.space noted enabled some; goes_on = inl refl },

@@ -9,6 +9,7 @@ use Rattle.mig_model.specs.Bounds.{IsPage}
 use Rattle.mig_model.specs.Cpus.{all_woken, outstanding, woken_if}
 use Rattle.mig_model.specs.Guest.{in_bytes}
 use Rattle.mig_model.proofs.RightCommands.{AllRight, IsInside}
+use Rattle.mig_model.proofs.FaultPages.{access_page}
 
 -- Ranges
 
@@ -33,13 +34,10 @@ cut_end start end page is = cut_range start (end - start) page is ∙ by_end sta
 
 -- Processors
 
-slept_page : (command : Command) → IsInside command → IsPage (page_of command)
-slept_page command is = grind (arith, nat_tests)
-
 one_alike : (one other : ℕ → Bool) (p : CpuState) → ((page : ℕ) → IsPage page → one page ≡ other page) → ((command : Command) → outstanding p ≡ Some command → IsInside command) → woken_if one p ≡ woken_if other p
 one_alike one other CpuState.Idle same right = refl
 one_alike one other (CpuState.Asleep command) same right =
-    ap (λ (b : Bool). if b then CpuState.Woken command else CpuState.Asleep command) (same (page_of command) (slept_page command (right command refl)))
+    ap (λ (b : Bool). if b then CpuState.Woken command else CpuState.Asleep command) (same (page_of command) (access_page command (right command refl)))
 one_alike one other (CpuState.Woken command) same right = refl
 one_alike one other (CpuState.InCall reply left) same right = refl
 

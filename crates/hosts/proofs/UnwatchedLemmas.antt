@@ -19,7 +19,7 @@ use Rattle.mig_base.proofs.TestLemmas.{and_false}
 use Rattle.mig_base.proofs.RangeLemmas.{none_below-from}
 use Rattle.mig_base.proofs.SetLemmas.{same_members, member_without, member_below}
 use Rattle.mig_model.specs.Host.{Host, memory, host_after, IsSound}
-use Rattle.mig_model.specs.Userfault.{fresh_object, is_registered, is_watched}
+use Rattle.mig_base.specs.Userfault.{fresh_object, is_registered, is_watched}
 use Rattle.mig_model.specs.Space.{Space, access_of, accessed_by, accessed, is_made, told, call_messages, modes_after, protected_after, all_queued, called_with, called}
 use Rattle.mig_base.specs.Commands.{is_store, page_of, is_access}
 use Rattle.mig_model.proofs.CommandLemmas.{memory-changed}

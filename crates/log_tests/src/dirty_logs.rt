@@ -2,7 +2,7 @@
 
 ghost use Rattle.std.specs.Prelude.{◌≡◌, true, false};
 ghost use Rattle.mig_base.specs.Commands.{is_access};
-ghost use Rattle.guest.specs.Lent.{IsLent};
+ghost use Rattle.uffd_ioctl.specs.Lent.{IsLent};
 
 use dirty_log::{Act, DirtyLog, Sent};
 use mig_base::cpu_state::CpuState;

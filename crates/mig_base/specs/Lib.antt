@@ -13,3 +13,4 @@ pub mod PageSets
 pub mod Messages
 pub mod Texts
 pub mod Tails
+pub mod Userfault

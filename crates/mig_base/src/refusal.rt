@@ -1,5 +1,9 @@
 //! Why a step of a migration is refused.
 
+ghost use Rattle.std.specs.Prelude.{◌≡◌};
+
+use crate::NoMemory;
+
 /// Why a step is refused. A refused step changes nothing. If several reasons apply, the first of this list is given, and `NoMemory` comes
 /// last. One exception: a Deliver needs memory to read the frame that it completes, so it may answer `NoMemory` before `InstallFirst` and
 /// `UrgentFirst`.
@@ -39,4 +43,14 @@ pub enum Refusal {
     CountUsed = 15,
     /// Out of memory: an allocation failed.
     NoMemory = 16,
+}
+
+impl From<NoMemory> for Refusal {
+    ghost use Rattle.mig_base.specs.declared.refusal.Refusal.{Refusal};
+
+    ghost from_gives = { λ _ refusal. refusal ≡ Refusal.NoMemory };
+
+    fn from(_refused: NoMemory) -> Self {
+        Refusal::NoMemory
+    }
 }

@@ -173,7 +173,7 @@ event_goes_on old new message cpu test is =
           (one, ap (λ cpus. processor_at cpus cpu) is ∙ woken_idle test (set old.cpus cpu (message_less p)) cpu (there ∙ ap message_less one));
     }
 
-read_goes_on : (guest : Guest) (cpu : ℕ) (message : Message) → GoOn guest (read_guest guest cpu message) (read_effect guest cpu message)
+read_goes_on : (guest : Guest) (cpu : ℕ) (message : Message) → GoOn guest (read_guest guest cpu message) (read_effect guest.cpus cpu message)
 read_goes_on guest cpu (PageFault addr write wp tid) = all_go_on guest _ _ (λ k. refl) refl
 read_goes_on guest cpu message = event_goes_on guest _ message cpu (is_left_by message) refl
 

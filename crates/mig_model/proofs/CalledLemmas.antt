@@ -12,7 +12,7 @@ use Rattle.mig_base.proofs.ReplyLemmas.{IsRemapped}
 use Rattle.mig_base.proofs.ReplyLemmas.IsWhere.{Shrunk, Grew, Moved, Told}
 use Rattle.mig_base.proofs.BoundLemmas.{apart_of, one_prot_some}
 use Rattle.mig_model.specs.Host.{Host, memory, IsSound}
-use Rattle.mig_model.specs.Userfault.{Object, is_watched}
+use Rattle.mig_base.specs.Userfault.{Object, is_watched}
 use Rattle.mig_model.specs.Space.{told, remap_messages}
 use Rattle.mig_model.proofs.HostLemmas.{is_mapped-memory}
 use Rattle.mig_model.proofs.CommandLemmas.{remapped_place}

@@ -13,7 +13,7 @@ use Rattle.mig_base.specs.declared.schedule.Step.{Step}
 use Rattle.mig_base.specs.Commands.{is_access}
 use Rattle.mig_base.specs.Flat.{reply_of}
 use Rattle.mig_model.specs.Host.{memory}
-use Rattle.mig_model.specs.Userfault.{Noted, next_message}
+use Rattle.mig_base.specs.Userfault.{Noted, next_message}
 use Rattle.mig_model.specs.Space.{access_of, call_messages, modes_after}
 use Rattle.mig_model.specs.Wire.{Frame}
 use Rattle.mig_model.specs.Wire.Frame.{Package}

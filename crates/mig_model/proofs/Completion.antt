@@ -8,7 +8,7 @@ use Rattle.mig_base.specs.declared.phase.DestPhase.{DestPhase}
 use Rattle.mig_base.specs.declared.phase.Received.{Received}
 use Rattle.mig_base.specs.declared.phase.SourcePhase.{SourcePhase}
 use Rattle.mig_base.specs.declared.schedule.Side.{Side}
-use Rattle.mig_model.specs.Userfault.{Noted}
+use Rattle.mig_base.specs.Userfault.{Noted}
 use Rattle.mig_model.specs.Source.{Source, is_released, is_source_idle, is_source_paused, source_rebuilt, space_of}
 use Rattle.mig_model.specs.Destination.{is_dest_paused}
 use Rattle.mig_model.specs.Wire.{Sent}

@@ -15,7 +15,7 @@ use Rattle.mig_base.specs.declared.message.Message.{Message}
 use Rattle.mig_base.specs.Flat.{memory_of}
 use Rattle.mig_base.proofs.SetLemmas.{member_below}
 use Rattle.mig_model.specs.Host.{Host, memory, IsSound}
-use Rattle.mig_model.specs.Userfault.{Noted}
+use Rattle.mig_base.specs.Userfault.{Noted}
 use Rattle.mig_model.specs.Space.{fresh_space}
 use Rattle.mig_model.specs.Guest.{is_present}
 use Rattle.mig_model.specs.Wire.{Frame, Sent, kept_after, wire_behind}

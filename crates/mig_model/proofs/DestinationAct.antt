@@ -14,7 +14,7 @@ use Rattle.mig_base.specs.declared.TheConstants.{HIGH_PAGE}
 use Rattle.mig_base.specs.Pages.{map_below}
 use Rattle.mig_base.proofs.SetLemmas.{member_below}
 use Rattle.mig_model.specs.Host.{Host, memory}
-use Rattle.mig_model.specs.Userfault.{Noted}
+use Rattle.mig_base.specs.Userfault.{Noted}
 use Rattle.mig_model.specs.Space.{Space, IsSoundSpace}
 use Rattle.mig_model.specs.Ioctls.{put_pages, installed as pages_installed}
 use Rattle.mig_model.specs.Guest.{Guest, counted, is_present, Fault, is_forgotten, zero_installed, resolved, is_changing}

@@ -17,7 +17,7 @@ use Rattle.mig_base.specs.declared.message.Message.TheVariants.{PageFault}
 use Rattle.mig_base.specs.Flat.{memory_of, IsFlatRun}
 use Rattle.mig_base.proofs.PageLemmas.{same_pages}
 use Rattle.mig_model.specs.Host.{memory, Host, IsSound}
-use Rattle.mig_model.specs.Userfault.{Noted, next_message, next_of}
+use Rattle.mig_base.specs.Userfault.{Noted, next_message, next_of}
 use Rattle.mig_model.specs.Space.{IsSoundSpace, fresh_space}
 use Rattle.mig_model.specs.Guest.{Guest, Fault, is_present, took_by, tried}
 use Rattle.mig_model.specs.Wire.{Sent, Copy}

@@ -15,7 +15,7 @@ use Rattle.mig_base.specs.Flat.{reply_of}
 use Rattle.mig_base.proofs.ReplyLemmas.{mremap_told, mmap_inside, munmap_whole, dontneed_done, dontneed_hole}
 use Rattle.mig_model.specs.Host.{Host, memory, IsSound}
 use Rattle.mig_model.specs.Space.{Space, IsSoundSpace, call_messages}
-use Rattle.mig_model.specs.Userfault.{is_watched}
+use Rattle.mig_base.specs.Userfault.{is_watched}
 use Rattle.mig_model.proofs.CommandLemmas.{remapped_place}
 use Rattle.mig_model.proofs.SeenLemmas.{AreMapped, AreWatched, watched_mapped}
 use Rattle.mig_model.proofs.SettledCalls.{AreInside, AllRight, settled_messages, right-append, right-told, gone, owed_changed, told_gone, unmap_right, remove_right}

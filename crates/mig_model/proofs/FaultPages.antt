@@ -10,7 +10,7 @@ use Rattle.mig_base.specs.declared.message.Message.TheVariants.{PageFault}
 use Rattle.mig_base.specs.declared.schedule.Side.{Side}
 use Rattle.mig_base.specs.declared.schedule.Step.{Step}
 use Rattle.mig_base.specs.Commands.{is_access, page_of}
-use Rattle.mig_model.specs.Userfault.{Noted, Object, fault_queued, next_message, next_of}
+use Rattle.mig_base.specs.Userfault.{Noted, Object, fault_queued, next_message, next_of}
 use Rattle.mig_model.specs.Space.{Space, access_of, accessed_by}
 use Rattle.mig_model.specs.Cpus.{access_took}
 use Rattle.mig_model.specs.Guest.{Act, Fault, held_after, space_by, tried}
@@ -45,7 +45,7 @@ AreHeldPages (fault ∷ rest) = IsPage fault.page × AreHeldPages rest
 
 -- Commands
 
-access_page : (command : Command) → IsInside command → IsPage (page_of command)
+pub access_page : (command : Command) → IsInside command → IsPage (page_of command)
 access_page command is = grind (arith, nat_tests)
 
 pages-push : (faults : List Noted) (noted : Noted) → AreFaultPages faults → IsFaultPage noted.message → AreFaultPages (faults ++ noted ∷ [])

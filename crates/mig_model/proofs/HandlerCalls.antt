@@ -20,7 +20,7 @@ use Rattle.mig_base.proofs.BitLemmas.{zero_is_no_one}
 use Rattle.mig_base.proofs.RangeLemmas.{least_below_tells}
 use Rattle.mig_base.proofs.SetLemmas.{nothing_below, member_run, run_length-some}
 use Rattle.mig_model.specs.Host.{Host, IsSound}
-use Rattle.mig_model.specs.Userfault.{Object, enabled_with, fresh_object, has_modes, is_registered}
+use Rattle.mig_base.specs.Userfault.{Object, enabled_with, fresh_object, has_modes, is_registered}
 use Rattle.mig_model.specs.Space.{Space, IsSoundSpace, fresh_space}
 use Rattle.mig_model.specs.Ioctls.{all_features, event_features, handshake_error, handshaken, has_unknown, installed, is_feature, mode_of, protected_in, registered_in}
 use Rattle.mig_model.specs.Guest.{Act, is_forgotten, is_present, Guest, resolved, Fault}

@@ -16,7 +16,7 @@ use Rattle.mig_base.specs.Ranges.{in_range, least_below}
 use Rattle.mig_base.proofs.ByteLemmas.{length-zero_page}
 use Rattle.mig_base.proofs.RangeLemmas.{none_below_tells, in_range-none}
 use Rattle.mig_base.proofs.SetLemmas.{member_without, member_below}
-use Rattle.mig_model.specs.Userfault.{Mode, is_registered, message_read, enabled_with}
+use Rattle.mig_base.specs.Userfault.{Mode, is_registered, message_read, enabled_with}
 use Rattle.mig_model.specs.Space.{Space, IsSoundSpace}
 use Rattle.mig_model.specs.Ioctls.{same_prot, left_by, mode_of, registered_in, registered, register_error, range_unregistered, handshaken, put_pages, handed, missing_run, installed, same_area, is_one_area, copy_errors, copy_error, copied, zeropage_errors, zeropage_error, zeropaged, protected_in, writeprotect_errors, writeprotect_error, write_protected, read_error, read_space}
 use Rattle.mig_base.specs.Tests.{first_holding, same_bool, is_every}

@@ -12,7 +12,7 @@ use Rattle.mig_base.specs.declared.schedule.Step.{Step}
 use Rattle.mig_base.specs.Commands.{is_access}
 use Rattle.mig_base.specs.Flat.{reply_of}
 use Rattle.mig_model.specs.Host.{memory}
-use Rattle.mig_model.specs.Userfault.{Object, event_queued}
+use Rattle.mig_base.specs.Userfault.{Object, event_queued}
 use Rattle.mig_model.specs.Space.{Space, access_of, accessed_by, all_queued, call_messages, modes_after}
 use Rattle.mig_model.specs.Ioctls.{all_features, event_features}
 use Rattle.mig_model.specs.Guest.{Act, Guest, read_guest, space_by, tried}

@@ -20,7 +20,7 @@ use Rattle.mig_base.specs.Sets.{pages_where}
 use Rattle.mig_base.specs.Tests.{is_every, same_bool}
 use Rattle.mig_base.proofs.BitLemmas.{zero_is_no_one}
 use Rattle.mig_base.proofs.RangeLemmas.{least_below-none, none_below-from}
-use Rattle.mig_model.specs.Userfault.{changing, is_registered}
+use Rattle.mig_base.specs.Userfault.{changing, is_registered}
 use Rattle.mig_model.specs.Space.{Space}
 use Rattle.mig_model.specs.Guest.{Guest, resolved, is_present, zero_installed}
 use Rattle.mig_model.specs.Ioctls.{Put, copy_error, handed, installed, is_bad_range, is_one_area, missing_run, protected_in, put_answer, put_by, put_pages, same_prot, zeropage_error}

@@ -21,7 +21,7 @@ use Rattle.mig_base.proofs.SetLemmas.{member_without, member_below}
 use Rattle.mig_base.proofs.ReplyLemmas.{mremap_told}
 use Rattle.mig_model.specs.Host.{Host, memory, host_changed, IsSound}
 use Rattle.mig_base.specs.Commands.{is_access}
-use Rattle.mig_model.specs.Userfault.{Object}
+use Rattle.mig_base.specs.Userfault.{Object}
 use Rattle.mig_model.specs.Guest.{is_present}
 use Rattle.mig_model.specs.Space.{Space, IsSoundSpace, modes_after, protected_after}
 use Rattle.mig_model.proofs.CommandLemmas.{remapped_place}

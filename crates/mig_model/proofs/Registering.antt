@@ -17,7 +17,7 @@ use Rattle.mig_base.specs.Tests.{first_holding}
 use Rattle.mig_base.proofs.RangeLemmas.{in_range-true, none_below-not}
 use Rattle.mig_base.proofs.TestLemmas.{none_below_zero}
 use Rattle.mig_base.proofs.SetLemmas.{member_below, same_members}
-use Rattle.mig_model.specs.Userfault.{Mode, Object, has_modes, registered_where}
+use Rattle.mig_base.specs.Userfault.{Mode, Object, has_modes, registered_where}
 use Rattle.mig_model.specs.Space.{Space, IsSoundSpace}
 use Rattle.mig_model.specs.Ioctls.{has_events, is_bad_mode, is_bad_range, is_bare, is_mapped_in, left_by, mode_of, register_error, registered, registered_in}
 use Rattle.mig_model.specs.Bounds.{IsMapping}

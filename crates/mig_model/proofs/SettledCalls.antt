@@ -6,7 +6,7 @@ use Rattle.mig_base.specs.declared.message.Message.{Message}
 use Rattle.mig_base.specs.declared.message.Message.TheVariants.{Remap, Remove, Unmap}
 use Rattle.mig_base.specs.Ranges.{in_range}
 use Rattle.mig_base.proofs.RangeLemmas.{none_below_tells}
-use Rattle.mig_model.specs.Userfault.{Object, is_registered, event_queued, is_watched}
+use Rattle.mig_base.specs.Userfault.{Object, is_registered, event_queued, is_watched}
 use Rattle.mig_model.specs.Space.{told, all_queued}
 use Rattle.mig_model.specs.Invariant.{AreRight}
 use Rattle.mig_model.proofs.SeenLemmas.{owed_none}

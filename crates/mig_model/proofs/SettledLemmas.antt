@@ -9,7 +9,7 @@ use Rattle.mig_base.specs.declared.message.Message.{Message}
 use Rattle.mig_base.specs.Ranges.{in_range}
 use Rattle.mig_base.proofs.RangeLemmas.{least_below_tells, least_below-is, least_below-some}
 use Rattle.mig_base.proofs.PageLemmas.{get-remove_range, get-moved_range}
-use Rattle.mig_model.specs.Userfault.{Noted}
+use Rattle.mig_base.specs.Userfault.{Noted}
 use Rattle.mig_model.specs.Invariant.{IsRight}
 use Rattle.mig_model.specs.Owed.{home, owed_after, owed_table_after, owes_to, settled_by}
 

@@ -16,7 +16,7 @@ use Rattle.mig_base.specs.declared.command.Access.{Access}
 use Rattle.mig_base.specs.Flat.{reply_of}
 use Rattle.mig_base.specs.Commands.{is_access}
 use Rattle.mig_model.specs.Host.{memory}
-use Rattle.mig_model.specs.Userfault.{Noted, next_of}
+use Rattle.mig_base.specs.Userfault.{Noted, next_of}
 use Rattle.mig_model.specs.Space.{Space, accessed_by}
 use Rattle.mig_model.specs.Guest.{tried, Act}
 use Rattle.mig_model.specs.Wire.{Frame, Sent, Copy}

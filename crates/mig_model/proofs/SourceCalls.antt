@@ -24,7 +24,7 @@ use Rattle.mig_base.proofs.ReplyLemmas.IsWhere.{Shrunk, Grew, Moved, Told}
 use Rattle.mig_base.proofs.BoundLemmas.{one_prot_some, apart_of}
 use Rattle.mig_model.specs.Host.{Host, memory, host_changed, IsSound}
 use Rattle.mig_base.specs.Commands.{is_access}
-use Rattle.mig_model.specs.Userfault.{Object, is_registered, is_watched}
+use Rattle.mig_base.specs.Userfault.{Object, is_registered, is_watched}
 use Rattle.mig_model.specs.Space.{Space, IsSoundSpace, told, remap_messages, call_messages, modes_after, protected_after}
 use Rattle.mig_model.proofs.HostLemmas.{is_mapped-memory, memory-none}
 use Rattle.mig_model.proofs.CommandLemmas.{remapped_place}

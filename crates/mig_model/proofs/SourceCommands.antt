@@ -14,7 +14,7 @@ use Rattle.mig_base.specs.Flat.{reply_of, memory_of, IsFlatRun}
 use Rattle.mig_base.proofs.SetLemmas.{same_members}
 use Rattle.mig_model.specs.Host.{Host, memory, host_changed, host_after}
 use Rattle.mig_base.specs.Commands.{is_access}
-use Rattle.mig_model.specs.Userfault.{Object, fault_queued}
+use Rattle.mig_base.specs.Userfault.{Object, fault_queued}
 use Rattle.mig_model.specs.Space.{Space, IsSoundSpace, access_of, accessed_by, called, queued_by, call_messages, modes_after}
 use Rattle.mig_model.specs.Guest.{took_by, tried}
 use Rattle.mig_model.specs.Migration.{World}

@@ -30,7 +30,7 @@ use Rattle.mig_base.specs.Bytes.{zero_page}
 use Rattle.mig_base.specs.Ranges.{in_range}
 use Rattle.mig_base.proofs.ByteLemmas.{length-zero_page, get_or-zero_page}
 use Rattle.mig_base.proofs.SetLemmas.{member_below, member_removed}
-use Rattle.mig_model.specs.Userfault.{Noted, Object, next_message, message_read}
+use Rattle.mig_base.specs.Userfault.{Noted, Object, next_message, message_read}
 use Rattle.mig_model.specs.Ioctls.{protected_in}
 use Rattle.mig_model.specs.Guest.Act.{Unprotected, Zeroed}
 use Rattle.mig_model.proofs.IoctlLemmas.{IsSoundSpace-read, IsSoundSpace-protected, IsSoundSpace-installed, get-put_pages}

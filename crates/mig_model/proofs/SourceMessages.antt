@@ -7,7 +7,7 @@ use Rattle.mig_base.specs.declared.message.Message.{Message}
 use Rattle.mig_base.specs.declared.message.Message.TheVariants.{Remove, Unmap}
 use Rattle.mig_base.specs.Ranges.{in_range, lesser, none_below}
 use Rattle.mig_base.proofs.RangeLemmas.{none_below_tells}
-use Rattle.mig_model.specs.Userfault.{Noted, Object, is_registered, event_queued, is_watched}
+use Rattle.mig_base.specs.Userfault.{Noted, Object, is_registered, event_queued, is_watched}
 use Rattle.mig_model.specs.Guest.{is_changed_by, in_bytes}
 use Rattle.mig_model.specs.Space.{told, all_queued}
 use Rattle.mig_model.specs.Whereabouts.{is_unread}

@@ -22,7 +22,7 @@ use Rattle.mig_base.proofs.ReplyLemmas.{IsRemapped, mremap_told}
 use Rattle.mig_model.specs.Host.{Host, memory, host_changed, IsSound}
 use Rattle.mig_base.specs.Commands.{is_access}
 use Rattle.mig_base.proofs.BoundLemmas.{one_prot_some}
-use Rattle.mig_model.specs.Userfault.{Mode, mode_at}
+use Rattle.mig_base.specs.Userfault.{Mode, mode_at}
 use Rattle.mig_model.specs.Space.{Space, fresh_space, IsSoundSpace, access_of, accessed_by, accessed, called, modes_after, protected_after, call_messages}
 use Rattle.mig_model.proofs.HostLemmas.{IsSound-empty, memory-none, get-put}
 use Rattle.mig_model.proofs.CommandLemmas.{IsSound-changed}

@@ -21,7 +21,7 @@ use Rattle.mig_model.specs.NodeSteps.{acted, first_of, is_used, rest_of}
 use Rattle.mig_model.specs.Owed.{home}
 use Rattle.mig_model.specs.Source.{bytes_of, is_handling, is_precopy, is_released, is_source_idle, is_source_paused, is_stopped, is_under_way, not_clean, space_of}
 use Rattle.mig_model.specs.SourceSteps as source
-use Rattle.mig_model.specs.Userfault.{Noted, next_message}
+use Rattle.mig_base.specs.Userfault.{Noted, next_message}
 use Rattle.mig_model.specs.Wire.{Copy, Sent, wire_behind}
 use Rattle.mig_model.proofs.Facts.{eqb-self}
 use Rattle.mig_model.proofs.StepLemmas.{delivers, delivers_back, delivers_urgent, goes_on, in-phase, is-down, is-quiet, is-up, not_refused}
@@ -33,7 +33,7 @@ pub answers-start : (world : World) → is_source_idle world.source.phase ≡ tr
 answers-start world idle free = ap (source_sends world) (not_refused _ _ (ap not idle, (free, tt)))
 
 pub answers-source_read : (world : World) (noted : Noted) → is_source_idle world.source.phase ≡ false → world.source.switched ≡ false → next_message (space_of world.source).object ≡ Some noted →
-    answer world Step.SourceRead ≡ made (read_effect world.source.guest noted.cpu noted.message) (after_source_read world noted)
+    answer world Step.SourceRead ≡ made (read_effect world.source.guest.cpus noted.cpu noted.message) (after_source_read world noted)
 answers-source_read world noted started unswitched is =
     ap (source_acts world)
     (in-phase (is_handling world.source) _ (ap (λ b. not b && not world.source.switched) started ∙ ap not unswitched) ∙ goes_on _ noted _ (ap (λ o. ok_or o Refusal.NothingThere) is))
@@ -77,7 +77,7 @@ answers-deliver_urgent world n sent rest first full ran up = delivers_urgent wor
 -- The destination
 
 pub answers-dest_read : (world : World) (noted : Noted) → world.destination.has_run ≡ true → next_message world.destination.guest.space.object ≡ Some noted →
-    answer world Step.DestRead ≡ made (read_effect world.destination.guest noted.cpu noted.message) (after_dest_read world noted)
+    answer world Step.DestRead ≡ made (read_effect world.destination.guest.cpus noted.cpu noted.message) (after_dest_read world noted)
 answers-dest_read world noted ran is = ap (destination_acts world) (in-phase world.destination.has_run _ ran ∙ goes_on _ noted _ (ap (λ o. ok_or o Refusal.NothingThere) is))
 
 pub answers-install : (world : World) (copy : Copy) (rest : List Copy) → world.destination.has_run ≡ true → world.destination.arrivals ≡ copy ∷ rest → is_changing world.destination.guest ≡ false →

@@ -23,7 +23,7 @@ use Rattle.mig_base.specs.declared.schedule.Step.{Step}
 use Rattle.mig_base.specs.Sets.{run_length}
 use Rattle.mig_base.specs.Tests.{is_empty}
 use Rattle.mig_base.specs.Commands.{is_access}
-use Rattle.mig_model.specs.Userfault.{Noted, next_message}
+use Rattle.mig_base.specs.Userfault.{Noted, next_message}
 use Rattle.mig_model.specs.Guest.{Fault, is_present, took_by, is_changing}
 use Rattle.mig_model.specs.Migration.{World, Made, answer, next, outcome, guest_of, runs, has_started, is_short}
 use Rattle.mig_model.specs.Faults.{is_end, is_early}
@@ -50,7 +50,7 @@ Makes Q world (Step.SendRun count) =
     (first number : ℕ) → least_of world.source.log.todo ≡ Some first → number ≡ run_length world.source.log.todo first (run_bound count) → is_precopy world.source.phase ≡ true → world.up ≡ true → is_changing world.source.guest ≡ false →
     Q (record { effect = Effect.SentRun (PAGE_SIZE * first) number; world = after_run world first number })
 Makes Q world Step.SourceRead =
-    (noted : Noted) → next_message (space_of world.source).object ≡ Some noted → is_source_idle world.source.phase ≡ false → world.source.switched ≡ false → Q (record { effect = read_effect world.source.guest noted.cpu noted.message; world = after_source_read world noted })
+    (noted : Noted) → next_message (space_of world.source).object ≡ Some noted → is_source_idle world.source.phase ≡ false → world.source.switched ≡ false → Q (record { effect = read_effect world.source.guest.cpus noted.cpu noted.message; world = after_source_read world noted })
 Makes Q world Step.SourceAct =
     (fault : Fault) (rest : List Fault) → world.source.log.held ≡ fault ∷ rest → is_source_idle world.source.phase ≡ false → world.source.switched ≡ false → is_changing world.source.guest ≡ false →
     Q (record { effect = act_effect (source_act world.source fault) (PAGE_SIZE * fault.page); world = after_source_act world fault })
@@ -64,7 +64,7 @@ Makes Q world (Step.DeliverBack n) =
     ((sent : Sent) (rest : List Sent) → world.back.frames ≡ sent ∷ rest → is_short world.back sent.frame n ≡ true → Q (record { effect = Effect.Moved n; world = after_move_back world n })) ×
     ((sent : Sent) (rest : List Sent) → world.back.frames ≡ sent ∷ rest → is_short world.back sent.frame n ≡ false → has_started world ≡ true → world.up ≡ true → Q (record { effect = frame_effect sent.frame; world = after_deliver_back world sent rest }))
 Makes Q world Step.DestRead =
-    (noted : Noted) → next_message world.destination.guest.space.object ≡ Some noted → world.destination.has_run ≡ true → Q (record { effect = read_effect world.destination.guest noted.cpu noted.message; world = after_dest_read world noted })
+    (noted : Noted) → next_message world.destination.guest.space.object ≡ Some noted → world.destination.has_run ≡ true → Q (record { effect = read_effect world.destination.guest.cpus noted.cpu noted.message; world = after_dest_read world noted })
 Makes Q world Step.DestAct =
     (fault : Fault) (rest : List Fault) → world.destination.held ≡ fault ∷ rest → world.destination.has_run ≡ true → is_changing world.destination.guest ≡ false → Q (record { effect = act_effect (destination_act world.destination fault) (PAGE_SIZE * fault.page); world = after_dest_act world fault })
 Makes Q world Step.Install =

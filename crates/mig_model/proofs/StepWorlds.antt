@@ -10,7 +10,7 @@ use Rattle.mig_model.specs.Guest.{Fault, took_by, tried}
 use Rattle.mig_model.specs.Migration.{World, cut, guest_of, with_guest}
 use Rattle.mig_model.specs.Owed.{home}
 use Rattle.mig_model.specs.Source.{Source, bytes_of, end_sent, page_pushed, page_sent, request_served, resumed, round_made, run_of, run_sent, source_acted, source_answers, source_paused, source_read, source_started, source_took, switch_frames, switch_made, urgent_pushed}
-use Rattle.mig_model.specs.Userfault.{Noted}
+use Rattle.mig_base.specs.Userfault.{Noted}
 use Rattle.mig_model.specs.Wire.{Copy, Frame, Sent, page_frame, wire_behind, wire_if, wire_with}
 use Rattle.mig_model.specs.Wire.Frame.{Advise, Run, End, Resume}
 

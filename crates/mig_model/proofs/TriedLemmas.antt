@@ -12,7 +12,7 @@ use Rattle.mig_base.specs.declared.command.Entry.{Entry}
 use Rattle.mig_base.specs.Flat.{reply_of}
 use Rattle.mig_base.specs.Commands.{is_access, page_of}
 use Rattle.mig_model.specs.Host.{Host, memory, host_changed, host_after, IsSound}
-use Rattle.mig_model.specs.Userfault.{Noted, waits_fault}
+use Rattle.mig_base.specs.Userfault.{Noted, waits_fault}
 use Rattle.mig_model.specs.Space.{Space, IsSoundSpace, is_made, access_of, accessed_by, called, modes_after, call_messages, queued_by}
 use Rattle.mig_model.specs.Guest.{took_by, space_by}
 use Rattle.mig_model.specs.Cpus.Took.{Answer, Sleep}

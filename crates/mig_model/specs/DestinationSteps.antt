@@ -12,7 +12,7 @@ use Rattle.mig_model.specs.Faults.{refusal_of, wait_fault}
 use Rattle.mig_model.specs.GuestSteps.{when_quiet}
 use Rattle.mig_model.specs.NodeSteps.{Acted, Sends, acted, and_then, first_of, in_phase, rest_of, sent}
 use Rattle.mig_model.specs.Owed.{home}
-use Rattle.mig_model.specs.Userfault.{next_message}
+use Rattle.mig_base.specs.Userfault.{next_message}
 use Rattle.mig_model.specs.Wire.{Frame}
 
 -- The handler
@@ -23,7 +23,7 @@ abbrev pub read : Destination → Result (Acted Destination) Refusal
 read node =
     in_phase node.has_run
     (and_then (ok_or (next_message node.guest.space.object) Refusal.NothingThere) (λ noted.
-    acted (read_effect node.guest noted.cpu noted.message) (destination_read node noted)))
+    acted (read_effect node.guest.cpus noted.cpu noted.message) (destination_read node noted)))
 
 -- DestAct: refused as Phase until the destination has run, NothingThere if no fault is held, Changing while the destination has unread
 -- events. The first held fault is resolved, and no longer held; if its page is owed, a Request may be sent

@@ -6,9 +6,9 @@ use Rattle.mig_base.specs.declared.command.Reply.{Reply}
 use Rattle.mig_base.specs.declared.effect.Effect.{Effect}
 use Rattle.mig_base.specs.declared.message.Message.{Message}
 use Rattle.mig_base.specs.declared.message.Message.TheVariants.{PageFault}
-use Rattle.mig_model.specs.Cpus.{Took, handed_over, processor_at}
+use Rattle.mig_model.specs.Cpus.{Cpus, Took, handed_over, processor_at}
 use Rattle.mig_model.specs.Cpus.Took.{Sleep, Call}
-use Rattle.mig_model.specs.Guest.{Act, Guest}
+use Rattle.mig_model.specs.Guest.{Act}
 use Rattle.mig_model.specs.Guest.Act.{Unprotected, Zeroed, Woke, Forgot, Requested}
 use Rattle.mig_model.specs.Wire.{Frame, is_zeros}
 use Rattle.mig_model.specs.Wire.Frame.{Advise, Page, Zero, Run, Discard, Package, End, Resume, Request, Recv, Done}
@@ -29,9 +29,9 @@ event_effect event cpu None = Effect.ReadEvent event
 event_effect event cpu (Some reply) = Effect.ReadLast event cpu reply
 
 -- the effect of reading a message: a page fault, or an event of the processor's map call
-abbrev pub read_effect : Guest → ℕ → Message → Effect
-read_effect guest cpu (PageFault addr write wp tid) = Effect.ReadFault addr wp
-read_effect guest cpu message = event_effect message cpu (handed_over (processor_at guest.cpus cpu))
+abbrev pub read_effect : Cpus → ℕ → Message → Effect
+read_effect cpus cpu (PageFault addr write wp tid) = Effect.ReadFault addr wp
+read_effect cpus cpu message = event_effect message cpu (handed_over (processor_at cpus cpu))
 
 -- the effect of resolving a fault at an address
 abbrev pub act_effect : Act → ℕ → Effect

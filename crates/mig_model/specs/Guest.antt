@@ -10,7 +10,7 @@ use Rattle.mig_base.specs.Ranges.{in_range, lesser}
 use Rattle.mig_base.specs.Bytes.{zero_page}
 use Rattle.mig_base.specs.Flat.{reply_of}
 use Rattle.mig_model.specs.Host.{memory}
-use Rattle.mig_model.specs.Userfault.{changing, is_registered, message_read}
+use Rattle.mig_base.specs.Userfault.{changing, is_registered, message_read}
 use Rattle.mig_model.specs.Space.{Space, access_of, accessed, called, queued_by}
 use Rattle.mig_model.specs.Ioctls.{installed}
 use Rattle.mig_model.specs.Cpus.{Cpus, Took, access_took, call_took, processor_at, processor_after, all_woken, message_less}
@@ -60,15 +60,16 @@ abbrev pub is_left_by : Message → ℕ → Bool
 is_left_by (Remap from to len) page = in_bytes from (from + len) page
 is_left_by message page = is_changed_by message page
 
--- the guest once its handler has read a message that processor `cpu` has caused. An event wakes those that sleep on pages that are gone
--- or moved away, and its own processor waits for one message less
+-- the processors once a message is read that processor `cpu` has caused. An event wakes those that sleep on pages that are gone or moved
+-- away, and its own processor waits for one message less
+abbrev pub cpus_read : Cpus → ℕ → Message → Cpus
+cpus_read cpus cpu (PageFault addr write wp tid) = cpus
+cpus_read cpus cpu message = all_woken (is_left_by message) (set cpus cpu (message_less (processor_at cpus cpu)))
+
+-- the guest once its handler has read a message that processor `cpu` has caused
 abbrev pub read_guest : Guest → ℕ → Message → Guest
-read_guest guest cpu (PageFault addr write wp tid) = record guest { space = record guest.space { object = message_read guest.space.object } }
 read_guest guest cpu message =
-    record {
-      space = record guest.space { object = message_read guest.space.object };
-      cpus = all_woken (is_left_by message) (set guest.cpus cpu (message_less (processor_at guest.cpus cpu)));
-    }
+    record { space = record guest.space { object = message_read guest.space.object }; cpus = cpus_read guest.cpus cpu message }
 
 -- Faults
 

@@ -16,7 +16,7 @@ use Rattle.mig_base.specs.declared.message.Message.TheVariants.{PageFault, Remap
 use Rattle.mig_base.specs.Tests.{is_empty}
 use Rattle.mig_base.specs.Flat.{IsFlatRun, memory_of}
 use Rattle.mig_model.specs.Host.{Host, memory}
-use Rattle.mig_model.specs.Userfault.{Noted}
+use Rattle.mig_base.specs.Userfault.{Noted}
 use Rattle.mig_model.specs.Space.{Space, fresh_space, IsSoundSpace}
 use Rattle.mig_model.specs.Lengths.{text_len}
 use Rattle.mig_model.specs.Wire.{Wire, Frame, Sent, Copy, is_copy}

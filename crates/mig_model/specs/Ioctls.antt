@@ -17,7 +17,7 @@ use Rattle.mig_base.specs.Bytes.{zero_page}
 use Rattle.mig_base.specs.Ranges.{in_range, least_below, none_below}
 use Rattle.mig_base.specs.Sets.{without, pages_where}
 use Rattle.mig_base.specs.Tests.{same_bool, is_every, first_holding}
-use Rattle.mig_model.specs.Userfault.{Object, Mode, enabled_with, has_modes, is_registered, registered_where, unregistered, next_message, message_read, changing}
+use Rattle.mig_base.specs.Userfault.{Object, Mode, enabled_with, has_modes, is_registered, registered_where, unregistered, next_message, message_read, changing}
 use Rattle.mig_model.specs.Space.{Space}
 
 -- whether two pages are mapped with one protection

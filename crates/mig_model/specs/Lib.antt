@@ -1,5 +1,4 @@
 pub mod Host
-pub mod Userfault
 pub mod Space
 pub mod Ioctls
 pub mod Cpus

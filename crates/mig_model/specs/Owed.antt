@@ -11,7 +11,7 @@ use Rattle.mig_base.specs.declared.message.Message.TheVariants.{PageFault, Remap
 use Rattle.mig_base.specs.Ranges.{in_range, least_below}
 use Rattle.mig_base.specs.Pages.{put, remove_range, moved_range}
 use Rattle.mig_base.specs.Sets.{pages_where}
-use Rattle.mig_model.specs.Userfault.{Noted}
+use Rattle.mig_base.specs.Userfault.{Noted}
 use Rattle.mig_model.specs.Guest.{is_changed_by}
 
 -- the owed table: the origin at the source of each page that is still owed, by the page's place at the destination

@@ -16,7 +16,7 @@ use Rattle.mig_model.specs.GuestSteps.{when_quiet}
 use Rattle.mig_model.specs.Log.{least_of, less}
 use Rattle.mig_model.specs.NodeSteps.{Acted, Sends, acted, and_then, first_of, in_phase, is_used, rest_of, sent, unless}
 use Rattle.mig_model.specs.Source.{Source, bytes_of, end_sent, is_handling, is_precopy, is_source_idle, is_source_paused, is_stopped, is_under_way, not_clean, page_pushed, page_sent, request_served, resumed, round_made, run_of, run_sent, source_act, source_acted, source_answers, source_paused, source_read, source_started, source_took, space_of, switch_frames, switch_made, urgent_pushed}
-use Rattle.mig_model.specs.Userfault.{next_message}
+use Rattle.mig_base.specs.Userfault.{next_message}
 use Rattle.mig_model.specs.Wire.{Frame, page_frame}
 use Rattle.mig_model.specs.Wire.Frame.{Advise, Run, End, Resume}
 
@@ -70,7 +70,7 @@ abbrev pub read : Source → Result (Acted Source) Refusal
 read node =
     in_phase (is_handling node)
     (and_then (ok_or (next_message (space_of node).object) Refusal.NothingThere) (λ noted.
-    acted (read_effect node.guest noted.cpu noted.message) (source_read node noted)))
+    acted (read_effect node.guest.cpus noted.cpu noted.message) (source_read node noted)))
 
 -- SourceAct: refused as Phase unless the source runs the processors in a migration, NothingThere if no fault is held, Changing while
 -- the source has unread events. The first held fault is resolved, and no longer held

@@ -18,7 +18,7 @@ use Rattle.mig_base.specs.Ranges.{lesser, pages_of, rounded}
 use Rattle.mig_base.specs.Sets.{without, moved_set}
 use Rattle.mig_base.specs.Flat.{reply_of}
 use Rattle.mig_model.specs.Host.{Host, bare_host, memory, host_after, IsSound}
-use Rattle.mig_model.specs.Userfault.{Object, fresh_object, mode_at, is_registered, is_watched, unregistered, moved_modes, fault_queued, event_queued}
+use Rattle.mig_base.specs.Userfault.{Object, fresh_object, mode_at, is_registered, is_watched, unregistered, moved_modes, fault_queued, event_queued}
 
 -- a host, its present pages that are write-protected, and its userfault object
 pub record Space : Type 0 where

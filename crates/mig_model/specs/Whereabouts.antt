@@ -9,7 +9,7 @@ use Rattle.mig_base.specs.declared.TheConstants.{HIGH_PAGE}
 use Rattle.mig_base.specs.declared.phase.Received.{Received}
 use Rattle.mig_base.specs.Pages.{map_below}
 use Rattle.mig_model.specs.Host.{Host}
-use Rattle.mig_model.specs.Userfault.{Noted}
+use Rattle.mig_base.specs.Userfault.{Noted}
 use Rattle.mig_model.specs.Wire.{Frame, Sent, Copy, copies_in, kept_after}
 use Rattle.mig_model.specs.Wire.Frame.{Package, Request, Recv}
 use Rattle.mig_model.specs.Migration.{World}

@@ -1,7 +1,7 @@
 //! The machine: what an address space, a node and a world are, what each step answers, how it changes the world, and the theorems for
 //! every list of steps. There is no code here to run.
 //!
-//! - One address space. `specs/Host.antt` says which flat memory the pages of a host represent. `specs/Userfault.antt`,
+//! - One address space. `specs/Host.antt` says which flat memory the pages of a host represent. `specs/Userfault.antt` of `mig_base`,
 //!   `specs/Space.antt` and `specs/Ioctls.antt` say what a userfault object is, and what loads, stores, map calls and the calls of the
 //!   object do.
 //! - The two nodes. `specs/Cpus.antt` and `specs/Guest.antt` define the processors and their memory; `specs/Log.antt` and

@@ -10,7 +10,7 @@ use Rattle.mig_model.specs.Log.{Log}
 use Rattle.mig_model.specs.Migration.{World, answer, guest_by, guest_tries}
 use Rattle.mig_model.specs.Space.{IsSoundSpace, Space, access_of}
 use Rattle.std.proofs.Math.Bool.{or-false}
-use Rattle.guest.proofs.LentLemmas.{space_lent}
+use Rattle.uffd_ioctl.proofs.LentLemmas.{space_lent}
 use Rattle.dirty_log.specs.Spaces.{AreProtected}
 use Rattle.dirty_log.proofs.KeptLemmas.{access_kept, call_kept}
 use Rattle.precopy.specs.Order.{AreSendable, IsInOrder}

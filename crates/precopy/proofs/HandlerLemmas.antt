@@ -6,7 +6,7 @@ use Rattle.mig_model.specs.Cpus.{Cpus}
 use Rattle.mig_base.specs.Tests.{first_holding, is_empty}
 use Rattle.mig_base.specs.declared.effect.Effect.{Effect}
 use Rattle.mig_base.specs.declared.refusal.Refusal.{Refusal}
-use Rattle.mig_model.specs.Userfault.{Noted, changing}
+use Rattle.mig_base.specs.Userfault.{Noted, changing}
 use Rattle.mig_model.specs.Guest as machine
 use Rattle.mig_model.specs.Guest.{Fault, Guest, fault_count, is_changing}
 use Rattle.mig_model.specs.Log.{Log}
@@ -24,12 +24,12 @@ use Rattle.dirty_log.specs.Spaces.{source_of}
 pub record IsRead (guest : Guest) (next : Option Noted) (effect : Effect) : Type 0 where
   pub noted : Noted
   pub is : next ≡ Some noted
-  pub effect_is : effect ≡ read_effect guest noted.cpu noted.message
+  pub effect_is : effect ≡ read_effect guest.cpus noted.cpu noted.message
 
 pub some_noted : (guest : Guest) (next : Option Noted) (effect : Effect) → (Ok effect ≡ read_answer guest next) ⊎ ((Ok effect ≡ Err Refusal.NoMemory) × IsSome next) → IsRead guest next effect
 some_noted guest None effect (inl is) = absurd (let other : Ok effect ≡ Err Refusal.NothingThere = is in cc)
 some_noted guest None effect (inr is) = absurd (let other : Ok effect ≡ Err Refusal.NoMemory = is.0 in cc)
-some_noted guest (Some noted) effect (inl is) = record { noted = noted; is = refl; effect_is = let same : Ok effect ≡ Ok (read_effect guest noted.cpu noted.message) = is in cc }
+some_noted guest (Some noted) effect (inl is) = record { noted = noted; is = refl; effect_is = let same : Ok effect ≡ Ok (read_effect guest.cpus noted.cpu noted.message) = is in cc }
 some_noted guest (Some noted) effect (inr is) = absurd (let other : Ok effect ≡ Err Refusal.NoMemory = is.0 in cc)
 
 -- SourceAct

@@ -9,13 +9,13 @@ use Rattle.mig_base.specs.Tests.{first_holding}
 use Rattle.mig_base.specs.declared.command.Errno.TheVariants.{Einval}
 use Rattle.std.proofs.lemmas.Bool.{false≢true}
 use Rattle.mig_base.specs.declared.phase.SourcePhase.{SourcePhase}
-use Rattle.mig_model.specs.Userfault.{Noted, next_message}
+use Rattle.mig_base.specs.Userfault.{Noted, next_message}
 use Rattle.mig_model.specs.Space.{IsSoundSpace, Space, fresh_space}
 use Rattle.mig_model.specs.Ioctls.{all_features, answered_by, handshake_answer, handshaken, has_events, has_unknown, is_feature, left_by, protected_in}
 use Rattle.mig_model.specs.Log.{Log, dirty, empty_log, log_read, log_run_sent}
 use Rattle.mig_model.specs.Guest.{Fault, Guest, read_guest}
 use Rattle.mig_model.specs.Source.{Source, all_registered, enabled_space, source_act, source_acted, space_of}
-use Rattle.guest.specs.Lent.{IsLent}
+use Rattle.uffd_ioctl.specs.Lent.{IsLent}
 use Rattle.dirty_log.specs.Answers.{send_refusal}
 use Rattle.dirty_log.proofs.KeptLemmas.{acted_kept, none_clean, read_kept, registered_kept, sent_kept}
 use Rattle.precopy.specs.Order.{IsInOrder}

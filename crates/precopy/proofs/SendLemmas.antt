@@ -9,7 +9,7 @@ use Rattle.mig_base.proofs.RangeLemmas.{least_below_tells}
 use Rattle.mig_base.specs.Ranges.{none_below}
 use Rattle.mig_model.specs.Effects.{page_effect}
 use Rattle.mig_model.specs.NodeSteps.{IsRefusedFor as IsStepRefused, checked, sent, unless}
-use Rattle.mig_model.specs.Userfault.{Noted}
+use Rattle.mig_base.specs.Userfault.{Noted}
 use Rattle.mig_model.specs.Whereabouts.{is_unread}
 use Rattle.mig_model.specs.Log.{least_of}
 use Rattle.mig_model.specs.Guest.{is_changing}

@@ -10,7 +10,7 @@ use Rattle.mig_base.specs.declared.command.Command.{Command}
 use Rattle.mig_base.specs.Flat.{reply_of}
 use Rattle.mig_base.proofs.SetLemmas.{member_without}
 use Rattle.mig_model.specs.Host.{memory}
-use Rattle.mig_model.specs.Userfault.{Noted, Object, next_message, read_by, waits_fault}
+use Rattle.mig_base.specs.Userfault.{Noted, Object, next_message, read_by, waits_fault}
 use Rattle.mig_model.specs.Space.{Space, IsSoundSpace, accessed_by, all_queued, call_messages, called, modes_after}
 use Rattle.mig_model.specs.Guest as machine
 use Rattle.mig_model.specs.Guest.{Guest, is_changed_by, is_present, read_guest, zero_installed}
@@ -26,7 +26,7 @@ use Rattle.mig_model.proofs.SourceKept.{no_page_absurd}
 use Rattle.mig_model.proofs.SourceMessages.{events_queued, is_unread-append, noted_all, tells}
 use Rattle.mig_model.proofs.SourceRounds.{mapped_registered, present_mapped}
 use Rattle.dirty_log.specs.Spaces.{is_sendable}
-use Rattle.guest.proofs.LentLemmas.{read_space}
+use Rattle.uffd_ioctl.proofs.LentLemmas.{read_space}
 use Rattle.dirty_log.proofs.KeptLemmas.{queued_by, was_unread}
 use Rattle.dirty_log.proofs.PageLemmas.{member_kept}
 use Rattle.precopy.specs.Order.{AreSendable}

@@ -11,7 +11,7 @@ use Rattle.mig_model.specs.Space.{Space}
 use Rattle.mig_model.specs.Whereabouts.{is_unread}
 use Rattle.mig_model.specs.Log.{Log}
 use Rattle.mig_model.specs.Source.{Source, commands_of, is_released, is_stopped, space_of}
-use Rattle.guest.specs.Lent.{IsLent}
+use Rattle.uffd_ioctl.specs.Lent.{IsLent}
 use Rattle.dirty_log.specs.Spaces.{AreProtected, is_sendable}
 
 -- each page that the round still has to send can be sent, unless an unread event has changed it

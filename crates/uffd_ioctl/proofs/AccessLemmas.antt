@@ -15,7 +15,7 @@ use Rattle.mig_base.specs.Bytes.{page_at, contents, overwrite, low_bytes}
 use Rattle.mig_base.specs.Flat.{Cell, is_aligned, allows_load, allows_store, access_reply, number_at, reply_of, after, Memory}
 use Rattle.mig_model.specs.Host.{Host, memory, host_changed, IsSound}
 use Rattle.mig_base.specs.Commands.{is_access, page_of}
-use Rattle.mig_model.specs.Userfault.{Object}
+use Rattle.mig_base.specs.Userfault.{Object}
 use Rattle.mig_model.specs.Space.{Space, IsSoundSpace, is_made, called}
 use Rattle.mig_model.proofs.CommandLemmas.{memory-changed}
 use Rattle.mig_model.proofs.HostLemmas.{is_mapped-memory, get-put}

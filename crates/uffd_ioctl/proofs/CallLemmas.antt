@@ -25,7 +25,7 @@ use Rattle.mig_base.proofs.ReplyLemmas.{mmap_inside, mremap_told}
 use Rattle.mig_model.specs.Host.{Host, memory, host_changed, host_dropped, IsSound}
 use Rattle.mig_base.specs.Commands.{is_access}
 use Rattle.mig_base.proofs.TestLemmas.{at_or_below, positive, none_is_some}
-use Rattle.mig_model.specs.Userfault.{Object, mode_at, is_registered, unregistered, moved_modes, is_watched}
+use Rattle.mig_base.specs.Userfault.{Object, mode_at, is_registered, unregistered, moved_modes, is_watched}
 use Rattle.mig_model.specs.Space.{Space, IsSoundSpace, told, remap_messages, call_messages, modes_after, protected_after, all_queued, called, queued_by}
 use Rattle.mig_model.proofs.CommandLemmas.{remapped_place}
 use Rattle.mig_model.proofs.SpaceLemmas.{IsSoundSpace-called}

@@ -10,7 +10,7 @@ use Rattle.mig_base.specs.Ranges.{in_range, lesser}
 use Rattle.mig_base.specs.Sets.{moved_set}
 use Rattle.mig_base.proofs.RangeLemmas.{none_below_tells, none_below-from}
 use Rattle.mig_base.proofs.TestLemmas.{or_first, or_second}
-use Rattle.mig_model.specs.Userfault.{Object, mode_at, is_registered, is_watched, moved_modes}
+use Rattle.mig_base.specs.Userfault.{Object, mode_at, is_registered, is_watched, moved_modes}
 use Rattle.mig_model.specs.Space.{told, remap_messages}
 use Rattle.userfault.proofs.ModeLemmas.{is_pages_where}
 use Rattle.uffd_ioctl.specs.declared.remap.Remap.{Remap}

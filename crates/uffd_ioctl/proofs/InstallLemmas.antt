@@ -18,7 +18,7 @@ use Rattle.mig_base.proofs.ByteLemmas.{length-zero_page}
 use Rattle.mig_base.proofs.SetLemmas.{member_inserted}
 use Rattle.mig_base.proofs.RangeLemmas.{none_below-from, none_below-not, least_below-is, least_below-none, least_below_tells, in_range-end}
 use Rattle.mig_model.specs.Bounds.{IsPage}
-use Rattle.mig_model.specs.Userfault.{Object, changing, is_registered}
+use Rattle.mig_base.specs.Userfault.{Object, changing, is_registered}
 use Rattle.mig_model.specs.Space.{Space, IsSoundSpace}
 use Rattle.mig_model.specs.Ioctls.{put_pages, handed, installed, is_bad_range, is_one_area, same_area, same_prot, missing_run, copied, copy_errors, copy_error, zeropage_errors, zeropage_error, stop_error, wakes, put_answer, put_by, left_by}
 use Rattle.mig_base.specs.Tests.{same_bool, is_every}

@@ -9,3 +9,5 @@ pub mod MoveLemmas
 mod EventLemmas
 pub mod InstallLemmas
 pub mod RegisterLemmas
+pub mod LentPages
+pub mod LentLemmas

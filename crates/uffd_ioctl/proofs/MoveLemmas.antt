@@ -12,7 +12,7 @@ use Rattle.mig_base.specs.Ranges.{in_range, lesser}
 use Rattle.mig_base.specs.Sets.{without, with_range, moved_set}
 use Rattle.mig_base.proofs.SetLemmas.{same_members, member_without, member_with_range, member_below}
 use Rattle.mig_base.proofs.TestLemmas.{and_true, or_first, or_second}
-use Rattle.mig_model.specs.Userfault.{Noted, Object, Mode, mode_at, unregistered, moved_modes, event_queued, is_registered, is_watched, changing}
+use Rattle.mig_base.specs.Userfault.{Noted, Object, Mode, mode_at, unregistered, moved_modes, event_queued, is_registered, is_watched, changing}
 use Rattle.mig_model.specs.Space.{told, remap_messages, all_queued}
 use Rattle.mig_model.proofs.Registering.{pages_again}
 use Rattle.mig_model.proofs.Facts.{queued_missing, queued_protect}

@@ -21,7 +21,7 @@ use Rattle.area_map.proofs.ViewLemmas.{get-pages_in}
 use Rattle.page_table.specs.Views.{Pages}
 use Rattle.userfault.proofs.ModeLemmas.{is_pages_where}
 use Rattle.mig_model.specs.Host.{IsSound}
-use Rattle.mig_model.specs.Userfault.{Object, Mode, fresh_object, enabled_with, is_registered, has_modes, registered_where, unregistered}
+use Rattle.mig_base.specs.Userfault.{Object, Mode, fresh_object, enabled_with, is_registered, has_modes, registered_where, unregistered}
 use Rattle.mig_model.specs.Space.{Space, IsSoundSpace}
 use Rattle.mig_model.specs.Ioctls.{event_features, mode_of, left_by, is_mapped_in, registered_in, unregistered_in, protected_in}
 use Rattle.mig_model.proofs.Registering.{past_none}

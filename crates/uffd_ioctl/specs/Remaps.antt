@@ -8,7 +8,7 @@ use Rattle.mig_base.specs.declared.message.Message.TheVariants as message
 use Rattle.mig_base.specs.declared.message.Message.TheVariants.{Unmap}
 use Rattle.mig_base.specs.declared.message.Message.{Message}
 use Rattle.mig_base.specs.Ranges.{lesser}
-use Rattle.mig_model.specs.Userfault.{Object, mode_at, is_registered, is_watched, moved_modes}
+use Rattle.mig_base.specs.Userfault.{Object, mode_at, is_registered, is_watched, moved_modes}
 use Rattle.mig_model.specs.Space.{told}
 use Rattle.area_map.specs.Ranges.{HasOneProt}
 use Rattle.uffd_ioctl.specs.declared.remap.Remap.{Remap}

@@ -14,7 +14,7 @@ use Rattle.mig_base.specs.declared.command.Access.TheVariants.{Answered, Missing
 use Rattle.mig_base.specs.Commands.{is_store, page_of}
 use Rattle.mig_base.specs.Flat.{Memory, after}
 use Rattle.mig_model.specs.Host.{Host, coded_host}
-use Rattle.mig_model.specs.Userfault.{Object, fresh_object, enabled_with, registered_where, waits_fault}
+use Rattle.mig_base.specs.Userfault.{Object, fresh_object, enabled_with, registered_where, waits_fault}
 use Rattle.mig_model.specs.Space.{Space, access_of, is_made}
 use Rattle.mig_model.specs.Ioctls.{event_features, mode_of}
 use Rattle.page_table.specs.Views.{Pages}

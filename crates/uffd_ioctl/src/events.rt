@@ -9,7 +9,7 @@ ghost use Rattle.std.specs.FinSet as set;
 ghost use Rattle.mig_base.specs.Pages.{moved_range};
 ghost use Rattle.mig_base.specs.Sets.{moved_set};
 ghost use Rattle.mig_base.specs.declared.TheConstants.{HIGH_PAGE};
-ghost use Rattle.mig_model.specs.Userfault.{Object, changing};
+ghost use Rattle.mig_base.specs.Userfault.{Object, changing};
 ghost use Rattle.mig_model.specs.Space.{told, remap_messages, all_queued};
 ghost use Rattle.userfault.specs.Modes.{opened, IsOpen};
 ghost use Rattle.uffd_ioctl.specs.Remaps.{IsRemap, HasProt, AreLow, room_first, room_count, modes_of, replaced_message, cut_message, moved_message, three_messages};

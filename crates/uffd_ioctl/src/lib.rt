@@ -10,8 +10,9 @@
 //!
 //! The modules follow: `access` (the number of a load), `map_calls` (what map calls answer), `remap` (moving a range), `events`
 //! (how map calls change the object), `arguments` (ranges and flags of the object's calls), `register`, `install` and `protect`
-//! (what these calls do over a range), `fault` (their results and errors), and `space` (the type that callers see, with its calls
-//! in three families).
+//! (what these calls do over a range), `fault` (their results and errors), `space` (the type that callers see, with its calls in three
+//! families), `lent` (making pages present in a space that a node of a migration lends), `page_fault` (a fault that a handler holds), and
+//! [`laws`] (what holds of a lent space across all calls).
 #![tactic(auto)]
 
 mod access;
@@ -19,13 +20,18 @@ mod arguments;
 mod events;
 mod fault;
 mod install;
+pub mod laws;
+mod lent;
 mod map_calls;
+mod page_fault;
 mod protect;
 mod register;
 mod remap;
 pub mod space;
 
 pub use crate::fault::{Copied, CopyFault, IoctlFault};
+pub use crate::lent::{install, make_zeros};
+pub use crate::page_fault::{PageFault, copy_faults};
 pub use crate::space::Space;
 pub use mig_base::{Access, Message, Wake};
 pub use userfault::Mode;

@@ -4,7 +4,7 @@ ghost use Rattle.std.specs.Prelude.{◌≡◌, ℕ, ◌<◌, ◌≤◌, IfOk, If
 ghost use Rattle.std.specs.Option.{option_copied, option_map};
 ghost use Rattle.std.specs.FinMap as map;
 ghost use Rattle.std.specs.FinSet as set;
-ghost use Rattle.mig_model.specs.Userfault as object;
+ghost use Rattle.mig_base.specs.Userfault as object;
 ghost use Rattle.mig_model.specs.Space as machine;
 ghost use Rattle.userfault.specs.Modes as modes;
 ghost use Rattle.uffd_ioctl.specs.Spaces.{assembled_object};

@@ -9,7 +9,7 @@ use Rattle.mig_base.specs.Ranges.{in_range, none_below}
 use Rattle.mig_base.specs.Sets.{pages_where, moved_set, without}
 use Rattle.mig_base.proofs.SetLemmas.{same_members, member_below, member_without}
 use Rattle.mig_base.proofs.RangeLemmas.{none_below-from, none_below-not}
-use Rattle.mig_model.specs.Userfault.{Mode, Object, registered_where}
+use Rattle.mig_base.specs.Userfault.{Mode, Object, registered_where}
 use Rattle.userfault.specs.Modes.{registered_set, has_asked}
 
 -- A set is the pages that pass a test where it has those, and they lie below the end.

@@ -1,7 +1,7 @@
 -- Queues of messages.
 use Rattle.std.proofs.Common.{◌≡◌, ℕ, ◌||◌, Bool, List, [], ◌∷◌, refl, ap}
 use Rattle.std.specs.List.{list_any}
-use Rattle.mig_model.specs.Userfault.{Noted, is_fault_at, waits_fault}
+use Rattle.mig_base.specs.Userfault.{Noted, is_fault_at, waits_fault}
 
 -- a fault waits where one of the messages is it
 pub any_waits : (faults : List Noted) (addr : ℕ) (kind : Bool) → list_any (λ noted. is_fault_at noted.message addr kind) faults ≡ waits_fault faults addr kind

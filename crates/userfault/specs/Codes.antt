@@ -5,7 +5,7 @@ use Rattle.std.specs.FinSet as set
 use Rattle.std.specs.Coded.{Coded, code_by, coded×, coded_ℕ, coded_bool, coded_list}
 use Rattle.mig_base.specs.declared.message.Message.{Message}
 use Rattle.mig_base.specs.contracts.message.Message as message
-use Rattle.mig_model.specs.Userfault.{Noted, Object}
+use Rattle.mig_base.specs.Userfault.{Noted, Object}
 
 -- the code of an unread message
 abbrev pub coded_noted : Coded Noted

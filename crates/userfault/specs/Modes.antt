@@ -4,8 +4,8 @@ use Rattle.std.specs.Ordering.{nat_cmp}
 use Rattle.std.specs.FinSet.{FinSet, contains}
 use Rattle.mig_base.specs.Ranges.{in_range}
 use Rattle.mig_base.specs.Sets.{pages_where, without, with_range}
-use Rattle.mig_model.specs.Userfault as machine
-use Rattle.mig_model.specs.Userfault.{Object, is_registered}
+use Rattle.mig_base.specs.Userfault as machine
+use Rattle.mig_base.specs.Userfault.{Object, is_registered}
 use Rattle.mig_base.specs.Tests.{same_bool}
 use Rattle.userfault.specs.declared.modes.Mode.{Mode}
 use Rattle.userfault.specs.declared.object.moves.RangeModes.{RangeModes}

@@ -9,7 +9,7 @@
 //! wakes none; and no commands, so its callers decide which message a command causes and whether the features of the
 //! handshake ask for it. The one feature that it reads is UFFD_FEATURE_THREAD_ID, for the thread of a page fault.
 //!
-//! Contracts see an object as the record `Object` of `mig_model`, and each call is one step of its `specs/Userfault.antt`.
+//! Contracts see an object as the record `Object` of `mig_base`, and each call is one step of its `specs/Userfault.antt`.
 //! The modules follow: `noted` (an unread message, and a queue of them), `modes` (sets of pages after a range was
 //! registered or moved), and `object` (the type that callers see).
 #![tactic(auto)]

@@ -1,7 +1,7 @@
 //! An unread message, and a queue of them.
 
 ghost use Rattle.std.specs.Prelude.{◌≡◌, IfOk};
-ghost use Rattle.mig_model.specs.Userfault.{is_fault_at, waits_fault};
+ghost use Rattle.mig_base.specs.Userfault.{is_fault_at, waits_fault};
 
 use mig_base::{Addr, Message, NoMemory};
 use std::alloc::Global;
@@ -16,7 +16,7 @@ pub struct Noted {
 }
 
 impl Model for Noted {
-    ghost use Rattle.mig_model.specs.Userfault as machine;
+    ghost use Rattle.mig_base.specs.Userfault as machine;
     ghost use Rattle.userfault.specs.Codes.{coded_noted};
 
     ghost Value = { machine.Noted };

@@ -4,10 +4,10 @@ ghost use Rattle.std.specs.Prelude.{◌≡◌, false, ℕ, ◌+◌, ◌-◌, ◌
 ghost use Rattle.std.specs.Option.{option_map};
 ghost use Rattle.mig_base.specs.Ranges.{in_range};
 ghost use Rattle.mig_base.specs.declared.TheConstants.{HIGH_PAGE};
-ghost use Rattle.mig_model.specs.Userfault as machine;
+ghost use Rattle.mig_base.specs.Userfault as machine;
 ghost use Rattle.mig_base.specs.Tests.{is_every};
 ghost use Rattle.userfault.specs.Modes.{mode_of, has_mode_of};
-ghost use Rattle.mig_model.specs.Userfault.{is_watched};
+ghost use Rattle.mig_base.specs.Userfault.{is_watched};
 
 pub mod moves;
 mod runs;
@@ -36,7 +36,7 @@ pub struct Userfault {
 }
 
 impl Model for Userfault {
-    ghost use Rattle.mig_model.specs.Userfault.{Object};
+    ghost use Rattle.mig_base.specs.Userfault.{Object};
     ghost use Rattle.userfault.specs.Codes.{coded_object};
 
     ghost Value = { Object };

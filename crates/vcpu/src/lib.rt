@@ -9,11 +9,13 @@
 //!
 //! Contracts see the processors as a list of [`mig_base::cpu_state::CpuState`], and each call as a definition of `mig_model`'s
 //! `specs/Cpus.antt`; `specs/Answers.antt` has what the calls answer that no step of the machine asks. The modules follow: `cpus` (the
-//! type that callers see), `fault` (why processors could not be made), and `sleepers` (whom a call wakes).
+//! type that callers see), `fault` (why processors could not be made), `messages` (what the reading of a message does to them), and
+//! `sleepers` (whom a call wakes).
 #![tactic(auto)]
 
 mod cpus;
 mod fault;
+mod messages;
 mod sleepers;
 
 pub use crate::cpus::Cpus;

@@ -12,12 +12,9 @@ use Rattle.frame_decoder.specs.Streams.{IsSent, texts}
 use Rattle.frame_decoder.specs.declared.version.Version.TheVariants.{Two}
 use Rattle.wires.proofs.ChunkLemmas.{length-texts-cons}
 use Rattle.world.specs.Answers.{in_flight_len}
+use Rattle.world.proofs.PieceLemmas.{in_flight}
 
 -- The count
-
-in_flight : (frames : List Sent) → AllByRecursion (IsSent Two) frames → length (texts Two frames) ≡ in_flight_len frames
-in_flight [] each = refl
-in_flight (sent ∷ rest) each = let long = length-texts-cons sent rest each.0 in let more = in_flight rest each.1 in omega (arith, long, more)
 
 -- a count that has not stopped
 counted_whole : (n count : ℕ) → count ≡ counted 0 n → count < 18446744073709551615 → count ≡ n

@@ -13,6 +13,7 @@ use Rattle.engine.specs.Script.{Runs, Writes}
 use Rattle.engine.specs.WorldState.{WorldState, first_state}
 use Rattle.engine.proofs.Lines.{reads_more, reads_then, reads_last}
 use Rattle.engine.proofs.Transcripts.{run_promised}
+use Rattle.engine.proofs.Whole.{input_is}
 use Rattle.wiretap.specs.declared.fault.TapFault.{TapFault}
 use Rattle.wiretap.specs.declared.taps.Taps.{Taps}
 use Rattle.wiretap.specs.Traffic.{Traffic, no_traffic, with_more, put_between, Puts, Gets, IsTapped}
@@ -116,12 +117,6 @@ ran_then contents start p q chunk r0 r1 r2 w0 w1 w2 t0 t1 t2 ran more moves = re
   moves = moves_then contents (start_of start) p q ran.consumed chunk w0 w1 w2 t0 t1 t2 ran.moves moves;
 }
 
--- at the end of the input, what was read is the input
-input_is : (x consumed : List ℕ) (r1 r2 : Option (List ℕ)) → Consumes (Some x) r1 consumed → Consumes r1 r2 [] → IsAtEnd r2 → x ≡ consumed
-input_is x consumed None r2 p q e = absurd p
-input_is x consumed (Some y) None p q e = absurd q
-input_is x consumed (Some y) (Some z) p q e = p ∙ ap (λ (t : List ℕ). consumed ++ t) (q ∙ e) ∙ append-nil consumed
-
 ran_ends : {T : Type 0} (contents : T → Option (List ℕ)) (start : Work) (p : Place) (end : Work) (r0 r1 r2 w0 w1 w2 : Option (List ℕ)) (t0 t1 t2 : Taps T) → Ran contents start r0 r1 p w0 w1 t0 t1 → Consumes r1 r2 [] → IsAtEnd r2
     → Ends contents p end w1 w2 t1 t2 → IfSome r0 (λ input. ReadsAll contents start input end w0 w2 t0 t2)
 ran_ends contents start p end None r1 r2 w0 w1 w2 t0 t1 t2 ran last e c = tt
@@ -129,7 +124,7 @@ ran_ends contents start p end (Some x) r1 r2 w0 w1 w2 t0 t1 t2 ran last e c = re
   lines = ran.moves.lines ++ c.lines;
   text = ran.moves.text ++ c.text;
   traffic = with_more ran.moves.traffic c.traffic;
-  reads = subst (λ (t : List ℕ). Reads Script t (ran.moves.lines ++ c.lines) []) (sym (input_is x ran.consumed r1 r2 ran.consumes last e))
+  reads = subst (λ (t : List ℕ). Reads Script t (ran.moves.lines ++ c.lines) []) (sym (input_is x ran.consumed r1 r2 ran.consumes last e).0)
       (reads_last Script ran.consumed ran.moves.lines p.line c.lines [] ran.moves.reads c.reads);
   carries = carries_then start ran.moves.lines p.work ran.moves.text ran.moves.traffic c.lines end c.text c.traffic ran.moves.carries c.carries;
   appends = Appends-trans w0 w1 w2 ran.moves.text c.text ran.moves.appends c.appends;

@@ -13,7 +13,7 @@ use Rattle.wires.proofs.ChunkLemmas.{length-texts-cons}
 use Rattle.world.specs.Answers.{in_flight_len}
 
 -- the frames have as many bytes as their texts
-in_flight : (frames : List Sent) → AllByRecursion (IsSent Two) frames → length (texts Two frames) ≡ in_flight_len frames
+pub in_flight : (frames : List Sent) → AllByRecursion (IsSent Two) frames → length (texts Two frames) ≡ in_flight_len frames
 in_flight [] each = refl
 in_flight (sent ∷ rest) each = let long = length-texts-cons sent rest each.0 in let more = in_flight rest each.1 in omega (arith, long, more)
 

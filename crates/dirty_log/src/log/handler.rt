@@ -2,11 +2,11 @@
 
 ghost use Rattle.std.specs.Prelude.{◌≡◌, ℕ, ◌*◌, ◌⊎◌, List, ◌∷◌, Some, None, Err, IfOk, IfErr, OnOk, OnErr};
 ghost use Rattle.std.specs.Option.{IsSome};
-ghost use Rattle.mig_model.specs.Userfault.{Noted, next_message};
+ghost use Rattle.mig_base.specs.Userfault.{Noted, next_message};
 ghost use Rattle.mig_model.specs.Guest as guest;
 ghost use Rattle.mig_model.specs.Log as machine;
 ghost use Rattle.mig_model.specs.Source.{source_act, source_acted};
-ghost use Rattle.guest.specs.Lent.{IsLent};
+ghost use Rattle.uffd_ioctl.specs.Lent.{IsLent};
 ghost use Rattle.dirty_log.specs.Acts.{act_is};
 ghost use Rattle.dirty_log.specs.Answers.{IsRefusedFor, act_refusal, read_answer};
 ghost use Rattle.dirty_log.specs.Spaces.{source_of};
@@ -15,11 +15,10 @@ use super::DirtyLog;
 use crate::act::Act;
 use crate::sets::remove_changed;
 use crate::spaces::{act_of, unprotect};
-use guest::{Fault, make_zeros};
 use mig_base::effect::Effect;
 use mig_base::refusal::Refusal;
 use mig_base::{Addr, Message, NoMemory, PAGE_SIZE, PageNo};
-use uffd_ioctl::Space;
+use uffd_ioctl::{PageFault, Space, make_zeros};
 use vcpu::Cpus;
 
 impl DirtyLog {
@@ -39,12 +38,11 @@ impl DirtyLog {
         let Some(message) = space.next_message() else {
             return Err(Refusal::NothingThere);
         };
-        let Ok(()) = self.hold(message) else {
-            return Err(Refusal::NoMemory);
-        };
-        let Some((message, effect)) = guest::read(space, cpus) else {
+        self.hold(message)?;
+        let Ok((message, cpu)) = space.read_message() else {
             unreachable!();
         };
+        let effect = cpus.read(message, cpu);
         remove_changed(&mut self.clean, message);
         remove_changed(&mut self.todo, message);
         Ok(effect)
@@ -57,7 +55,7 @@ impl DirtyLog {
         ensures err { OnErr result (self.new ≡ self.old) }
     {
         if let Message::PageFault { addr, wp, .. } = message {
-            self.held.push_back(Fault::new(addr, wp))?;
+            self.held.push_back(PageFault::new(addr, wp))?;
         }
         Ok(())
     }
@@ -88,11 +86,7 @@ impl DirtyLog {
                 unprotect(space, page as PageNo);
                 self.clean.remove(page as PageNo);
             }
-            Act::Zeroed => {
-                let Ok(()) = make_zeros(space, page as PageNo) else {
-                    return Err(Refusal::NoMemory);
-                };
-            }
+            Act::Zeroed => make_zeros(space, page as PageNo)?,
             Act::Woke | Act::Forgot => {}
         }
         self.held.pop_front();

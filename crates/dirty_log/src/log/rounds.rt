@@ -13,7 +13,7 @@ ghost use Rattle.mig_model.specs.Guest.{is_present};
 ghost use Rattle.mig_model.specs.Ioctls.{protected_in};
 ghost use Rattle.mig_model.specs.Log as machine;
 ghost use Rattle.mig_model.specs.Source.{Source, all_registered, run_of, space_of};
-ghost use Rattle.guest.specs.Lent.{IsLent};
+ghost use Rattle.uffd_ioctl.specs.Lent.{IsLent};
 ghost use Rattle.dirty_log.specs.Answers.{IsRefusedFor, send_refusal};
 ghost use Rattle.mig_model.specs.Wire.{page_frame};
 ghost use Rattle.dirty_log.specs.Lending.{LeavesSpace};
@@ -148,9 +148,7 @@ impl DirtyLog {
         ensures lent { IsLent space.new }
     {
         ensure_sendable(space, first, count)?;
-        let Ok(mut pages) = blank_pages(self.alloc, count) else {
-            return Err(Refusal::NoMemory);
-        };
+        let mut pages = blank_pages(self.alloc, count)?;
         self.mark_sent(space, first, count)?;
         read_pages(space, first, &mut pages);
         Ok(pages)
@@ -168,10 +166,7 @@ impl DirtyLog {
         ensures err { OnErr result ((self.new ≡ self.old) × (space.new ≡ space.old)) }
     {
         space.is_in_order();
-        let Ok(()) = PageSet::insert_range_in_both(&mut self.clean, &mut self.sent, first, count)
-        else {
-            return Err(Refusal::NoMemory);
-        };
+        PageSet::insert_range_in_both(&mut self.clean, &mut self.sent, first, count)?;
         if self.todo.next(self.from, true) >= first {
             self.from = self.from.max(first + count);
         }

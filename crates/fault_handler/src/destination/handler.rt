@@ -13,14 +13,14 @@ ghost use Rattle.mig_model.specs.Guest.{is_present};
 ghost use Rattle.mig_model.specs.GuestSteps.{when_quiet};
 ghost use Rattle.mig_model.specs.NodeSteps.{IsRefusedFor, acted, checked, first_of, in_phase, sent};
 ghost use Rattle.mig_model.specs.Owed.{is_requested, owed_table_after, requesting};
-ghost use Rattle.mig_model.specs.Userfault.{Noted, next_message};
+ghost use Rattle.mig_base.specs.Userfault.{Noted, next_message};
 ghost use Rattle.page_stream.specs.Frames.{frame_of};
 ghost use Rattle.fault_handler.specs.Memory.{act_grows, read_grows};
 ghost use Rattle.fault_handler.specs.Order.{LiesInside};
 
 use super::Destination;
 use crate::act::Act;
-use guest::{Fault, make_zeros};
+use crate::messages::read;
 use mig_base::effect::Effect;
 use mig_base::phase::DestPhase;
 use mig_base::refusal::Refusal;
@@ -28,6 +28,7 @@ use mig_base::{Message, NoMemory, PAGE_SIZE, PageNo};
 use owed_pages::Owed;
 use page_stream::Frame;
 use std::collections::VecDeque;
+use uffd_ioctl::{PageFault, make_zeros};
 
 impl Destination {
     /// Reads the next message. A page fault is held. An event is applied to the owed table: pairs whose pages are gone are removed, and
@@ -50,7 +51,7 @@ impl Destination {
                 return Err(Refusal::NoMemory);
             };
         }
-        let Some((message, effect)) = guest::read(&mut self.space, &mut self.cpus) else {
+        let Some((message, effect)) = read(&mut self.space, &mut self.cpus) else {
             return Err(Refusal::NothingThere);
         };
         self.faults = self.faults.saturating_add(faults_in(message));
@@ -117,7 +118,7 @@ impl Destination {
 
     /// The first held fault, or why none can be resolved.
     #[tactic(auto, unfolding(mig_model::specs::NodeSteps::unless))]
-    fn next_fault(&self) -> Result<Fault, Refusal>
+    fn next_fault(&self) -> Result<PageFault, Refusal>
         ensures { result ≡ in_phase self.now.has_run (when_quiet self.now.guest (first_of self.now.held)) }
     {
         self.ensure_run()?;
@@ -163,7 +164,7 @@ impl Destination {
 }
 
 /// Holds a page fault, or applies an event to the owed table. `NoMemory` changes nothing.
-fn note(held: &mut VecDeque<Fault>, owed: &mut Owed, message: Message) -> Result<(), NoMemory>
+fn note(held: &mut VecDeque<PageFault>, owed: &mut Owed, message: Message) -> Result<(), NoMemory>
     requires { LiesInside message }
     ensures held { OnOk result (held.new.items ≡ machine.held_after held.old.items message) }
     ensures owed { OnOk result (owed.new ≡ owed_table_after message owed.old) }
@@ -171,7 +172,7 @@ fn note(held: &mut VecDeque<Fault>, owed: &mut Owed, message: Message) -> Result
     ensures err { OnErr result ((held.new.items ≡ held.old.items) × (owed.new ≡ owed.old)) }
 {
     match message {
-        Message::PageFault { addr, wp, .. } => held.push_back(Fault::new(addr, wp))?,
+        Message::PageFault { addr, wp, .. } => held.push_back(PageFault::new(addr, wp))?,
         Message::Remap { from, to, len } => {
             let count = (len / PAGE_SIZE) as u32;
             owed.move_range(

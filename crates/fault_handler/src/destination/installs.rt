@@ -11,18 +11,17 @@ ghost use Rattle.mig_model.specs.GuestSteps.{when_quiet};
 ghost use Rattle.mig_model.specs.Ioctls.{installed};
 ghost use Rattle.mig_model.specs.NodeSteps.{IsRefusedFor, acted, and_then, checked, first_of, in_phase};
 ghost use Rattle.mig_model.specs.Owed.{home};
-ghost use Rattle.mig_model.specs.Userfault as object;
+ghost use Rattle.mig_base.specs.Userfault as object;
 ghost use Rattle.mig_model.specs.Wire as wire;
-ghost use Rattle.guest.specs.Lent.{IsLent};
+ghost use Rattle.uffd_ioctl.specs.Lent.{IsLent};
 
 use super::Destination;
 use crate::arrival::Arrival;
-use guest::make_zeros;
 use mig_base::effect::Effect;
 use mig_base::refusal::Refusal;
 use mig_base::{NoMemory, PageNo, page_address};
 use std::collections::VecDeque;
-use uffd_ioctl::Space;
+use uffd_ioctl::{Space, make_zeros};
 
 impl Destination {
     /// Puts the first arrival where its page belongs now, by moving its bytes: UFFDIO_COPY for that page, or UFFDIO_ZEROPAGE for a page of
@@ -120,7 +119,7 @@ fn put(space: &mut Space, arrival: &mut Arrival, page: PageNo) -> Result<(), NoM
     let Some(bytes) = arrival.take() else {
         return make_zeros(space, page);
     };
-    match guest::install(space, page, bytes) {
+    match uffd_ioctl::install(space, page, bytes) {
         Ok(()) => Ok(()),
         Err(bytes) => {
             arrival.put_back(Some(bytes));

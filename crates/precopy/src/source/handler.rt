@@ -9,7 +9,7 @@ ghost use Rattle.mig_model.specs.Guest.{Fault, Guest, fault_count};
 ghost use Rattle.mig_model.specs.NodeSteps.{IsRefusedFor, acted};
 ghost use Rattle.mig_model.specs.Source.{is_handling, source_act};
 ghost use Rattle.mig_model.specs.SourceSteps.{act, read};
-ghost use Rattle.mig_model.specs.Userfault.{Noted, next_message};
+ghost use Rattle.mig_base.specs.Userfault.{Noted, next_message};
 ghost use Rattle.dirty_log.specs.Acts.{act_is};
 
 use super::Source;
@@ -66,7 +66,7 @@ impl Source {
 
 /// 1 if a page fault was read, else 0.
 fn faults_in(effect: Effect) -> u64
-    ensures { (guest : Guest) (cpu : ℕ) (message : Message) → effect ≡ read_effect guest cpu message → result ≡ fault_count message }
+    ensures { (guest : Guest) (cpu : ℕ) (message : Message) → effect ≡ read_effect guest.cpus cpu message → result ≡ fault_count message }
 {
     match effect {
         Effect::ReadFault { .. } => 1,

@@ -7,7 +7,7 @@ ghost use Rattle.mig_base.specs.Bits.{is_one};
 ghost use Rattle.mig_base.specs.Bytes.{zero_page};
 ghost use Rattle.mig_base.specs.declared.TheConstants.{HIGH_PAGE};
 ghost use Rattle.mig_model.specs.Bounds.{IsPage};
-ghost use Rattle.mig_model.specs.Userfault as object;
+ghost use Rattle.mig_base.specs.Userfault as object;
 ghost use Rattle.mig_model.specs.Ioctls as table;
 ghost use Rattle.uffd_ioctl.specs.Puts.{IsShort, result_of};
 ghost use Rattle.uffd_ioctl.specs.Spaces.{ioctl_result};

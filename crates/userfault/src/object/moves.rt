@@ -4,7 +4,7 @@
 
 ghost use Rattle.std.specs.Prelude.{◌≡◌, ℕ, ◌+◌, ◌≤◌, ◌⊎◌, OnOk, OnErr, IfOk};
 ghost use Rattle.mig_base.specs.declared.TheConstants.{HIGH_PAGE};
-ghost use Rattle.mig_model.specs.Userfault as machine;
+ghost use Rattle.mig_base.specs.Userfault as machine;
 ghost use Rattle.userfault.specs.Modes.{mode_of, opened, limited, no_mode, AreModesOf, IsOpen};
 
 use super::Userfault;

@@ -5,7 +5,7 @@ ghost use Rattle.std.specs.Option.{option_map};
 ghost use Rattle.mig_base.specs.declared.phase.WorldPhase.{WorldPhase};
 ghost use Rattle.mig_model.specs.Guest.{counted};
 ghost use Rattle.mig_model.specs.Source.{not_clean};
-ghost use Rattle.mig_model.specs.Userfault.{changing, next_message};
+ghost use Rattle.mig_base.specs.Userfault.{changing, next_message};
 ghost use Rattle.mig_model.specs.Views as views;
 ghost use Rattle.world.specs.Answers.{has_sent_end, in_flight_len};
 ghost use Rattle.world.specs.Headline.{IsMoved};

@@ -2,7 +2,7 @@ use Rattle.std.proofs.Common.{ap, refl, true}
 use Rattle.mig_base.specs.Commands.{is_access}
 use Rattle.guest.specs.Guests.{guest_with}
 use Rattle.guest.proofs.CommandLemmas.{begun}
-use Rattle.guest.proofs.LentLemmas.{space_lent}
+use Rattle.uffd_ioctl.proofs.LentLemmas.{space_lent}
 use Rattle.guest_tests.proofs.handlers.issued.Goals as goal
 
 pub returns : goal.returns

@@ -1,5 +1,5 @@
 use Rattle.mig_model.specs.Space.{called}
-use Rattle.guest.proofs.LentLemmas.{call_lent}
+use Rattle.uffd_ioctl.proofs.LentLemmas.{call_lent}
 use Rattle.log_tests.proofs.LentLemmas.{either_lent}
 use Rattle.log_tests.proofs.dirty_logs.map_call.Goals as goal
 

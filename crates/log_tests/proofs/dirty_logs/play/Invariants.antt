@@ -1,4 +1,4 @@
-use Rattle.guest.specs.Lent.{IsLent}
+use Rattle.uffd_ioctl.specs.Lent.{IsLent}
 use Rattle.log_tests.proofs.dirty_logs.play.Given as goal
 
 abbrev pub invariant-loop-i : goal.invariant-loop-i

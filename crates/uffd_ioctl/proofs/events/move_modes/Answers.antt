@@ -1,5 +1,5 @@
 use Rattle.std.proofs.Common.{◌∙◌, ◌+◌, ◌-◌, ap}
-use Rattle.mig_model.specs.Userfault.{unregistered}
+use Rattle.mig_base.specs.Userfault.{unregistered}
 use Rattle.uffd_ioctl.proofs.MoveLemmas.{modes_stay, modes_go}
 use Rattle.uffd_ioctl.proofs.events.move_modes.Goals as goal
 use Rattle.uffd_ioctl.proofs.events.move_modes.Goals.{then-range, else-range}

@@ -1,6 +1,6 @@
 use Rattle.std.proofs.Common.{◌∙◌, ap, sym, subst, take, []}
 use Rattle.std.proofs.lemmas.List.{take_all}
-use Rattle.mig_model.specs.Userfault.{registered_where}
+use Rattle.mig_base.specs.Userfault.{registered_where}
 use Rattle.userfault.specs.Modes.{mode_of}
 use Rattle.uffd_ioctl.specs.Remaps.{AreLow}
 use Rattle.uffd_ioctl.proofs.RegisterLemmas.{is_mapped_by, mapped_none, mapped_same, nothing_where, registered_low, registered_more, same_where, area_bound}

@@ -1,5 +1,5 @@
 use Rattle.std.proofs.Common.{◌≡◌, take}
-use Rattle.mig_model.specs.Userfault.{registered_where}
+use Rattle.mig_base.specs.Userfault.{registered_where}
 use Rattle.userfault.specs.Modes.{mode_of}
 use Rattle.uffd_ioctl.proofs.RegisterLemmas.{is_mapped_by}
 use Rattle.uffd_ioctl.proofs.register.registered.Given as goal

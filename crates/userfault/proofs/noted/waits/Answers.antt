@@ -2,7 +2,7 @@ use Rattle.std.proofs.Common.{◌∙◌, sym, ap, arith}
 use Rattle.std.specs.List.{list_any}
 use Rattle.std.proofs.lemmas.List.Folds.{list_any_at}
 use Rattle.std.proofs.lemmas.List.{take_all}
-use Rattle.mig_model.specs.Userfault.{Noted, is_fault_at}
+use Rattle.mig_base.specs.Userfault.{Noted, is_fault_at}
 use Rattle.userfault.proofs.QueueLemmas.{any_waits}
 use Rattle.userfault.proofs.noted.waits.Goals as goal
 

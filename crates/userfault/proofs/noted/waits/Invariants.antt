@@ -1,6 +1,6 @@
 use Rattle.std.proofs.Common.{◌≡◌, false, take}
 use Rattle.std.specs.List.{list_any}
-use Rattle.mig_model.specs.Userfault.{is_fault_at}
+use Rattle.mig_base.specs.Userfault.{is_fault_at}
 use Rattle.userfault.proofs.noted.waits.Given as goal
 
 abbrev pub invariant-loop-i : goal.invariant-loop-i

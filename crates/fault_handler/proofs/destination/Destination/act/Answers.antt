@@ -8,7 +8,7 @@ use Rattle.mig_model.specs.Effects.{act_effect}
 use Rattle.mig_model.specs.Guest as machine
 use Rattle.mig_model.specs.Guest.{zero_installed}
 use Rattle.mig_model.specs.NodeSteps.{sent}
-use Rattle.mig_model.specs.Userfault.{changing}
+use Rattle.mig_base.specs.Userfault.{changing}
 use Rattle.fault_handler.specs.Acts.{act_is}
 use Rattle.fault_handler.specs.Memory.{act_grows}
 use Rattle.fault_handler.specs.contracts.destination.Destination.{the_view}

@@ -4,7 +4,7 @@ use Rattle.std.specs.FinMap.{get}
 use Rattle.mig_model.specs.Destination.{Destination, installed_at}
 use Rattle.mig_model.specs.Guest.{is_present}
 use Rattle.mig_model.specs.Owed.{home}
-use Rattle.mig_model.specs.Userfault.{changing}
+use Rattle.mig_base.specs.Userfault.{changing}
 use Rattle.fault_handler.specs.contracts.destination.Destination.{the_view}
 use Rattle.mig_model.proofs.Facts.{counted_is}
 use Rattle.fault_handler.proofs.PageLemmas.{installed_paged}

@@ -4,7 +4,7 @@ use Rattle.mig_base.specs.declared.message.Message.{Message}
 use Rattle.mig_model.specs.Destination.{Destination, destination_read, settled}
 use Rattle.mig_model.specs.DestinationSteps as machine
 use Rattle.mig_model.specs.Effects.{read_effect}
-use Rattle.mig_model.specs.Userfault.{next_message}
+use Rattle.mig_base.specs.Userfault.{next_message}
 use Rattle.fault_handler.specs.contracts.destination.Destination.{the_view}
 use Rattle.fault_handler.proofs.HandlerLemmas.{IsNoted, none_waits, noted_next, noted_order, noted_paged, noted_waits, read_done, read_effect_is, read_is, run_of, settled_done}
 use Rattle.fault_handler.proofs.destination.Destination.read.Goals as goal
@@ -45,7 +45,7 @@ read : (c : goal.After-self-1) → record (the_view c.match-next_message.self-in
 read c =
     let it = noting c in
     let waits = noted_waits _ _ it in
-    let same = ap (λ (o : Option (Message × Effect)). (unwrap_or o (c.in-Some-read.message, c.in-Some-read.effect)).0) (sym c.in-Some-read.is ∙ c.read.ensures.told it.noted waits) in
+    let same = ap (λ (o : Option (Message × Effect)). (unwrap_or o (c.in-Some-read.message, c.in-Some-read.effect)).0) (sym c.in-Some-read.is ∙ c.read.ensures.message it.noted waits) in
     read_is _ _ it c.read.new.space c.read.new.cpus c.faults_in.result _ c.in-Some-read.message (c.read.ensures.guest it.noted waits) same c.faults_in.ensures c.saturating_add-self-inside.ensures
 
 run : (c : goal.After-self-1) → c.self.inside.has_run ≡ true
@@ -54,8 +54,8 @@ run c = ap (λ (n : Destination). n.has_run) c.self.view_is ∙ run_of _ (sym c.
 pub returns-clause-made : goal.returns-clause-made
 returns-clause-made c =
     let it = noting c in
-    let reported = read_effect_is _ _ _ _ (sym c.in-Some-read.is ∙ c.read.ensures.told it.noted (noted_waits _ _ it)) in
-    let here = ap (λ (n : Destination). read_effect n.guest it.noted.cpu it.noted.message) it.is in
+    let reported = read_effect_is _ _ _ _ (sym c.in-Some-read.is ∙ c.read.ensures.message it.noted (noted_waits _ _ it)) in
+    let here = ap (λ (n : Destination). read_effect n.guest.cpus it.noted.cpu it.noted.message) it.is in
     ap machine.read (sym c.self.view_is) ∙ read_done (the_view c.self.inside) _ c.in-Some-read.effect it.noted (run c) it.next (reported ∙ here) (read c)
 
 pub returns-clause-settled : goal.returns-clause-settled

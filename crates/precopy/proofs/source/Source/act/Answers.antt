@@ -1,6 +1,6 @@
 use Rattle.std.proofs.Common.{◌≡◌, refl, subst, sym, ap, ◌∙◌, ◌∷◌, ◌*◌}
 use Rattle.mig_model.specs.Effects.{act_effect}
-use Rattle.mig_model.specs.Userfault.{changing}
+use Rattle.mig_base.specs.Userfault.{changing}
 use Rattle.precopy.specs.contracts.source.Source.{the_view}
 use Rattle.mig_model.specs.Source.{source_act, source_acted, space_of}
 use Rattle.dirty_log.specs.Spaces.{source_of}

@@ -1,6 +1,6 @@
 use Rattle.std.proofs.Common.{◌∙◌, ap}
 use Rattle.mig_base.specs.Ranges.{in_range}
-use Rattle.mig_model.specs.Userfault.{registered_where}
+use Rattle.mig_base.specs.Userfault.{registered_where}
 use Rattle.userfault.specs.Modes.{mode_of}
 use Rattle.userfault.proofs.ModeLemmas.{is_registered_where}
 use Rattle.userfault.proofs.object.Userfault.and_registered.Goals as goal

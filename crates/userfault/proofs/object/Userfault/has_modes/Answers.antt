@@ -1,6 +1,6 @@
 use Rattle.std.proofs.Common.{◌∙◌, ◌||◌, not, ap}
 use Rattle.std.specs.FinSet.{contains}
-use Rattle.mig_model.specs.Userfault.{has_modes}
+use Rattle.mig_base.specs.Userfault.{has_modes}
 use Rattle.mig_base.specs.Tests.{is_every}
 use Rattle.userfault.specs.Modes.{mode_of}
 use Rattle.userfault.proofs.EveryLemmas.{both_true, both_false}

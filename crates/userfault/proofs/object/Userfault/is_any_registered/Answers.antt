@@ -1,7 +1,7 @@
 use Rattle.std.proofs.Common.{◌∙◌, ◌+◌, ◌<◌, ◌≤◌, inl, inr, ap, ⊎_elim, arith}
 use Rattle.std.specs.FinSet.{contains}
 use Rattle.std.proofs.lemmas.Bool.{cases_lt}
-use Rattle.mig_model.specs.Userfault.{is_watched}
+use Rattle.mig_base.specs.Userfault.{is_watched}
 use Rattle.userfault.proofs.ModeLemmas.{is_below, is_past, found, not_found}
 use Rattle.userfault.proofs.object.Userfault.is_any_registered.Goals as goal
 

@@ -1,5 +1,5 @@
 use Rattle.std.proofs.Common.{◌∙◌, ap}
-use Rattle.mig_model.specs.Userfault.{moved_modes}
+use Rattle.mig_base.specs.Userfault.{moved_modes}
 use Rattle.userfault.specs.Modes.{no_mode}
 use Rattle.userfault.proofs.OpenLemmas.{is_opened, modes_to_opened}
 use Rattle.userfault.proofs.object.Userfault.move_range.Goals as goal
