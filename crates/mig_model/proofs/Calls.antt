@@ -153,8 +153,19 @@ fault_calls : (message : Message) (cpu : ℕ) (faults events : List Noted) (gues
     HasSoundCalls (read_guest (with_queues (record { message = message; cpu = cpu } ∷ faults) events guest) cpu message)
 fault_calls message cpu faults events guest calls = grind (arith, nat_tests)
 
+same_noted : (one other : Noted) → Some one ≡ Some other → one ≡ other
+same_noted one other is = cc
+
+queued_calls : (faults events : List Noted) (guest : Guest) (noted : Noted) → next_message (with_queues faults events guest).space.object ≡ Some noted → AreRight events → HasSoundCalls (with_queues faults events guest) →
+    HasSoundCalls (read_guest (with_queues faults events guest) noted.cpu noted.message)
+queued_calls [] [] guest noted is right calls = absurd (let none : None ≡ Some noted = is in cc)
+queued_calls [] (event ∷ events) guest noted is right calls =
+    subst (λ (n : Noted). HasSoundCalls (read_guest (with_queues [] (event ∷ events) guest) n.cpu n.message)) (same_noted event noted is) (event_calls event.message event.cpu events guest right calls)
+queued_calls (fault ∷ faults) events guest noted is right calls =
+    subst (λ (n : Noted). HasSoundCalls (read_guest (with_queues (fault ∷ faults) events guest) n.cpu n.message)) (same_noted fault noted is) (fault_calls fault.message fault.cpu faults events guest calls)
+
 read_calls : (guest : Guest) (noted : Noted) → next_message guest.space.object ≡ Some noted → AreRight guest.space.object.events → HasSoundCalls guest → HasSoundCalls (read_guest guest noted.cpu noted.message)
-read_calls guest noted is right calls = grind (arith, nat_tests, event_calls, fault_calls)
+read_calls guest = queued_calls guest.space.object.faults guest.space.object.events guest
 
 -- a processor that is taken over is in no call
 taken_fits : (commands : List (Option Command)) (k : ℕ) → CallFits (processor_at (map taken_over commands) k) 0
