@@ -1,4 +1,4 @@
-//! The reading of messages, `make_zeros` and `install`, call by call.
+//! The reading of messages, `make_zeros` and `install_page`, call by call.
 
 ghost use Rattle.std.specs.Prelude.{◌≡◌, true, false};
 ghost use Rattle.mig_base.specs.Userfault as object;
@@ -16,7 +16,7 @@ use mig_base::{
 use std::alloc::Global;
 use std::process::Abort;
 use std::test::Fail;
-use uffd_ioctl::{IoctlFault, Space, install, make_zeros};
+use uffd_ioctl::{IoctlFault, Space, install_page, make_zeros};
 use vcpu::{Cpus, NewFault};
 
 /// A call with its arguments.
@@ -130,7 +130,7 @@ fn filled(
     let Ok(bytes) = PageBytes::copy_of(alloc, &[byte; PAGE_BYTES]) else {
         return Err(Refusal::NoMemory);
     };
-    match install(space, page, bytes) {
+    match install_page(space, page, bytes) {
         Ok(()) => {
             cpus.wake_page(page);
             Ok(Answer::Done)

@@ -70,10 +70,7 @@ pub fn rebuild(
     if is_bad(source, state, owed) {
         return Err(RebuildFault::BadOwed);
     }
-    let Ok(frames) = go_on(alloc, source, state, owed) else {
-        return Err(RebuildFault::NoMemory);
-    };
-    Ok(frames)
+    Ok(go_on(alloc, source, state, owed)?)
 }
 
 /// Whether a Recv contradicts the source's state.

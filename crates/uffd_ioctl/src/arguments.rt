@@ -10,15 +10,8 @@ use mig_base::flags::{
     EVENT_REMAP_BIT, EVENT_REMOVE_BIT, EVENT_UNMAP_BIT, PAGEFAULT_FLAG_WP_BIT,
     REGISTER_MISSING_BIT, REGISTER_WP_BIT, THREAD_ID_BIT, has_bit,
 };
-use mig_base::{Addr, HIGH_PAGE, LOW, PAGE_SIZE, PageNo};
+use mig_base::{Addr, HIGH_PAGE, LOW, PAGE_SIZE, PageNo, Run};
 use userfault::Mode;
-
-/// A range of at least one page, inside the address space.
-#[derive(Clone, Copy, Drop)]
-pub(crate) struct PageRange {
-    pub(crate) first: PageNo,
-    pub(crate) count: u32,
-}
 
 /// Whether a range of bytes is not a nonempty range of whole pages of the address space.
 pub(crate) fn is_bad_range(start: Addr, len: u64) -> bool
@@ -32,14 +25,14 @@ pub(crate) fn is_bad_range(start: Addr, len: u64) -> bool
 }
 
 /// The pages of a range of bytes that is not bad.
-pub(crate) fn whole_pages(start: Addr, len: u64) -> PageRange
+pub(crate) fn whole_pages(start: Addr, len: u64) -> Run
     requires { table.is_bad_range start len ≡ false }
     ensures first { result.first ≡ start / 4096 }
     ensures count { result.count ≡ len / 4096 }
     ensures some { 0 < result.count }
     ensures inside { result.first + result.count ≤ HIGH_PAGE }
 {
-    PageRange {
+    Run {
         first: (start / PAGE_SIZE) as PageNo,
         count: (len / PAGE_SIZE) as u32,
     }

@@ -31,7 +31,7 @@ pub fn make_zeros(space: &mut Space, page: PageNo) -> Result<(), NoMemory>
 /// and changes nothing.
 ///
 /// The object of the space is enabled for the three events, no event is unread, no page below 0x10000 is mapped, and the page is registered.
-pub fn install(space: &mut Space, page: PageNo, bytes: PageBytes) -> Result<(), PageBytes>
+pub fn install_page(space: &mut Space, page: PageNo, bytes: PageBytes) -> Result<(), PageBytes>
     requires lent { IsLent space.old }
     requires quiet { object.changing space.old.object ≡ 0 }
     requires watched { is_forgotten space.old page ≡ false }

@@ -30,7 +30,7 @@ mod remap;
 pub mod space;
 
 pub use crate::fault::{Copied, CopyFault, IoctlFault};
-pub use crate::lent::{install, make_zeros};
+pub use crate::lent::{install_page, make_zeros};
 pub use crate::page_fault::{PageFault, copy_faults};
 pub use crate::space::Space;
 pub use mig_base::{Access, Message, Wake};

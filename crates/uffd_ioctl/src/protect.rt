@@ -6,12 +6,12 @@ ghost use Rattle.std.specs.FinSet as set;
 ghost use Rattle.mig_base.specs.Ranges.{in_range};
 ghost use Rattle.mig_base.specs.declared.TheConstants.{HIGH_PAGE};
 
-use crate::arguments::PageRange;
+use mig_base::Run;
 use page_table::PageTable;
 use userfault::Userfault;
 
 /// Write-protects the present pages of a range, or ends their protection.
-pub(crate) fn set_protection(pages: &mut PageTable, range: PageRange, protect: bool)
+pub(crate) fn set_protection(pages: &mut PageTable, range: Run, protect: bool)
     requires range { range.first + range.count ≤ HIGH_PAGE }
     requires present { (q : ℕ) → set.contains pages.old.protected q ≡ true → map.contains_key pages.old.bytes q ≡ true }
     ensures bytes { pages.new.bytes ≡ pages.old.bytes }
@@ -25,7 +25,7 @@ pub(crate) fn set_protection(pages: &mut PageTable, range: PageRange, protect: b
 }
 
 /// Write-protects the present pages of a range.
-fn protect_present(pages: &mut PageTable, range: PageRange)
+fn protect_present(pages: &mut PageTable, range: Run)
     requires { range.first + range.count ≤ HIGH_PAGE }
     ensures bytes { pages.new.bytes ≡ pages.old.bytes }
     ensures protected { (q : ℕ) → set.contains pages.new.protected q ≡ (in_range range.first range.count q && map.contains_key pages.old.bytes q || set.contains pages.old.protected q) }
@@ -38,7 +38,7 @@ fn protect_present(pages: &mut PageTable, range: PageRange)
 }
 
 /// Ends, run by run, the protection of the pages of a range that are not registered for write-protect faults.
-pub(crate) fn open_unwatched(pages: &mut PageTable, object: &Userfault, range: PageRange)
+pub(crate) fn open_unwatched(pages: &mut PageTable, object: &Userfault, range: Run)
     requires { range.first + range.count ≤ HIGH_PAGE }
     ensures bytes { pages.new.bytes ≡ pages.old.bytes }
     ensures protected { (q : ℕ) → set.contains pages.new.protected q ≡ (set.contains pages.old.protected q && (not (in_range range.first range.count q) || set.contains object.now.protect q)) }

@@ -7,9 +7,8 @@ ghost use Rattle.mig_base.specs.declared.TheConstants.{HIGH_PAGE};
 ghost use Rattle.mig_base.specs.Userfault.{is_registered, registered_where};
 ghost use Rattle.userfault.specs.Modes.{mode_of};
 
-use crate::arguments::PageRange;
 use area_map::AreaMap;
-use mig_base::{Area, NoMemory};
+use mig_base::{Area, NoMemory, Run};
 use userfault::{Mode, Userfault};
 
 /// A copy of the object in which the mapped pages of a range are registered. It visits only the areas that overlap the range.
@@ -17,7 +16,7 @@ use userfault::{Mode, Userfault};
 pub(crate) fn registered(
     object: &Userfault,
     areas: &AreaMap,
-    range: PageRange,
+    range: Run,
     mode: Mode,
 ) -> Result<Userfault, NoMemory>
     requires low { (page : ℕ) → HIGH_PAGE ≤ page → is_registered object.now page ≡ false }
@@ -35,7 +34,7 @@ pub(crate) fn registered(
 fn register_area(
     object: Userfault,
     area: Area,
-    range: PageRange,
+    range: Run,
     mode: Mode,
 ) -> Result<Userfault, NoMemory>
     requires low { (page : ℕ) → HIGH_PAGE ≤ page → is_registered object page ≡ false }

@@ -9,9 +9,8 @@ ghost use Rattle.mig_base.specs.declared.TheConstants.{HIGH_PAGE};
 ghost use Rattle.area_map.specs.Ranges.{HasOneProt};
 ghost use Rattle.uffd_ioctl.specs.Remaps.{IsRemap, HasProt, room_first, room_count};
 
-use crate::arguments::PageRange;
 use area_map::AreaMap;
-use mig_base::{HIGH_PAGE, NoMemory, PageNo, Prot};
+use mig_base::{HIGH_PAGE, NoMemory, PageNo, Prot, Run};
 use page_table::PageTable;
 
 /// The range of `count` pages from `from`, and the range of `new_count` pages from `to` that it becomes: they begin at the same page,
@@ -25,21 +24,21 @@ pub(crate) struct Remap {
 }
 
 impl Remap {
-    /// The pages that may need room: the whole target if the range moves, else the pages by which it grows.
-    pub(crate) fn room(self) -> PageRange
+    /// The pages that may need room: the whole target if the range moves, else the pages by which it grows, of which there may be none.
+    pub(crate) fn room(self) -> Run
         requires { IsRemap self }
         ensures first { result.first ≡ room_first self }
         ensures count { result.count ≡ room_count self }
         ensures inside { result.first + result.count ≤ HIGH_PAGE }
     {
         if self.to != self.from {
-            return PageRange {
+            return Run {
                 first: self.to,
                 count: self.new_count,
             };
         }
         let kept = self.count.min(self.new_count);
-        PageRange {
+        Run {
             first: self.to + kept,
             count: self.new_count - kept,
         }

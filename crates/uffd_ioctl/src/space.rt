@@ -13,11 +13,11 @@ mod access;
 mod ioctls;
 mod map_calls;
 
-use crate::arguments::{PageRange, mode_of};
+use crate::arguments::mode_of;
 use crate::register::registered;
 use area_map::AreaMap;
 use mig_base::flags::EVENT_FEATURES;
-use mig_base::{HIGH_PAGE, Message, NoMemory, PAGE_BYTES, PageNo, PageSet};
+use mig_base::{HIGH_PAGE, Message, NoMemory, PAGE_BYTES, PageNo, PageSet, Run};
 use page_table::PageTable;
 use std::alloc::Global;
 use std::marker::Model;
@@ -86,7 +86,7 @@ impl Space {
         let mut object = Userfault::new(alloc);
         if mode != 0 {
             object.enable(EVENT_FEATURES);
-            let all = PageRange {
+            let all = Run {
                 first: 0,
                 count: HIGH_PAGE,
             };

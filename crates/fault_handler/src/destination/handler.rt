@@ -142,9 +142,7 @@ impl Destination {
         ensures absent { OnErr result (is_requested self.old.requests origin ≡ false) }
         ensures err { OnErr result (self.new ≡ self.old) }
     {
-        let Ok(is_new) = self.requests.add(origin) else {
-            return Err(Refusal::NoMemory);
-        };
+        let is_new = self.requests.add(origin)?;
         match self.phase {
             DestPhase::Running if is_new => Ok(Some(Frame::Request { page: origin })),
             _ => Ok(None),

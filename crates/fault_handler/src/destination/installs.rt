@@ -21,7 +21,7 @@ use mig_base::effect::Effect;
 use mig_base::refusal::Refusal;
 use mig_base::{NoMemory, PageNo, page_address};
 use std::collections::VecDeque;
-use uffd_ioctl::{Space, make_zeros};
+use uffd_ioctl::{Space, install_page, make_zeros};
 
 impl Destination {
     /// Puts the first arrival where its page belongs now, by moving its bytes: UFFDIO_COPY for that page, or UFFDIO_ZEROPAGE for a page of
@@ -49,9 +49,7 @@ impl Destination {
             });
         };
         self.space.is_in_order();
-        let Ok(()) = put_first(&mut self.arrivals, &mut self.space, page) else {
-            return Err(Refusal::NoMemory);
-        };
+        put_first(&mut self.arrivals, &mut self.space, page)?;
         self.owed.settle(origin);
         self.requests.end(origin);
         self.cpus.wake_page(page);
@@ -119,7 +117,7 @@ fn put(space: &mut Space, arrival: &mut Arrival, page: PageNo) -> Result<(), NoM
     let Some(bytes) = arrival.take() else {
         return make_zeros(space, page);
     };
-    match uffd_ioctl::install(space, page, bytes) {
+    match install_page(space, page, bytes) {
         Ok(()) => Ok(()),
         Err(bytes) => {
             arrival.put_back(Some(bytes));

@@ -45,9 +45,7 @@ impl Source {
         ensures err { OnErr result (self.new ≡ self.old) }
     {
         self.check_switch()?;
-        let Ok(handed) = self.hand_over() else {
-            return Err(Refusal::NoMemory);
-        };
+        let handed = self.hand_over()?;
         let (discard, owed) = (handed.discarded.len(), handed.owed.len());
         self.space.drop_faults();
         self.log.drop_held();

@@ -36,9 +36,7 @@ impl Source {
     {
         self.check_start()?;
         self.space.is_in_order();
-        let Ok(()) = self.log.register_new(&mut self.space) else {
-            return Err(Refusal::NoMemory);
-        };
+        self.log.register_new(&mut self.space)?;
         self.phase = SourcePhase::Precopy;
         self.epoch += 1;
         let epoch = self.epoch;
@@ -55,12 +53,8 @@ impl Source {
     {
         self.check_round()?;
         self.space.is_in_order();
-        let Ok(todo) = self.log.dirty(&self.space) else {
-            return Err(Refusal::NoMemory);
-        };
-        let Ok(()) = self.log.register_new(&mut self.space) else {
-            return Err(Refusal::NoMemory);
-        };
+        let todo = self.log.dirty(&self.space)?;
+        self.log.register_new(&mut self.space)?;
         let pages = todo.len();
         self.log.begin_round(todo);
         self.rounds += 1;

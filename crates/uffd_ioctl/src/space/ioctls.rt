@@ -13,9 +13,7 @@ ghost use Rattle.uffd_ioctl.specs.Puts.{IsShort, result_of};
 ghost use Rattle.uffd_ioctl.specs.Spaces.{ioctl_result};
 
 use super::Space;
-use crate::arguments::{
-    PageRange, has_events, has_unknown_feature, is_bad_range, mode_of, whole_pages,
-};
+use crate::arguments::{has_events, has_unknown_feature, is_bad_range, mode_of, whole_pages};
 use crate::fault::{Copied, CopyFault, IoctlFault, outcome, refused};
 use crate::install::{put_copies, put_zeros};
 use crate::protect::{open_unwatched, set_protection};
@@ -23,7 +21,7 @@ use crate::register::registered;
 use mig_base::flags::{
     ALL_FEATURES, API, COPY_WP_BIT, INSTALL_DONTWAKE_BIT, WRITEPROTECT_WP_BIT, has_bit,
 };
-use mig_base::{Addr, Errno, HIGH_PAGE, Message, PageBytes, PageNo, Wake};
+use mig_base::{Addr, Errno, HIGH_PAGE, Message, PageBytes, PageNo, Run, Wake};
 use userfault::Mode;
 
 impl Space {
@@ -86,7 +84,7 @@ impl Space {
     }
 
     /// Whether no page of the range is mapped.
-    fn is_bare(&self, range: PageRange) -> bool
+    fn is_bare(&self, range: Run) -> bool
         requires { range.first + range.count ≤ HIGH_PAGE }
         ensures { result ≡ table.is_bare self.now range.first range.count }
     {
@@ -190,7 +188,7 @@ impl Space {
     }
 
     /// Whether the pages of the range are registered, all with one protection and in one mode.
-    fn is_one_area(&self, range: PageRange) -> bool
+    fn is_one_area(&self, range: Run) -> bool
         requires some { 0 < range.count }
         requires inside { range.first + range.count ≤ HIGH_PAGE }
         ensures { result ≡ table.is_one_area self.now range.first range.count }

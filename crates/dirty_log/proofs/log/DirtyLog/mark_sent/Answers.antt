@@ -16,10 +16,10 @@ invariant_of-self-2 c =
       | then-next-first w ↦ (
         come_on log.todo left first count log.from c.next.result c.if-next-first.self-inside.from c.self.invariant.0 c.requires.inside c.next.ensures.before (c.remove_range.ensures ∙ ap (λ l. without l.todo first count) w.self-inside-is) w.if-next-first.true
             (ap (λ l. l.from) w.self-inside-is ∙ w.max-self-inside.ensures),
-        rw (ap (λ l. l.sent) w.self-inside-is ∙ c.in-Ok.ensures.other) sent,
+        rw (ap (λ l. l.sent) w.self-inside-is ∙ c.in_ok-insert_range_in_both.ensures.other) sent,
       )
       | else-next-first w ↦ (
         rw (ap (λ l. l.from) w.self-inside-is) (stay_on log.todo left first count log.from c.self.invariant.0 (c.remove_range.ensures ∙ ap (λ l. without l.todo first count) w.self-inside-is)),
-        rw (ap (λ l. l.sent) w.self-inside-is ∙ c.in-Ok.ensures.other) sent,
+        rw (ap (λ l. l.sent) w.self-inside-is ∙ c.in_ok-insert_range_in_both.ensures.other) sent,
       )
     ]

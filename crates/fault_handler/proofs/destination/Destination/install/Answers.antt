@@ -46,7 +46,7 @@ pub invariant_of-self-2 : goal.invariant_of-self-2
 invariant_of-self-2 c =
     let removed = c.settle.ensures.settled c.in-Some.page (owes c) in (
       installed_order _ c.self.inside.space _ c.self.inside.owed _ c.in-Some.page (first c).copy.bytes (ap (λ (n : Destination). changing n.guest.space.object) c.self.view_is ∙ (first c).quiet)
-          (c.in-Ok.ensures.space (first c).copy (first c).rest (waits c)) removed c.self.invariant.0,
+          (c.in_ok-put_first.ensures.space (first c).copy (first c).rest (waits c)) removed c.self.invariant.0,
       installed_paged c.self.inside.owed _ c.in-Some.page _ _ _ removed c.end.ensures c.self.invariant.1,
     )
 
@@ -61,7 +61,7 @@ new : (c : goal.After-page_address-3) →
     } ≡ installed_at c.args.self.now (first c).copy (first c).rest c.in-Some.page
 new c =
     installed_is c.args.self.now (the_view c.self.inside) c.put_first.new.space c.wake_page.new.self c.settle.new.self c.end.new.self c.put_first.new.arrivals.items c.in_ok-origin.origin c.in-Some.page c.saturating_add-self-inside-2.result
-    (first c) c.self.view_is (c.in-Ok.ensures.space (first c).copy (first c).rest (waits c)) c.wake_page.ensures (c.settle.ensures.settled c.in-Some.page (owes c)) c.end.ensures (c.in-Ok.ensures.arrivals (first c).copy (first c).rest (waits c))
+    (first c) c.self.view_is (c.in_ok-put_first.ensures.space (first c).copy (first c).rest (waits c)) c.wake_page.ensures (c.settle.ensures.settled c.in-Some.page (owes c)) c.end.ensures (c.in_ok-put_first.ensures.arrivals (first c).copy (first c).rest (waits c))
     (c.saturating_add-self-inside-2.ensures ∙ counted_is c.self.inside.installed 1)
 
 pub returns-clause-made : goal.returns-clause-made
