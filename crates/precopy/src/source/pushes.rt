@@ -45,7 +45,9 @@ impl Source {
         ensures err { OnErr result (self.new ≡ self.old) }
     {
         self.check_switch()?;
-        let handed = self.hand_over()?;
+        let Ok(handed) = self.hand_over() else {
+            return Err(Refusal::NoMemory);
+        };
         let (discard, owed) = (handed.discarded.len(), handed.owed.len());
         self.space.drop_faults();
         self.log.drop_held();
