@@ -19,9 +19,10 @@ use Rattle.mig_base.proofs.SetLemmas.{member_removed}
 use Rattle.mig_model.specs.Log.{least_of}
 use Rattle.mig_model.specs.Migration.{World, next, outcome}
 use Rattle.mig_model.specs.Runs.{Happens}
+use Rattle.mig_model.proofs.PartsChanged.{changes_parts}
 use Rattle.mig_model.proofs.StepCases.{holds-made}
 use Rattle.mig_model.proofs.StepLemmas.{leaves-ok}
-use Rattle.finish.specs.Finishing.{HasNoneBelow, HasPushed, IsUpTo, delivering_step, finishing_step, stopped_by, up_step, down_step}
+use Rattle.finish.specs.Finishing.{HasNoneBelow, HasPushed, IsPast, delivering_step, finishing_step, stopped_by, up_step, down_step}
 use Rattle.finish.proofs.LeadLemmas.{made_next}
 
 -- The least that passes
@@ -84,13 +85,31 @@ pushed_to : (mid new : World) (ticket : Ticket) (page : ℕ) → finishing_step 
 pushed_to mid new ticket page named made is l =
     ap (λ w. contains w.source.remaining page) is ∙ ap (λ pages. contains pages page) (remaining_pushed mid ticket made) ∙ removed_least mid.source.remaining ticket.page page (least_named mid ticket named) l
 
-by_step : (mid new : World) (step : Step) (page : ℕ) → finishing_step mid ≡ Some step → IsOk (outcome mid step) → new ≡ next mid step → IsUpTo step page → contains new.source.remaining page ≡ false
-by_step mid new (Step.Push ticket) page named made is l = pushed_to mid new ticket page named made is l
-by_step mid new step page named made is none = grind (arith, nat_tests)
+-- what does not remain still does not, where the source or its remaining pages stay
+same_source : (mid new : World) (page : ℕ) → new.source ≡ mid.source → contains mid.source.remaining page ≡ false → contains new.source.remaining page ≡ false
+same_source mid new page is none = ap (λ node. contains node.remaining page) is ∙ none
 
--- after a step that was named and made, no page up to the one that it pushed remains
-pub still_pushed : (mid new : World) (step : Step) (effect : Effect) (from : ℕ) → finishing_step mid ≡ Some step → IsOk (outcome mid step) → Happens mid step (Ok effect) new → ((page : ℕ) → page < from → IsUpTo step page) → HasPushed new from
-still_pushed mid new step effect from named made happens up_to page l = by_step mid new step page named made (made_next mid new step effect happens) (up_to page l)
+remaining_ended : (world : World) → IsOk (outcome world Step.End) → (next world Step.End).source.remaining ≡ world.source.remaining
+remaining_ended world made =
+    leaves-ok (λ new. new.source.remaining ≡ world.source.remaining) world Step.End (holds-made _ world Step.End (λ stopped unsent up none. refl)) made
+
+by_step : (mid new : World) (step : Step) (from page : ℕ) → HasPushed mid from → finishing_step mid ≡ Some step → IsOk (outcome mid step) → new ≡ next mid step → IsPast step from page → contains new.source.remaining page ≡ false
+by_step mid new (Step.Push ticket) from page pushed named made is l = pushed_to mid new ticket page named made is l
+by_step mid new Step.End from page pushed named made is l =
+    ap (λ w. contains w.source.remaining page) is ∙ ap (λ pages. contains pages page) (remaining_ended mid made) ∙ pushed page l
+by_step mid new (Step.Deliver n) from page pushed named made is l =
+    same_source mid new page (ap (λ w. w.source) is ∙ (changes_parts mid (Step.Deliver n)).source) (pushed page l)
+by_step mid new (Step.DeliverUrgent n) from page pushed named made is l =
+    same_source mid new page (ap (λ w. w.source) is ∙ (changes_parts mid (Step.DeliverUrgent n)).source) (pushed page l)
+by_step mid new Step.DestRead from page pushed named made is l =
+    same_source mid new page (ap (λ w. w.source) is ∙ (changes_parts mid Step.DestRead).source) (pushed page l)
+by_step mid new Step.Install from page pushed named made is l =
+    same_source mid new page (ap (λ w. w.source) is ∙ (changes_parts mid Step.Install).source) (pushed page l)
+by_step mid new step from page pushed named made is none = grind (arith, nat_tests)
+
+-- after a step that was named and made, no page remains below the one from which the search goes on
+pub still_pushed : (mid new : World) (step : Step) (effect : Effect) (from to : ℕ) → HasPushed mid from → finishing_step mid ≡ Some step → IsOk (outcome mid step) → Happens mid step (Ok effect) new → ((page : ℕ) → page < to → IsPast step from page) → HasPushed new to
+still_pushed mid new step effect from to pushed named made happens past page l = by_step mid new step from page pushed named made (made_next mid new step effect happens) (past page l)
 
 -- no page before a bound is in the set, if none below a page is and none from there on
 pub none_before : (pages : FinSet nat_cmp) (from bound : ℕ) → HasNoneBelow pages from → ((page : ℕ) → from ≤ page → page < bound → contains pages page ≡ false) → (page : ℕ) → page < bound → contains pages page ≡ false

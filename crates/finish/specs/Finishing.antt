@@ -96,10 +96,16 @@ HasNoneBelow pages from = (page : ℕ) → page < from → contains pages page �
 abbrev pub HasPushed : World → ℕ → Type 0
 HasPushed world from = HasNoneBelow world.source.remaining from
 
--- the page is not behind the one that the step pushes
-abbrev pub IsUpTo : Step → ℕ → Type 0
-IsUpTo (Step.Push ticket) page = page ≤ ticket.page
-IsUpTo step page = ⊥
+-- the page does not remain after the step, if none below `from` remained before: a push, which is of the least page, leaves none up to it,
+-- and the steps behind the last push leave the pages that remain as they are
+abbrev pub IsPast : Step → ℕ → ℕ → Type 0
+IsPast (Step.Push ticket) from page = page ≤ ticket.page
+IsPast Step.End from page = page < from
+IsPast (Step.Deliver n) from page = page < from
+IsPast (Step.DeliverUrgent n) from page = page < from
+IsPast Step.DestRead from page = page < from
+IsPast Step.Install from page = page < from
+IsPast step from page = ⊥
 
 -- How many steps there are at most
 

@@ -6,7 +6,7 @@ ghost use Rattle.mig_base.specs.declared.refusal.Refusal.{Refusal};
 ghost use Rattle.mig_base.specs.declared.schedule.Step.{Step};
 ghost use Rattle.mig_model.specs.Promises.{IsComplete};
 ghost use Rattle.world.specs.Headline.{Headline};
-ghost use Rattle.finish.specs.Finishing.{IsUpTo, Leads, lacks_epoch, steps_left};
+ghost use Rattle.finish.specs.Finishing.{IsPast, Leads, lacks_epoch, steps_left};
 
 use crate::next_step::next_from;
 use mig_base::phase::SourcePhase;
@@ -45,18 +45,25 @@ pub fn finish(world: &mut World, alloc: Global) -> Result<Vec<Step>, Refusal>
             return Err(Refusal::NoMemory);
         };
         steps.push_reserved(step);
-        from = pushed_below(step);
+        from = pushed_below(step, from);
     }
     Ok(steps)
 }
 
-/// The page from which the next one to push is looked for, once this step was made: a push is of the least page that remains.
-fn pushed_below(step: Step) -> PageNo
+/// The page from which the next one to push is looked for once this step was made, where none below `from` remained before: a push is of
+/// the least page that remains, and the steps behind the last push leave the pages that remain as they are.
+fn pushed_below(step: Step, from: PageNo) -> PageNo
+    requires { from ≤ HIGH_PAGE }
     ensures range { result ≤ HIGH_PAGE }
-    ensures below { (page : ℕ) → page < result → IsUpTo step page }
+    ensures below { (page : ℕ) → page < result → IsPast step from page }
 {
     match step {
         Step::Push(ticket) => ticket.page.saturating_add(1).min(HIGH_PAGE),
+        Step::End
+        | Step::Deliver { .. }
+        | Step::DeliverUrgent { .. }
+        | Step::DestRead
+        | Step::Install => from,
         _ => 0,
     }
 }

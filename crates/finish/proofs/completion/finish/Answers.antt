@@ -8,5 +8,5 @@ loop-step-preserved c = record {
   come = come_more c.args.world.now c.loop-step.world c.step.new.self c.loop-step.steps.items c.push_reserved.new.self.items c.in-Some.step c.in-Ok-step.field-0 c.loop-step.invariant.come c.in-Some.ensures.due c.in-Ok-step.ensures.happens (c.push_reserved.ensures.items ∙ ap (λ steps. steps ++ c.in-Some.step ∷ []) c.try_reserve.ensures.items);
   headline = c.step.ensures.headline;
   range = c.pushed_below-from.ensures.range;
-  pushed = still_pushed c.loop-step.world c.step.new.self c.in-Some.step c.in-Ok-step.field-0 c.pushed_below-from.result (sym c.in-Some.ensures.step) c.in-Some.ensures.due.made c.in-Ok-step.ensures.happens c.pushed_below-from.ensures.below;
+  pushed = still_pushed c.loop-step.world c.step.new.self c.in-Some.step c.in-Ok-step.field-0 c.loop-step.from c.pushed_below-from.result c.loop-step.invariant.pushed (sym c.in-Some.ensures.step) c.in-Some.ensures.due.made c.in-Ok-step.ensures.happens c.pushed_below-from.ensures.below;
 }
