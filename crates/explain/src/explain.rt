@@ -18,7 +18,7 @@ use std::alloc::Global;
 use std::io::{Read, Write};
 
 /// What is asked for beyond the verdict.
-#[derive(Clone, Copy, Debug, PartialEq, Eq)]
+#[derive(Clone, Copy)]
 pub struct Asks {
     /// Each wrong entry, and not the first alone.
     pub all: bool,

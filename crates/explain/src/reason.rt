@@ -6,11 +6,11 @@ use crate::span::Span;
 use crate::stretches::{Fate, Stretch, stretches};
 use crate::touch::{has_unmapped, mappers};
 use crate::wrong::Wrong;
-use mig_base::{Addr, Command, Entry, Errno, NoMemory, PAGE_SIZE, Place, Reply};
+use mig_base::{Addr, Command, Entry, Errno, HIGH, NoMemory, PAGE_SIZE, Place, Reply};
 use std::alloc::Global;
 
 /// The most parts of a range that are named.
-const MOST: usize = 8;
+const MAX_PARTS: usize = 8;
 
 const NO_ENTRY: &str = "  no earlier entry decides this reply\n";
 
@@ -32,7 +32,7 @@ pub(crate) fn reason_of(
         given: entry.reply,
         expected: wrong.expected,
     };
-    reason.write(&mut text, entry.command)?;
+    reason.write_reason(&mut text, entry.command)?;
     Ok(text)
 }
 
@@ -48,18 +48,18 @@ struct Reason<'a> {
 
 impl Reason<'_> {
     /// Whether either reply is this one.
-    fn has(&self, reply: Reply) -> bool {
+    fn has_reply(&self, reply: Reply) -> bool {
         self.given == reply || self.expected == reply
     }
 
     /// Whether either reply depends on the words of the command alone.
     fn is_by_words(&self) -> bool {
-        self.has(Reply::BadAccess)
-            || self.has(Reply::Refused(Errno::Einval))
-            || self.has(Reply::Refused(Errno::Eperm))
+        self.has_reply(Reply::BadAccess)
+            || self.has_reply(Reply::Refused(Errno::Einval))
+            || self.has_reply(Reply::Refused(Errno::Eperm))
     }
 
-    fn write(&self, text: &mut String, command: Command) -> Result<(), NoMemory> {
+    fn write_reason(&self, text: &mut String, command: Command) -> Result<(), NoMemory> {
         if self.is_by_words() {
             text.push_str(NO_ENTRY)?;
             return Ok(());
@@ -119,7 +119,10 @@ impl Reason<'_> {
     /// Whether an address is mapped, and by which entries.
     fn write_address(&self, text: &mut String, addr: Addr) -> Result<(), NoMemory> {
         let mappers = mappers(self.alloc, self.past, addr)?;
-        let last = mappers.last().and_then(|index| self.past.get(*index));
+        let last = match mappers.last() {
+            Some(index) => self.past.get(*index),
+            None => None,
+        };
         match last {
             None => write!(text, "  0x{addr:x} was never mapped\n")?,
             Some(entry) if has_unmapped(entry, addr) => write!(
@@ -135,7 +138,7 @@ impl Reason<'_> {
     fn write_mmap(&self, text: &mut String, len: u64, place: Place) -> Result<(), NoMemory> {
         let is_placed = match place {
             Place::Anywhere => self.write_places(text, None, len)?,
-            Place::NoReplace(addr) if self.has(Reply::Refused(Errno::Eexist)) => {
+            Place::NoReplace(addr) if self.has_reply(Reply::Refused(Errno::Eexist)) => {
                 self.write_range(text, Span::pages(addr, len))?;
                 true
             }
@@ -194,11 +197,16 @@ impl Reason<'_> {
 
     /// How many pages are mapped, where a reply says that there is no room, and whether one does.
     fn write_count(&self, text: &mut String) -> Result<bool, NoMemory> {
-        if !self.has(Reply::Refused(Errno::Enomem)) {
+        if !self.has_reply(Reply::Refused(Errno::Enomem)) {
             return Ok(false);
         }
         let mut bytes = 0u64;
-        for stretch in stretches(self.alloc, self.past, Span::whole())?.iter() {
+        // All that may be mapped, and what lies below it.
+        let whole = Span {
+            start: 0,
+            end: HIGH,
+        };
+        for stretch in stretches(self.alloc, self.past, whole)?.iter() {
             if let Fate::Mapped { .. } = stretch.fate {
                 bytes = bytes.saturating_add(stretch.span.len());
             }
@@ -211,11 +219,11 @@ impl Reason<'_> {
     /// Which parts of a range are mapped, and by which entries.
     fn write_range(&self, text: &mut String, span: Span) -> Result<(), NoMemory> {
         let parts = stretches(self.alloc, self.past, span)?;
-        for part in parts.iter().take(MOST) {
+        for part in parts.iter().take(MAX_PARTS) {
             self.write_stretch(text, *part)?;
         }
-        if parts.len() > MOST {
-            let more = parts.len() - MOST;
+        if parts.len() > MAX_PARTS {
+            let more = parts.len() - MAX_PARTS;
             write!(text, "  and {more} parts more\n")?;
         }
         Ok(())

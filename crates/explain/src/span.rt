@@ -1,6 +1,6 @@
 //! Ranges of addresses.
 
-use mig_base::{Addr, HIGH, PAGE_SIZE};
+use mig_base::{Addr, Command, Entry, PAGE_SIZE, Reply};
 
 /// The addresses from `start` up to, and without, `end`.
 #[derive(Clone, Copy)]
@@ -23,14 +23,6 @@ impl Span {
         Span::bytes(start, len.saturating_add(PAGE_SIZE - 1) & !(PAGE_SIZE - 1))
     }
 
-    /// All that may be mapped or lies below it.
-    pub(crate) fn whole() -> Span {
-        Span {
-            start: 0,
-            end: HIGH,
-        }
-    }
-
     pub(crate) fn contains(self, addr: Addr) -> bool {
         self.start <= addr && addr < self.end
     }
@@ -45,5 +37,23 @@ impl Span {
     /// How many bytes it has.
     pub(crate) fn len(self) -> u64 {
         self.end.saturating_sub(self.start)
+    }
+}
+
+/// The range that an entry has mapped, or moved to.
+pub(crate) fn mapped_range(entry: &Entry) -> Option<Span> {
+    match (entry.command, entry.reply) {
+        (Command::Mmap { addr_len, .. }, Reply::At(start)) => Some(Span::pages(start, addr_len)),
+        (Command::Mremap { new_len, .. }, Reply::At(start)) => Some(Span::pages(start, new_len)),
+        _ => None,
+    }
+}
+
+/// The range that an entry has unmapped, or moved away.
+pub(crate) fn unmapped_range(entry: &Entry) -> Option<Span> {
+    match (entry.command, entry.reply) {
+        (Command::Munmap { addr, len }, Reply::Done) => Some(Span::pages(addr, len)),
+        (Command::Mremap { addr, old_len, .. }, Reply::At(_)) => Some(Span::pages(addr, old_len)),
+        _ => None,
     }
 }

@@ -1,7 +1,7 @@
 //! Which parts of a range are mapped, and by which entries.
 
-use crate::span::Span;
-use mig_base::{Command, Entry, NoMemory, Reply};
+use crate::span::{Span, mapped_range, unmapped_range};
+use mig_base::{Entry, NoMemory};
 use std::alloc::Global;
 
 /// What became of a range.
@@ -21,37 +21,6 @@ pub(crate) struct Stretch {
     pub fate: Fate,
 }
 
-/// The range that an entry at this index maps, and then the one that it unmaps but for the first.
-fn changes(index: usize, entry: &Entry) -> [Option<Stretch>; 2] {
-    let mapped = |span| Some(Stretch {
-        span,
-        fate: Fate::Mapped { by: index },
-    });
-    let unmapped = |span| Some(Stretch {
-        span,
-        fate: Fate::Unmapped { by: index },
-    });
-    match (entry.command, entry.reply) {
-        (Command::Mmap { addr_len, .. }, Reply::At(start)) => {
-            [mapped(Span::pages(start, addr_len)), None]
-        }
-        (Command::Munmap { addr, len }, Reply::Done) => [None, unmapped(Span::pages(addr, len))],
-        (
-            Command::Mremap {
-                addr,
-                old_len,
-                new_len,
-                ..
-            },
-            Reply::At(start),
-        ) => [
-            mapped(Span::pages(start, new_len)),
-            unmapped(Span::pages(addr, old_len)),
-        ],
-        _ => [None, None],
-    }
-}
-
 /// Parts of a range, and those whose fate is not known yet.
 #[derive(Drop)]
 struct Search {
@@ -61,17 +30,14 @@ struct Search {
 
 impl Search {
     /// Gives this fate to what is open of a range.
-    fn close(&mut self, alloc: Global, change: Stretch) -> Result<(), NoMemory> {
+    fn close(&mut self, alloc: Global, range: Span, fate: Fate) -> Result<(), NoMemory> {
         let mut open = Vec::new(alloc);
         for span in self.open.iter() {
-            let Some(common) = span.common(change.span) else {
+            let Some(common) = span.common(range) else {
                 open.push(*span)?;
                 continue;
             };
-            self.found.push(Stretch {
-                span: common,
-                fate: change.fate,
-            })?;
+            self.found.push(Stretch { span: common, fate })?;
             if span.start < common.start {
                 open.push(Span {
                     start: span.start,
@@ -102,20 +68,17 @@ pub(crate) fn stretches(
     };
     search.open.push(span)?;
     for (index, entry) in past.iter().enumerate().rev() {
-        for change in changes(index, entry).into_iter().flatten() {
-            search.close(alloc, change)?;
+        if let Some(range) = mapped_range(entry) {
+            search.close(alloc, range, Fate::Mapped { by: index })?;
+        }
+        if let Some(range) = unmapped_range(entry) {
+            search.close(alloc, range, Fate::Unmapped { by: index })?;
         }
         if search.open.is_empty() {
             break;
         }
     }
-    search.close(
-        alloc,
-        Stretch {
-            span,
-            fate: Fate::NeverMapped,
-        },
-    )?;
+    search.close(alloc, span, Fate::NeverMapped)?;
     search
         .found
         .sort_unstable_by_key(|stretch| stretch.span.start);

@@ -1,14 +1,14 @@
 //! Which entries decide what an address holds, and whether it is mapped.
 
-use crate::span::Span;
+use crate::span::{Span, mapped_range, unmapped_range};
 use mig_base::{Addr, Command, Entry, Errno, NoMemory, Reply};
 use std::alloc::Global;
 
 /// The most entries that are named for an address: the last ones.
-const MOST: usize = 8;
+const MAX_HOLDERS: usize = 8;
 
 /// What an entry does to one address.
-#[derive(Clone, Copy, PartialEq, Eq)]
+#[derive(Clone, Copy)]
 enum Touch {
     Stored,
     /// It reads as zeros again.
@@ -23,7 +23,7 @@ enum Touch {
 }
 
 /// What an mremap of a range that now stands at another one does to an address.
-fn moved(old: Span, new: Span, addr: Addr) -> Option<Touch> {
+fn touch_of_move(old: Span, new: Span, addr: Addr) -> Option<Touch> {
     if !new.contains(addr) {
         return old.contains(addr).then_some(Touch::Unmapped);
     }
@@ -34,46 +34,37 @@ fn moved(old: Span, new: Span, addr: Addr) -> Option<Touch> {
     (from != addr).then_some(Touch::Moved { from })
 }
 
-/// What an entry that was answered so does to an address, if anything.
-fn touch_of(entry: &Entry, addr: Addr) -> Option<Touch> {
+/// What an entry does to what an address holds, if it leaves the mappings as they are.
+fn touch_of_access(entry: &Entry, addr: Addr) -> Option<Touch> {
     match (entry.command, entry.reply) {
         (
             Command::Store {
-                addr: at,
+                addr: start,
                 width,
                 ..
             },
             Reply::Done,
         ) => {
-            Span::bytes(at, u64::from(width))
+            Span::bytes(start, u64::from(width))
                 .contains(addr)
                 .then_some(Touch::Stored)
         }
-        (Command::Mmap { addr_len, .. }, Reply::At(start)) => {
-            Span::pages(start, addr_len)
-                .contains(addr)
-                .then_some(Touch::Mapped)
-        }
-        (Command::Munmap { addr: at, len }, Reply::Done) => {
-            Span::pages(at, len)
-                .contains(addr)
-                .then_some(Touch::Unmapped)
-        }
-        (Command::DontNeed { addr: at, len }, Reply::Done | Reply::Refused(Errno::Enomem)) => {
-            Span::pages(at, len)
+        (Command::DontNeed { addr: start, len }, Reply::Done | Reply::Refused(Errno::Enomem)) => {
+            Span::pages(start, len)
                 .contains(addr)
                 .then_some(Touch::Cleared)
         }
-        (
-            Command::Mremap {
-                addr: at,
-                old_len,
-                new_len,
-                ..
-            },
-            Reply::At(start),
-        ) => { moved(Span::pages(at, old_len), Span::pages(start, new_len), addr) }
         _ => None,
+    }
+}
+
+/// What an entry that was answered so does to an address, if anything.
+fn touch_of(entry: &Entry, addr: Addr) -> Option<Touch> {
+    match (mapped_range(entry), unmapped_range(entry)) {
+        (Some(new), Some(old)) => touch_of_move(old, new, addr),
+        (Some(new), None) => new.contains(addr).then_some(Touch::Mapped),
+        (None, Some(old)) => old.contains(addr).then_some(Touch::Unmapped),
+        (None, None) => touch_of_access(entry, addr),
     }
 }
 
@@ -87,10 +78,12 @@ pub(crate) fn holders(alloc: Global, past: &[Entry], addr: Addr) -> Result<Vec<u
             continue;
         };
         found.push(index)?;
-        if let Touch::Moved { from } = touch {
-            addr = from;
+        match touch {
+            Touch::Moved { from } => addr = from,
+            Touch::Stored => break,
+            _ => {}
         }
-        if touch == Touch::Stored || found.len() == MOST {
+        if found.len() == MAX_HOLDERS {
             break;
         }
     }
@@ -115,7 +108,7 @@ pub(crate) fn mappers(alloc: Global, past: &[Entry], addr: Addr) -> Result<Vec<u
                 break;
             }
         }
-        if found.len() == MOST {
+        if found.len() == MAX_HOLDERS {
             break;
         }
     }
@@ -125,5 +118,8 @@ pub(crate) fn mappers(alloc: Global, past: &[Entry], addr: Addr) -> Result<Vec<u
 
 /// Whether an entry that decides whether an address is mapped has unmapped it.
 pub(crate) fn has_unmapped(entry: &Entry, addr: Addr) -> bool {
-    touch_of(entry, addr) == Some(Touch::Unmapped)
+    match touch_of(entry, addr) {
+        Some(Touch::Unmapped) => true,
+        _ => false,
+    }
 }

@@ -1,29 +1,23 @@
 //! Bytes that no line has, or that look like others.
 
-/// A byte that no word of a line has.
-#[derive(Clone, Copy)]
-pub(crate) enum ByteFault {
-    Tab,
-    ByteOrderMark,
-    Utf16,
-    NonBreakingSpace,
-    Nul,
-    CarriageReturn,
-    Other(u8),
-}
+use crate::problem::Problem;
+use crate::reason::Fault;
+
+const UTF16: Problem = Problem::Plain("UTF-16: save the file as ASCII");
 
 /// What is wrong with the first byte of these, if it is not printable ASCII.
-fn fault_at(bytes: &[u8]) -> Option<ByteFault> {
-    match bytes {
-        [0xef, 0xbb, 0xbf, ..] => Some(ByteFault::ByteOrderMark),
-        [0xff, 0xfe, ..] | [0xfe, 0xff, ..] => Some(ByteFault::Utf16),
-        [0xc2, 0xa0, ..] => Some(ByteFault::NonBreakingSpace),
-        [b'\t', ..] => Some(ByteFault::Tab),
-        [b'\r', ..] => Some(ByteFault::CarriageReturn),
-        [0, ..] => Some(ByteFault::Nul),
-        [b' '..=b'~', ..] | [] => None,
-        [byte, ..] => Some(ByteFault::Other(*byte)),
-    }
+fn problem_at(bytes: &[u8]) -> Option<Problem> {
+    let text = match bytes {
+        [b' '..=b'~', ..] | [] => return None,
+        [0xef, 0xbb, 0xbf, ..] => "a byte order mark: save the file without it",
+        [0xff, 0xfe, ..] | [0xfe, 0xff, ..] => return Some(UTF16),
+        [0xc2, 0xa0, ..] => "a non-breaking space is not a space",
+        [b'\t', ..] => "a tab is not a space",
+        [b'\r', ..] => "a carriage return that is not right before a line feed",
+        [0, ..] => "a NUL byte is not printable ASCII",
+        [byte, ..] => return Some(Problem::Byte(*byte)),
+    };
+    Some(Problem::Plain(text))
 }
 
 /// Whether a line is UTF-16 without a mark: its first byte or its second is NUL.
@@ -34,16 +28,16 @@ fn is_utf16(line: &[u8]) -> bool {
     }
 }
 
-/// The first byte of a line that is not printable ASCII, and its column. A comment behind the line is not looked at.
-pub(crate) fn byte_fault(line: &[u8]) -> Option<(usize, ByteFault)> {
+/// The first byte of a line that is not printable ASCII. A comment behind the line is not looked at.
+pub(crate) fn byte_fault(line: &[u8]) -> Option<Fault> {
     if is_utf16(line) {
-        return Some((1, ByteFault::Utf16));
+        return Some(Fault::at(1, UTF16));
     }
     let mut rest = line;
     let mut column: usize = 1;
     for _ in 0..line.len() {
-        if let Some(fault) = fault_at(rest) {
-            return Some((column, fault));
+        if let Some(problem) = problem_at(rest) {
+            return Some(Fault::at(column, problem));
         }
         match rest {
             [b' ', b'#', ..] | [] => return None,

@@ -154,24 +154,45 @@ pub(crate) fn reply_form(word: &[u8]) -> Option<Form> {
     find(&REPLIES, word)
 }
 
-/// How a line is written.
+/// How a line or a reply is written: this text, between others.
 #[derive(Clone, Copy)]
-pub(crate) enum Usage {
-    Order(&'static str),
-    Reply(&'static str),
-    /// A command, in a script or a transcript.
-    Command(Language, &'static str),
+pub(crate) struct Usage {
+    front: &'static str,
+    text: &'static str,
+    end: &'static str,
+}
+
+impl Usage {
+    /// That of an order.
+    pub(crate) fn order(text: &'static str) -> Usage {
+        Usage {
+            front: "the line is `",
+            text,
+            end: "`",
+        }
+    }
+
+    /// That of a command, in a script or a transcript.
+    pub(crate) fn command(language: Language, text: &'static str) -> Usage {
+        let (front, end) = match language {
+            Language::Script => ("the line is `cpu K ", "`"),
+            Language::Transcript => ("the line is `K ", " => REPLY`"),
+        };
+        Usage { front, text, end }
+    }
+
+    pub(crate) fn reply(text: &'static str) -> Usage {
+        Usage {
+            front: "the reply is `",
+            text,
+            end: "`",
+        }
+    }
 }
 
 impl fmt::Display for Usage {
     fn fmt<W: fmt::Write>(&self, f: &mut fmt::Formatter<W>) -> fmt::Result {
-        match *self {
-            Usage::Order(text) => write!(f, "the line is `{text}`"),
-            Usage::Reply(text) => write!(f, "the reply is `{text}`"),
-            Usage::Command(Language::Script, text) => write!(f, "the line is `cpu K {text}`"),
-            Usage::Command(Language::Transcript, text) => {
-                write!(f, "the line is `K {text} => REPLY`")
-            }
-        }
+        let Usage { front, text, end } = *self;
+        write!(f, "{front}{text}{end}")
     }
 }

@@ -9,7 +9,6 @@
 #![tactic(auto)]
 
 mod bytes;
-mod cut;
 mod form;
 pub mod laws;
 mod linter;

@@ -6,20 +6,34 @@ ghost use Rattle.grammar.specs.Lines.{HasNoFeed};
 ghost use Rattle.engine.specs.declared.fault.RunFault.TheVariants.{WriteFault};
 ghost use Rattle.engine.specs.Engine.{Front};
 ghost use Rattle.lint.specs.Listing.{IsListed};
-ghost use Rattle.lint.specs.Parts.{Holds, IsFront, IsRight, Listed, Last, Fed, FedUntil, Passes, Halts, Closes, CloseFault};
+ghost use Rattle.lint.specs.Parts.{line_text, Holds, IsFront, IsRight, Listed, Last, Fed, FedUntil, Passes, Halts, Closes, CloseFault};
 
-use crate::cut::{first_line, split_line, text_of};
 use crate::reason::{Reason, reason_of};
 use engine::RunFault;
 use engine::line_runner::write_out;
+use engine::script_reader::{MAX_LINE, split_line, without_return};
 use grammar::parse::parse;
 use grammar::{Language, Token};
 use mig_base::NoMemory;
 use std::alloc::Global;
 use std::io::Write;
 
-/// The most bytes of a line, its line feed not counted.
-const MAX_LINE: usize = 256;
+/// The bytes before the first line feed.
+fn first_line(bytes: &[u8]) -> &[u8]
+    ensures { HasNoFeed result.now }
+{
+    match split_line(bytes) {
+        Some((front, _)) => front,
+        None => bytes,
+    }
+}
+
+/// The text of a line: a carriage return at its end is no part of it where a line feed follows.
+fn text_of(raw: &[u8], ended: bool) -> &[u8]
+    ensures { result.now ≡ line_text ended raw.now }
+{
+    if ended { without_return(raw) } else { raw }
+}
 
 /// Why a line is wrong that has this text and this number of bytes; none if it is a line of the language. The tokens are replaced.
 fn wrong_in<'a>(

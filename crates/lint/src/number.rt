@@ -8,23 +8,14 @@ use mig_base::{HIGH, MAX_RUN, PAGE_SIZE};
 /// What is wrong with a number.
 #[derive(Clone, Copy)]
 pub(crate) enum NumberFault {
-    Sign,
-    /// It begins with `0X`.
-    CapitalX,
-    /// Nothing stands behind `0x`.
-    NoDigits,
+    /// What this says.
+    Plain(&'static str),
     /// This byte is not a digit of it.
     Digit { byte: u8, radix: u32 },
     /// It has this number of digits.
     Digits { count: usize, radix: u32 },
-    /// It is 2^64 or more.
-    Big,
     /// It is outside what is wanted in its place.
     Range(Wanted),
-    /// It is not a multiple of the page size.
-    Unaligned,
-    /// No page has the address.
-    Beyond,
 }
 
 /// The number that digits in a radix write, at most `most` of them.
@@ -48,7 +39,7 @@ fn digits(text: &[u8], radix: u32, most: usize) -> Result<u64, NumberFault>
             radix,
         });
     }
-    value.ok_or(NumberFault::Big)
+    value.ok_or(NumberFault::Plain("is out of range: numbers are below 2^64"))
 }
 
 /// The number with one more digit, if it is below 2^64.
@@ -61,9 +52,9 @@ fn pushed(value: u64, radix: u32, digit: u32) -> Option<u64> {
 /// The number that a word spells.
 fn value_of(word: &[u8]) -> Result<u64, NumberFault> {
     match word {
-        [b'-' | b'+', ..] => Err(NumberFault::Sign),
-        [b'0', b'X', ..] => Err(NumberFault::CapitalX),
-        [b'0', b'x'] => Err(NumberFault::NoDigits),
+        [b'-' | b'+', ..] => Err(NumberFault::Plain("has a sign: numbers have none")),
+        [b'0', b'X', ..] => Err(NumberFault::Plain("has a capital X: write `0x`")),
+        [b'0', b'x'] => Err(NumberFault::Plain("has no digits")),
         [b'0', b'x', text @ ..] => digits(text, 16, 16),
         _ => digits(word, 10, 20),
     }
@@ -75,8 +66,12 @@ fn range_fault(value: u64, wanted: Wanted) -> Option<NumberFault> {
         Wanted::Cpu | Wanted::Width => value <= 255,
         Wanted::Count => value >= 1 && value <= u64::from(MAX_RUN),
         Wanted::Epoch => value <= u64::from(u32::MAX),
-        Wanted::Page if value % PAGE_SIZE != 0 => return Some(NumberFault::Unaligned),
-        Wanted::Page if value >= HIGH => return Some(NumberFault::Beyond),
+        Wanted::Page if value % PAGE_SIZE != 0 => {
+            return Some(NumberFault::Plain("is not a multiple of 4096"));
+        }
+        Wanted::Page if value >= HIGH => {
+            return Some(NumberFault::Plain("is beyond the pages: they lie below 0x100000000"));
+        }
         _ => true,
     };
     if fits {

@@ -1,5 +1,6 @@
 //! Lines of a run's output, which are neither scripts nor transcripts.
 
+use crate::wanted::Wanted;
 use crate::words::Words;
 
 /// How the lines of effects begin, and with which word the others do.
@@ -34,15 +35,17 @@ const FRONTS: &[&str] = &[
 /// Whether a line begins as a processor's reply, or as a round that was planned.
 fn is_reply(line: &[u8]) -> bool {
     let mut words = Words::new(line, 0);
-    let (Some(first), Some(_), Some(third)) = (words.next(), words.next(), words.next()) else {
+    let Some(first) = words.next() else {
         return false;
     };
-    match (first.text, third.text) {
-        (b"round", b"todo") => true,
-        (b"cpu", b"value" | b"done" | b"at" | b"segv" | b"bad" | b"refused" | b"asleep" | b"in") =>
-            true,
-        _ => false,
+    words.next();
+    let Some(third) = words.next() else {
+        return false;
+    };
+    if first.is(b"round") {
+        return third.is(b"todo");
     }
+    first.is(b"cpu") && (Wanted::Reply.admits(third.text) || third.is(b"asleep") || third.is(b"in"))
 }
 
 /// Whether a line is one of a run's output.

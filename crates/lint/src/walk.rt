@@ -4,233 +4,259 @@ use crate::form::{Form, Tail, Usage, command_form, order_form, reply_form};
 use crate::near::{in_other_case, meant, nearest};
 use crate::number::{is_meant, number_fault};
 use crate::problem::Problem;
-use crate::reason::Reason;
+use crate::reason::Fault;
 use crate::wanted::Wanted;
 use crate::words::{Word, Words};
 use grammar::Language;
 
+const COMMENT: Problem = Problem::Plain("a comment stands on a line of its own");
+
 /// Why a word is not what is wanted, where it is none of its words and no number.
-fn unexpected(word: &[u8], wanted: Wanted) -> Problem<'_> {
+fn unexpected(word: &[u8], wanted: Wanted) -> Problem {
     if let [b'#', ..] = word {
-        return Problem::Comment;
+        return COMMENT;
     }
     let choices = wanted.choices();
     if let Some(right) = in_other_case(word, choices) {
-        return Problem::Case { word, right };
+        return Problem::Case(right);
     }
-    Problem::Unexpected {
-        word,
-        wanted,
-        near: meant(word, choices),
+    match meant(word, choices) {
+        Some(near) => Problem::Near {
+            wanted,
+            front: "",
+            near,
+        },
+        None => Problem::Unexpected(wanted),
     }
 }
 
 /// Why a word, which begins no order, is not the first word of a script line.
-fn first_problem(word: &[u8]) -> Problem<'_> {
-    let commands = Wanted::Command.choices();
-    match (
-        nearest(word, Wanted::Order.choices(), 1),
-        nearest(word, commands, 1),
-    ) {
-        (None, Some(near)) => Problem::NearCommand { word, near },
-        _ => unexpected(word, Wanted::Order),
+fn first_problem(word: &[u8]) -> Problem {
+    if nearest(word, Wanted::Order.choices(), 1).is_some() {
+        return unexpected(word, Wanted::Order);
+    }
+    match nearest(word, Wanted::Command.choices(), 1) {
+        Some(near) => Problem::Near {
+            wanted: Wanted::Order,
+            front: "cpu K ",
+            near,
+        },
+        None => unexpected(word, Wanted::Order),
     }
 }
 
 /// Why a word is not what is wanted.
-fn problem_of(word: &[u8], wanted: Wanted) -> Option<Problem<'_>> {
+fn problem_of(word: &[u8], wanted: Wanted) -> Option<Problem> {
     if wanted.admits(word) {
         return None;
     }
     if wanted.is_number() && is_meant(word) {
         let fault = number_fault(word, wanted)?;
-        return Some(Problem::Number { word, fault });
+        return Some(Problem::Number(fault));
     }
     Some(unexpected(word, wanted))
 }
 
 /// Takes the next word, which has to be what is wanted.
-fn take<'a>(words: &mut Words<'a>, wanted: Wanted, usage: Usage) -> Result<Word<'a>, Reason<'a>> {
-    let Some(word) = words.next() else {
-        return Err(Reason::at(words.after, Problem::Missing { wanted, usage }));
-    };
-    match problem_of(word.text, wanted) {
-        None => Ok(word),
-        Some(problem) => Err(Reason::at(word.column, problem)),
+fn take<'a>(words: &mut Words<'a>, wanted: Wanted, usage: Usage) -> Result<Word<'a>, Fault> {
+    match take_any(words, wanted)? {
+        Some(word) => Ok(word),
+        None => Err(Fault::at(words.after, Problem::Missing { wanted, usage })),
     }
 }
 
 /// Takes the next word, if there is one, which has to be what is wanted.
-fn take_any<'a>(words: &mut Words<'a>, wanted: Wanted) -> Result<Option<Word<'a>>, Reason<'a>> {
+fn take_any<'a>(words: &mut Words<'a>, wanted: Wanted) -> Result<Option<Word<'a>>, Fault> {
     let Some(word) = words.next() else {
         return Ok(None);
     };
     match problem_of(word.text, wanted) {
         None => Ok(Some(word)),
-        Some(problem) => Err(Reason::at(word.column, problem)),
+        Some(problem) => Err(Fault::of(word, problem)),
     }
+}
+
+/// A word stands where nothing more may.
+fn extra(word: Word<'_>, usage: Usage) -> Fault {
+    let problem = match word.text {
+        [b'#', ..] => COMMENT,
+        _ => Problem::Extra(usage),
+    };
+    Fault::of(word, problem)
 }
 
 /// Nothing more may stand here.
-fn take_end<'a>(words: &mut Words<'a>, usage: Usage) -> Result<(), Reason<'a>> {
-    let Some(word) = words.next() else {
-        return Ok(());
-    };
-    let text = word.text;
-    let problem = match text {
-        [b'#', ..] => Problem::Comment,
-        _ => Problem::Extra { word: text, usage },
-    };
-    Err(Reason::at(word.column, problem))
-}
-
-/// The words for the target of a move.
-fn take_target<'a>(words: &mut Words<'a>, usage: Usage) -> Result<(), Reason<'a>> {
-    let Some(mut word) = take_any(words, Wanted::Target)? else {
-        return Ok(());
-    };
-    if word.is("maymove") {
-        match take_any(words, Wanted::Target)? {
-            None => return Ok(()),
-            Some(next) => word = next,
-        }
-    }
-    if !word.is("fixed") {
-        let problem = Problem::Extra {
-            word: word.text,
-            usage,
-        };
-        return Err(Reason::at(word.column, problem));
-    }
-    take(words, Wanted::Addr, usage)?;
-    let mut ahead = *words;
-    match ahead.next() {
-        Some(last) if last.is("maymove") => {
-            Err(Reason::at(last.column, Problem::MayMoveLast { usage }))
-        }
-        _ => Ok(()),
-    }
-}
-
-/// What may stand at the end of a line.
-fn take_tail<'a>(words: &mut Words<'a>, tail: Tail, usage: Usage) -> Result<(), Reason<'a>> {
-    match tail {
-        Tail::Nothing => {}
-        Tail::Number(wanted) => {
-            take_any(words, wanted)?;
-        }
-        Tail::Place => {
-            if take_any(words, Wanted::Place)?.is_some() {
-                take(words, Wanted::Addr, usage)?;
-            }
-        }
-        Tail::Target => take_target(words, usage)?,
-    }
-    take_end(words, usage)
-}
-
-/// The words of a form, and nothing more.
-fn take_form<'a>(words: &mut Words<'a>, form: Form, usage: Usage) -> Result<(), Reason<'a>> {
-    for wanted in form.words {
-        take(words, *wanted, usage)?;
-    }
-    take_tail(words, form.tail, usage)
-}
-
-/// A command, and nothing more.
-fn take_command<'a>(words: &mut Words<'a>, language: Language) -> Result<(), Reason<'a>> {
-    let word = take(words, Wanted::Command, Usage::Command(language, "COMMAND"))?;
-    match command_form(word.text) {
-        Some(form) => take_form(words, form, Usage::Command(language, form.usage)),
+fn take_end(words: &mut Words<'_>, usage: Usage) -> Result<(), Fault> {
+    match words.next() {
+        Some(word) => Err(extra(word, usage)),
         None => Ok(()),
     }
 }
 
+/// The words for the target of a move.
+fn take_target(words: &mut Words<'_>, usage: Usage) -> Result<(), Fault> {
+    let Some(word) = take_any(words, Wanted::Target)? else {
+        return Ok(());
+    };
+    if !word.is(b"maymove") {
+        return take_fixed(words, word, usage);
+    }
+    match take_any(words, Wanted::Target)? {
+        Some(word) => take_fixed(words, word, usage),
+        None => Ok(()),
+    }
+}
+
+/// The address behind a word, which has to be `fixed`.
+fn take_fixed(words: &mut Words<'_>, word: Word<'_>, usage: Usage) -> Result<(), Fault> {
+    if !word.is(b"fixed") {
+        return Err(extra(word, usage));
+    }
+    take(words, Wanted::Addr, usage)?;
+    reject_maymove(*words, usage)
+}
+
+/// Behind `fixed` and its address, `maymove` comes too late.
+fn reject_maymove(words: Words<'_>, usage: Usage) -> Result<(), Fault> {
+    if let Some(word) = words.peek() {
+        if word.is(b"maymove") {
+            let text = "`maymove` stands before `fixed`";
+            return Err(Fault::at(word.column, Problem::Order { text, usage }));
+        }
+    }
+    Ok(())
+}
+
+/// The words for the place of a new mapping.
+fn take_place(words: &mut Words<'_>, usage: Usage) -> Result<(), Fault> {
+    if take_any(words, Wanted::Place)?.is_some() {
+        take(words, Wanted::Addr, usage)?;
+    }
+    Ok(())
+}
+
+/// What may stand at the end of a line.
+fn take_tail(words: &mut Words<'_>, tail: Tail, usage: Usage) -> Result<(), Fault> {
+    match tail {
+        Tail::Nothing => Ok(()),
+        Tail::Number(wanted) => {
+            take_any(words, wanted)?;
+            Ok(())
+        }
+        Tail::Place => take_place(words, usage),
+        Tail::Target => take_target(words, usage),
+    }
+}
+
+/// The words of a form, and nothing more.
+fn take_form(words: &mut Words<'_>, form: Form, usage: Usage) -> Result<(), Fault> {
+    for wanted in form.words {
+        take(words, *wanted, usage)?;
+    }
+    take_tail(words, form.tail, usage)?;
+    take_end(words, usage)
+}
+
+/// A command, and nothing more.
+fn take_command(words: &mut Words<'_>, language: Language) -> Result<(), Fault> {
+    let word = take(words, Wanted::Command, Usage::command(language, "COMMAND"))?;
+    match command_form(word.text) {
+        Some(form) => take_form(words, form, Usage::command(language, form.usage)),
+        None => Ok(()),
+    }
+}
+
+/// A processor with its command, and nothing more.
+fn take_processor(words: &mut Words<'_>) -> Result<(), Fault> {
+    let usage = Usage::command(Language::Script, "COMMAND");
+    take(words, Wanted::Cpu, usage)?;
+    take_command(words, Language::Script)
+}
+
+/// Why a word begins no order.
+fn order_problem(word: &[u8]) -> Problem {
+    match command_form(word) {
+        Some(form) => Problem::Order {
+            text: "`cpu` and K are missing",
+            usage: Usage::command(Language::Script, form.usage),
+        },
+        None => first_problem(word),
+    }
+}
+
 /// An order, and nothing more.
-fn take_order<'a>(words: &mut Words<'a>) -> Result<(), Reason<'a>> {
+fn take_order(words: &mut Words<'_>) -> Result<(), Fault> {
     let Some(word) = words.next() else {
         return Ok(());
     };
-    if word.is("cpu") {
-        take(
-            words,
-            Wanted::Cpu,
-            Usage::Command(Language::Script, "COMMAND"),
-        )?;
-        return take_command(words, Language::Script);
+    if word.is(b"cpu") {
+        return take_processor(words);
     }
-    if let Some(form) = order_form(word.text) {
-        return take_form(words, form, Usage::Order(form.usage));
+    match order_form(word.text) {
+        Some(form) => take_form(words, form, Usage::order(form.usage)),
+        None => Err(Fault::of(word, order_problem(word.text))),
     }
-    let problem = match command_form(word.text) {
-        Some(form) => Problem::NoProcessor {
-            usage: Usage::Command(Language::Script, form.usage),
-        },
-        None => first_problem(word.text),
-    };
-    Err(Reason::at(word.column, problem))
 }
 
 /// Why the words of a line are no order; none if they are.
-pub(crate) fn order_reason(line: &[u8]) -> Option<Reason<'_>> {
+pub(crate) fn order_fault(line: &[u8]) -> Option<Fault> {
     let mut words = Words::new(line, 0);
     take_order(&mut words).err()
 }
 
 /// The processor with which an entry begins.
-fn take_cpu<'a>(words: &mut Words<'a>) -> Result<(), Reason<'a>> {
-    let mut ahead = *words;
-    if let Some(word) = ahead.next() {
-        if word.is("cpu") {
-            return Err(Reason::at(word.column, Problem::CpuInTranscript));
+fn take_cpu(words: &mut Words<'_>) -> Result<(), Fault> {
+    if let Some(word) = words.peek() {
+        if word.is(b"cpu") {
+            let text = "a line of a transcript begins with K, without `cpu`";
+            return Err(Fault::at(word.column, Problem::Plain(text)));
         }
     }
     take(
         words,
         Wanted::Cpu,
-        Usage::Command(Language::Transcript, "COMMAND"),
+        Usage::command(Language::Transcript, "COMMAND"),
     )?;
     Ok(())
 }
 
 /// A reply, and nothing more.
-fn take_reply<'a>(words: &mut Words<'a>) -> Result<(), Reason<'a>> {
-    let usage = Usage::Command(Language::Transcript, "COMMAND");
+fn take_reply(words: &mut Words<'_>) -> Result<(), Fault> {
+    let usage = Usage::command(Language::Transcript, "COMMAND");
     let word = take(words, Wanted::Reply, usage)?;
     match reply_form(word.text) {
-        Some(form) => take_form(words, form, Usage::Reply(form.usage)),
+        Some(form) => take_form(words, form, Usage::reply(form.usage)),
         None => Ok(()),
     }
 }
 
 /// A line of a transcript without `=>`.
-fn take_command_alone<'a>(words: &mut Words<'a>, len: usize) -> Result<(), Reason<'a>> {
+fn take_command_alone(words: &mut Words<'_>, len: usize) -> Result<(), Fault> {
     take_cpu(words)?;
-    let usage = Usage::Command(Language::Transcript, "COMMAND");
+    let usage = Usage::command(Language::Transcript, "COMMAND");
     let word = take(words, Wanted::Command, usage)?;
     let usage = match command_form(word.text) {
-        Some(form) => Usage::Command(Language::Transcript, form.usage),
+        Some(form) => Usage::command(Language::Transcript, form.usage),
         None => usage,
     };
     let problem = Problem::Missing {
         wanted: Wanted::Arrow,
         usage,
     };
-    Err(Reason::at(len.saturating_add(1), problem))
-}
-
-/// Where `=>` first stands.
-fn arrow_at(line: &[u8]) -> Option<usize> {
-    line.windows(2).position(|pair| pair == b"=>".as_slice())
+    Err(Fault::at(len.saturating_add(1), problem))
 }
 
 /// What comes before the first `=>`, and what comes after it.
-fn around_arrow(line: &[u8], at: usize) -> (&[u8], &[u8]) {
-    let behind = at.saturating_add(2);
-    match (line.get(..at), line.get(behind..)) {
-        (Some(front), Some(back)) => (front, back),
-        _ => (line, &[]),
+fn around_arrow(line: &[u8]) -> Option<(&[u8], &[u8])> {
+    let mut rest = line;
+    for at in 0..line.len() {
+        match rest {
+            [b'=', b'>', back @ ..] => return Some((&line[..at], back)),
+            [_, behind @ ..] => rest = behind,
+            [] => return None,
+        }
     }
+    None
 }
 
 /// Whether `=>` stands by itself between these parts of a line.
@@ -242,14 +268,15 @@ fn is_apart(front: &[u8], back: &[u8]) -> bool {
 }
 
 /// The parts of an entry.
-fn take_entry(line: &[u8]) -> Result<(), Reason<'_>> {
-    let Some(at) = arrow_at(line) else {
+fn take_entry(line: &[u8]) -> Result<(), Fault> {
+    let Some((front, back)) = around_arrow(line) else {
         let mut words = Words::new(line, 0);
         return take_command_alone(&mut words, line.len());
     };
-    let (front, back) = around_arrow(line, at);
+    let at = front.len();
     if !is_apart(front, back) {
-        return Err(Reason::at(at.saturating_add(1), Problem::Glued));
+        let problem = Problem::Plain("`=>` has a space on both sides");
+        return Err(Fault::at(at.saturating_add(1), problem));
     }
     let mut words = Words::new(front, 0);
     take_cpu(&mut words)?;
@@ -259,6 +286,6 @@ fn take_entry(line: &[u8]) -> Result<(), Reason<'_>> {
 }
 
 /// Why the words of a line are no entry; none if they are.
-pub(crate) fn entry_reason(line: &[u8]) -> Option<Reason<'_>> {
+pub(crate) fn entry_fault(line: &[u8]) -> Option<Fault> {
     take_entry(line).err()
 }

@@ -1,7 +1,7 @@
 //! What may stand in a place of a line.
 
 /// What is expected in a place of a line.
-#[derive(Clone, Copy, PartialEq, Eq)]
+#[derive(Clone, Copy)]
 pub(crate) enum Wanted {
     /// The first word of a script line.
     Order,

@@ -12,8 +12,8 @@ pub(crate) struct Word<'a> {
 
 impl Word<'_> {
     /// Whether it is this word.
-    pub(crate) fn is(self, text: &str) -> bool {
-        self.text == text.as_bytes()
+    pub(crate) fn is(self, text: &[u8]) -> bool {
+        self.text == text
     }
 }
 
@@ -46,5 +46,11 @@ impl<'a> Words<'a> {
             text,
             column: self.after.saturating_sub(text.len()),
         })
+    }
+
+    /// The next word, which is not taken.
+    pub(crate) fn peek(self) -> Option<Word<'a>> {
+        let mut ahead = self;
+        ahead.next()
     }
 }
