@@ -16,15 +16,17 @@ impl Recorder {
         page: PageNo,
         pages: u32,
     ) -> Result<(), NoMemory> {
-        let line = self.line;
-        match before.step {
-            Step::PushUrgent(_) => put(&mut self.record.urgent, line, kind, page, pages)?,
-            _ => put(&mut self.record.forward, line, kind, page, pages)?,
+        let urgent = matches!(before.step, Step::PushUrgent(_));
+        let pushed = urgent || matches!(before.step, Step::Push(_));
+        if urgent {
+            put(&mut self.record.urgent, self.line, kind, page, pages)?;
+        } else {
+            put(&mut self.record.forward, self.line, kind, page, pages)?;
         }
-        match before.step {
-            Step::PushUrgent(_) | Step::Push(_) => include(&mut self.flying, page),
-            _ => Ok(()),
+        if pushed {
+            include(&mut self.flying, page)?;
         }
+        Ok(())
     }
 
     /// Notes a request, if the wire back has grown by it.
