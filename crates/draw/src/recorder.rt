@@ -3,10 +3,12 @@
 mod channel;
 mod marks;
 mod pages;
+mod tracks;
 mod waits;
 
-use crate::record::{Lane, Record, Track};
 use area_map::AreaMap;
+use diagram::Record;
+use diagram::record::{FEW, Lane, Track};
 use mig_base::cpu_state::CpuState;
 use mig_base::effect::Effect;
 use mig_base::refusal::Refusal;
@@ -45,6 +47,22 @@ fn include(set: &mut PageSet, page: PageNo) -> Result<(), NoMemory> {
 fn exclude(set: &mut PageSet, page: PageNo) {
     if page < HIGH_PAGE {
         set.remove(page);
+    }
+}
+
+/// A track in which nothing has happened.
+fn track(alloc: Global) -> Track {
+    Track {
+        changes: Vec::new(alloc),
+        now: Vec::new(alloc),
+    }
+}
+
+/// A wire without frames.
+fn lane(alloc: Global) -> Lane {
+    Lane {
+        flights: Vec::new(alloc),
+        ended: 0,
     }
 }
 
@@ -100,12 +118,12 @@ impl Recorder {
             world,
             record: Record {
                 lines: Vec::new(alloc),
-                source: Track::new(alloc),
-                destination: Track::new(alloc),
-                processors: Track::new(alloc),
-                forward: Lane::new(alloc),
-                urgent: Lane::new(alloc),
-                back: Lane::new(alloc),
+                source: track(alloc),
+                destination: track(alloc),
+                processors: track(alloc),
+                forward: lane(alloc),
+                urgent: lane(alloc),
+                back: lane(alloc),
                 marks: Vec::new(alloc),
                 dots: Vec::new(alloc),
                 moves: Vec::new(alloc),
@@ -141,7 +159,7 @@ impl Recorder {
         }
     }
 
-    /// Makes the step of a line of the file, and records what it did.
+    /// Makes the step of a line of the file, and records what it did. A refusal is noted among the first lines.
     pub(crate) fn make(&mut self, number: u32, step: Step) -> Result<(), NoMemory> {
         let before = Before {
             step,
@@ -155,18 +173,12 @@ impl Recorder {
             Ok(effect) => self.see(before, effect),
             Err(Refusal::NoMemory) => Err(NoMemory),
             Err(refusal) => {
-                self.refuse(refusal)?;
+                if self.line < FEW {
+                    self.record.refused.push((self.line, refusal))?;
+                }
                 Ok(())
             }
         }
-    }
-
-    /// Notes the refusal of a step, among the first lines.
-    fn refuse(&mut self, refusal: Refusal) -> Result<(), NoMemory> {
-        if self.line < crate::record::FEW {
-            self.record.refused.push((self.line, refusal))?;
-        }
-        Ok(())
     }
 
     /// Records an effect.

@@ -4,8 +4,8 @@ ghost use Rattle.std.specs.Prelude.{◌≡◌, ◌≤◌, IfOk, OnOk};
 ghost use Rattle.draw.specs.Drawing.{Draws};
 ghost use Rattle.svg.specs.Trees.{IsPicture};
 
-use crate::paint::paint;
 use crate::recorder::Recorder;
+use diagram::paint;
 use engine::RunFault;
 use engine::line_runner::write_out;
 use engine::script_reader::{MAX_LINE, split_line, without_return};
@@ -78,8 +78,7 @@ fn picture_of<R: Read>(
     read_whole(reader, &mut input)?;
     let mut recorder = Recorder::new(alloc, cpus)?;
     do_lines(alloc, &mut recorder, &input)?;
-    let sheet = paint(alloc, &recorder.record, name, &input)?;
-    Ok(sheet.finish()?)
+    Ok(paint(alloc, &recorder.record, name, &input)?)
 }
 
 /// Reads a script, makes its steps on a new world of `cpus` processors, 1 to 16, and writes the picture of what they did, named `name`.

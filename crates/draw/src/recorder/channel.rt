@@ -1,7 +1,8 @@
 //! Frames: which are sent, taken and lost.
 
+use super::tracks::{lose, put, take};
 use super::{Before, Node, Recorder, exclude, include, page_at};
-use crate::record::{End, Kind, Lane};
+use diagram::record::Kind;
 use mig_base::effect::Effect;
 use mig_base::schedule::Step;
 use mig_base::{NoMemory, PageNo, PageSet, WorldPhase};
@@ -15,15 +16,17 @@ impl Recorder {
         page: PageNo,
         pages: u32,
     ) -> Result<(), NoMemory> {
-        let line = self.line;
-        match before.step {
-            Step::PushUrgent(_) => self.record.urgent.put(line, kind, page, pages)?,
-            _ => self.record.forward.put(line, kind, page, pages)?,
+        let urgent = matches!(before.step, Step::PushUrgent(_));
+        let pushed = urgent || matches!(before.step, Step::Push(_));
+        if urgent {
+            put(&mut self.record.urgent, self.line, kind, page, pages)?;
+        } else {
+            put(&mut self.record.forward, self.line, kind, page, pages)?;
         }
-        match before.step {
-            Step::PushUrgent(_) | Step::Push(_) => include(&mut self.flying, page),
-            _ => Ok(()),
+        if pushed {
+            include(&mut self.flying, page)?;
         }
+        Ok(())
     }
 
     /// Notes a request, if the wire back has grown by it.
@@ -31,7 +34,7 @@ impl Recorder {
         if self.world.back_bytes() <= before.back {
             return Ok(());
         }
-        self.record.back.put(self.line, Kind::Request, page, 1)?;
+        put(&mut self.record.back, self.line, Kind::Request, page, 1)?;
         include(&mut self.asking, page)
     }
 
@@ -40,18 +43,18 @@ impl Recorder {
         if self.world.forward_bytes() <= before.forward {
             return Ok(());
         }
-        self.record.forward.put(self.line, Kind::Discard, 0, 0)?;
-        self.record.forward.put(self.line, Kind::Package, 0, 0)
+        put(&mut self.record.forward, self.line, Kind::Discard, 0, 0)?;
+        put(&mut self.record.forward, self.line, Kind::Package, 0, 0)
     }
 
     /// Notes the Recv of a destination that goes on, and the requests that it repeats if it runs.
     fn answer_resume(&mut self) -> Result<(), NoMemory> {
-        self.record.back.put(self.line, Kind::Received, 0, 0)?;
+        put(&mut self.record.back, self.line, Kind::Received, 0, 0)?;
         if self.world.phase() != WorldPhase::Postcopy {
             return Ok(());
         }
         for page in self.world.requests() {
-            self.record.back.put(self.line, Kind::Request, *page, 1)?;
+            put(&mut self.record.back, self.line, Kind::Request, *page, 1)?;
             include(&mut self.asking, *page)?;
         }
         Ok(())
@@ -65,12 +68,12 @@ impl Recorder {
             Effect::SentZero { addr } => self.send(before, Kind::Zero, page_at(addr), 1),
             Effect::SentRun { addr, pages } => self.send(before, Kind::Page, page_at(addr), pages),
             Effect::Requested { origin, .. } => self.ask(before, page_at(origin)),
-            Effect::Started { .. } => self.record.forward.put(line, Kind::Advise, 0, 0),
-            Effect::EndSent => self.record.forward.put(line, Kind::Finish, 0, 0),
-            Effect::Resumed { .. } => self.record.forward.put(line, Kind::Resume, 0, 0),
+            Effect::Started { .. } => put(&mut self.record.forward, line, Kind::Advise, 0, 0),
+            Effect::EndSent => put(&mut self.record.forward, line, Kind::Finish, 0, 0),
+            Effect::Resumed { .. } => put(&mut self.record.forward, line, Kind::Resume, 0, 0),
             Effect::Switched { .. } | Effect::TookRecv { .. } => self.hand_over(before),
             Effect::TookResume => self.answer_resume(),
-            Effect::TookEnd => self.record.back.put(line, Kind::Done, 0, 0),
+            Effect::TookEnd => put(&mut self.record.back, line, Kind::Done, 0, 0),
             _ => Ok(()),
         }
     }
@@ -81,16 +84,6 @@ impl Recorder {
         match self.node() {
             Node::Source => Ok(()),
             Node::Destination => include(&mut self.came, page),
-        }
-    }
-
-    /// The wire from which a step takes frames.
-    fn lane(&mut self, step: Step) -> Option<&mut Lane> {
-        match step {
-            Step::Deliver { .. } => Some(&mut self.record.forward),
-            Step::DeliverUrgent { .. } => Some(&mut self.record.urgent),
-            Step::DeliverBack { .. } => Some(&mut self.record.back),
-            _ => None,
         }
     }
 
@@ -106,8 +99,11 @@ impl Recorder {
             }
             _ => {}
         }
-        if let Some(lane) = self.lane(before.step) {
-            lane.finish(line, End::Taken);
+        match before.step {
+            Step::Deliver { .. } => take(&mut self.record.forward, line),
+            Step::DeliverUrgent { .. } => take(&mut self.record.urgent, line),
+            Step::DeliverBack { .. } => take(&mut self.record.back, line),
+            _ => {}
         }
         Ok(())
     }
@@ -117,9 +113,9 @@ impl Recorder {
         let line = self.line;
         self.flying = PageSet::new(self.alloc);
         self.asking = PageSet::new(self.alloc);
-        let forward = self.record.forward.lose(line);
-        let urgent = self.record.urgent.lose(line);
-        let requests = self.record.back.lose(line);
+        let forward = lose(&mut self.record.forward, line);
+        let urgent = lose(&mut self.record.urgent, line);
+        let requests = lose(&mut self.record.back, line);
         (forward.saturating_add(urgent), requests)
     }
 }

@@ -1,7 +1,7 @@
 //! Marks: what happens to the migration as a whole.
 
 use super::Recorder;
-use crate::record::{Event, Mark};
+use diagram::record::{Event, Mark};
 use mig_base::NoMemory;
 use mig_base::effect::Effect;
 use mig_base::phase::Received;

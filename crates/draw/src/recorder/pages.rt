@@ -1,8 +1,9 @@
 //! Pages: what each is at the source and at the destination.
 
+use super::tracks::{note, state_of};
 use super::{Before, Node, Recorder, end_of, page_at, page_of};
-use crate::record::{Change, Move};
-use crate::state::State;
+use diagram::State;
+use diagram::record::{Change, Dot, Move};
 use mig_base::cpu_state::CpuState;
 use mig_base::effect::Effect;
 use mig_base::phase::SourcePhase;
@@ -21,7 +22,7 @@ impl Recorder {
             State::Unpushed
         } else if log.clean().contains(page) {
             State::Clean
-        } else if switched && self.record.source.state(page) == State::Clean {
+        } else if switched && state_of(&self.record.source, page) == State::Clean {
             State::Clean
         } else if switched {
             State::Pushed
@@ -59,7 +60,7 @@ impl Recorder {
 
     /// What a page of the destination is.
     fn page_at_destination(&self, page: PageNo) -> State {
-        let now = self.record.destination.state(page);
+        let now = state_of(&self.record.destination, page);
         if self.node() == Node::Source {
             return now;
         }
@@ -82,8 +83,8 @@ impl Recorder {
             about: 0,
         };
         match node {
-            Node::Source => self.record.source.note(change),
-            Node::Destination => self.record.destination.note(change),
+            Node::Source => note(&mut self.record.source, change),
+            Node::Destination => note(&mut self.record.destination, change),
         }
     }
 
@@ -139,7 +140,7 @@ impl Recorder {
             return Ok(());
         }
         for at in 0..count {
-            let state = self.record.destination.state(from.saturating_add(at));
+            let state = state_of(&self.record.destination, from.saturating_add(at));
             if matches!(state, State::InPlace | State::Installed) {
                 self.note(Node::Destination, to.saturating_add(at), state)?;
             }
@@ -183,8 +184,15 @@ impl Recorder {
         };
         match effect {
             Effect::Asleep { cpu } => {
-                self.see_sleep(before, cpu)?;
-                self.look_at(node, page_of(command))
+                let page = page_of(command);
+                let dot = Dot {
+                    line: self.line,
+                    page,
+                    cpu,
+                    at_destination: node == Node::Destination,
+                };
+                self.record.dots.push(dot)?;
+                self.look_at(node, page)
             }
             Effect::Answered { .. } if command.is_access() => self.look_at(node, page_of(command)),
             Effect::Answered { reply, .. } => self.see_call(node, command, reply),
@@ -246,21 +254,15 @@ impl Recorder {
         }
     }
 
-    /// A copy of a page has come.
-    fn page_came(&mut self, page: PageNo) -> Result<(), NoMemory> {
-        if self.node() == Node::Source {
-            return self.note(Node::Destination, page, State::Kept);
-        }
-        match self.world.owed().home(page) {
-            Some(home) => self.look_at(Node::Destination, home),
-            None => Ok(()),
-        }
-    }
-
     /// Copies of neighbouring pages have come.
-    fn run_came(&mut self, first: PageNo, pages: u32) -> Result<(), NoMemory> {
+    fn copies_came(&mut self, first: PageNo, pages: u32) -> Result<(), NoMemory> {
+        let runs = self.node() == Node::Destination;
         for page in first..first.saturating_add(pages) {
-            self.page_came(page)?;
+            if !runs {
+                self.note(Node::Destination, page, State::Kept)?;
+            } else if let Some(home) = self.world.owed().home(page) {
+                self.look_at(Node::Destination, home)?;
+            }
         }
         Ok(())
     }
@@ -268,7 +270,7 @@ impl Recorder {
     /// The destination drops the copies whose pages were stored to since they were sent, or all of them.
     fn discard(&mut self, all: bool) -> Result<(), NoMemory> {
         for page in 0..self.high {
-            let kept = self.record.destination.state(page) == State::Kept;
+            let kept = state_of(&self.record.destination, page) == State::Kept;
             if kept && (all || !self.world.dirty_log().clean().contains(page)) {
                 self.note(Node::Destination, page, State::Blank)?;
                 self.record.drops.push((self.line, page))?;
@@ -277,20 +279,19 @@ impl Recorder {
         Ok(())
     }
 
-    /// The destination runs: its pages are those of the Package.
-    fn run_begins(&mut self) -> Result<(), NoMemory> {
-        self.look_at_areas(Node::Destination)?;
-        self.look(Node::Destination, 0, HIGH_PAGE)
-    }
-
     /// Notes what has changed at the destination.
     pub(super) fn see_destination(&mut self, effect: Effect) -> Result<(), NoMemory> {
         match effect {
-            Effect::TookPage { addr } | Effect::TookZero { addr } => self.page_came(page_at(addr)),
-            Effect::TookRun { addr, pages } => self.run_came(page_at(addr), pages),
+            Effect::TookPage { addr } | Effect::TookZero { addr } => {
+                self.copies_came(page_at(addr), 1)
+            }
+            Effect::TookRun { addr, pages } => self.copies_came(page_at(addr), pages),
             Effect::TookDiscard { .. } => self.discard(false),
             Effect::TookResume if self.node() == Node::Source => self.discard(true),
-            Effect::TookPackage { .. } => self.run_begins(),
+            Effect::TookPackage { .. } => {
+                self.look_at_areas(Node::Destination)?;
+                self.look(Node::Destination, 0, HIGH_PAGE)
+            }
             Effect::Installed { addr, .. } => {
                 self.note(Node::Destination, page_at(addr), State::Installed)
             }

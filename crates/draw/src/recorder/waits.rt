@@ -1,10 +1,10 @@
 //! Processors: which of them wait, and who has to act.
 
-use super::{Before, Node, Recorder, include, page_of};
-use crate::record::{Change, Dot};
-use crate::state::State;
+use super::tracks::note;
+use super::{Node, Recorder, include, page_of};
+use diagram::State;
+use diagram::record::Change;
 use mig_base::cpu_state::CpuState;
-use mig_base::effect::Effect;
 use mig_base::phase::{DestPhase, SourcePhase};
 use mig_base::{NoMemory, PageNo, PageSet, WorldPhase};
 
@@ -24,8 +24,14 @@ impl Recorder {
         }
     }
 
-    /// Who has to act for a processor that sleeps on a page at the destination.
-    fn cause_at_destination(&self, page: PageNo) -> State {
+    /// Who has to act for a processor that sleeps on a page.
+    fn cause(&self, page: PageNo) -> State {
+        if self.world.phase() == WorldPhase::Switching {
+            return State::Stopped;
+        }
+        if self.node() == Node::Source {
+            return State::Handler;
+        }
         let Some(origin) = self.world.owed().origin(page) else {
             return State::Handler;
         };
@@ -41,15 +47,6 @@ impl Recorder {
             State::AtSource
         } else {
             State::Handler
-        }
-    }
-
-    /// Who has to act for a processor that sleeps on a page.
-    fn cause(&self, page: PageNo) -> State {
-        match self.world.phase() {
-            WorldPhase::Postcopy | WorldPhase::Complete => self.cause_at_destination(page),
-            WorldPhase::Switching => State::Stopped,
-            _ => State::Handler,
         }
     }
 
@@ -72,32 +69,18 @@ impl Recorder {
         let at_destination = self.node() == Node::Destination;
         for cpu in 0..self.world.cpus() {
             let (state, about) = self.processor(cpu);
-            self.record.processors.note(Change {
+            let change = Change {
                 line: self.line,
                 row: u32::from(cpu),
                 state,
                 about,
-            })?;
+            };
+            note(&mut self.record.processors, change)?;
             let sleeps = !matches!(state, State::Blank | State::Woken | State::InCall);
             if sleeps && at_destination {
                 include(&mut self.sleeping, about)?;
             }
         }
-        Ok(())
-    }
-
-    /// Notes a load or a store that went to sleep.
-    pub(super) fn see_sleep(&mut self, before: Before, cpu: u8) -> Result<(), NoMemory> {
-        let Some(command) = before.command else {
-            return Ok(());
-        };
-        let dot = Dot {
-            line: self.line,
-            page: page_of(command),
-            cpu,
-            at_destination: self.node() == Node::Destination,
-        };
-        self.record.dots.push(dot)?;
         Ok(())
     }
 }

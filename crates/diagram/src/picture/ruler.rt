@@ -1,9 +1,10 @@
 //! The numbers of the lines, and in a small picture the lines themselves.
 
-use super::bands::line_of;
 use crate::pen::Pen;
 use crate::plan::{LEFT, Plan};
 use crate::record::Record;
+use crate::text::Part::{Number, Refused, Words};
+use crate::text::push_all;
 use mig_base::NoMemory;
 use mig_base::refusal::Refusal;
 use std::alloc::Global;
@@ -37,18 +38,14 @@ fn text_of(
     text: &[u8],
 ) -> Result<Text, NoMemory> {
     let shown = text.get(..SHOWN).unwrap_or(text);
-    let words = String::from_utf8_lossy(alloc, shown)?;
-    let text = match refusal(record, column) {
-        Some(reason) => Text {
-            words: format!(in alloc; "{words}: {reason}  {line}")?,
-            class: "gm en",
-        },
-        None => Text {
-            words: format!(in alloc; "{words}  {line}")?,
-            class: "mo en",
-        },
-    };
-    Ok(text)
+    let mut words = String::from_utf8_lossy(alloc, shown)?;
+    let mut class = "mo en";
+    if let Some(reason) = refusal(record, column) {
+        push_all(&mut words, &[Words(": "), Refused(reason)])?;
+        class = "gm en";
+    }
+    push_all(&mut words, &[Words("  "), Number(line)])?;
+    Ok(Text { words, class })
 }
 
 /// The lines of the script, as they stand below their columns in a picture with words.
@@ -93,38 +90,29 @@ fn is_wide(plan: &Plan, lines: u32) -> bool {
 fn distance(plan: &Plan) -> u32 {
     let mut at = 5u32;
     for _ in 0..8 {
-        if is_wide(plan, at.saturating_mul(4)) {
-            break;
+        for times in [1, 2, 4] {
+            let lines = at.saturating_mul(times);
+            if is_wide(plan, lines) {
+                return lines;
+            }
         }
         at = at.saturating_mul(10);
     }
-    if is_wide(plan, at) {
-        at
-    } else if is_wide(plan, at.saturating_mul(2)) {
-        at.saturating_mul(2)
-    } else {
-        at.saturating_mul(4)
-    }
-}
-
-/// Writes the number of a line below its column.
-fn write_number(pen: &mut Pen, x: u64, y: u64, line: u32) {
-    pen.line("g2", (x, y), (x, y.saturating_add(50)));
-    let text = format!(in pen.alloc; "{line}");
-    let number = pen.made(text);
-    pen.words("sm mi", (x, y.saturating_add(150)), &number);
+    at.saturating_mul(4)
 }
 
 /// Writes the numbers of lines below the bands.
 fn numbers(pen: &mut Pen, plan: &Plan, record: &Record) {
     let y = plan.bottom;
     let apart = distance(plan);
-    pen.words("sm en", (LEFT - 60, y.saturating_add(150)), "line");
+    pen.word("sm en", (LEFT - 60, y.saturating_add(150)), "line");
     let mut next = apart;
     for column in 0..plan.columns.count() {
-        let line = line_of(plan, record, column);
+        let line = plan.line_of(record, column);
         if line >= next {
-            write_number(pen, plan.x_of(column), y, line);
+            let x = plan.x_of(column);
+            pen.line("g2", (x, y), (x, y.saturating_add(50)));
+            pen.words("sm mi", (x, y.saturating_add(150)), &[Number(line)]);
             let steps = line.checked_div(apart).unwrap_or(0).saturating_add(1);
             next = steps.saturating_mul(apart);
         }
@@ -140,8 +128,8 @@ pub(super) fn ruler(pen: &mut Pen, plan: &Plan, record: &Record, texts: &[Text])
     }
     let mut column = 0u32;
     for text in texts {
-        let x = plan.x_of(column).saturating_add(30);
-        pen.turned(text.class, (x, y.saturating_add(60)), &text.words);
+        let place = (plan.x_of(column).saturating_add(30), y.saturating_add(60));
+        pen.turned(text.class, place, "rotate(-90)", &[Words(&text.words)]);
         column = column.saturating_add(1);
     }
 }

@@ -1,5 +1,8 @@
 //! Painting a picture.
 
+ghost use Rattle.std.specs.Prelude.{IfOk};
+ghost use Rattle.svg.specs.Trees.{IsPicture};
+
 mod bands;
 mod head;
 mod legend;
@@ -9,9 +12,11 @@ mod notes;
 mod ruler;
 mod strands;
 
-use crate::pen::{Frame, Pen, Px};
+use crate::pen::{Frame, Pen};
 use crate::plan::{Plan, RIGHT};
 use crate::record::Record;
+use crate::text::Part::{At, Length, Words};
+use crate::text::push_all;
 use mig_base::NoMemory;
 use std::alloc::Global;
 use svg::{Attribute, Key, Sheet, Tag};
@@ -33,48 +38,50 @@ const STYLE: &str = "path{fill:none}text{font-family:sans-serif;fill:#222;font-s
 .g5{stroke:#222;stroke-width:1.2}.g6{stroke:#999;stroke-width:.6}.do{fill:#fff;stroke:#222}.dd{fill:#222}\
 .o1{fill:#fbdcc4}.o2{fill:#e69f00}.t1{stroke:#d55e00;stroke-width:1.3}.t2{stroke:#fff;stroke-width:1.6}";
 
-/// Writes the patterns that the style sheet names.
+/// Writes the patterns that the style sheet names: stripes on a ground, each of a class.
 fn patterns(pen: &mut Pen) {
+    let rising = "M-1 1L1-1M0 6L6 0M5 7L7 5";
+    let falling = "M-1 5L1 7M0 0L6 6M5-1L7 1";
     pen.open(Tag::Defs, &[]);
-    pattern(pen, "dirty", "o2", "t2", "M-1 1L1-1M0 6L6 0M5 7L7 5");
-    pattern(pen, "request", "bg", "t1", "M-1 1L1-1M0 6L6 0M5 7L7 5");
-    pattern(pen, "page", "o1", "t1", "M-1 5L1 7M0 0L6 6M5-1L7 1");
-    pen.close();
-}
-
-/// Writes a pattern: stripes on a ground, each of a class.
-fn pattern(pen: &mut Pen, id: &str, ground: &str, class: &str, stripes: &str) {
-    let attributes = [
-        Attribute {
-            key: Key::Id,
-            value: id.as_bytes(),
-        },
-        Attribute {
-            key: Key::Width,
-            value: b"6",
-        },
-        Attribute {
-            key: Key::Height,
-            value: b"6",
-        },
-        Attribute {
-            key: Key::PatternUnits,
-            value: b"userSpaceOnUse",
-        },
-    ];
-    pen.open(Tag::Pattern, &attributes);
-    pen.path(ground, "M0 0h6v6h-6z");
-    pen.path(class, stripes);
+    for (id, ground, class, stripes) in [
+        ("dirty", "o2", "t2", rising),
+        ("request", "bg", "t1", rising),
+        ("page", "o1", "t1", falling),
+    ] {
+        let attributes = [
+            Attribute {
+                key: Key::Id,
+                value: id.as_bytes(),
+            },
+            Attribute {
+                key: Key::Width,
+                value: b"6",
+            },
+            Attribute {
+                key: Key::Height,
+                value: b"6",
+            },
+            Attribute {
+                key: Key::PatternUnits,
+                value: b"userSpaceOnUse",
+            },
+        ];
+        pen.open(Tag::Pattern, &attributes);
+        pen.path(ground, &[Words("M0 0h6v6h-6z")]);
+        pen.path(class, &[Words(stripes)]);
+        pen.close();
+    }
     pen.close();
 }
 
 /// A sheet of a size.
 fn new_sheet(alloc: Global, width: u64, height: u64) -> Result<Sheet, NoMemory> {
-    let wide = Px(width);
-    let high = Px(height);
-    let view = format!(in alloc; "0 0 {wide} {high}")?;
-    let across = format!(in alloc; "{wide}")?;
-    let down = format!(in alloc; "{high}")?;
+    let mut view = String::new(alloc);
+    let mut across = String::new(alloc);
+    let mut down = String::new(alloc);
+    push_all(&mut view, &[Words("0 0 "), At((width, height))])?;
+    push_all(&mut across, &[Length(width)])?;
+    push_all(&mut down, &[Length(height)])?;
     let attributes = [
         Attribute {
             key: Key::Namespace,
@@ -102,8 +109,8 @@ fn new_sheet(alloc: Global, width: u64, height: u64) -> Result<Sheet, NoMemory> 
 
 /// Writes what stands behind all bands.
 fn ground(pen: &mut Pen, name: &str, width: u64, height: u64) {
-    pen.element(Tag::Title, name);
-    pen.element(Tag::Style, STYLE);
+    pen.element(Tag::Title, name.as_bytes());
+    pen.element(Tag::Style, STYLE.as_bytes());
     patterns(pen);
     let frame = Frame {
         x: 0,
@@ -114,53 +121,35 @@ fn ground(pen: &mut Pen, name: &str, width: u64, height: u64) {
     pen.rectangle("bg", frame);
 }
 
-/// Paints the bands and what stands around them.
-fn picture(
-    pen: &mut Pen,
-    plan: &Plan,
-    record: &Record,
-    texts: &[ruler::Text],
-) -> Result<(), NoMemory> {
-    marks::grounds(pen, plan, record);
-    marks::phases(pen, plan, record);
-    bands::processors(pen, plan, record);
-    bands::nodes(pen, plan, record);
-    strands::wires(pen, plan, record)?;
-    notes::write_notes(pen, plan, record)?;
-    ruler::ruler(pen, plan, record, texts);
-    Ok(())
-}
-
-/// Paints the picture of a record, which is named so.
-pub(crate) fn paint(
-    alloc: Global,
-    record: &Record,
-    name: &str,
-    input: &[u8],
-) -> Result<Sheet, NoMemory> {
+/// Paints the picture of a record, which is named so. The input is the script.
+pub fn paint(alloc: Global, record: &Record, name: &str, input: &[u8]) -> Result<Vec<u8>, NoMemory>
+    ensures { IfOk result (λ picture. IsPicture picture.items) }
+{
     let mut plan = Plan::new(alloc, record)?;
     let labels = marks::find_labels(alloc, &plan, record)?;
-    plan.place(700u64.saturating_add(labels.height))?;
+    plan.place(700u64.saturating_add(labels.height));
     let texts = ruler::find_texts(alloc, &plan, record, input)?;
     let items = legend::find_items(alloc, &plan, record)?;
+    let waits = longest::longest_of(alloc, &plan)?;
     let foot = plan
         .bottom
         .saturating_add(ruler::height(&texts))
         .saturating_add(100);
-    let width = plan
-        .right()
-        .saturating_add(RIGHT)
-        .max(legend::width(&items));
-    let waits = longest::longest_of(alloc, &plan)?;
-    let list = foot.saturating_add(legend::height(&items));
+    let list = foot.saturating_add(items.height);
     let height = list.saturating_add(longest::height(&waits));
-    let sheet = new_sheet(alloc, width, height)?;
-    let mut pen = Pen::new(alloc, sheet);
+    let width = plan.right().saturating_add(RIGHT).max(items.width);
+    let mut pen = Pen::new(alloc, new_sheet(alloc, width, height)?);
     ground(&mut pen, name, width, height);
     head::head(&mut pen, &plan, record, name);
-    picture(&mut pen, &plan, record, &texts)?;
+    marks::grounds(&mut pen, &plan, record);
+    marks::phases(&mut pen, &plan, record);
+    bands::processors(&mut pen, &plan, record);
+    bands::nodes(&mut pen, &plan, record);
+    strands::wires(&mut pen, &plan, record)?;
+    notes::write_notes(&mut pen, &plan, record)?;
+    ruler::ruler(&mut pen, &plan, record, &texts);
     marks::marks(&mut pen, &plan, &labels);
-    legend::legend(&mut pen, &items, 100, foot);
+    legend::legend(&mut pen, &items, foot);
     longest::longest(&mut pen, &plan, record, &waits, list);
     pen.finish()
 }

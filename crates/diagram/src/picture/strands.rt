@@ -1,10 +1,11 @@
 //! The wires: each frame from the line that sent it to the line that took or lost it.
 
-use super::bands::line_of;
-use crate::pen::{Pages, Pen, Place, share, width_of};
+use crate::pen::{Pen, share};
 use crate::plan::{LEFT, Plan};
 use crate::record::{End, Flight, Kind, Record};
 use crate::state::State;
+use crate::text::Part::{More, Number, Page, Words};
+use crate::text::{NOTHING, Part, Place};
 use mig_base::NoMemory;
 use std::alloc::Global;
 
@@ -24,25 +25,13 @@ struct Strand {
     class: &'static str,
 }
 
-impl Strand {
-    /// The place of a frame on its way, after a part of the whole.
-    fn part(self, part: u64, whole: u64) -> u64 {
-        let reach = self.from.abs_diff(self.to);
-        let along = share(reach, part, whole);
-        if self.from < self.to {
-            self.from.saturating_add(along)
-        } else {
-            self.from.saturating_sub(along)
-        }
-    }
-}
-
-/// The word for how a frame ended.
-fn ending(flight: &Flight) -> &'static str {
-    match flight.end {
-        End::Open => "in flight at the end, line",
-        End::Taken => "taken at line",
-        End::Lost => "lost at line",
+/// The place on a way from one height to another, after a part of the whole.
+fn part_of(from: u64, to: u64, part: u64, whole: u64) -> u64 {
+    let along = share(from.abs_diff(to), part, whole);
+    if from < to {
+        from.saturating_add(along)
+    } else {
+        from.saturating_sub(along)
     }
 }
 
@@ -54,10 +43,11 @@ fn end_of(plan: &Plan, strand: Strand, flight: &Flight, oldest: u32) -> Place {
             let age = u64::from(flight.ended.saturating_sub(flight.sent));
             let most = u64::from(flight.ended.saturating_sub(oldest)).saturating_add(1);
             let part = age.saturating_mul(8).saturating_add(most);
-            let x = plan.x_at(flight.ended);
-            (x, strand.part(part, most.saturating_mul(10)))
+            let whole = most.saturating_mul(10);
+            let y = part_of(strand.from, strand.to, part, whole);
+            (plan.x_at(flight.ended), y)
         }
-        End::Open => (plan.right(), strand.part(1, 2)),
+        End::Open => (plan.right(), part_of(strand.from, strand.to, 1, 2)),
     }
 }
 
@@ -87,7 +77,7 @@ fn routes_of(
         if place != before {
             routes.push(Route {
                 flight: *one,
-                from: (plan.x_at(one.sent), strand.from),
+                from: (plan.x_of(place.0), strand.from),
                 to: end_of(plan, strand, one, lost.1),
             })?;
         }
@@ -96,24 +86,48 @@ fn routes_of(
     Ok(routes)
 }
 
-/// Gives the next shape what a viewer shows of a frame: when it was sent, and how it ended.
-fn name(pen: &mut Pen, plan: &Plan, record: &Record, flight: &Flight) {
-    let first = line_of(plan, record, plan.columns.of(flight.sent));
-    let last = line_of(plan, record, plan.columns.of(flight.ended));
-    let ended = ending(flight);
-    let title = format!(in pen.alloc; "{flight}: sent at line {first}, {ended} {last}");
-    pen.name(title);
+/// What a frame is: its word, and its pages if it has any.
+fn frame_of(flight: &Flight) -> [Part<'static>; 3] {
+    let word = match flight.kind {
+        Kind::Page => "page ",
+        Kind::Zero => "zeros ",
+        Kind::Request => "request ",
+        Kind::Advise => "advise",
+        Kind::Discard => "discard",
+        Kind::Package => "package",
+        Kind::Finish => "end",
+        Kind::Resume => "resume",
+        Kind::Received => "recv",
+        Kind::Done => "done",
+    };
+    if flight.kind.has_page() {
+        [Words(word), Page(flight.page), More(flight.pages)]
+    } else {
+        [Words(word), NOTHING, NOTHING]
+    }
 }
 
-/// Draws a frame: as an arrow if it was taken and there is room, with a cross at its end if it was lost.
+/// Draws a frame, named by when it was sent and how it ended: as an arrow if it was taken and there is room, with a cross at its end if it
+/// was lost.
 fn draw_frame(pen: &mut Pen, plan: &Plan, record: &Record, class: &str, route: &Route) {
-    name(pen, plan, record, &route.flight);
-    let class = if route.flight.kind.has_page() {
-        class
-    } else {
-        "lo"
+    let flight = &route.flight;
+    let [word, page, more] = frame_of(flight);
+    let ended = match flight.end {
+        End::Open => ", in flight at the end, line ",
+        End::Taken => ", taken at line ",
+        End::Lost => ", lost at line ",
     };
-    match route.flight.end {
+    pen.name(&[
+        word,
+        page,
+        more,
+        Words(": sent at line "),
+        Number(plan.line_of(record, plan.columns.of(flight.sent))),
+        Words(ended),
+        Number(plan.line_of(record, plan.columns.of(flight.ended))),
+    ]);
+    let class = if flight.kind.has_page() { class } else { "lo" };
+    match flight.end {
         End::Taken if plan.is_small() => pen.arrow(class, route.from, route.to),
         End::Taken | End::Open => pen.line(class, route.from, route.to),
         End::Lost => {
@@ -132,17 +146,17 @@ fn frames(pen: &mut Pen, plan: &Plan, record: &Record, strand: Strand, routes: &
 
 /// Words on a wire: where they begin and end, and how far down they stand.
 #[derive(Clone, Copy)]
-struct Words {
+struct Label {
     left: u64,
     right: u64,
     y: u64,
 }
 
 /// Whether words touch no others.
-fn is_free(words: Words, others: &[Words]) -> bool {
+fn is_free(label: Label, others: &[Label]) -> bool {
     for other in others {
-        let beside = words.left > other.right || other.left > words.right;
-        if !beside && words.y.abs_diff(other.y) < 85 {
+        let beside = label.left > other.right || other.left > label.right;
+        if !beside && label.y.abs_diff(other.y) < 85 {
             return false;
         }
     }
@@ -150,20 +164,15 @@ fn is_free(words: Words, others: &[Words]) -> bool {
 }
 
 /// A place for words that are so wide on the line of a frame: the first of some heights where there is room.
-fn place_of(route: &Route, width: u64, written: &[Words]) -> Option<Words> {
+fn place_of(route: &Route, width: u64, written: &[Label]) -> Option<Label> {
     let half = (width / 2).saturating_add(25);
     let reach = route.to.0.saturating_sub(route.from.0);
-    let way = Strand {
-        from: route.from.1,
-        to: route.to.1,
-        class: "",
-    };
-    for height in &HEIGHTS {
-        let x = route.from.0.saturating_add(share(reach, *height, 10));
-        let place = Words {
+    for height in HEIGHTS {
+        let x = route.from.0.saturating_add(share(reach, height, 10));
+        let place = Label {
             left: x.saturating_sub(half),
             right: x.saturating_add(half),
-            y: way.part(*height, 10).saturating_add(30),
+            y: part_of(route.from.1, route.to.1, height, 10).saturating_add(30),
         };
         if is_free(place, written) {
             return Some(place);
@@ -172,34 +181,26 @@ fn place_of(route: &Route, width: u64, written: &[Words]) -> Option<Words> {
     None
 }
 
-/// Writes what a frame is on its line, if there is room.
-fn frame_label(pen: &mut Pen, route: &Route, written: &mut Vec<Words>) -> Result<(), NoMemory> {
-    let flight = &route.flight;
-    let pages = Pages(flight.page, flight.pages);
-    let text = if matches!(flight.kind, Kind::Page | Kind::Request) {
-        format!(in pen.alloc; "{pages}")
-    } else {
-        format!(in pen.alloc; "{flight}")
-    };
-    let words = pen.made(text);
-    if let Some(place) = place_of(route, width_of(&words, 90), written) {
-        let x = place.left.saturating_add(place.right) / 2;
-        pen.words("mo mi ha", (x, place.y), &words);
-        written.push(place)?;
-    }
-    Ok(())
-}
-
-/// Writes what the frames of a wire are, where there is room: if their pages are named, also on the lines of those that have pages.
+/// Writes what the frames of a wire are on their lines, where there is room: if their pages are named, also on the lines of those that
+/// have pages.
 fn frame_labels(
     pen: &mut Pen,
     routes: &[Route],
     pages: bool,
-    written: &mut Vec<Words>,
+    written: &mut Vec<Label>,
 ) -> Result<(), NoMemory> {
     for route in routes {
         if (pages || !route.flight.kind.has_page()) && written.len() < MOST_WORDS {
-            frame_label(pen, route, written)?;
+            let mut words = frame_of(&route.flight);
+            if matches!(route.flight.kind, Kind::Page | Kind::Request) {
+                words[0] = NOTHING;
+            }
+            let width = pen.width(&words, 90);
+            if let Some(place) = place_of(route, width, written) {
+                let x = place.left.saturating_add(place.right) / 2;
+                pen.words("mo mi ha", (x, place.y), &words);
+                written.push(place)?;
+            }
         }
     }
     Ok(())
@@ -228,35 +229,37 @@ fn arrivals(pen: &mut Pen, plan: &Plan, record: &Record) {
     }
 }
 
-/// Draws a rail between which frames travel, and writes words beside it.
-fn rail(pen: &mut Pen, plan: &Plan, y: u64, words: &str) {
-    pen.line("g1", (LEFT, y), (plan.right(), y));
-    pen.words("sm en", (LEFT - 60, y.saturating_add(30)), words);
-}
-
-/// Draws the rails, with the names of the wires.
+/// Draws the rails between which frames travel, with their names and those of the wires.
 fn rails(pen: &mut Pen, plan: &Plan) {
-    rail(pen, plan, plan.forward.0, "source");
-    rail(pen, plan, plan.forward.1, "destination");
-    rail(pen, plan, plan.back.0, "");
-    rail(pen, plan, plan.back.1, "");
+    let rails = [
+        (plan.forward.0, "source"),
+        (plan.forward.1, "destination"),
+        (plan.back.0, ""),
+        (plan.back.1, ""),
+    ];
+    for (y, name) in rails {
+        pen.line("g1", (LEFT, y), (plan.right(), y));
+        pen.word("sm en", (LEFT - 60, y.saturating_add(30)), name);
+    }
     let top = plan.forward.0;
-    pen.words("n3", (100, top.saturating_sub(50)), "wires");
-    pen.words("en", (LEFT - 60, top.saturating_add(450)), "forward");
+    pen.word("n3", (100, top.saturating_sub(50)), "wires");
+    pen.word("en", (LEFT - 60, top.saturating_add(450)), "forward");
     let middle = plan.back.1.saturating_add(230);
-    pen.words("en", (LEFT - 60, middle), "back");
+    pen.word("en", (LEFT - 60, middle), "back");
 }
 
 /// Draws the frames to the destination.
 fn forward(pen: &mut Pen, plan: &Plan, record: &Record) -> Result<(), NoMemory> {
+    let (from, to) = plan.forward;
     let down = Strand {
-        from: plan.forward.0,
-        to: plan.forward.1,
+        from,
+        to,
         class: "lf",
     };
     let urgent = Strand {
+        from,
+        to,
         class: "lu",
-        ..down
     };
     let slow = routes_of(pen.alloc, plan, down, &record.forward.flights)?;
     let fast = routes_of(pen.alloc, plan, urgent, &record.urgent.flights)?;
@@ -273,11 +276,14 @@ fn forward(pen: &mut Pen, plan: &Plan, record: &Record) -> Result<(), NoMemory> 
     frame_labels(pen, &slow, small, &mut written)
 }
 
-/// Draws the frames back to the source.
-fn back(pen: &mut Pen, plan: &Plan, record: &Record) -> Result<(), NoMemory> {
+/// Draws the wires.
+pub(super) fn wires(pen: &mut Pen, plan: &Plan, record: &Record) -> Result<(), NoMemory> {
+    rails(pen, plan);
+    forward(pen, plan, record)?;
+    let (from, to) = plan.back;
     let up = Strand {
-        from: plan.back.0,
-        to: plan.back.1,
+        from,
+        to,
         class: "lq",
     };
     let routes = routes_of(pen.alloc, plan, up, &record.back.flights)?;
@@ -285,11 +291,4 @@ fn back(pen: &mut Pen, plan: &Plan, record: &Record) -> Result<(), NoMemory> {
     let few = plan.is_small() || routes.len() <= MOST_FRAMES;
     let mut written = Vec::new(pen.alloc);
     frame_labels(pen, &routes, few, &mut written)
-}
-
-/// Draws the wires.
-pub(super) fn wires(pen: &mut Pen, plan: &Plan, record: &Record) -> Result<(), NoMemory> {
-    rails(pen, plan);
-    forward(pen, plan, record)?;
-    back(pen, plan, record)
 }

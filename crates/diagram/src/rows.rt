@@ -18,9 +18,11 @@ pub(crate) struct Row {
     /// Whether the page before it stands in no row.
     pub gap: bool,
     /// Whether nothing has happened to its pages but that they were mapped.
-    dull: bool,
+    pub dull: bool,
     /// The number of its last group of pages.
     group: u32,
+    /// Where it begins, once the band is placed.
+    pub top: u64,
 }
 
 /// The rows of a band, and the row of each page.
@@ -34,93 +36,57 @@ pub(crate) struct Rows {
 
 impl Rows {
     /// The row of a page, if it has one.
-    pub(crate) fn row_of(&self, page: u32) -> Option<usize> {
+    pub(crate) fn row_of(&self, page: u32) -> Option<u32> {
         match self.of.get(page as usize) {
-            Some(row) if *row != u32::MAX => Some(*row as usize),
+            Some(row) if *row != u32::MAX => Some(*row),
             _ => None,
         }
     }
 
-    /// The number of pages to which more has happened than that they were mapped.
-    pub(crate) fn touched(&self) -> u32 {
-        let mut pages = 0u32;
-        for row in &self.rows {
-            if !row.dull {
-                pages = pages.saturating_add(row.pages);
+    /// Puts a page into the last row if it belongs there, and else into a new one.
+    fn put(&mut self, page: u32, dull: bool) -> Result<(), NoMemory> {
+        let group = page.checked_div(self.together).unwrap_or(page);
+        let mut gap = false;
+        if let Some(last) = self.rows.last_mut() {
+            let follows = last.first.saturating_add(last.pages) == page;
+            let grouped = self.together > 1 && last.group == group;
+            if grouped || (dull && last.dull && follows) {
+                last.pages = page.saturating_sub(last.first).saturating_add(1);
+                last.dull = last.dull && dull;
+                last.group = group;
+                return Ok(());
             }
+            gap = !follows;
         }
-        pages
-    }
-
-    /// A row for each processor.
-    pub(crate) fn of_processors(alloc: Global, cpus: u32) -> Result<Rows, NoMemory> {
-        let mut rows = Rows {
-            rows: Vec::new(alloc),
-            of: Vec::new(alloc),
-            together: 1,
-        };
-        for cpu in 0..cpus {
-            rows.add(cpu, false)?;
-            rows.of.push(cpu)?;
-        }
-        Ok(rows)
-    }
-
-    /// A row more, for one page.
-    fn add(&mut self, page: u32, dull: bool) -> Result<(), NoMemory> {
-        let gap = match self.rows.last() {
-            Some(last) => last.first.saturating_add(last.pages) != page,
-            None => false,
-        };
         self.rows.push(Row {
             first: page,
             pages: 1,
             gap,
             dull,
-            group: page.checked_div(self.together).unwrap_or(page),
+            group,
+            top: 0,
         })?;
         Ok(())
-    }
-
-    /// Puts a page into the last row, if it belongs there.
-    fn joins(&mut self, page: u32, dull: bool) -> bool {
-        let group = page.checked_div(self.together).unwrap_or(page);
-        let grouped = self.together > 1;
-        let Some(last) = self.rows.last_mut() else {
-            return false;
-        };
-        let follows = last.first.saturating_add(last.pages) == page;
-        let joins = (dull && last.dull && follows) || (grouped && last.group == group);
-        if joins {
-            last.pages = page.saturating_sub(last.first).saturating_add(1);
-            last.dull = last.dull && dull;
-            last.group = group;
-        }
-        joins
     }
 
     /// Puts the pages into rows, with that many neighbours together.
     fn fill(&mut self, stirs: &[Stir]) -> Result<(), NoMemory> {
         self.rows.clear();
-        for at in 0..stirs.len().min(HIGH_PAGE as usize) {
-            let stir = stirs.get(at).copied().unwrap_or(Stir::Never);
-            if stir == Stir::Never {
-                continue;
+        let mut page = 0u32;
+        for stir in stirs {
+            if *stir != Stir::Never {
+                self.put(page, *stir == Stir::Mapped)?;
+                if let Some(row) = self.of.get_mut(page as usize) {
+                    *row = self.rows.len().saturating_sub(1).min(HIGH_PAGE as usize) as u32;
+                }
             }
-            let page = at as u32;
-            let dull = stir == Stir::Mapped;
-            if !self.joins(page, dull) {
-                self.add(page, dull)?;
-            }
-            if let Some(row) = self.of.get_mut(at) {
-                *row = self.rows.len().saturating_sub(1).min(HIGH_PAGE as usize) as u32;
-            }
+            page = page.saturating_add(1);
         }
         Ok(())
     }
 
-    /// Puts the pages of a band into rows: each page by itself, or enough neighbours together that there are not too many rows.
-    pub(crate) fn of_pages(alloc: Global, stirs: &[Stir], least: u32) -> Result<Rows, NoMemory> {
+    /// The rows of a band: each page by itself, or enough neighbours together that there are not too many rows.
+    pub(crate) fn new(alloc: Global, stirs: &[Stir], least: u32) -> Result<Rows, NoMemory> {
         let mut rows = Rows {
             rows: Vec::new(alloc),
             of: vec![in alloc; u32::MAX; stirs.len()]?,
@@ -144,7 +110,7 @@ pub(crate) enum Stir {
     Never,
     /// It was mapped, and no more.
     Mapped,
-    /// It had contents, was owed, or was slept on.
+    /// It had contents, was owed, or was slept on; or it is a processor.
     Touched,
 }
 
@@ -155,7 +121,7 @@ pub(crate) fn stirs_of(
     dots: &[Dot],
     at_destination: bool,
 ) -> Result<Vec<Stir>, NoMemory> {
-    let mut stirs = vec![in alloc; Stir::Never; track.rows()]?;
+    let mut stirs = vec![in alloc; Stir::Never; track.now.len()]?;
     for change in &track.changes {
         if let Some(stir) = stirs.get_mut(change.row as usize) {
             match change.state {

@@ -1,9 +1,9 @@
 //! Where everything stands in a picture.
 
 use crate::band::{Columns, Stretch, stretches_of};
-use crate::pen::{Pages, share};
-use crate::record::{Change, Flight, Record};
-use crate::rows::{Rows, stirs_of};
+use crate::pen::{Frame, share};
+use crate::record::{Change, FEW, Record};
+use crate::rows::{Rows, Stir, stirs_of};
 use crate::waits::{Wait, find_waits};
 use mig_base::NoMemory;
 use std::alloc::Global;
@@ -25,13 +25,10 @@ const MOST_SHAPES: usize = 20_000;
 pub(crate) struct Band {
     pub rows: Rows,
     pub stretches: Vec<Stretch>,
-    /// Where each row begins.
-    pub tops: Vec<u64>,
     /// The height of a row.
     pub height: u64,
-    /// Where the band begins and ends.
+    /// Where the band begins.
     pub top: u64,
-    pub bottom: u64,
 }
 
 /// A picture: its columns, its bands, and its size.
@@ -64,50 +61,44 @@ fn row_height(rows: usize) -> u64 {
 }
 
 impl Band {
-    /// The rows of a band, and their stretches.
+    /// A band of pages or processors to which this has happened.
     fn new(
         alloc: Global,
         changes: &[Change],
-        rows: Rows,
+        stirs: &[Stir],
+        together: u32,
         columns: Columns,
     ) -> Result<Band, NoMemory> {
+        let rows = Rows::new(alloc, stirs, together)?;
         let stretches = stretches_of(alloc, changes, &rows, columns)?;
         let height = row_height(rows.rows.len());
         Ok(Band {
             rows,
             stretches,
-            tops: Vec::new(alloc),
             height,
             top: 0,
-            bottom: 0,
         })
     }
 
     /// Places the rows from here on downwards, with a gap where pages between two are missing. Returns where they end.
-    fn place(&mut self, top: u64, gap: u64) -> Result<u64, NoMemory> {
+    fn place(&mut self, top: u64, gap: u64) -> u64 {
         let mut y = top;
         self.top = top;
-        for row in &self.rows.rows {
+        for row in self.rows.rows.iter_mut() {
             if row.gap {
                 y = y.saturating_add(gap);
             }
-            self.tops.push(y)?;
+            row.top = y;
             y = y.saturating_add(self.height);
         }
-        self.bottom = y;
-        Ok(y)
+        y
     }
 
     /// Where a row begins.
-    pub(crate) fn top_of(&self, row: usize) -> u64 {
-        self.tops.get(row).copied().unwrap_or(self.top)
-    }
-
-    /// The pages of a row.
-    pub(crate) fn pages_of(&self, row: usize) -> Pages {
-        match self.rows.rows.get(row) {
-            Some(row) => Pages(row.first, row.pages),
-            None => Pages(0, 0),
+    pub(crate) fn top_of(&self, row: u32) -> u64 {
+        match self.rows.rows.get(row as usize) {
+            Some(row) => row.top,
+            None => self.top,
         }
     }
 
@@ -126,60 +117,51 @@ fn width_of(lines: u32) -> u64 {
     small.saturating_add(more).min(16000)
 }
 
-/// The number of shapes for the frames of a wire: one for each pair of columns.
-fn shapes_of(flights: &[Flight], columns: Columns) -> usize {
+/// The number of shapes for the frames of the wires: one for each pair of columns.
+fn frame_shapes(record: &Record, columns: Columns) -> usize {
     let mut shapes = 0usize;
-    let mut before = (u32::MAX, u32::MAX);
-    for flight in flights {
-        let place = (columns.of(flight.sent), columns.of(flight.ended));
-        if place != before {
-            shapes = shapes.saturating_add(1);
+    for flights in [
+        &record.forward.flights,
+        &record.urgent.flights,
+        &record.back.flights,
+    ] {
+        let mut before = (u32::MAX, u32::MAX);
+        for flight in flights {
+            let place = (columns.of(flight.sent), columns.of(flight.ended));
+            if place != before {
+                shapes = shapes.saturating_add(1);
+            }
+            before = place;
         }
-        before = place;
     }
     shapes
 }
 
-/// The columns of a picture, and its bands.
-fn bands_of(alloc: Global, record: &Record, per: u32, together: u32) -> Result<Plan, NoMemory> {
-    let lines = record.lines.len().clamp(1, u32::MAX as usize) as u32;
-    let columns = Columns { lines, per };
-    let source = &record.source.changes;
-    let destination = &record.destination.changes;
-    let stirs = stirs_of(alloc, &record.source, &record.dots, false)?;
-    let source_rows = Rows::of_pages(alloc, &stirs, together)?;
-    let stirs = stirs_of(alloc, &record.destination, &record.dots, true)?;
-    let destination_rows = Rows::of_pages(alloc, &stirs, together)?;
-    let lanes = Rows::of_processors(alloc, record.cpus)?;
-    let processors = Band::new(alloc, &record.processors.changes, lanes, columns)?;
-    let waits = find_waits(alloc, &processors.stretches, record.cpus)?;
-    Ok(Plan {
-        columns,
-        width: width_of(lines),
-        source: Band::new(alloc, source, source_rows, columns)?,
-        destination: Band::new(alloc, destination, destination_rows, columns)?,
-        processors,
-        waits,
-        top: 0,
-        forward: (0, 0),
-        back: (0, 0),
-        bottom: 0,
-    })
-}
-
 impl Plan {
-    /// The number of shapes of the picture, about.
-    fn shapes(&self, record: &Record) -> usize {
-        let bands = self
-            .source
-            .stretches
-            .len()
-            .saturating_add(self.destination.stretches.len())
-            .saturating_add(self.processors.stretches.len());
-        bands
-            .saturating_add(shapes_of(&record.forward.flights, self.columns))
-            .saturating_add(shapes_of(&record.urgent.flights, self.columns))
-            .saturating_add(shapes_of(&record.back.flights, self.columns))
+    /// The columns and the bands of a record, with `per` lines in a column and `together` pages in a row.
+    fn of(alloc: Global, record: &Record, per: u32, together: u32) -> Result<Plan, NoMemory> {
+        let lines = record.lines.len().clamp(1, u32::MAX as usize) as u32;
+        let columns = Columns { lines, per };
+        let stirs = stirs_of(alloc, &record.source, &record.dots, false)?;
+        let source = Band::new(alloc, &record.source.changes, &stirs, together, columns)?;
+        let stirs = stirs_of(alloc, &record.destination, &record.dots, true)?;
+        let changes = &record.destination.changes;
+        let destination = Band::new(alloc, changes, &stirs, together, columns)?;
+        let stirs = vec![in alloc; Stir::Touched; record.cpus as usize]?;
+        let processors = Band::new(alloc, &record.processors.changes, &stirs, 1, columns)?;
+        let waits = find_waits(alloc, &processors.stretches, record.cpus)?;
+        Ok(Plan {
+            columns,
+            width: width_of(lines),
+            source,
+            destination,
+            processors,
+            waits,
+            top: 0,
+            forward: (0, 0),
+            back: (0, 0),
+            bottom: 0,
+        })
     }
 
     /// The columns and the bands of a record: as few lines in a column and pages in a row as leave the picture small.
@@ -187,38 +169,43 @@ impl Plan {
         let lines = record.lines.len().min(u32::MAX as usize) as u32;
         let mut per = lines.div_ceil(MOST_COLUMNS).max(1);
         let mut together = 1u32;
-        let mut plan = bands_of(alloc, record, per, together)?;
+        let mut plan = Plan::of(alloc, record, per, together)?;
         for _ in 0..16 {
-            if plan.shapes(record) <= MOST_SHAPES {
+            let stretches = plan
+                .source
+                .stretches
+                .len()
+                .saturating_add(plan.destination.stretches.len())
+                .saturating_add(plan.processors.stretches.len());
+            if stretches.saturating_add(frame_shapes(record, plan.columns)) <= MOST_SHAPES {
                 break;
             }
             per = per.saturating_mul(2);
             together = together.saturating_mul(2);
-            plan = bands_of(alloc, record, per, together)?;
+            plan = Plan::of(alloc, record, per, together)?;
         }
         Ok(plan)
     }
 
     /// Places the bands below the marks.
-    pub(crate) fn place(&mut self, top: u64) -> Result<(), NoMemory> {
+    pub(crate) fn place(&mut self, top: u64) {
         self.top = top;
         self.processors.height = 270;
-        let y = self.processors.place(top.saturating_add(420), 0)?;
-        let y = self.source.place(y.saturating_add(280), 50)?;
+        let y = self.processors.place(top.saturating_add(420), 0);
+        let y = self.source.place(y.saturating_add(280), 50);
         let y = y.saturating_add(300);
         self.forward = (y, y.saturating_add(840));
         let y = y.saturating_add(1000);
         self.back = (y.saturating_add(400), y);
-        let y = self.destination.place(y.saturating_add(660), 50)?;
+        let y = self.destination.place(y.saturating_add(660), 50);
         self.bottom = y.saturating_add(60);
-        Ok(())
     }
 
     /// The middle of a column; the end of the columns for the one behind the last.
     pub(crate) fn x_of(&self, column: u32) -> u64 {
         let count = self.columns.count();
         if column >= count {
-            return LEFT.saturating_add(self.width);
+            return self.right();
         }
         let halves = u64::from(column).saturating_mul(2).saturating_add(1);
         let across = share(self.width, halves, u64::from(count).saturating_mul(2));
@@ -230,13 +217,34 @@ impl Plan {
         self.x_of(self.columns.of(line))
     }
 
-    /// Whether each line has a column that is wide enough for words.
-    pub(crate) fn is_small(&self) -> bool {
-        self.columns.lines <= crate::record::FEW
-    }
-
     /// Where the columns end.
     pub(crate) fn right(&self) -> u64 {
         LEFT.saturating_add(self.width)
+    }
+
+    /// Whether each line has a column that is wide enough for words.
+    pub(crate) fn is_small(&self) -> bool {
+        self.columns.lines <= FEW
+    }
+
+    /// The line of the file at which a column begins.
+    pub(crate) fn line_of(&self, record: &Record, column: u32) -> u32 {
+        let at = column.saturating_mul(self.columns.per) as usize;
+        match record.lines.get(at) {
+            Some(line) => *line,
+            None => record.lines.last().copied().unwrap_or(0),
+        }
+    }
+
+    /// The rectangle of a stretch in a row that begins and is high so.
+    pub(crate) fn frame_of(&self, stretch: &Stretch, top: u64, height: u64) -> Frame {
+        let look = stretch.state.look();
+        let x = self.x_of(stretch.from);
+        Frame {
+            x,
+            y: top.saturating_add(height.saturating_mul(look.top) / 16),
+            width: self.x_of(stretch.to).saturating_sub(x).max(4),
+            height: (height.saturating_mul(look.height) / 16).max(6),
+        }
     }
 }

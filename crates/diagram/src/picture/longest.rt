@@ -1,12 +1,12 @@
 //! The longest waits of processors: how long each was, and who had to act.
 
-use super::bands::line_of;
-use crate::pen::{At, Pen};
+use crate::pen::Pen;
 use crate::plan::Plan;
 use crate::record::Record;
+use crate::text::Part::{Number, Page, Sum, Words};
 use crate::waits::Wait;
 use mig_base::NoMemory;
-use std::alloc::{AllocError, Global};
+use std::alloc::Global;
 
 /// The most waits that are listed.
 const MOST: usize = 6;
@@ -23,22 +23,6 @@ pub(super) fn longest_of(alloc: Global, plan: &Plan) -> Result<Vec<Wait>, NoMemo
     Ok(all)
 }
 
-/// How long a wait was, and its parts.
-fn words_of(
-    alloc: Global,
-    plan: &Plan,
-    record: &Record,
-    wait: &Wait,
-) -> Result<String, AllocError> {
-    let cpu = wait.cpu;
-    let page = At(wait.page);
-    let first = line_of(plan, record, wait.from);
-    let last = line_of(plan, record, wait.to);
-    let steps = wait.columns().saturating_mul(plan.columns.per);
-    let parts = wait.parts.times(plan.columns.per);
-    format!(in alloc; "cpu {cpu}, {page}, lines {first} to {last}: {steps}{parts}")
-}
-
 /// The height of the list.
 pub(super) fn height(waits: &[Wait]) -> u64 {
     (waits.len() as u64).saturating_add(2).saturating_mul(LINE)
@@ -49,12 +33,24 @@ pub(super) fn longest(pen: &mut Pen, plan: &Plan, record: &Record, waits: &[Wait
     if waits.is_empty() {
         return;
     }
-    pen.words("n3", (100, top), "longest waits, in steps");
+    pen.word("n3", (100, top), "longest waits, in steps");
     let mut y = top;
     for wait in waits {
         y = y.saturating_add(LINE);
-        let text = words_of(pen.alloc, plan, record, wait);
-        let words = pen.made(text);
+        let per = plan.columns.per;
+        let words = [
+            Words("cpu "),
+            Number(wait.cpu),
+            Words(", "),
+            Page(wait.page),
+            Words(", lines "),
+            Number(plan.line_of(record, wait.from)),
+            Words(" to "),
+            Number(plan.line_of(record, wait.to)),
+            Words(": "),
+            Number(wait.columns().saturating_mul(per)),
+            Sum(&wait.parts, per),
+        ];
         pen.words("mo", (100, y), &words);
     }
 }

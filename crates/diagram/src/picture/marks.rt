@@ -1,10 +1,12 @@
 //! Marks: lines through all bands, with words above them.
 
-use crate::pen::{Frame, Pen, width_of};
+use crate::pen::{Frame, Pen};
 use crate::plan::Plan;
 use crate::record::{Event, Mark, Record};
+use crate::text::Part::{Number, Words};
+use crate::text::{NOTHING, Part, push_all, width_of};
 use mig_base::NoMemory;
-use std::alloc::{AllocError, Global};
+use std::alloc::Global;
 
 /// The most rows of words.
 const MOST_ROWS: u64 = 9;
@@ -16,11 +18,10 @@ const ROW: u64 = 120;
 const MOST_WORDS: usize = 120;
 
 /// A mark as it is drawn.
-#[derive(Drop)]
+#[derive(Clone, Copy)]
 pub(super) struct Label {
     x: u64,
-    words: String,
-    event: Event,
+    mark: Mark,
     /// Its row above the bands, if it has words.
     row: Option<u64>,
 }
@@ -43,41 +44,52 @@ fn rank_of(event: Event) -> u8 {
 }
 
 /// The words of a break: how many pages and how many requests it has lost.
-fn break_words(alloc: Global, pages: u32, requests: u32) -> Result<String, AllocError> {
-    let pages_word = if pages == 1 { "page" } else { "pages" };
-    let requests_word = if requests == 1 { "request" } else { "requests" };
+fn break_words(pages: u32, requests: u32) -> [Part<'static>; 6] {
+    let pages_word = Words(if pages == 1 { " page" } else { " pages" });
+    let requests_word = Words(if requests == 1 {
+        " request"
+    } else {
+        " requests"
+    });
+    let lost = Words("break: lost ");
+    let none = NOTHING;
+    let (page_count, request_count) = (Number(pages), Number(requests));
     match (pages, requests) {
-        (0, 0) => String::from_str(alloc, "break: no page lost"),
-        (_, 0) => format!(in alloc; "break: lost {pages} {pages_word}"),
-        (0, _) => format!(in alloc; "break: lost {requests} {requests_word}"),
-        _ => format!(in alloc; "break: lost {pages} {pages_word}, {requests} {requests_word}"),
-    }
-}
-
-/// The words of a mark without numbers.
-fn plain_words(event: Event) -> &'static str {
-    match event {
-        Event::Start => "start",
-        Event::End => "end sent",
-        Event::Complete => "complete",
-        Event::Package => "package: the destination runs",
-        Event::SourceNotice => "source pauses",
-        Event::DestinationNotice => "destination pauses",
-        _ => "",
+        (0, 0) => [Words("break: no page lost"), none, none, none, none, none],
+        (_, 0) => [lost, page_count, pages_word, none, none, none],
+        (0, _) => [lost, request_count, requests_word, none, none, none],
+        _ => [
+            lost,
+            page_count,
+            pages_word,
+            Words(", "),
+            request_count,
+            requests_word,
+        ],
     }
 }
 
 /// The words of a mark.
-fn words_of(alloc: Global, mark: &Mark) -> Result<String, AllocError> {
-    let first = mark.first;
-    let second = mark.second;
-    match mark.event {
-        Event::Round => format!(in alloc; "round {first}: {second}"),
-        Event::Switch => format!(in alloc; "switch: {first} owed"),
-        Event::Break => break_words(alloc, first, second),
-        Event::Resume => format!(in alloc; "resume, epoch {first}"),
-        event => String::from_str(alloc, plain_words(event)),
-    }
+fn words_of(mark: &Mark) -> [Part<'static>; 6] {
+    let (first, second) = (Number(mark.first), Number(mark.second));
+    let [one, two, three, four] = match mark.event {
+        Event::Break => return break_words(mark.first, mark.second),
+        Event::Round => [Words("round "), first, Words(": "), second],
+        Event::Switch => [Words("switch: "), first, Words(" owed"), NOTHING],
+        Event::Resume => [Words("resume, epoch "), first, NOTHING, NOTHING],
+        event => {
+            let words = match event {
+                Event::Start => "start",
+                Event::End => "end sent",
+                Event::Complete => "complete",
+                Event::Package => "package: the destination runs",
+                Event::SourceNotice => "source pauses",
+                _ => "destination pauses",
+            };
+            [Words(words), NOTHING, NOTHING, NOTHING]
+        }
+    };
+    [one, two, three, four, NOTHING, NOTHING]
 }
 
 /// The row of words that begin at a place and are so wide: one above each of those on the right that begin under them.
@@ -97,23 +109,20 @@ fn row_above(labels: &[Label], x: u64, width: u64) -> u64 {
 /// The marks of at least a rank with their rows, and the others without words.
 fn staircase(alloc: Global, plan: &Plan, record: &Record, least: u8) -> Result<Labels, NoMemory> {
     let mut labels = Vec::new(alloc);
+    let mut words = String::new(alloc);
     let mut rows = 0u64;
     for mark in record.marks.iter().rev() {
         let x = plan.x_at(mark.line);
-        let words = words_of(alloc, mark)?;
-        let row = if rank_of(mark.event) < least {
-            None
-        } else {
-            let row = row_above(&labels, x, width_of(&words, 100).saturating_add(60));
-            rows = rows.max(row.saturating_add(1));
-            Some(row)
-        };
-        labels.push(Label {
-            x,
-            words,
-            event: mark.event,
-            row,
-        })?;
+        let mut row = None;
+        if rank_of(mark.event) >= least {
+            words.clear();
+            push_all(&mut words, &words_of(mark))?;
+            let above = row_above(&labels, x, width_of(words.len(), 100).saturating_add(60));
+            rows = rows.max(above.saturating_add(1));
+            row = Some(above);
+        }
+        let mark = *mark;
+        labels.push(Label { x, mark, row })?;
     }
     Ok(Labels {
         labels,
@@ -123,13 +132,12 @@ fn staircase(alloc: Global, plan: &Plan, record: &Record, least: u8) -> Result<L
 
 /// The marks as they are drawn: words that would need too many rows are left out, those that matter least first.
 pub(super) fn find_labels(alloc: Global, plan: &Plan, record: &Record) -> Result<Labels, NoMemory> {
-    if record.marks.len() > MOST_WORDS {
-        return staircase(alloc, plan, record, 5);
-    }
-    for least in 1..5 {
-        let labels = staircase(alloc, plan, record, least)?;
-        if labels.height <= MOST_ROWS * ROW {
-            return Ok(labels);
+    if record.marks.len() <= MOST_WORDS {
+        for least in 1..5 {
+            let labels = staircase(alloc, plan, record, least)?;
+            if labels.height <= MOST_ROWS * ROW {
+                return Ok(labels);
+            }
         }
     }
     staircase(alloc, plan, record, 5)
@@ -145,26 +153,21 @@ fn classes_of(event: Event) -> (&'static str, &'static str) {
     }
 }
 
-/// Draws a mark, with its words if they have a row.
-fn mark(pen: &mut Pen, plan: &Plan, label: &Label) {
-    let (line, words) = classes_of(label.event);
-    let foot = (label.x, plan.bottom);
-    let title = String::from_str(pen.alloc, &label.words);
-    pen.name(title);
-    let Some(row) = label.row else {
-        return pen.line(line, (label.x, plan.top), foot);
-    };
-    let y = plan.top.saturating_sub(row.saturating_mul(ROW));
-    pen.line(line, (label.x, y.saturating_sub(90)), foot);
-    pen.words(words, (label.x.saturating_add(30), y), &label.words);
-}
-
-/// Draws the marks. Of those without words at one place, the last is drawn.
+/// Draws the marks, each with its words if they have a row. Of those without words at one place, the last is drawn.
 pub(super) fn marks(pen: &mut Pen, plan: &Plan, labels: &Labels) {
     let mut before = u64::MAX;
     for label in &labels.labels {
-        if label.row.is_some() || label.x != before {
-            mark(pen, plan, label);
+        let (line, class) = classes_of(label.mark.event);
+        let words = words_of(&label.mark);
+        let foot = (label.x, plan.bottom);
+        if let Some(row) = label.row {
+            let y = plan.top.saturating_sub(row.saturating_mul(ROW));
+            pen.name(&words);
+            pen.line(line, (label.x, y.saturating_sub(90)), foot);
+            pen.words(class, (label.x.saturating_add(30), y), &words);
+        } else if label.x != before {
+            pen.name(&words);
+            pen.line(line, (label.x, plan.top), foot);
         }
         before = label.x;
     }
@@ -208,28 +211,20 @@ pub(super) fn grounds(pen: &mut Pen, plan: &Plan, record: &Record) {
     }
 }
 
-/// The words of a part of the migration for which there is room: its name and its steps, its steps alone, or none.
-fn phase_words(pen: &mut Pen, word: &str, steps: u32, room: u64) -> String {
-    let text = format!(in pen.alloc; "{word}: {steps} steps");
-    let mut words = pen.made(text);
-    if width_of(&words, 95).saturating_add(100) > room {
-        let text = format!(in pen.alloc; "{steps}");
-        words = pen.made(text);
-    }
-    if width_of(&words, 95).saturating_add(100) > room {
-        words.clear();
-    }
-    words
-}
-
-/// Writes how long a part of the migration took, where there is room.
+/// Writes how long a part of the migration took, where there is room: its name and its steps, its steps alone, or nothing.
 fn phase(pen: &mut Pen, plan: &Plan, word: &str, lines: (u32, u32)) {
-    let steps = lines.1.saturating_sub(lines.0);
+    let steps = Number(lines.1.saturating_sub(lines.0));
     let left = plan.x_at(lines.0);
     let right = plan.x_at(lines.1);
     let room = right.saturating_sub(left);
-    let words = phase_words(pen, word, steps, room);
-    let half = width_of(&words, 110) / 2;
+    let mut words = [Words(word), Words(": "), steps, Words(" steps")];
+    if pen.width(&words, 95).saturating_add(100) > room {
+        words = [steps, NOTHING, NOTHING, NOTHING];
+    }
+    if pen.width(&words, 95).saturating_add(100) > room {
+        words = [NOTHING; 4];
+    }
+    let half = pen.width(&words, 110) / 2;
     let middle = left.saturating_add(room / 2);
     let y = plan.top.saturating_add(150);
     pen.line("g3", (left, y), (middle.saturating_sub(half), y));

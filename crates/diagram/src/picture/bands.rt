@@ -1,0 +1,296 @@
+//! The bands of processors and of pages.
+
+use crate::band::Stretch;
+use crate::pen::{Frame, Pen};
+use crate::plan::{Band, LEFT, Plan};
+use crate::record::{Dot, Event, Move, Record};
+use crate::state::State;
+use crate::text::Part::{More, Number, Page, Words};
+use crate::text::{NOTHING, Part, width_of};
+use crate::waits::{Total, Wait};
+
+/// The most dots and the most crosses that are drawn.
+const MOST_DOTS: usize = 3000;
+
+/// The height of a processor's bar, and where its line stands in its lane.
+const BAR: u64 = 110;
+
+const AXLE: u64 = 200;
+
+/// Draws a stretch in a row that begins and is high so, and names whose it is and what it shows. Returns its rectangle.
+fn cell<'a>(
+    pen: &mut Pen,
+    plan: &Plan,
+    record: &Record,
+    stretch: &Stretch,
+    extent: (u64, u64),
+    whose: [Part<'a>; 4],
+    words: &'a str,
+) -> Frame {
+    let frame = plan.frame_of(stretch, extent.0, extent.1);
+    let [one, two, three, four] = whose;
+    pen.name(&[
+        one,
+        two,
+        three,
+        four,
+        Words(": "),
+        Words(words),
+        Words(", lines "),
+        Number(plan.line_of(record, stretch.from)),
+        Words(" to "),
+        Number(plan.line_of(record, stretch.to)),
+    ]);
+    pen.rectangle(stretch.state.look().class, frame);
+    frame
+}
+
+/// The class of the words in a part of a wait.
+fn word_class(state: State) -> &'static str {
+    match state {
+        State::Woken | State::OnWire | State::Request => "bl ha",
+        State::Install | State::InCall => "bl",
+        _ => "wh",
+    }
+}
+
+/// Draws a part of a wait.
+fn bar(pen: &mut Pen, plan: &Plan, record: &Record, stretch: &Stretch) {
+    let top = plan.processors.top_of(stretch.row);
+    let extent = (top.saturating_add(AXLE - BAR / 2), BAR);
+    let whose = [
+        Words("cpu "),
+        Number(stretch.row),
+        Words(", page "),
+        Page(stretch.about),
+    ];
+    let word = stretch.state.look().part;
+    let frame = cell(pen, plan, record, stretch, extent, whose, word);
+    if width_of(word.len(), 80).saturating_add(20) <= frame.width {
+        let x = frame.x.saturating_add(frame.width / 2);
+        let y = top.saturating_add(AXLE + 28);
+        pen.word(word_class(stretch.state), (x, y), word);
+    }
+}
+
+/// Whether words above a wait that end here would stand on a longer wait of the processor, among the next ones.
+fn hides(plan: &Plan, wait: &Wait, later: &[Wait], end: u64) -> bool {
+    for next in later.iter().take(8) {
+        let longer = next.cpu == wait.cpu && next.columns() > wait.columns();
+        if longer && plan.x_of(next.from) < end {
+            return true;
+        }
+    }
+    false
+}
+
+/// Writes for which page and for how many steps a processor waits, above the wait, unless that is taken or a longer one needs it.
+/// Returns where the words end.
+fn wait_label(pen: &mut Pen, plan: &Plan, wait: &Wait, later: &[Wait], free: u64) -> u64 {
+    let steps = wait.columns().saturating_mul(plan.columns.per);
+    let words = [Page(wait.page), Words(": "), Number(steps)];
+    let x = plan.x_of(wait.from);
+    let end = x.saturating_add(pen.width(&words, 90)).saturating_add(40);
+    let outside = end > plan.right().saturating_add(300);
+    if x < free || outside || hides(plan, wait, later, end) {
+        return free;
+    }
+    let top = plan.processors.top_of(wait.cpu);
+    pen.words("mo ha", (x, top.saturating_add(AXLE - 75)), &words);
+    end
+}
+
+/// Writes for which pages and how long the processors wait, where there is room.
+fn wait_labels(pen: &mut Pen, plan: &Plan) {
+    let mut free = 0u64;
+    let mut cpu = 0u32;
+    let mut at = 0usize;
+    for wait in &plan.waits {
+        at = at.saturating_add(1);
+        let later = plan.waits.get(at..).unwrap_or(&[]);
+        if wait.cpu != cpu {
+            free = 0;
+        }
+        cpu = wait.cpu;
+        free = wait_label(pen, plan, wait, later, free);
+    }
+}
+
+/// Draws the lane of a processor, and writes how often and how long it waited, and for whom most.
+fn lane(pen: &mut Pen, plan: &Plan, cpu: u32) {
+    let top = plan.processors.top_of(cpu);
+    let axle = top.saturating_add(AXLE);
+    pen.line("g2", (LEFT, axle), (plan.right(), axle));
+    let place = (LEFT - 60, axle.saturating_add(30));
+    pen.words("mo en", place, &[Words("cpu "), Number(cpu)]);
+    let total = Total::of(&plan.waits, cpu, cpu);
+    let x = plan.right().saturating_add(100);
+    let y = top.saturating_add(AXLE - 10);
+    if total.waits == 0 {
+        return pen.word("sm", (x, y), "never waited");
+    }
+    let per = plan.columns.per;
+    let (state, most) = total.most();
+    let sum = [
+        Number(total.waits),
+        Words(if total.waits == 1 {
+            " wait, "
+        } else {
+            " waits, "
+        }),
+        Number(total.columns.saturating_mul(per)),
+        Words(" steps"),
+    ];
+    pen.words("", (x, y), &sum);
+    let most = [
+        Words("most: "),
+        Words(state.look().part),
+        Words(" "),
+        Number(most.saturating_mul(per)),
+    ];
+    pen.words("sm", (x, y.saturating_add(105)), &most);
+}
+
+/// Draws the band of the processors.
+pub(super) fn processors(pen: &mut Pen, plan: &Plan, record: &Record) {
+    let top = plan.processors.top.saturating_sub(20);
+    pen.word("n3", (100, top), "processors");
+    for cpu in 0..record.cpus {
+        lane(pen, plan, cpu);
+    }
+    for stretch in &plan.processors.stretches {
+        bar(pen, plan, record, stretch);
+    }
+    wait_labels(pen, plan);
+}
+
+/// Draws what the pages of a node are, and writes the names of the rows where there is room.
+fn pages(pen: &mut Pen, plan: &Plan, record: &Record, band: &Band) {
+    for stretch in &band.stretches {
+        if let Some(row) = band.rows.rows.get(stretch.row as usize) {
+            let whose = [Page(row.first), More(row.pages), NOTHING, NOTHING];
+            let words = stretch.state.look().words;
+            let extent = (row.top, band.height);
+            cell(pen, plan, record, stretch, extent, whose, words);
+        }
+    }
+    let mut free = 0u64;
+    for row in &band.rows.rows {
+        let y = row.top.saturating_add(band.height / 2).saturating_add(30);
+        if y >= free {
+            let name = [Page(row.first), More(row.pages)];
+            pen.words("mo en", (LEFT - 60, y), &name);
+            free = y.saturating_add(98);
+        }
+    }
+}
+
+/// Draws where a load or a store went to sleep.
+fn dot(pen: &mut Pen, plan: &Plan, band: &Band, dot: &Dot) {
+    let Some(y) = band.middle_of(dot.page) else {
+        return;
+    };
+    let x = plan.x_at(dot.line);
+    let cpu = Number(u32::from(dot.cpu));
+    pen.name(&[Words("cpu "), cpu, Words(" sleeps")]);
+    if band.height < 90 {
+        return pen.disk("dd", (x, y), (band.height / 2).min(24));
+    }
+    pen.disk("do", (x, y), 50);
+    pen.words("bl", (x, y.saturating_add(30)), &[cpu]);
+}
+
+/// Draws where a mapping moves to.
+fn moved(pen: &mut Pen, plan: &Plan, band: &Band, one: &Move) {
+    let (Some(from), Some(to)) = (band.middle_of(one.from), band.middle_of(one.to)) else {
+        return;
+    };
+    let x = plan.x_at(one.line);
+    pen.arrow("g5", (x, from), (x, to));
+    let y = from.saturating_add(to) / 2;
+    pen.word("sm ha", (x.saturating_add(40), y), "moved");
+}
+
+/// Draws the sleeps and the moves of mappings in a band.
+fn signs(pen: &mut Pen, plan: &Plan, record: &Record, band: &Band, at_destination: bool) {
+    for sleep in record.dots.iter().take(MOST_DOTS) {
+        if sleep.at_destination == at_destination {
+            dot(pen, plan, band, sleep);
+        }
+    }
+    for one in record.moves.iter().take(MOST_DOTS) {
+        if one.at_destination == at_destination {
+            moved(pen, plan, band, one);
+        }
+    }
+}
+
+/// The line from which the destination runs, if the bars of installed pages are to be counted from there.
+pub(super) fn run_of(plan: &Plan, record: &Record) -> Option<u32> {
+    if !plan.is_small() || plan.destination.height < 110 {
+        return None;
+    }
+    for mark in &record.marks {
+        if mark.event == Event::Package {
+            return Some(mark.line);
+        }
+    }
+    None
+}
+
+/// Writes how many steps after the run each page was installed, in a picture with words and where there is room.
+fn ages(pen: &mut Pen, plan: &Plan, record: &Record) {
+    let Some(run) = run_of(plan, record) else {
+        return;
+    };
+    let band = &plan.destination;
+    for stretch in &band.stretches {
+        if stretch.state == State::Installed {
+            let words = [Words("+"), Number(stretch.from.saturating_sub(run))];
+            let x = plan.x_of(stretch.from).saturating_add(30);
+            if x.saturating_add(pen.width(&words, 80)) <= plan.x_of(stretch.to) {
+                let middle = band.top_of(stretch.row).saturating_add(band.height / 2);
+                pen.words("wl", (x, middle.saturating_add(22)), &words);
+            }
+        }
+    }
+}
+
+/// Draws the copies that the destination dropped.
+fn drops(pen: &mut Pen, plan: &Plan, record: &Record) {
+    let band = &plan.destination;
+    let reach = (band.height / 2).min(35);
+    for drop in record.drops.iter().take(MOST_DOTS) {
+        if let Some(y) = band.middle_of(drop.1) {
+            pen.cross("lx", (plan.x_at(drop.0), y), reach);
+        }
+    }
+}
+
+/// Writes the name of a band of pages.
+fn title(pen: &mut Pen, band: &Band, name: &str) {
+    let place = (100, band.top.saturating_sub(50));
+    let together = band.rows.together;
+    if together > 1 {
+        let words = [
+            Words(name),
+            Words(", "),
+            Number(together),
+            Words(" in a row"),
+        ];
+        return pen.words("n3", place, &words);
+    }
+    pen.word("n3", place, name);
+}
+
+/// Draws the bands of the pages of both nodes.
+pub(super) fn nodes(pen: &mut Pen, plan: &Plan, record: &Record) {
+    title(pen, &plan.source, "source pages");
+    pages(pen, plan, record, &plan.source);
+    signs(pen, plan, record, &plan.source, false);
+    title(pen, &plan.destination, "destination pages");
+    pages(pen, plan, record, &plan.destination);
+    ages(pen, plan, record);
+    signs(pen, plan, record, &plan.destination, true);
+    drops(pen, plan, record);
+}

@@ -1,0 +1,87 @@
+//! The name of a picture, and what it says in sentences.
+
+use crate::pen::Pen;
+use crate::plan::Plan;
+use crate::record::{Event, Record};
+use crate::text::NOTHING;
+use crate::text::Part::{Number, Sum, Words};
+use crate::waits::Total;
+
+/// The line at which the migration is complete, if it is, and how many steps nobody ran the processors.
+fn outcome_of(plan: &Plan, record: &Record) -> (Option<u32>, u32) {
+    let mut complete = None;
+    let mut switched = None;
+    let mut nobody = 0u32;
+    for mark in &record.marks {
+        match (mark.event, switched) {
+            (Event::Switch, None) => switched = Some(mark.line),
+            (Event::Package, Some(line)) if nobody == 0 => {
+                nobody = mark.line.saturating_sub(line);
+            }
+            (Event::Complete, _) if complete.is_none() => {
+                complete = Some(plan.line_of(record, plan.columns.of(mark.line)));
+            }
+            _ => {}
+        }
+    }
+    (complete, nobody)
+}
+
+/// Writes how the run ends, and how long nobody ran the processors.
+fn outcome(pen: &mut Pen, plan: &Plan, record: &Record) {
+    let (complete, nobody) = outcome_of(plan, record);
+    let [one, two, three] = match complete {
+        Some(line) => [Words("Complete at line "), Number(line), Words(".")],
+        None if record.marks.is_empty() => [Words("No migration."), NOTHING, NOTHING],
+        None => [
+            Words("Not complete after "),
+            Number(plan.columns.lines),
+            Words(" steps."),
+        ],
+    };
+    if nobody == 0 {
+        return pen.words("n2", (100, 350), &[one, two, three]);
+    }
+    let words = [
+        one,
+        two,
+        three,
+        Words(" Nobody ran the processors for "),
+        Number(nobody),
+        Words(" steps."),
+    ];
+    pen.words("n2", (100, 350), &words);
+}
+
+/// Writes how often and how long processors waited, and for whom.
+fn waits(pen: &mut Pen, plan: &Plan) {
+    let total = Total::of(&plan.waits, 0, u32::MAX);
+    let per = plan.columns.per;
+    let noun = if total.waits == 1 { " wait" } else { " waits" };
+    let words = [
+        Number(total.waits),
+        Words(noun),
+        Words(" of processors, "),
+        Number(total.columns.saturating_mul(per)),
+        Words(" steps in all"),
+        Sum(&total.parts, per),
+        Words("."),
+    ];
+    pen.words("n2", (100, 485), &words);
+}
+
+/// Writes the name of the picture, and what it says in sentences: also what is merged, if anything is.
+pub(super) fn head(pen: &mut Pen, plan: &Plan, record: &Record, name: &str) {
+    pen.word("n1", (100, 200), name);
+    outcome(pen, plan, record);
+    waits(pen, plan);
+    let per = plan.columns.per;
+    if per > 1 {
+        let words = [
+            Words("Each column is "),
+            Number(per),
+            Words(" steps. Where they differ, the state that matters most is shown."),
+        ];
+        pen.words("n2", (100, 620), &words);
+    }
+}

@@ -1,0 +1,92 @@
+//! Texts in parts.
+
+use crate::state::{Counts, State};
+use mig_base::refusal::Refusal;
+use std::alloc::AllocError;
+
+/// A place: how far to the right, and how far down, in tenths of a pixel.
+pub(crate) type Place = (u64, u64);
+
+/// A part of a text.
+#[derive(Clone, Copy)]
+pub(crate) enum Part<'a> {
+    Words(&'a str),
+    Number(u32),
+    /// A page, as its address.
+    Page(u32),
+    /// The number of pages that follow the first, if any do: this number includes the first.
+    More(u32),
+    /// A length in tenths of a pixel.
+    Length(u64),
+    /// A place, as its two lengths.
+    At(Place),
+    /// Why a line was refused.
+    Refused(Refusal),
+    /// The columns of a wait by state, and the steps of a column.
+    Sum(&'a Counts, u32),
+}
+
+/// No part of a text.
+pub(crate) const NOTHING: Part<'static> = Part::Words("");
+
+/// Adds a length.
+fn push_length(text: &mut String, length: u64) -> Result<(), AllocError> {
+    let whole = length / 10;
+    let tenth = length % 10;
+    if tenth == 0 {
+        return write!(text, "{whole}");
+    }
+    write!(text, "{whole}.{tenth}")
+}
+
+/// Adds the steps of each state, as a sum behind what they sum to.
+fn push_sum(text: &mut String, counts: &Counts, per: u32) -> Result<(), AllocError> {
+    let mut sign = "=";
+    for state in State::WAITS {
+        let steps = counts.of(state).saturating_mul(per);
+        if steps > 0 {
+            let word = state.look().part;
+            write!(text, " {sign} {word} {steps}")?;
+            sign = "+";
+        }
+    }
+    Ok(())
+}
+
+/// Adds a part to a text.
+fn push(text: &mut String, part: Part) -> Result<(), AllocError> {
+    match part {
+        Part::Words(words) => text.push_str(words),
+        Part::Number(number) => write!(text, "{number}"),
+        Part::Page(page) => {
+            let addr = u64::from(page) * 4096;
+            write!(text, "0x{addr:x}")
+        }
+        Part::More(pages) if pages > 1 => {
+            let more = pages - 1;
+            write!(text, " +{more}")
+        }
+        Part::More(_) => Ok(()),
+        Part::Length(length) => push_length(text, length),
+        Part::At(place) => {
+            push_length(text, place.0)?;
+            text.push(' ')?;
+            push_length(text, place.1)
+        }
+        Part::Refused(refusal) => write!(text, "{refusal}"),
+        Part::Sum(counts, per) => push_sum(text, counts, per),
+    }
+}
+
+/// Adds parts to a text.
+pub(crate) fn push_all(text: &mut String, parts: &[Part]) -> Result<(), AllocError> {
+    for part in parts {
+        push(text, *part)?;
+    }
+    Ok(())
+}
+
+/// How wide a text of `len` bytes is, at a size in tenths of a pixel: an estimate for wide fonts.
+pub(crate) fn width_of(len: usize, size: u64) -> u64 {
+    (len as u64).saturating_mul(size).saturating_mul(3) / 5
+}

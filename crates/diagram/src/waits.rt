@@ -1,0 +1,107 @@
+//! How long processors waited, and for whom.
+
+use crate::band::Stretch;
+use crate::state::{Counts, State};
+use mig_base::NoMemory;
+use std::alloc::Global;
+
+/// A wait of a processor for one page.
+#[derive(Clone, Copy)]
+pub(crate) struct Wait {
+    pub cpu: u32,
+    pub page: u32,
+    /// The first column, and the one behind the last.
+    pub from: u32,
+    pub to: u32,
+    /// The columns of each state.
+    pub parts: Counts,
+}
+
+impl Wait {
+    /// The number of its columns.
+    pub(crate) fn columns(&self) -> u32 {
+        self.to.saturating_sub(self.from)
+    }
+}
+
+/// Adds a stretch to the last wait if that goes on with it, or a wait that begins with it.
+fn add(waits: &mut Vec<Wait>, stretch: &Stretch) -> Result<(), NoMemory> {
+    let columns = stretch.to.saturating_sub(stretch.from);
+    if let Some(last) = waits.last_mut()
+        && last.cpu == stretch.row
+        && last.page == stretch.about
+        && last.to == stretch.from
+    {
+        last.to = stretch.to;
+        last.parts.add(stretch.state, columns);
+        return Ok(());
+    }
+    let mut parts = Counts::NONE;
+    parts.add(stretch.state, columns);
+    waits.push(Wait {
+        cpu: stretch.row,
+        page: stretch.about,
+        from: stretch.from,
+        to: stretch.to,
+        parts,
+    })?;
+    Ok(())
+}
+
+/// The waits of all processors: those of the first in turn, then those of the second.
+pub(crate) fn find_waits(
+    alloc: Global,
+    stretches: &[Stretch],
+    cpus: u32,
+) -> Result<Vec<Wait>, NoMemory> {
+    let mut waits = Vec::new(alloc);
+    for cpu in 0..cpus {
+        for stretch in stretches {
+            if stretch.row == cpu && stretch.state != State::InCall {
+                add(&mut waits, stretch)?;
+            }
+        }
+    }
+    Ok(waits)
+}
+
+/// Waits together.
+#[derive(Clone, Copy)]
+pub(crate) struct Total {
+    pub waits: u32,
+    pub columns: u32,
+    pub parts: Counts,
+}
+
+impl Total {
+    /// The waits of some processors, from one to another.
+    pub(crate) fn of(waits: &[Wait], first: u32, last: u32) -> Total {
+        let mut total = Total {
+            waits: 0,
+            columns: 0,
+            parts: Counts::NONE,
+        };
+        for wait in waits {
+            if first <= wait.cpu && wait.cpu <= last {
+                total.waits = total.waits.saturating_add(1);
+                total.columns = total.columns.saturating_add(wait.columns());
+                for state in State::WAITS {
+                    total.parts.add(state, wait.parts.of(state));
+                }
+            }
+        }
+        total
+    }
+
+    /// The state with the most columns, and how many it has.
+    pub(crate) fn most(&self) -> (State, u32) {
+        let mut most = (State::Blank, 0);
+        for state in State::WAITS {
+            let columns = self.parts.of(state);
+            if columns > most.1 {
+                most = (state, columns);
+            }
+        }
+        most
+    }
+}
