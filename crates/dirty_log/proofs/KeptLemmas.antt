@@ -2,6 +2,7 @@
 use Rattle.std.proofs.Common.{◌≡◌, ℕ, ◌+◌, ◌<◌, ◌≤◌, ◌⊎◌, inl, inr, Bool, true, false, cond, not, eqb, ltb, lt-ltb, Some, None, List, [], ◌∷◌, ◌++◌, refl, sym, ap, ◌∙◌, ⊎_elim, arith}
 use Rattle.std.specs.FinSet.{contains, remove}
 use Rattle.std.proofs.lemmas.Bool.{and_parts, or_parts, or_right, or_cases, or_left, not-true}
+use Rattle.std.proofs.lemmas.Option.{same_Some}
 use Rattle.mig_base.specs.Commands.{is_access}
 use Rattle.mig_base.specs.declared.TheConstants.{HIGH_PAGE}
 use Rattle.mig_base.specs.declared.command.Access.{Access}
@@ -61,12 +62,9 @@ sent_kept log space first count sound told kept page h u =
 
 -- Messages
 
-same_noted : (first noted : Noted) → Some first ≡ Some noted → first ≡ noted
-same_noted first noted h = cc
-
 rest_unread : (events : List Noted) (noted : Noted) (page : ℕ) → first_noted events ≡ Some noted → is_changed_by noted.message page ≡ false → is_unread (rest_noted events) page ≡ false → is_unread events page ≡ false
 rest_unread [] noted page first out u = refl
-rest_unread (event ∷ rest) noted page first out u = rw (ap (λ n. is_changed_by n.message page) (same_noted event noted first) ∙ out) u
+rest_unread (event ∷ rest) noted page first out u = rw (ap (λ n. is_changed_by n.message page) (same_Some event noted first) ∙ out) u
 
 pub was_unread : (faults : List Noted) (object : Object) (noted : Noted) (page : ℕ) → next_of faults object.events ≡ Some noted → is_changed_by noted.message page ≡ false → is_unread (read_by faults object).events page ≡ false → is_unread object.events page ≡ false
 was_unread [] object noted page next out u = rest_unread object.events noted page next out u
