@@ -14,17 +14,13 @@ use Rattle.mig_model.specs.Guest.{in_bytes}
 pub member_kept : (s : FinSet nat_cmp) (test : ℕ → Bool) (q : ℕ) → contains (retain s (λ n. not (test n))) q ≡ (contains s q && not (test q))
 member_kept s test q = contains-retain s (λ n. not (test n)) q (λ x e. ap (λ k. not (test k)) (sym (nat_cmp-IsAntisymmetric q x e)))
 
--- pages taken out run by run
+-- the pages of a set taken out run by run
 
-pub none_taken : (q : ℕ) (was other : Bool) → was ≡ (was && not (ltb q 0 && other))
-none_taken q was other = grind (arith, ranges)
+pub none_out_yet : (was none : Bool) → none ≡ false → was ≡ (was && not none)
+none_out_yet was none h = grind arith
 
-pub more_taken : (q at end next : ℕ) (was other : Bool) → at ≤ end → end ≤ next → (at ≤ q → q < end → other ≡ true) → (end ≤ q → q < next → other ≡ false) →
-    ((was && not (ltb q at && other)) && not (in_range at (end - at) q)) ≡ (was && not (ltb q next && other))
-more_taken q at end next was other l m h k = grind (arith, ranges)
-
-pub all_taken : (q at : ℕ) (was other : Bool) → HIGH_PAGE ≤ at → (HIGH_PAGE ≤ q → was ≡ false) → (was && not (ltb q at && other)) ≡ (was && not other)
-all_taken q at was other l h = grind (arith, ranges)
+pub more_out : (was before run after : Bool) → after ≡ (before || run) → ((was && not before) && not run) ≡ (was && not after)
+more_out was before run after h = grind arith
 
 -- the pages of a range of bytes
 

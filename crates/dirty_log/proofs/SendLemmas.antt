@@ -33,7 +33,7 @@ use Rattle.dirty_log.specs.Answers.{send_refusal}
 use Rattle.dirty_log.specs.Sending.{frame_sent}
 use Rattle.dirty_log.specs.Spaces.{is_sendable}
 use Rattle.dirty_log.specs.declared.sent.Sent.{Sent}
-use Rattle.mig_model.proofs.SetSizes.{only_where}
+use Rattle.mig_base.proofs.SetSizes.{only_where}
 
 -- A call that is not refused
 

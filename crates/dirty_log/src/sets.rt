@@ -1,22 +1,18 @@
 //! Removing pages from a set.
 
-ghost use Rattle.std.specs.Prelude.{◌≡◌, ◌+◌, ◌/◌, not};
+ghost use Rattle.std.specs.Prelude.{◌≡◌, ◌+◌, not};
 ghost use Rattle.std.specs.FinSet as set;
 ghost use Rattle.mig_model.specs.Guest.{in_bytes};
 ghost use Rattle.mig_model.specs.Log.{less, unchanged};
 
-use mig_base::{Addr, HIGH_PAGE, Message, PAGE_SIZE, PageSet};
+use mig_base::{Addr, HIGH_PAGE, Message, PAGE_SIZE, PageSet, end_page};
 
 /// Removes the pages of another set, run by run.
 pub fn subtract(pages: &mut PageSet, other: &PageSet)
     ensures { pages.new ≡ less pages.old other.now }
 {
-    pages.ends_by_high_page();
-    let mut at = other.next(0, true);
-    while at < HIGH_PAGE {
-        let end = other.next(at, false);
-        pages.remove_range(at, end - at);
-        at = other.next(end, true);
+    for run in other.runs() {
+        pages.remove_range(run.first, run.count);
     }
 }
 
@@ -45,11 +41,4 @@ fn remove_span(pages: &mut PageSet, start: Addr, len: u64)
     let first = (start / PAGE_SIZE).min(high);
     let end = end_page(start, len).min(high);
     pages.remove_range(first as u32, (end - first) as u32);
-}
-
-/// The page of `start + len`, also if that lies past the greatest address.
-fn end_page(start: Addr, len: u64) -> u64
-    ensures { result ≡ (start + len) / 4096 }
-{
-    start / PAGE_SIZE + len / PAGE_SIZE + (start % PAGE_SIZE + len % PAGE_SIZE) / PAGE_SIZE
 }

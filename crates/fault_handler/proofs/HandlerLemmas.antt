@@ -163,26 +163,16 @@ rest_is : (held : List Fault) → drop 1 held ≡ rest_held held
 rest_is [] = refl
 rest_is (fault ∷ rest) = refl
 
--- those that sleep on a page
-one_page : (page q : ℕ) → in_bytes (4096 * page) (4096 * page + 4096) q ≡ eqb q page
-one_page page q =
-    let first : 4096 * page / 4096 ≡ page = omega arith in
-    let count : (4096 * page + 4096) / 4096 - 4096 * page / 4096 ≡ 1 = omega arith in
-    ap (λ f. in_range f ((4096 * page + 4096) / 4096 - 4096 * page / 4096) q) first ∙ ap (λ n. in_range page n q) count ∙ only_one page q
-
-woken_page : (page addr : ℕ) (cpus : Cpus) → addr ≡ 4096 * page → all_woken (in_bytes addr (addr + 4096)) cpus ≡ all_woken (λ q. eqb q page) cpus
-woken_page page addr cpus is = ap (λ a. all_woken (in_bytes a (a + 4096)) cpus) is ∙ (λ i. all_woken (λ q. one_page page q i) cpus)
-
 -- the page has become zeros
-pub zeroed_is : (node was : Destination) (space : Space) (cpus : Cpus) (held : List Fault) (addr page : ℕ) → was ≡ record node { guest = record node.guest { space = space } } → addr ≡ 4096 * page → space ≡ zero_installed node.guest.space page →
-    cpus ≡ all_woken (in_bytes addr (addr + 4096)) was.guest.cpus → held ≡ drop 1 was.held → record was { guest = record { space = was.guest.space; cpus = cpus }; held = held } ≡ destination_acted_by machine.Act.Zeroed node page
-zeroed_is node was space cpus held addr page same at is woken rest = rw (woken, rest, same, is, rest_is, woken_page page addr node.guest.cpus at) refl
+pub zeroed_is : (node was : Destination) (space : Space) (cpus : Cpus) (held : List Fault) (number page : ℕ) → was ≡ record node { guest = record node.guest { space = space } } → number ≡ page → space ≡ zero_installed node.guest.space page →
+    cpus ≡ all_woken (λ q. eqb q number) was.guest.cpus → held ≡ drop 1 was.held → record was { guest = record { space = was.guest.space; cpus = cpus }; held = held } ≡ destination_acted_by machine.Act.Zeroed node page
+zeroed_is node was space cpus held number page same at is woken rest = rw (woken, rest, same, is, rest_is, at) refl
 
 -- its sleepers are woken
-pub woken_is : (node was : Destination) (cpus : Cpus) (held : List Fault) (addr page : ℕ) (act : machine.Act) → was ≡ node → addr ≡ 4096 * page → cpus ≡ all_woken (in_bytes addr (addr + 4096)) was.guest.cpus → held ≡ drop 1 was.held →
+pub woken_is : (node was : Destination) (cpus : Cpus) (held : List Fault) (number page : ℕ) (act : machine.Act) → was ≡ node → number ≡ page → cpus ≡ all_woken (λ q. eqb q number) was.guest.cpus → held ≡ drop 1 was.held →
     (act ≡ machine.Act.Woke) ⊎ (act ≡ machine.Act.Forgot) → record was { guest = record { space = was.guest.space; cpus = cpus }; held = held } ≡ destination_acted_by act node page
-woken_is node was cpus held addr page act same at woken rest (inl is) = rw (is, woken, rest, rest_is, woken_page page addr was.guest.cpus at, same) refl
-woken_is node was cpus held addr page act same at woken rest (inr is) = rw (is, woken, rest, rest_is, woken_page page addr was.guest.cpus at, same) refl
+woken_is node was cpus held number page act same at woken rest (inl is) = rw (is, woken, rest, rest_is, at, same) refl
+woken_is node was cpus held number page act same at woken rest (inr is) = rw (is, woken, rest, rest_is, at, same) refl
 
 -- a destination whose page has become zeros is in order
 pub zeroed_order : (has_run : Bool) (space new : Space) (owed : Owed) (page : ℕ) → changing space.object ≡ 0 → get owed page ≡ None → new ≡ zero_installed space page → IsInOrder has_run space owed → IsInOrder has_run new owed

@@ -127,19 +127,22 @@ run_kept old new first run bytes = same_pages _ _ (λ q. bytes q ∙ sym (get-ru
 
 -- Pages that are discarded run by run
 
-pub more_gone : (q at end next : ℕ) (other : Bool) (o : Option (List ℕ)) → at ≤ end → end ≤ next → (at ≤ q → q < end → other ≡ true) → (end ≤ q → q < next → other ≡ false) →
-    cond (in_range at (end - at) q) None (cond (ltb q at && other) None o) ≡ cond (ltb q next && other) None o
-more_gone q at end next other o l m h k = grind (arith, ranges)
+pub none_gone : (none : Bool) (o : Option (List ℕ)) → none ≡ false → o ≡ cond none None o
+none_gone none o h = rw h refl
 
-pub all_gone : (kept new : FinMap nat_cmp (List ℕ)) (pages : FinSet nat_cmp) (at : ℕ) → HIGH_PAGE ≤ at → ((q : ℕ) → HIGH_PAGE ≤ q → contains pages q ≡ false) → ((q : ℕ) → get new q ≡ cond (ltb q at && contains pages q) None (get kept q)) →
-    new ≡ finmap.retain_keys kept (λ page. not (contains pages page))
-all_gone kept new pages at past high out =
-    same_pages _ _
-    (λ q. out q ∙ gone_at q at (contains pages q) (get kept q) past (high q)
-    ∙ sym (get-retain_keys kept (λ page. not (contains pages page)) q (λ x e. ap (λ k. not (contains pages k)) (sym (nat_cmp-IsAntisymmetric q x e)))))
+pub more_gone : (before run after : Bool) (o : Option (List ℕ)) → after ≡ (before || run) → cond run None (cond before None o) ≡ cond after None o
+more_gone before run after o h = rw h (by_case before run)
   where
-    gone_at : (q at : ℕ) (other : Bool) (o : Option (List ℕ)) → HIGH_PAGE ≤ at → (HIGH_PAGE ≤ q → other ≡ false) → cond (ltb q at && other) None o ≡ cond (not other) o None
-    gone_at q at other o l h = grind (arith, nat_tests)
+    by_case : (before run : Bool) → cond run None (cond before None o) ≡ cond (before || run) None o
+    by_case true true = refl
+    by_case true false = refl
+    by_case false run = refl
+
+pub all_gone : (kept new : FinMap nat_cmp (List ℕ)) (pages : FinSet nat_cmp) (gone : ℕ → Bool) → ((q : ℕ) → gone q ≡ contains pages q) → ((q : ℕ) → get new q ≡ cond (gone q) None (get kept q)) → new ≡ finmap.retain_keys kept (λ page. not (contains pages page))
+all_gone kept new pages gone all out =
+    same_pages _ _
+    (λ q. out q ∙ ap (λ b. cond b None (get kept q)) (all q) ∙ sym (cond_not (contains pages q) (get kept q) None)
+    ∙ sym (get-retain_keys kept (λ page. not (contains pages page)) q (λ x e. ap (λ k. not (contains pages k)) (sym (nat_cmp-IsAntisymmetric q x e)))))
 
 -- Pages that are taken out of the set again
 

@@ -8,9 +8,10 @@ use Rattle.std.specs.FinSet.{FinSet, contains, retain, len, contains-empty, cont
 use Rattle.std.proofs.lemmas.Bool.{and_from, and_parts, false≢true, cases_Bool, cases_lt, eqb-true, not-false, or_from}
 use Rattle.mig_base.specs.declared.TheConstants.{HIGH_PAGE}
 use Rattle.mig_base.specs.declared.Prot.{Prot}
-use Rattle.mig_base.specs.Ranges.{count_below}
+use Rattle.mig_base.specs.declared.Run.{Run as PageRun}
+use Rattle.mig_base.specs.Ranges.{count_below, in_range}
 use Rattle.mig_base.proofs.PageLemmas.{same_pages}
-use Rattle.mig_base.proofs.RangeLemmas.{count_below-few}
+use Rattle.mig_base.proofs.RangeLemmas.{count_below-few, in_range-true, in_range_bounds}
 use Rattle.mig_base.proofs.SetLemmas.{same_members}
 use Rattle.mig_model.specs.Faults.{is_torn}
 use Rattle.mig_model.proofs.FrameFaults.{and_none}
@@ -77,39 +78,19 @@ all_counted test (suc n) h i below =
 
 -- Runs of pages of a set
 
--- what an unmapped page of a run tells
-pub unmapped_in : (pages : FinSet nat_cmp) (areas : FinMap nat_cmp Prot) (at end count : ℕ) → ((q : ℕ) → at ≤ q → q < end → contains pages q ≡ true) → count ≡ count_below (λ i. contains_key areas (at + i)) (end - at) → count < end - at →
-    has_none pages (λ page. not (contains_key areas page)) ≡ false
-unmapped_in pages areas at end count run counted few =
-    let found = one_left_out (λ i. contains_key areas (at + i)) (end - at) (omega arith) in
-    has_some pages (λ page. not (contains_key areas page)) (at + found.0) (run (at + found.0) (omega arith) (omega (arith, found.1))) (ap not found.2)
+module _ (pages : FinSet nat_cmp) (areas : FinMap nat_cmp Prot) (run : PageRun) (count : ℕ) (counted : count ≡ count_below (λ i. contains_key areas (run.first + i)) run.count) where
+  -- what an unmapped page of a run tells
+  pub unmapped_in : ((q : ℕ) → in_range run.first run.count q ≡ true → contains pages q ≡ true) → count < run.count → has_none pages (λ page. not (contains_key areas page)) ≡ false
+  unmapped_in inside few =
+      let found = one_left_out (λ i. contains_key areas (run.first + i)) run.count (omega arith) in
+      has_some pages (λ page. not (contains_key areas page)) (run.first + found.0) (inside (run.first + found.0) (in_range-true run.first run.count (run.first + found.0) (omega arith) (omega (arith, found.1)))) (ap not found.2)
 
--- the pages before the next run are mapped, where those of this run are
-pub mapped_more : (pages : FinSet nat_cmp) (areas : FinMap nat_cmp Prot) (at end next count : ℕ) → at ≤ end → end - at ≤ count → count ≡ count_below (λ i. contains_key areas (at + i)) (end - at) → ((q : ℕ) → end ≤ q → q < next → contains pages q ≡ false) →
-    ((q : ℕ) → q < at → contains pages q ≡ true → contains_key areas q ≡ true) → (q : ℕ) → q < next → contains pages q ≡ true → contains_key areas q ≡ true
-mapped_more pages areas at end next count order all counted gap old q low here =
-    ⊎_elim (λ (before : q < at). old q before here)
-    (λ (from : at ≤ q).
-    ⊎_elim
-    (λ (inside : q < end).
-    let same : at + (q - at) ≡ q = omega arith in
-    ap (contains_key areas) (sym same) ∙ all_counted (λ i. contains_key areas (at + i)) (end - at) (omega arith) (q - at) (omega arith))
-    (λ (past : end ≤ q). absurd (false≢true (sym (gap q past low) ∙ here)))
-    (cases_lt q end))
-    (cases_lt q at)
-
-pub all_mapped : (pages : FinSet nat_cmp) (areas : FinMap nat_cmp Prot) (at : ℕ) → HIGH_PAGE ≤ at → ((q : ℕ) → HIGH_PAGE ≤ q → contains pages q ≡ false) → ((q : ℕ) → q < at → contains pages q ≡ true → contains_key areas q ≡ true) →
-    has_none pages (λ page. not (contains_key areas page)) ≡ true
-all_mapped pages areas at past high old = has_none_from pages (λ page. not (contains_key areas page)) (λ q here. ap not (old q (below q here) here))
-  where
-    below : (q : ℕ) → contains pages q ≡ true → q < at
-    below q here = ⊎_elim (λ (low : q < HIGH_PAGE). omega arith) (λ (l : HIGH_PAGE ≤ q). absurd (false≢true (sym (high q l) ∙ here))) (cases_lt q HIGH_PAGE)
-
-pub all_apart : (one other : FinSet nat_cmp) (at : ℕ) → HIGH_PAGE ≤ at → ((q : ℕ) → HIGH_PAGE ≤ q → contains one q ≡ false) → ((q : ℕ) → q < at → contains one q ≡ true → contains other q ≡ false) → has_none one (contains other) ≡ true
-all_apart one other at past high old = has_none_from one (contains other) (λ q here. old q (below q here) here)
-  where
-    below : (q : ℕ) → contains one q ≡ true → q < at
-    below q here = ⊎_elim (λ (low : q < HIGH_PAGE). omega arith) (λ (l : HIGH_PAGE ≤ q). absurd (false≢true (sym (high q l) ∙ here))) (cases_lt q HIGH_PAGE)
+  -- the pages of a run are mapped, where so many are
+  pub mapped_in : run.count ≤ count → (q : ℕ) → in_range run.first run.count q ≡ true → contains_key areas q ≡ true
+  mapped_in all q within =
+      let bounds = in_range_bounds run.first run.count q within in
+      let same : run.first + (q - run.first) ≡ q = omega (arith, bounds.0) in
+      ap (contains_key areas) (sym same) ∙ all_counted (λ i. contains_key areas (run.first + i)) run.count (omega (arith, all, counted)) (q - run.first) (omega (arith, bounds.0, bounds.1))
 
 -- A torn Package
 

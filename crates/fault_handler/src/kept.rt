@@ -13,7 +13,7 @@ ghost use Rattle.mig_model.specs.Wire.{kept_with, run_copies};
 
 use area_map::AreaMap;
 use mig_base::flags::REGISTER_MISSING_BIT;
-use mig_base::{HIGH_PAGE, NoMemory, PageBytes, PageNo, PageSet};
+use mig_base::{NoMemory, PageBytes, PageNo, PageSet};
 use page_table::PageTable;
 use std::alloc::Global;
 use std::marker::Model;
@@ -132,12 +132,8 @@ impl Kept {
     pub fn discard(&mut self, pages: &PageSet)
         ensures { self.new ≡ map.retain_keys self.old (λ page. not (set.contains pages.now page)) }
     {
-        pages.ends_by_high_page();
-        let mut at = pages.next(0, true);
-        while at < HIGH_PAGE {
-            let end = pages.next(at, false);
-            self.drop_range(at, end - at);
-            at = pages.next(end, true);
+        for run in pages.runs() {
+            self.drop_range(run.first, run.count);
         }
     }
 
@@ -196,14 +192,11 @@ fn remove_missing(kept: &mut PageSet, pages: &PageTable, first: PageNo, count: u
 fn meet(one: &PageSet, other: &PageSet) -> bool
     ensures { result ≡ not (set.len (set.retain one.now (λ page. set.contains other.now page)) == 0) }
 {
-    one.ends_by_high_page();
-    let mut at = one.next(0, true);
-    while at < HIGH_PAGE {
-        let end = one.next(at, false);
-        if other.next(at, true) < end {
+    for run in one.runs() {
+        let end = run.first + run.count;
+        if other.next_before(run.first, true, end) < end {
             return true;
         }
-        at = one.next(end, true);
     }
     false
 }
@@ -212,14 +205,10 @@ fn meet(one: &PageSet, other: &PageSet) -> bool
 fn are_mapped(areas: &AreaMap, pages: &PageSet) -> bool
     ensures { result ≡ (set.len (set.retain pages.now (λ page. not (map.contains_key areas.now page))) == 0) }
 {
-    pages.ends_by_high_page();
-    let mut at = pages.next(0, true);
-    while at < HIGH_PAGE {
-        let end = pages.next(at, false);
-        if areas.mapped_in(at, end - at) < end - at {
+    for run in pages.runs() {
+        if areas.mapped_in(run.first, run.count) < run.count {
             return false;
         }
-        at = pages.next(end, true);
     }
     true
 }

@@ -33,7 +33,7 @@ use Rattle.mig_model.proofs.CompletionStopped.{IsUpAt, next_some, read_object, w
 use Rattle.finish.specs.Finishing.{IsDue, before_push, down_left, down_step, lacks_epoch, one_if, precopy_step, reported, steps_left, unread, up_left, waiting}
 use Rattle.mig_model.proofs.StepAnswers.{answers-notice, answers-resume, answers-source_read, answers-start, answers-switch}
 use Rattle.mig_model.proofs.SourceMapped.{read_host}
-use Rattle.mig_model.proofs.SetSizes.{only_where}
+use Rattle.mig_base.proofs.SetSizes.{only_where}
 use Rattle.mig_model.proofs.UrgentWire.{is_paused}
 
 -- the step is due that leads to a new world

@@ -34,7 +34,7 @@ use Rattle.mig_model.specs.Wire.Frame.{Done, End, Recv, Request, Resume}
 use Rattle.mig_model.proofs.CompletionStopped.{IsUpAt, next_some, wires_at, running-has_run, one_more, none_more, pushed-next, urgent_took-next, install_by-next, none_early, not_at_end, is_waiting, waiting_flow, waiting-not_ended, waiting_wire}
 use Rattle.mig_model.proofs.Facts.{and_false, by_test, eqb-self}
 use Rattle.mig_model.proofs.FirstFrame.{comes}
-use Rattle.mig_model.proofs.SetSizes.{len-removed, len-some}
+use Rattle.mig_base.proofs.SetSizes.{len-removed, len-some}
 use Rattle.mig_model.proofs.UrgentWire.{placed}
 use Rattle.frame_texts.specs.Flight.{AreFrames, HasGoodFrames}
 use Rattle.frame_texts.proofs.LengthBounds.{text_short}

@@ -28,7 +28,7 @@ use Rattle.frame_texts.proofs.PageBytes.{HasBytes, contents_bytes}
 use Rattle.mig_model.proofs.CommandLemmas.{length-contents}
 use Rattle.mig_model.proofs.Facts.{owed_is_present}
 use Rattle.mig_model.proofs.RightCommands.{AllRight, right_commands}
-use Rattle.mig_model.proofs.SetSizes.{count_below-few, len-below, only_where}
+use Rattle.mig_base.proofs.SetSizes.{count_below-few, len-below, only_where}
 use Rattle.mig_model.proofs.Delivery.{pair-origins}
 use Rattle.mig_model.proofs.PageLists.{listed_or_more, less_pages, few_none}
 

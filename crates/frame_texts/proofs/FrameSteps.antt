@@ -50,7 +50,7 @@ use Rattle.mig_model.proofs.SourceKept.{source_holds}
 use Rattle.mig_model.proofs.SourceRounds.{precopy_unswitched, precopy_started}
 use Rattle.mig_model.proofs.StepCases.{MakesWorld, made-next}
 use Rattle.mig_model.proofs.UrgentWire.{is_paused}
-use Rattle.mig_model.proofs.SetSizes.{only_where}
+use Rattle.mig_base.proofs.SetSizes.{only_where}
 
 -- what the frames of a world rest on, and that each of them has a text, where the guest has that many processors
 pub record IsLimited (cpus : ℕ) (from : SourcePhase) (epoch : ℕ) (host : Host) (sent : FinSet nat_cmp) (requests : List ℕ) (forward back urgent : List Sent) : Type 0 where

@@ -105,7 +105,7 @@ fn zeros(space: &mut Space, cpus: &mut Cpus, page: PageNo) -> Result<Answer, Ref
     }
     match make_zeros(space, page) {
         Ok(()) => {
-            cpus.wake_page(page);
+            cpus.wake_page(u64::from(page));
             Ok(Answer::Done)
         }
         Err(NoMemory) => Err(Refusal::NoMemory),
@@ -132,7 +132,7 @@ fn filled(
     };
     match install_page(space, page, bytes) {
         Ok(()) => {
-            cpus.wake_page(page);
+            cpus.wake_page(u64::from(page));
             Ok(Answer::Done)
         }
         Err(back) => {

@@ -37,7 +37,7 @@ use Rattle.mig_model.proofs.Registering.{pages_again}
 use Rattle.mig_model.proofs.RightCommands.{AllRight, right_source}
 use Rattle.mig_model.proofs.SourceRounds.{precopy_unswitched}
 use Rattle.mig_model.proofs.StepCases.{made-effect, made-next}
-use Rattle.mig_model.proofs.SetSizes.{only_where}
+use Rattle.mig_base.proofs.SetSizes.{only_where}
 use Rattle.host_calls.specs.declared.call.Call.{Call}
 use Rattle.host_calls.specs.Calls.{areas_at, calls_of, guest_at, installed_calls, is_of_host, node_of, pages_from, pushed_calls, read_calls, registers, resolved_calls, run_calls, sent_calls, taken_calls}
 use Rattle.host_calls.specs.Made.{AreMade, first_bytes}

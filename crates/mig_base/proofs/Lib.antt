@@ -8,6 +8,9 @@ pub mod ReplyLemmas
 pub mod BoundLemmas
 pub mod FlatMapLemmas
 pub mod SetLemmas
+pub mod SetSizes
+pub mod Left
+pub mod Taken
 pub mod BitLemmas
 pub mod ChunkLemmas
 pub mod ChunkSets

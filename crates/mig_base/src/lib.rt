@@ -9,7 +9,7 @@
 //! madvise(2). This crate executes no command.
 #![tactic(auto)]
 
-ghost use Rattle.std.specs.Prelude.{◌≡◌, ◌*◌};
+ghost use Rattle.std.specs.Prelude.{◌≡◌, ◌+◌, ◌*◌, ◌/◌};
 ghost use Rattle.mig_base.specs.Flat as flat;
 ghost use Rattle.mig_base.specs.declared.TheConstants.{PAGE_SIZE};
 
@@ -21,6 +21,7 @@ pub mod cpu_state;
 pub mod effect;
 pub mod fault;
 pub mod flags;
+pub mod iter;
 pub mod laws;
 pub mod message;
 pub mod page_bytes;
@@ -113,6 +114,13 @@ pub fn page_address(page: PageNo) -> Addr
     ensures { result ≡ PAGE_SIZE * page }
 {
     u64::from(page) * PAGE_SIZE
+}
+
+/// The number of the page of `start + len`, also if that lies past the greatest address. `len` is in bytes.
+pub fn end_page(start: Addr, len: u64) -> u64
+    ensures { result ≡ (start + len) / PAGE_SIZE }
+{
+    start / PAGE_SIZE + len / PAGE_SIZE + (start % PAGE_SIZE + len % PAGE_SIZE) / PAGE_SIZE
 }
 
 /// A run of pages with one protection.

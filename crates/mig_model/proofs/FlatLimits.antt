@@ -17,7 +17,7 @@ use Rattle.mig_base.proofs.RangeLemmas.{count_below-append, count_below-constant
 use Rattle.mig_base.proofs.ReplyLemmas.{at_passed, mmap_inside, mremap_told, same_at}
 use Rattle.mig_base.proofs.BoundLemmas.{IsBounded, changed_bounded, remapped_inside, high_or}
 use Rattle.mig_base.proofs.BoundLemmas.{one_prot_some}
-use Rattle.mig_model.proofs.SetSizes.{count_below-few}
+use Rattle.mig_base.proofs.SetSizes.{count_below-few}
 
 -- Counts
 

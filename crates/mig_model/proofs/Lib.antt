@@ -35,7 +35,6 @@ pub mod EntryLemmas
 pub mod UrgentWire
 pub mod UrgentKept
 pub mod UrgentSteps
-pub mod SetSizes
 pub mod FlatLimits
 pub mod EveryStep
 pub mod Taken

@@ -26,7 +26,7 @@ use Rattle.mig_model.proofs.EveryStep.{by_reached}
 use Rattle.mig_model.proofs.Facts.{owed_is_present}
 use Rattle.mig_model.proofs.FramesTaken.{is_taken_back}
 use Rattle.mig_model.proofs.PushOrder.{idle_unswitched}
-use Rattle.mig_model.proofs.SetSizes.{len-part, len-removed, len-some}
+use Rattle.mig_base.proofs.SetSizes.{len-part, len-removed, len-some}
 use Rattle.mig_model.proofs.SourceRounds.{precopy_unswitched}
 use Rattle.mig_model.proofs.StepCases.{MakesWorld, made-next}
 

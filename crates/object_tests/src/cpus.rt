@@ -6,7 +6,7 @@ ghost use Rattle.mig_base.specs.Commands.{is_access};
 use crate::same::same;
 use mig_base::cpu_state::CpuState;
 use mig_base::refusal::Refusal;
-use mig_base::{Addr, Command, Errno, NoMemory, PageNo, Reply};
+use mig_base::{Addr, Command, Errno, NoMemory, Reply};
 use std::alloc::Global;
 use std::process::Abort;
 use std::test::Fail;
@@ -23,7 +23,7 @@ enum Call {
     CallSleeps(u8, Reply, u8),
     Take(u8),
     MessageRead(u8),
-    WakePage(PageNo),
+    WakePage(u64),
     WakeRange(Addr, Addr),
     WakeAll,
     /// The processors take over the commands of another host's three.

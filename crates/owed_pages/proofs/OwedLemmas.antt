@@ -1,5 +1,5 @@
 -- What an owed table shows, in the machine's words.
-use Rattle.std.proofs.Common.{◌≡◌, ◌≢◌, ℕ, zero, suc, ◌+◌, ◌-◌, ◌<◌, ◌≤◌, ◌&&◌, ◌⊎◌, Bool, true, false, cond, eqb, ltb, refl, sym, ap, ◌∙◌, ⊎_elim, inl, inr, arith, List, length, Option, Some, None, is_some, IfSome}
+use Rattle.std.proofs.Common.{◌≡◌, ◌≢◌, ℕ, zero, suc, ◌+◌, ◌-◌, ◌<◌, ◌≤◌, ◌&&◌, ◌||◌, ◌⊎◌, Bool, true, false, cond, eqb, ltb, refl, sym, ap, ◌∙◌, ⊎_elim, inl, inr, arith, List, length, Option, Some, None, is_some, IfSome}
 use mathlib.Core.Logic.{dite}
 use native.Mathlib.Decide.{ℕ_discrete}
 use Rattle.std.specs.Ordering.{nat_cmp}
@@ -80,45 +80,44 @@ unfolding own_places map_below
 own_places-is pages zero = refl
 own_places-is pages (suc bound) = ap (λ m. put m bound (own pages bound)) (own_places-is pages bound)
 
--- the pages below the bound at their own places
-abbrev pub AreOwn : List Place → FinSet nat_cmp → ℕ → Type 0
-AreOwn forth pages bound = (q : ℕ) → number_at forth q ≡ cond (ltb q bound) (own pages q) None
+-- the pages that pass a test at their own places
+abbrev pub AreOwn : List Place → (ℕ → Bool) → Type 0
+AreOwn forth test = (q : ℕ) → number_at forth q ≡ cond (test q) (Some q) None
 
-pub own_all : (forth : List Place) (pages : FinSet nat_cmp) (bound : ℕ) → length forth ≤ 1024 → HIGH_PAGE ≤ bound → bound ≤ HIGH_PAGE → AreOwn forth pages bound → pairs_of forth ≡ own_places pages HIGH_PAGE
-own_all forth pages bound few a b is =
-    let end : bound ≡ HIGH_PAGE = omega arith in
+pub own_all : (forth : List Place) (pages : FinSet nat_cmp) (test : ℕ → Bool) → length forth ≤ 1024 → ((q : ℕ) → test q ≡ contains pages q) → AreOwn forth test → pairs_of forth ≡ own_places pages HIGH_PAGE
+own_all forth pages test few all is =
     pairs_of-is forth (own_places pages HIGH_PAGE) few
-    (λ q. is q ∙ ap (λ n. cond (ltb q n) (own pages q) None) end ∙ sym (get-map_below (own pages) HIGH_PAGE q) ∙ ap (λ m. get m q) (sym (own_places-is pages HIGH_PAGE)))
+    (λ q. ends q ∙ sym (get-map_below (own pages) HIGH_PAGE q) ∙ ap (λ m. get m q) (sym (own_places-is pages HIGH_PAGE)))
+  where
+    below_end : (q : ℕ) (o b : Option ℕ) → (HIGH_PAGE ≤ q → o ≡ None) → o ≡ b → o ≡ cond (ltb q HIGH_PAGE) b None
+    below_end q o b h e = grind (arith, nat_tests)
 
-own_none-by : (q first : ℕ) (b : Bool) (o : Option ℕ) → (q < first → b ≡ false) → None ≡ cond (ltb q first) (cond b o None) None
-own_none-by q first b o h = grind (arith, nat_tests)
+    ends : (q : ℕ) → number_at forth q ≡ cond (ltb q HIGH_PAGE) (own pages q) None
+    ends q = below_end q (number_at forth q) (own pages q) (none_past forth q few) (is q ∙ ap (λ b. cond b (Some q) None) (all q))
 
-pub own_none : (forth : List Place) (pages : FinSet nat_cmp) (first : ℕ) → ((q : ℕ) → number_at forth q ≡ None) → ((q : ℕ) → q < first → contains pages q ≡ false) → AreOwn forth pages first
-own_none forth pages first none before q = none q ∙ own_none-by q first (contains pages q) (Some q) (before q)
+pub own_none : (forth : List Place) (test : ℕ → Bool) → ((q : ℕ) → number_at forth q ≡ None) → ((q : ℕ) → test q ≡ false) → AreOwn forth test
+own_none forth test none out q = none q ∙ sym (ap (λ b. cond b (Some q) None) (out q))
 
-own_more-by : (q page next : ℕ) (b : Bool) → page < next → (q ≡ page → b ≡ true) → (page < q → q < next → b ≡ false) → cond (eqb q page) (Some q) (cond (ltb q page) (cond b (Some q) None) None) ≡ cond (ltb q next) (cond b (Some q) None) None
-own_more-by q page next b l here between = grind (arith, nat_tests)
-
-pub own_more : (forth after : List Place) (pages : FinSet nat_cmp) (page next : ℕ) → page < next → contains pages page ≡ true → ((q : ℕ) → page < q → q < next → contains pages q ≡ false) → AreOwn forth pages page → ((q : ℕ) → number_at after q ≡ cond (eqb q page) (Some page) (number_at forth q)) → AreOwn after pages next
-own_more forth after pages page next l here between is put q =
-    put q ∙ own_number ∙ ap (λ o. cond (eqb q page) (Some q) o) (is q)
-    ∙ own_more-by q page next (contains pages q) l (λ e. ap (contains pages) e ∙ here) (between q)
+pub own_more : (forth after : List Place) (test more : ℕ → Bool) (page : ℕ) → ((q : ℕ) → more q ≡ (eqb q page || test q)) → AreOwn forth test → ((q : ℕ) → number_at after q ≡ cond (eqb q page) (Some page) (number_at forth q)) → AreOwn after more
+own_more forth after test more page one is put q =
+    put q ∙ own_number ∙ ap (λ o. cond (eqb q page) (Some q) o) (is q) ∙ joined (eqb q page) (test q) ∙ sym (ap (λ b. cond b (Some q) None) (one q))
   where
     own_number : cond (eqb q page) (Some page) (number_at forth q) ≡ cond (eqb q page) (Some q) (number_at forth q)
     own_number = dite (ℕ_discrete q page) (λ e. ap (λ k. cond (eqb q page) (Some k) (number_at forth q)) (sym e)) (λ n. rw (ne_eqb q page n) refl)
 
+    joined : (a b : Bool) → cond a (Some q) (cond b (Some q) None) ≡ cond (a || b) (Some q) None
+    joined true b = refl
+    joined false b = refl
+
 -- a page that is not reached yet is neither owed nor owes
-own_below-by : (q page : ℕ) (b : Bool) → cond (ltb q page) (cond b (Some q) None) None ≡ Some page → q ≡ page
-own_below-by q page b h = grind (arith, nat_tests)
+pub own_only : (forth : List Place) (test : ℕ → Bool) (page : ℕ) → AreOwn forth test → (q : ℕ) → number_at forth q ≡ Some page → q ≡ page
+own_only forth test page is q h = own_by (test q) (sym (is q) ∙ h)
+  where
+    own_by : (b : Bool) → cond b (Some q) None ≡ Some page → q ≡ page
+    own_by b h = grind arith
 
-own_here-by : (page : ℕ) (o : Option ℕ) → cond (ltb page page) o None ≡ None
-own_here-by page o = grind (arith, nat_tests)
-
-pub own_only : (forth : List Place) (pages : FinSet nat_cmp) (page : ℕ) → AreOwn forth pages page → (q : ℕ) → number_at forth q ≡ Some page → q ≡ page
-own_only forth pages page is q h = own_below-by q page (contains pages q) (sym (is q) ∙ h)
-
-pub own_here : (forth : List Place) (pages : FinSet nat_cmp) (page : ℕ) → AreOwn forth pages page → number_at forth page ≡ None
-own_here forth pages page is = is page ∙ own_here-by page (own pages page)
+pub own_here : (forth : List Place) (test : ℕ → Bool) (page : ℕ) → test page ≡ false → AreOwn forth test → number_at forth page ≡ None
+own_here forth test page out is = is page ∙ ap (λ b. cond b (Some page) None) out
 
 -- Changes
 

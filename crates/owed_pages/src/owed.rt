@@ -15,7 +15,7 @@ mod table;
 use crate::owed::links::Links;
 use crate::owed::table::{get_number, numbered};
 use mig_base::page_set::PageSet;
-use mig_base::{HIGH_PAGE, NoMemory, PageNo};
+use mig_base::{NoMemory, PageNo};
 use std::alloc::Global;
 use std::marker::Model;
 
@@ -59,10 +59,8 @@ impl Owed {
         ensures { IfOk result (λ owed. owed ≡ own_places pages.now HIGH_PAGE) }
     {
         let mut links = Links::new(alloc);
-        let mut page = pages.next(0, true);
-        while page < HIGH_PAGE {
+        for page in pages.iter() {
             links.link_itself(alloc, page)?;
-            page = pages.next(page + 1, true);
         }
         Ok(Owed { alloc, links })
     }

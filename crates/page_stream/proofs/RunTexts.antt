@@ -1,97 +1,150 @@
--- Which runs of a set are written.
-use Rattle.std.proofs.Common.{◌≡◌, ℕ, ◌+◌, ◌-◌, ◌*◌, ◌<◌, ◌≤◌, true, false, List, [], ◌∷◌, ◌++◌, length, map, sym, ap, subst, ◌∙◌, append_assoc, ⊎_elim, arith, vec_len, vec_capacity}
+-- The runs of a set one by one, and which of them are written.
+use Rattle.std.proofs.Common.{◌≡◌, ℕ, zero, suc, ◌+◌, ◌-◌, ◌<◌, ◌≤◌, ◌&&◌, ◌||◌, Bool, true, false, not, eqb, ltb, List, [], ◌∷◌, ◌++◌, cond, length, map, refl, sym, ap, subst, ◌∙◌, append_assoc, arith, vec_len, vec_capacity}
 use Rattle.std.specs.Global.{Vec}
 use Rattle.std.specs.List.{flat_map}
 use Rattle.std.specs.Int.{w32, to_be_bytes}
 use Rattle.std.specs.Ordering.{nat_cmp}
-use Rattle.std.specs.FinSet.{FinSet, contains}
-use Rattle.std.proofs.lemmas.Bool.{cases_lt}
-use Rattle.std.proofs.lemmas.List.{append-nil, length-append, length-map, map-append, nil_from_length}
-use Rattle.std.proofs.lemmas.List.Concat.{flat_map-append, flat_map-cons}
+use Rattle.std.specs.FinSet.{FinSet, contains, empty, contains-empty}
+use Rattle.std.proofs.lemmas.List.{append-nil, length-append, map-append}
+use Rattle.std.proofs.lemmas.List.Concat.{flat_map-cons}
 use Rattle.mig_base.specs.declared.Run.{Run as PageRun}
 use Rattle.mig_base.specs.declared.TheConstants.{HIGH_PAGE}
-use Rattle.mig_base.specs.Ranges.{count_below}
-use Rattle.mig_base.specs.Sets.{run_length}
+use Rattle.mig_base.specs.Ranges.{in_range}
+use Rattle.mig_base.specs.Sets.{run_length, without}
+use Rattle.mig_base.specs.PageSets.{IsFirstRun}
+use Rattle.mig_base.proofs.RangeLemmas.{count_below-few, in_range-false_above, ranges}
+use Rattle.mig_base.proofs.SetLemmas.{member_without}
 use Rattle.mig_model.specs.Lengths.{begins_run, run_count}
 use Rattle.frame_texts.specs.Texts.{list_below, run_at, runs_of, run_text, runs_text}
-use Rattle.frame_texts.proofs.TextLemmas.{length-list_below, length-runs, length-runs_of}
+use Rattle.frame_texts.proofs.OneArea.{none_listed}
+use Rattle.frame_texts.proofs.TextLemmas.{length-runs, length-runs_of}
 use Rattle.page_stream.specs.Writing.{Puts}
-use Rattle.page_stream.proofs.FirstLemmas.{counted_below, list_below-one, run_length-is}
-use Rattle.page_stream.proofs.LengthLemmas.{AreRunsBelow, runs_more}
+use Rattle.page_stream.proofs.FirstLemmas.{list_below-cons, run_length-is}
 use Rattle.page_stream.proofs.Puts.{puts_then}
 
--- the runs that begin below a page
-abbrev pub runs_below : FinSet nat_cmp → ℕ → List PageRun
-runs_below pages first = map (run_at pages) (list_below (begins_run pages) first)
+-- The runs of a set without its first
 
--- the count and the runs below a page are written, and a run begins there, or it is the end
-pub record AreWritten (old now : Vec ℕ) (pages : FinSet nat_cmp) (first : ℕ) : Type 0 where
-  pub runs : AreRunsBelow pages first (count_below (begins_run pages) first)
-  pub puts : Puts old now (to_be_bytes w32 (run_count pages) ++ flat_map run_text (runs_below pages first))
+run_length-same : (a b : FinSet nat_cmp) (first bound : ℕ) → ((q : ℕ) → first ≤ q → contains a q ≡ contains b q) → run_length a first bound ≡ run_length b first bound
+unfolding run_length
+run_length-same a b first zero same = refl
+run_length-same a b first (suc bound) same = rw (same first (omega arith), run_length-same a b (1 + first) bound (λ q l. same q (omega arith))) refl
 
-pub written_begin : (old now : Vec ℕ) (pages : FinSet nat_cmp) (first count : ℕ) → Puts old now (to_be_bytes w32 count) → count ≡ run_count pages → AreRunsBelow pages first 0 → AreWritten old now pages first
-written_begin old now pages first count puts all runs =
-    let none : list_below (begins_run pages) first ≡ [] = nil_from_length (list_below (begins_run pages) first) (length-list_below (begins_run pages) first ∙ sym runs.counted) in
-    let counted = runs.counted in
+mapped-same : (test : ℕ → Bool) (f g : ℕ → PageRun) (bound : ℕ) → ((i : ℕ) → test i ≡ true → f i ≡ g i) → map f (list_below test bound) ≡ map g (list_below test bound)
+unfolding list_below
+mapped-same test f g zero same = refl
+mapped-same test f g (suc bound) same =
+    map-append f (list_below test bound) _ ∙ ap (λ (rest : List PageRun). rest ++ map f (cond (test bound) (bound ∷ []) [])) (mapped-same test f g bound same)
+    ∙ ap (λ (rest : List PageRun). map g (list_below test bound) ++ rest) (last (test bound) (same bound)) ∙ sym (map-append g (list_below test bound) _)
+  where
+    last : (b : Bool) → (b ≡ true → f bound ≡ g bound) → map f (cond b (bound ∷ []) []) ≡ map g (cond b (bound ∷ []) [])
+    last true h = ap (λ (run : PageRun). run ∷ []) (h refl)
+    last false h = refl
+
+module _ (left rest : FinSet nat_cmp) (run : PageRun) (is : IsFirstRun left run) (at : rest ≡ without left run.first run.count) where
+  member_rest : (q : ℕ) → contains rest q ≡ (contains left q && not (in_range run.first run.count q))
+  member_rest q = ap (λ s. contains s q) at ∙ member_without left run.first run.count q
+
+  begins_first : (i : ℕ) → begins_run left i ≡ (eqb i run.first || begins_run rest i)
+  begins_first i =
+      begins_by i (contains left i) (contains left (i - 1)) is.some (is.before i) (is.before (i - 1)) (is.inside i) (is.inside (i - 1)) (λ e. ap (contains left) e ∙ is.behind)
+      ∙ ap (λ b. eqb i run.first || b) (sym (ap (λ b. b && not (ltb 0 i && contains rest (i - 1))) (member_rest i) ∙ ap (λ b. (contains left i && not (in_range run.first run.count i)) && not (ltb 0 i && b)) (member_rest (i - 1))))
+    where
+      begins_by : (i : ℕ) (here before : Bool) → 0 < run.count → (i < run.first → here ≡ false) → (i - 1 < run.first → before ≡ false) → (run.first ≤ i → i < run.first + run.count → here ≡ true) →
+          (run.first ≤ i - 1 → i - 1 < run.first + run.count → before ≡ true) → (i ≡ run.first + run.count → here ≡ false) →
+          (here && not (ltb 0 i && before)) ≡ (eqb i run.first || ((here && not (in_range run.first run.count i)) && not (ltb 0 i && (before && not (in_range run.first run.count (i - 1))))))
+      begins_by i here before some a b c d e = grind (arith, ranges)
+
+  begins_later : (i : ℕ) → begins_run rest i ≡ true → run.first + run.count < i
+  begins_later i h = later_by (contains left i) (not (ltb 0 i && contains rest (i - 1))) is.some (is.before i) (λ e. ap (contains left) e ∙ is.behind) (ap (λ b. b && not (ltb 0 i && contains rest (i - 1))) (sym (member_rest i)) ∙ h)
+    where
+      later_by : (here begins : Bool) → 0 < run.count → (i < run.first → here ≡ false) → (i ≡ run.first + run.count → here ≡ false) → ((here && not (in_range run.first run.count i)) && begins) ≡ true → run.first + run.count < i
+      later_by here begins some before end h = grind (arith, ranges)
+
+  none_before : (i : ℕ) → i ≤ run.first → begins_run rest i ≡ false
+  none_before i l = none_by (begins_run rest i) (begins_later i)
+    where
+      none_by : (b : Bool) → (b ≡ true → run.first + run.count < i) → b ≡ false
+      none_by true h = absurd (omega (arith, h refl))
+      none_by false h = refl
+
+  same_later : (i : ℕ) → begins_run rest i ≡ true → run_at left i ≡ run_at rest i
+  same_later i h =
+      let later = begins_later i h in
+      ap (λ count. record { first = i; count = count })
+      (run_length-same left rest i HIGH_PAGE (λ q l. sym (member_rest q ∙ still (contains left q) (in_range run.first run.count q) (in_range-false_above run.first run.count q (omega (arith, later))))))
+    where
+      still : (b c : Bool) → c ≡ false → (b && not c) ≡ b
+      still b c h = grind arith
+
+  first_at : run_at left run.first ≡ run
+  first_at = let high = is.high in ap (λ count. record { first = run.first; count = count }) (run_length-is left run.first HIGH_PAGE run.count (omega arith) is.inside is.behind)
+
+  pub first_of_runs : runs_of left ≡ run ∷ runs_of rest
+  first_of_runs =
+      let some = is.some in
+      let high = is.high in
+      ap (map (run_at left)) (list_below-cons (begins_run left) (begins_run rest) run.first HIGH_PAGE begins_first none_before (omega arith))
+      ∙ ap (λ (first : PageRun). first ∷ map (run_at left) (list_below (begins_run rest) HIGH_PAGE)) first_at ∙ ap (λ (runs : List PageRun). run ∷ runs) (mapped-same (begins_run rest) (run_at left) (run_at rest) HIGH_PAGE same_later)
+
+  pub one_more_run : run_count left ≡ 1 + run_count rest
+  one_more_run = omega (arith, length-runs_of left, ap length first_of_runs, length-runs_of rest)
+
+pub no_runs : (left : FinSet nat_cmp) → left ≡ empty → runs_of left ≡ []
+no_runs left none = ap (map (run_at left)) (none_listed (begins_run left) HIGH_PAGE (λ i l. begins_none i (contains left i) (ap (λ s. contains s i) none ∙ contains-empty nat_cmp i)))
+  where
+    begins_none : (i : ℕ) (b : Bool) → b ≡ false → (b && not (ltb 0 i && contains left (i - 1))) ≡ false
+    begins_none i b h = rw h refl
+
+pub none_counted : (left : FinSet nat_cmp) → left ≡ empty → run_count left ≡ 0
+none_counted left none = sym (length-runs_of left) ∙ ap length (no_runs left none)
+
+pub few_runs : (pages : FinSet nat_cmp) → run_count pages ≤ HIGH_PAGE
+unfolding run_count
+few_runs pages = count_below-few (begins_run pages) HIGH_PAGE
+
+-- What is written
+
+-- the count is written, and the runs that are not left
+pub record AreWritten (old now : Vec ℕ) (pages left : FinSet nat_cmp) : Type 0 where
+  pub bytes : List ℕ
+  pub puts : Puts old now bytes
+  pub all : bytes ++ flat_map run_text (runs_of left) ≡ runs_text (runs_of pages)
+
+pub written_begin : (old now : Vec ℕ) (pages left : FinSet nat_cmp) (count : ℕ) → Puts old now (to_be_bytes w32 count) → count ≡ run_count pages → left ≡ pages → AreWritten old now pages left
+written_begin old now pages left count puts counted same =
     record {
-      runs = subst (AreRunsBelow pages first) counted runs;
-      puts = rw (none, append-nil (to_be_bytes w32 (run_count pages))) (subst (λ n. Puts old now (to_be_bytes w32 n)) all puts);
+      bytes = to_be_bytes w32 count;
+      puts = puts;
+      all = ap (λ (s : FinSet nat_cmp). to_be_bytes w32 count ++ flat_map run_text (runs_of s)) same ∙ ap (λ n. to_be_bytes w32 n ++ flat_map run_text (runs_of pages)) (counted ∙ sym (length-runs_of pages));
     }
 
-length-written : (pages : FinSet nat_cmp) (first : ℕ) → length (flat_map run_text (runs_below pages first)) ≡ 8 * count_below (begins_run pages) first
-length-written pages first = omega (arith, length-runs (runs_below pages first), length-map (list_below (begins_run pages) first) (run_at pages), length-list_below (begins_run pages) first)
+module _ (old now : Vec ℕ) (pages left rest : FinSet nat_cmp) (run : PageRun) (written : AreWritten old now pages left) (is : IsFirstRun left run) (at : rest ≡ without left run.first run.count) where
+  next_text : flat_map run_text (runs_of left) ≡ run_text run ++ flat_map run_text (runs_of rest)
+  next_text = ap (flat_map run_text) (first_of_runs left rest run is at) ∙ flat_map-cons run_text run (runs_of rest)
 
-pub written_room : (old now : Vec ℕ) (pages : FinSet nat_cmp) (first : ℕ) → first < HIGH_PAGE → vec_len old + length (runs_text (runs_of pages)) ≤ vec_capacity old → AreWritten old now pages first → vec_len now + 8 ≤ vec_capacity now
-written_room old now pages first low room written =
-    let more = counted_below (begins_run pages) first HIGH_PAGE low (written.runs.begins low) in
-    omega (
-      arith,
-      room,
-      written.puts.len,
-      written.puts.capacity,
-      length-append (to_be_bytes w32 (length (runs_of pages))) (flat_map run_text (runs_of pages)),
-      length-append (to_be_bytes w32 (run_count pages)) (flat_map run_text (runs_below pages first)),
-      length-written pages first,
-      length-written pages HIGH_PAGE,
-      more,
-    )
+  pub written_room : vec_len old + length (runs_text (runs_of pages)) ≤ vec_capacity old → vec_len now + 8 ≤ vec_capacity now
+  written_room room =
+      omega (
+        arith,
+        room,
+        written.puts.len,
+        written.puts.capacity,
+        ap length written.all,
+        length-append written.bytes (flat_map run_text (runs_of left)),
+        length-runs (runs_of left),
+        ap length (first_of_runs left rest run is at),
+      )
 
-run_is : (pages : FinSet nat_cmp) (first end : ℕ) → first ≤ end → end ≤ HIGH_PAGE → ((q : ℕ) → HIGH_PAGE ≤ q → contains pages q ≡ false) → ((q : ℕ) → first ≤ q → q < end → contains pages q ≡ true) → (end < HIGH_PAGE → contains pages end ≡ false) →
-    run_length pages first HIGH_PAGE ≡ end - first
-run_is pages first end from high none inside gap =
-    let out : contains pages end ≡ false = ⊎_elim (λ (less : end < HIGH_PAGE). gap less) (λ (past : HIGH_PAGE ≤ end). none end past) (cases_lt end HIGH_PAGE) in
-    let at : first + (end - first) ≡ end = omega arith in
-    run_length-is pages first HIGH_PAGE (end - first) (omega arith) (λ q l m. inside q l (omega arith)) (rw at out)
+  -- the run is written too
+  pub written_more : (new : Vec ℕ) → Puts now new (run_text run) → AreWritten old new pages rest
+  written_more new put =
+      record {
+        bytes = written.bytes ++ run_text run;
+        puts = puts_then old now new written.bytes (run_text run) written.puts put;
+        all = append_assoc written.bytes (run_text run) (flat_map run_text (runs_of rest)) ∙ ap (λ (text : List ℕ). written.bytes ++ text) (sym next_text) ∙ written.all;
+      }
 
-one_text : (run : PageRun) → flat_map run_text (run ∷ []) ≡ run_text run
-one_text run = flat_map-cons run_text run [] ∙ append-nil (run_text run)
-
--- the run that begins at the page is written too
-pub written_more : (old now new : Vec ℕ) (pages : FinSet nat_cmp) (first end next : ℕ) → AreWritten old now pages first → Puts now new (run_text (record { first = first; count = end - first })) → ((q : ℕ) → HIGH_PAGE ≤ q → contains pages q ≡ false) → first < HIGH_PAGE → first ≤ end → end ≤ HIGH_PAGE →
-    ((q : ℕ) → first ≤ q → q < end → contains pages q ≡ true) → (end < HIGH_PAGE → contains pages end ≡ false) → end ≤ next → next ≤ HIGH_PAGE → ((q : ℕ) → end ≤ q → q < next → contains pages q ≡ false) → (next < HIGH_PAGE → contains pages next ≡ true) →
-    AreWritten old new pages next
-written_more old now new pages first end next written put none low from high inside gap past top between there =
-    let more : AreRunsBelow pages next (count_below (begins_run pages) first + 1) = runs_more pages first end next (count_below (begins_run pages) first) written.runs low from high inside gap past top between there in
-    let counted : count_below (begins_run pages) next ≡ count_below (begins_run pages) first + 1 = sym more.counted in
-    let further : first < next =
-    ⊎_elim (λ (less : first < next). less) (λ (same : next ≤ first). let at : next ≡ first = omega arith in let e : count_below (begins_run pages) next ≡ count_below (begins_run pages) first = ap (count_below (begins_run pages)) at in absurd (omega (arith, e, counted))) (cases_lt first next) in
-    let listed : list_below (begins_run pages) next ≡ list_below (begins_run pages) first ++ first ∷ [] = list_below-one (begins_run pages) first next further (written.runs.begins low) counted in
-    let mapped : runs_below pages next ≡ runs_below pages first ++ run_at pages first ∷ [] = ap (map (run_at pages)) listed ∙ map-append (run_at pages) (list_below (begins_run pages) first) (first ∷ []) in
-    let long = run_is pages first end from high none inside gap in
-    let last : run_text (record { first = first; count = end - first }) ≡ run_text (run_at pages first) = ap (λ n. to_be_bytes w32 first ++ to_be_bytes w32 n) (sym long) in
-    let texts : flat_map run_text (runs_below pages next) ≡ flat_map run_text (runs_below pages first) ++ run_text (record { first = first; count = end - first }) =
-    ap (flat_map run_text) mapped ∙ flat_map-append run_text (runs_below pages first) (run_at pages first ∷ []) ∙ ap (λ (t : List ℕ). flat_map run_text (runs_below pages first) ++ t) (one_text (run_at pages first) ∙ sym last) in
-    let head = to_be_bytes w32 (run_count pages) in
-    let e : (head ++ flat_map run_text (runs_below pages first)) ++ run_text (record { first = first; count = end - first }) ≡ head ++ flat_map run_text (runs_below pages next) =
-    append_assoc head (flat_map run_text (runs_below pages first)) (run_text (record { first = first; count = end - first })) ∙ ap (λ (t : List ℕ). head ++ t) (sym texts) in
-    record {
-      runs = subst (AreRunsBelow pages next) more.counted more;
-      puts = subst (Puts old new) e (puts_then old now new (head ++ flat_map run_text (runs_below pages first)) (run_text (record { first = first; count = end - first })) written.puts put);
-    }
-
-pub written_all : (old now : Vec ℕ) (pages : FinSet nat_cmp) (first : ℕ) → HIGH_PAGE ≤ first → AreWritten old now pages first → Puts old now (runs_text (runs_of pages))
-written_all old now pages first past written =
-    let high = written.runs.high in
-    let at : first ≡ HIGH_PAGE = omega (arith, high) in
-    let all = subst (λ bound. Puts old now (to_be_bytes w32 (run_count pages) ++ flat_map run_text (runs_below pages bound))) at written.puts in
-    subst (λ n. Puts old now (to_be_bytes w32 n ++ flat_map run_text (runs_of pages))) (sym (length-runs_of pages)) all
+pub written_all : (old now : Vec ℕ) (pages left : FinSet nat_cmp) → AreWritten old now pages left → left ≡ empty → Puts old now (runs_text (runs_of pages))
+written_all old now pages left written none =
+    let text : flat_map run_text (runs_of left) ≡ [] = ap (flat_map run_text) (no_runs left none) in
+    subst (Puts old now) (sym (append-nil written.bytes) ∙ ap (λ (rest : List ℕ). written.bytes ++ rest) (sym text) ∙ written.all) written.puts

@@ -6,7 +6,7 @@ ghost use Rattle.page_stream.specs.Frames.{frame_of};
 
 use crate::frame::Frame;
 use area_map::AreaMap;
-use mig_base::{Command, HIGH_PAGE, PAGE_SIZE, PageSet};
+use mig_base::{Command, PAGE_SIZE, PageSet};
 
 /// The length of a header in bytes.
 pub const HEADER_LEN: u64 = 12;
@@ -50,16 +50,13 @@ fn runs_len(pages: &PageSet) -> u64
     4 + 8 * u64::from(run_count(pages))
 }
 
-/// The number of maximal runs of neighbouring pages. It walks the set run by run.
+/// The number of maximal runs of neighbouring pages.
 pub(crate) fn run_count(pages: &PageSet) -> u32
     ensures { result ≡ texts.run_count pages.now }
 {
     let mut count = 0;
-    let mut first = pages.next(0, true);
-    while first < HIGH_PAGE {
+    for _run in pages.runs() {
         count += 1;
-        let end = pages.next(first, false);
-        first = pages.next(end, true);
     }
     count
 }

@@ -17,7 +17,7 @@ use crate::lengths::{HEADER_LEN, run_count};
 use crate::lists::Pages;
 use area_map::AreaMap;
 use mig_base::phase::Received;
-use mig_base::{Addr, Area, Command, HIGH_PAGE, NoMemory, PAGE_BYTES, PageNo, PageSet, Prot, Run};
+use mig_base::{Addr, Area, Command, NoMemory, PAGE_BYTES, PageNo, PageSet, Prot, Run};
 use std::alloc::Global;
 
 /// The version that is written.
@@ -167,24 +167,14 @@ fn put_pages(into: &mut Vec<u8>, first: PageNo, pages: &Pages)
     }
 }
 
-/// The number of runs, and each run of neighbouring pages. It walks the set run by run and takes no memory.
+/// The number of runs, and each run of neighbouring pages. It takes no memory.
 fn put_runs(into: &mut Vec<u8>, pages: &PageSet)
     requires { vec_len into.old + length (runs_text (runs_of pages.now)) ≤ vec_capacity into.old }
     ensures { Puts into.old into.new (runs_text (runs_of pages.now)) }
 {
-    pages.ends_by_high_page();
     put(into, &run_count(pages).to_be_bytes());
-    let mut first = pages.next(0, true);
-    while first < HIGH_PAGE {
-        let end = pages.next(first, false);
-        put_run(
-            into,
-            Run {
-                first,
-                count: end - first,
-            },
-        );
-        first = pages.next(end, true);
+    for run in pages.runs() {
+        put_run(into, run);
     }
 }
 

@@ -14,7 +14,7 @@ use Rattle.mig_model.specs.Guest.{is_present}
 use Rattle.mig_model.specs.Log.{less, present, no_pages}
 use Rattle.mig_model.specs.Space.{IsSoundSpace, Space}
 use Rattle.mig_model.proofs.FrameFaults.{none_empty, present_below}
-use Rattle.mig_model.proofs.SetSizes.{len-some}
+use Rattle.mig_base.proofs.SetSizes.{len-some}
 use Rattle.mig_model.proofs.Stopping.{member_less}
 use Rattle.mig_model.proofs.Facts.{no_page}
 use Rattle.mig_model.specs.Bounds.{AreFewPages, AreListed}
@@ -56,10 +56,6 @@ absent space q h = member_below _ HIGH_PAGE q ∙ ap (λ b. ltb q HIGH_PAGE && b
 pub one_missing : (space : Space) (pages : FinSet nat_cmp) (q : ℕ) → contains pages q ≡ true → is_present space q ≡ false → eqb (finset.len (less pages (present space))) 0 ≡ false
 one_missing space pages q here gone =
     some_left _ (len-some (less pages (present space)) q (member_less pages (present space) q ∙ ap (λ b. b && not (contains (present space) q)) here ∙ ap not (absent space q gone)))
-
-pub none_past : (space : Space) (pages : FinSet nat_cmp) (page : ℕ) → ((q : ℕ) → HIGH_PAGE ≤ q → contains pages q ≡ false) → HIGH_PAGE ≤ page → ((q : ℕ) → q < page → contains pages q ≡ true → is_present space q ≡ true) →
-    (q : ℕ) → contains pages q ≡ true → is_present space q ≡ true
-none_past space pages page low past all q is = grind (arith, nat_tests)
 
 -- requests for pages that may be mapped
 pub asked_right : (pages : List ℕ) → AreListed pages → AreWellFormed (map wire.Frame.Request pages)

@@ -14,7 +14,7 @@ use mig_base::fault::RebuildFault;
 use mig_base::phase::{Received, SourcePhase};
 use mig_base::refusal::Refusal;
 use mig_base::schedule::Side;
-use mig_base::{HIGH_PAGE, NoMemory, PageSet};
+use mig_base::{NoMemory, PageSet};
 use page_stream::Frame;
 use precopy::Source;
 use std::alloc::Global;
@@ -89,13 +89,10 @@ fn are_present(space: &Space, pages: &PageSet) -> bool
     ensures { result ≡ (len (log.less pages.now (log.present space.now)) == 0) }
 {
     space.is_in_order();
-    pages.ends_by_high_page();
-    let mut page = pages.next(0, true);
-    while page < HIGH_PAGE {
+    for page in pages.iter() {
         if space.page(page).is_none() {
             return false;
         }
-        page = pages.next(page + 1, true);
     }
     true
 }

@@ -7,7 +7,7 @@ ghost use Rattle.rig.specs.Claiming.{AreKept, Lists};
 
 use mig_base::phase::SourcePhase;
 use mig_base::refusal::Refusal;
-use mig_base::{HIGH_PAGE, NoMemory, PageNo, PageSet};
+use mig_base::{NoMemory, PageNo, PageSet};
 use pusher::{ClaimSeat, Claims};
 use std::alloc::Global;
 use world::World;
@@ -32,12 +32,9 @@ pub(crate) fn remaining_in(alloc: Global, world: &World) -> Result<(u32, Vec<Pag
 fn listed(alloc: Global, set: &PageSet) -> Result<Vec<PageNo>, NoMemory>
     ensures { IfOk result (λ pages. Lists set.now pages.items) }
 {
-    set.ends_by_high_page();
     let mut pages = Vec::with_capacity(alloc, set.len() as usize)?;
-    let mut next = set.next(0, true);
-    while next < HIGH_PAGE {
-        pages.push(next)?;
-        next = set.next(next + 1, true);
+    for page in set.iter() {
+        pages.push(page)?;
     }
     Ok(pages)
 }

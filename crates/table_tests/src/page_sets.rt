@@ -22,10 +22,13 @@ enum Call {
     /// The same below an end.
     NextBefore(PageNo, bool, PageNo),
     Ranges,
+    /// The first pages, one after the other.
+    Pages,
 }
 
 use Call::{
-    Contains, Insert, InsertBoth, InsertRange, Len, Next, NextBefore, Ranges, Remove, RemoveRange,
+    Contains, Insert, InsertBoth, InsertRange, Len, Next, NextBefore, Pages, Ranges, Remove,
+    RemoveRange,
 };
 
 #[derive(Clone, Copy, PartialEq, Eq)]
@@ -36,9 +39,11 @@ enum Answer {
     Number(u32),
     /// The first runs, each a first page and a count.
     Runs([Option<(PageNo, u32)>; 4]),
+    /// The first pages, and then `HIGH_PAGE`.
+    Are([PageNo; 4]),
 }
 
-use Answer::{Done, Is, Number, Runs};
+use Answer::{Are, Done, Is, Number, Runs};
 
 /// The ends of the first runs of a set, found without memory.
 fn seen(rt: &impl Abort, set: &PageSet) -> [(PageNo, PageNo); 4] {
@@ -52,6 +57,14 @@ fn seen(rt: &impl Abort, set: &PageSet) -> [(PageNo, PageNo); 4] {
         from = end;
     }
     seen
+}
+
+fn first_pages(set: &PageSet) -> [PageNo; 4] {
+    let mut found = [HIGH_PAGE; 4];
+    for (place, page) in found.iter_mut().zip(set.iter()) {
+        *place = page;
+    }
+    found
 }
 
 fn first_runs(runs: &[Run]) -> [Option<(PageNo, u32)>; 4] {
@@ -114,6 +127,7 @@ fn make(rt: &impl Abort, alloc: Global, set: &mut PageSet, call: Call) -> Result
             return Ok(Number(set.next_before(from, want, end)));
         }
         Ranges => return Ok(Runs(first_runs(set.ranges(alloc)?.as_slice()))),
+        Pages => return Ok(Are(first_pages(set))),
     }
     Ok(Done)
 }
@@ -156,12 +170,14 @@ fn play(rt: &impl Abort, alloc: Global, steps: &[(Call, Answer)]) -> Result<(), 
     Ok(())
 }
 
-const TOUCHING: [(Call, Answer); 11] = [
+const TOUCHING: [(Call, Answer); 13] = [
     (Ranges, Runs([None; 4])),
+    (Pages, Are([HIGH_PAGE; 4])),
     (Insert(0x10), Done),
     (Insert(0x11), Done),
     (Insert(0x13), Done),
     (Ranges, Runs([Some((0x10, 2)), Some((0x13, 1)), None, None])),
+    (Pages, Are([0x10, 0x11, 0x13, HIGH_PAGE])),
     (Len, Number(3)),
     (RemoveRange(0x11, 2), Done),
     (Ranges, Runs([Some((0x10, 1)), Some((0x13, 1)), None, None])),
@@ -240,12 +256,13 @@ fn runs_cross_borders(rt: HostRuntime) -> Result<(), Fail> {
 }
 
 /// The first page that may be mapped and the last, so that the list of chunks grows far.
-const FAR: [(Call, Answer); 13] = [
+const FAR: [(Call, Answer); 14] = [
     (Insert(0x10), Done),
     (Insert(0xf_ffff), Done),
     (Insert(0x1400), Done),
     (Insert(0x1400), Done),
     (Len, Number(3)),
+    (Pages, Are([0x10, 0x1400, 0xf_ffff, HIGH_PAGE])),
     (
         Ranges,
         Runs([

@@ -7,7 +7,7 @@ ghost use Rattle.mig_model.specs.Ioctls.{installed};
 ghost use Rattle.uffd_ioctl.specs.Lent.{IsLent};
 
 use crate::Space;
-use mig_base::{NoMemory, PAGE_SIZE, PageBytes, PageNo, page_address};
+use mig_base::{NoMemory, PageBytes, PageNo};
 
 /// Makes a missing page present, with zeros. `NoMemory` changes nothing.
 ///
@@ -21,10 +21,7 @@ pub fn make_zeros(space: &mut Space, page: PageNo) -> Result<(), NoMemory>
     ensures err { OnErr result (space.new ≡ space.old) }
 {
     space.is_in_order();
-    match space.zeropage(page_address(page), PAGE_SIZE, 0) {
-        Ok(_) => Ok(()),
-        Err(_) => Err(NoMemory),
-    }
+    space.install_zeros(page)
 }
 
 /// Makes a missing page present, with these bytes, which are not copied. The only error is that memory runs out; it returns the bytes

@@ -10,12 +10,12 @@ use std::marker::Model;
 /// A page fault: its page, and whether it is a write-protect fault.
 #[derive(Drop)]
 pub struct PageFault {
-    addr: Addr,
+    page: u64,
     wp: bool,
 }
 
 impl Model for PageFault {
-    ghost use Rattle.std.specs.Prelude.{◌/◌};
+    ghost use Rattle.std.specs.Prelude.{◌*◌, ◌<◌, ◌^◌};
     ghost use Rattle.mig_model.specs.Guest as machine;
     ghost use Rattle.uffd_ioctl.specs.PageFaults.{coded_fault};
 
@@ -23,7 +23,9 @@ impl Model for PageFault {
 
     ghost coded = { coded_fault };
 
-    ghost view = { λ fault. record { page = fault.addr / 4096; wp = fault.wp } };
+    ghost view = { λ fault. record { page = fault.page; wp = fault.wp } };
+
+    ghost invariant = { λ fault. 4096 * fault.page < 2 ^ 64 };
 }
 
 impl PageFault {
@@ -33,7 +35,10 @@ impl PageFault {
     pub fn new(addr: Addr, wp: bool) -> Self
         ensures { result ≡ record { page = addr / 4096; wp = wp } }
     {
-        PageFault { addr, wp }
+        PageFault {
+            page: addr / PAGE_SIZE,
+            wp,
+        }
     }
 
     /// An equal fault.
@@ -41,7 +46,7 @@ impl PageFault {
         ensures { result ≡ self.now }
     {
         PageFault {
-            addr: self.addr,
+            page: self.page,
             wp: self.wp,
         }
     }
@@ -50,14 +55,14 @@ impl PageFault {
     pub fn page(&self) -> u64
         ensures { result ≡ self.now.page }
     {
-        self.addr / PAGE_SIZE
+        self.page
     }
 
     /// The address at which its page begins.
     pub fn addr(&self) -> Addr
         ensures { result ≡ 4096 * self.now.page }
     {
-        self.addr - self.addr % PAGE_SIZE
+        self.page * PAGE_SIZE
     }
 
     /// Whether the page was write-protected. Otherwise it was missing.

@@ -175,8 +175,8 @@ impl Cpus {
         Ok(handed_over)
     }
 
-    /// Wakes the processors that sleep on `page`.
-    pub fn wake_page(&mut self, page: PageNo)
+    /// Wakes the processors that sleep on the page of this number, which may lie past the address space.
+    pub fn wake_page(&mut self, page: u64)
         ensures { self.new ≡ all_woken (λ q. q == page) self.old }
     {
         self.wake(Sleepers::OnPage(page));

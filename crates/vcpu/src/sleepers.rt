@@ -1,17 +1,17 @@
 //! Whom a call wakes.
 
-ghost use Rattle.std.specs.Prelude.{◌≡◌, ◌+◌, ◌/◌};
+ghost use Rattle.std.specs.Prelude.{◌≡◌};
 ghost use Rattle.mig_base.specs.Commands.{page_of};
 ghost use Rattle.mig_model.specs.Cpus.{woken_if, all_woken};
 
 use mig_base::cpu_state::CpuState;
-use mig_base::{Addr, Command, PAGE_SIZE, PageNo};
+use mig_base::{Addr, Command, PAGE_SIZE, end_page};
 
 /// The processors that sleep on some pages.
 #[derive(Clone, Copy)]
 pub enum Sleepers {
-    /// On this page.
-    OnPage(PageNo),
+    /// On the page of this number, which may lie past the address space.
+    OnPage(u64),
     /// On a page from that of address `start` up to, but not including, that of address `end`.
     Between { start: Addr, end: Addr },
     /// On a page from that of address `start` up to, but not including, that of `start + len`. `len` is in bytes.
@@ -28,7 +28,7 @@ impl Sleepers {
         ensures { result ≡ are_woken self page }
     {
         match self {
-            Sleepers::OnPage(woken) => page == u64::from(woken),
+            Sleepers::OnPage(woken) => page == woken,
             Sleepers::Between { start, end } => start / PAGE_SIZE <= page && page < end / PAGE_SIZE,
             Sleepers::Span { start, len } => start / PAGE_SIZE <= page
                 && page < end_page(start, len),
@@ -54,13 +54,6 @@ impl Sleepers {
             *processor = self.wake_one(*processor);
         }
     }
-}
-
-/// The page of `start + len`, also if that lies past the greatest address.
-fn end_page(start: Addr, len: u64) -> u64
-    ensures { result ≡ (start + len) / 4096 }
-{
-    start / PAGE_SIZE + len / PAGE_SIZE + (start % PAGE_SIZE + len % PAGE_SIZE) / PAGE_SIZE
 }
 
 /// The page of a load or a store, at any address. 0 for a map call, in which no processor sleeps on a page.

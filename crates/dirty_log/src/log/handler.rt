@@ -17,7 +17,7 @@ use crate::sets::remove_changed;
 use crate::spaces::{act_of, unprotect};
 use mig_base::effect::Effect;
 use mig_base::refusal::Refusal;
-use mig_base::{Addr, Message, NoMemory, PAGE_SIZE, PageNo};
+use mig_base::{Addr, Message, NoMemory, PageNo};
 use uffd_ioctl::{PageFault, Space, make_zeros};
 use vcpu::Cpus;
 
@@ -90,7 +90,7 @@ impl DirtyLog {
             Act::Woke | Act::Forgot => {}
         }
         self.held.pop_front();
-        cpus.wake_span(addr, PAGE_SIZE);
+        cpus.wake_page(page);
         Ok((act, addr))
     }
 }

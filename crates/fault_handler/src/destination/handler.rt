@@ -89,6 +89,7 @@ impl Destination {
     {
         let fault = self.next_fault()?;
         let act = Act::of(&self.space, &self.owed, &fault);
+        let page = fault.page();
         let addr = fault.addr();
         match act {
             Act::Requested(origin) => {
@@ -97,14 +98,14 @@ impl Destination {
                 return Ok((act.effect(addr), request));
             }
             Act::Zeroed => {
-                let Ok(()) = make_zeros(&mut self.space, fault.page() as PageNo) else {
+                let Ok(()) = make_zeros(&mut self.space, page as PageNo) else {
                     return Err(Refusal::NoMemory);
                 };
             }
             Act::Woke | Act::Forgot => {}
         }
         self.held.pop_front();
-        self.cpus.wake_span(addr, PAGE_SIZE);
+        self.cpus.wake_page(page);
         Ok((act.effect(addr), None))
     }
 

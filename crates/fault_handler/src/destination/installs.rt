@@ -52,7 +52,7 @@ impl Destination {
         put_first(&mut self.arrivals, &mut self.space, page)?;
         self.owed.settle(origin);
         self.requests.end(origin);
-        self.cpus.wake_page(page);
+        self.cpus.wake_page(u64::from(page));
         self.installed = self.installed.saturating_add(1);
         Ok(Effect::Installed {
             addr: page_address(page),

@@ -21,7 +21,7 @@ use crate::register::registered;
 use mig_base::flags::{
     ALL_FEATURES, API, COPY_WP_BIT, INSTALL_DONTWAKE_BIT, WRITEPROTECT_WP_BIT, has_bit,
 };
-use mig_base::{Addr, Errno, HIGH_PAGE, Message, PageBytes, PageNo, Run, Wake};
+use mig_base::{Addr, Errno, HIGH_PAGE, Message, NoMemory, PageBytes, PageNo, Run, Wake};
 use userfault::Mode;
 
 impl Space {
@@ -164,6 +164,24 @@ impl Space {
         if let Err((_, bytes)) = self.pages.put(page, bytes) {
             return Err(bytes);
         }
+        self.pages.has_whole_pages();
+        Ok(())
+    }
+
+    /// UFFDIO_ZEROPAGE, with mode 0, of one missing page that is registered, while the object is enabled and no event is unread: makes
+    /// the page present, with zeros. The call itself wakes nobody. `NoMemory` is the only error, and changes nothing.
+    pub(crate) fn install_zeros(&mut self, page: PageNo) -> Result<(), NoMemory>
+        requires enabled { self.old.object.enabled ≡ true }
+        requires quiet { object.changing self.old.object ≡ 0 }
+        requires page { IsPage page }
+        requires registered { object.is_registered self.old.object page ≡ true }
+        requires missing { contains_key self.old.host.bytes page ≡ false }
+        ensures ok { OnOk result (self.new ≡ table.installed self.old page 1 (λ i. zero_page) false) }
+        ensures err { OnErr result (self.new ≡ self.old) }
+    {
+        let Ok(()) = self.pages.put_zero(page) else {
+            return Err(NoMemory);
+        };
         self.pages.has_whole_pages();
         Ok(())
     }

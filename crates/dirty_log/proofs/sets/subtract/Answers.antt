@@ -1,25 +1,35 @@
-use Rattle.std.proofs.Common.{◌∙◌, ◌&&◌, ◌-◌, ap, not, sym}
+use Rattle.std.proofs.Common.{◌∙◌, ◌&&◌, ap, not, sym}
 use Rattle.std.specs.FinSet.{contains}
 use Rattle.mig_base.specs.Ranges.{in_range}
 use Rattle.mig_base.proofs.SetLemmas.{same_members, member_without}
-use Rattle.dirty_log.proofs.PageLemmas.{all_taken, member_kept, more_taken}
+use Rattle.mig_base.proofs.Taken.{all_left, all_taken, none_taken, part_run, taken_run}
+use Rattle.dirty_log.proofs.PageLemmas.{member_kept, more_out, none_out_yet}
 use Rattle.dirty_log.proofs.sets.subtract.Goals as goal
 
-pub loop-at-preserved : goal.loop-at-preserved
-loop-at-preserved c =
-    let at = c.loop-at.at in
-    let end = c.next-end.result in
-    let next = c.next-at-in-loop-at.result in
+pub loop-run-init : goal.loop-run-init
+loop-run-init c =
+    let all = c.into_iter-run-iterator.ensures.into_iter_gives ∙ c.runs-run-items.ensures in
+    record { part = all_left c.args.other.now _ all; out = λ q. none_out_yet (contains c.args.pages.now q) _ (none_taken c.args.other.now _ all q) }
+
+pub remove_range-requires : goal.remove_range-requires
+remove_range-requires c = c.in-Some.ensures.steps.0.high
+
+pub loop-run-preserved : goal.loop-run-preserved
+loop-run-preserved c =
+    let steps = c.in-Some.ensures.steps in
+    let run = c.in-Some.run' in
+    let other = c.args.other.now in
+    let left = c.loop-run.run-iterator in
+    let rest = c.next.new.self in
     record {
-      bound = c.next-at-in-loop-at.ensures.range.1;
+      part = part_run other left rest run steps.0 steps.1 c.loop-run.invariant.part;
       out = λ q.
-          ap (λ s. contains s q) c.remove_range.ensures ∙ member_without c.loop-at.pages at (end - at) q ∙ ap (λ b. b && not (in_range at (end - at) q)) (c.loop-at.invariant.out q)
-          ∙ more_taken q at end next (contains c.args.pages.now q) (contains c.args.other.now q) c.next-end.ensures.range.0 c.next-at-in-loop-at.ensures.range.0 (c.next-end.ensures.before q) (c.next-at-in-loop-at.ensures.before q);
-      here = c.next-at-in-loop-at.ensures.here;
+          ap (λ s. contains s q) c.remove_range.ensures ∙ member_without c.loop-run.pages run.first run.count q ∙ ap (λ b. b && not (in_range run.first run.count q)) (c.loop-run.invariant.out q)
+          ∙ more_out (contains c.args.pages.now q) _ _ _ (taken_run other left rest run steps.0 steps.1 c.loop-run.invariant.part q);
     }
 
 pub returns : goal.returns
 returns c =
     same_members _ _
-    (λ q. c.loop-at.invariant.out q ∙ all_taken q c.loop-at.at (contains c.args.pages.now q) (contains c.args.other.now q) c.loop-at-test.false (c.ends_by_high_page.ensures q)
+    (λ q. c.loop-run.invariant.out q ∙ ap (λ b. contains c.args.pages.now q && not b) (all_taken c.args.other.now c.loop-run.run-iterator q c.in-None.ensures.steps.0)
     ∙ sym (member_kept c.args.pages.now (contains c.args.other.now) q))

@@ -1,16 +1,35 @@
-use Rattle.std.proofs.Common.{sym}
-use Rattle.fault_handler.proofs.TornLemmas.{all_mapped, mapped_more, unmapped_in}
+use Rattle.std.proofs.Common.{◌∙◌, ap, not, sym}
+use Rattle.std.specs.FinMap.{contains_key}
+use Rattle.std.proofs.lemmas.Bool.{false≢true}
+use Rattle.mig_base.proofs.Taken.{all_left, all_taken, each_more, none_taken, part_run, run_is, taken_run}
+use Rattle.fault_handler.proofs.TornLemmas.{has_none_from, mapped_in, unmapped_in}
 use Rattle.fault_handler.proofs.kept.are_mapped.Goals as goal
 
-pub returns-then-mapped_in-end : goal.returns-then-mapped_in-end
-returns-then-mapped_in-end c = sym (unmapped_in c.args.pages.now c.args.areas.now c.loop-at.at c.next-end.result c.mapped_in.result c.next-end.ensures.before c.mapped_in.ensures c.if-mapped_in-end.true)
+pub loop-run-init : goal.loop-run-init
+loop-run-init c =
+    let all = c.into_iter-run-iterator.ensures.into_iter_gives ∙ c.runs-run-items.ensures in
+    record { part = all_left c.args.pages.now _ all; mapped = λ q h. absurd (false≢true (sym (none_taken c.args.pages.now _ all q) ∙ h)) }
 
-pub loop-at-preserved : goal.loop-at-preserved
-loop-at-preserved c = record {
-  bound = c.next-at-in-loop-at.ensures.range.1;
-  mapped = mapped_more c.args.pages.now c.args.areas.now c.loop-at.at c.next-end.result c.next-at-in-loop-at.result c.mapped_in.result c.next-end.ensures.range.0 c.if-mapped_in-end.false c.mapped_in.ensures c.next-at-in-loop-at.ensures.before c.loop-at.invariant.mapped;
-  here = c.next-at-in-loop-at.ensures.here;
-}
+pub mapped_in-requires : goal.mapped_in-requires
+mapped_in-requires c = c.in-Some.ensures.steps.0.high
+
+pub returns-then-mapped_in-count : goal.returns-then-mapped_in-count
+returns-then-mapped_in-count c =
+    let steps = c.in-Some.ensures.steps in
+    sym (unmapped_in c.args.pages.now c.args.areas.now c.in-Some.run' c.mapped_in.result c.mapped_in.ensures (run_is c.args.pages.now c.loop-run.run-iterator c.next.new.self c.in-Some.run' steps.0 steps.1 c.loop-run.invariant.part) c.if-mapped_in-count.true)
+
+pub loop-run-preserved : goal.loop-run-preserved
+loop-run-preserved c =
+    let steps = c.in-Some.ensures.steps in
+    let run = c.in-Some.run' in
+    let pages = c.args.pages.now in
+    let left = c.loop-run.run-iterator in
+    let rest = c.next.new.self in
+    record {
+      part = part_run pages left rest run steps.0 steps.1 c.loop-run.invariant.part;
+      mapped = λ q. each_more _ _ _ (taken_run pages left rest run steps.0 steps.1 c.loop-run.invariant.part q) (c.loop-run.invariant.mapped q) (mapped_in pages c.args.areas.now run c.mapped_in.result c.mapped_in.ensures c.if-mapped_in-count.false q);
+    }
 
 pub returns : goal.returns
-returns c = sym (all_mapped c.args.pages.now c.args.areas.now c.loop-at.at c.loop-at-test.false c.ends_by_high_page.ensures c.loop-at.invariant.mapped)
+returns c =
+    sym (has_none_from c.args.pages.now (λ page. not (contains_key c.args.areas.now page)) (λ q here. ap not (c.loop-run.invariant.mapped q (all_taken c.args.pages.now c.loop-run.run-iterator q c.in-None.ensures.steps.0 ∙ here))))

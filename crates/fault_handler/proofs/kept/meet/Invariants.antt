@@ -1,14 +1,10 @@
-use Rattle.std.proofs.Common.{◌≡◌, ℕ, ◌-◌, ◌<◌, ◌≤◌, true, false}
+use Rattle.std.proofs.Common.{◌≡◌, ℕ, true, false}
 use Rattle.std.specs.FinSet.{contains}
-use Rattle.mig_base.specs.declared.TheConstants.{HIGH_PAGE}
+use Rattle.mig_base.proofs.Taken.{IsPart, taken}
 use Rattle.fault_handler.proofs.kept.meet.Given as goal
 
-abbrev pub invariant-loop-at : goal.invariant-loop-at
-invariant-loop-at l = record {
-  bound : l.at ≤ HIGH_PAGE;
-  apart : (q : ℕ) → q < l.at → contains l.one q ≡ true → contains l.other q ≡ false;
-  here : l.at < HIGH_PAGE → contains l.one l.at ≡ true;
+abbrev pub invariant-loop-run : goal.invariant-loop-run
+invariant-loop-run l = record {
+  part : IsPart l.one l.run-iterator;
+  apart : (q : ℕ) → taken l.one l.run-iterator q ≡ true → contains l.other q ≡ false;
 }
-
-abbrev pub decreases-loop-at : goal.decreases-loop-at
-decreases-loop-at l = 1048576 - l.at

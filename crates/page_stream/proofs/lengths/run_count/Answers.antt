@@ -1,18 +1,18 @@
-use Rattle.std.proofs.Common.{arith}
-use Rattle.page_stream.proofs.LengthLemmas.{few_runs, runs_all, runs_begin, runs_more}
+use Rattle.std.proofs.Common.{◌≡◌, ◌+◌, ◌∙◌, ap, sym, arith}
+use Rattle.mig_model.specs.Lengths.{run_count}
+use Rattle.page_stream.proofs.RunTexts.{few_runs, none_counted, one_more_run}
 use Rattle.page_stream.proofs.lengths.run_count.Goals as goal
 
-pub loop-first-init : goal.loop-first-init
-loop-first-init c = runs_begin c.args.pages.now c.next-first.result c.next-first.ensures.range.1 c.next-first.ensures.before c.next-first.ensures.here
+pub loop-run-init : goal.loop-run-init
+loop-run-init c = omega (arith, ap run_count (c.into_iter-run-iterator.ensures.into_iter_gives ∙ c.runs-run-items.ensures))
 
 pub overflow_add-count : goal.overflow_add-count
-overflow_add-count c = let few = few_runs c.args.pages.now c.loop-first.first c.loop-first.count c.loop-first.invariant in omega arith
+overflow_add-count c = let few = few_runs c.args.pages.now in omega (arith, few, c.loop-run.invariant)
 
-pub loop-first-preserved : goal.loop-first-preserved
-loop-first-preserved c =
-    runs_more c.args.pages.now c.loop-first.first c.next-end.result c.next-first-in-loop-first.result c.loop-first.count c.loop-first.invariant c.loop-first-test.true
-    c.next-end.ensures.range.0 c.next-end.ensures.range.1 c.next-end.ensures.before c.next-end.ensures.here
-    c.next-first-in-loop-first.ensures.range.0 c.next-first-in-loop-first.ensures.range.1 c.next-first-in-loop-first.ensures.before c.next-first-in-loop-first.ensures.here
+pub loop-run-preserved : goal.loop-run-preserved
+loop-run-preserved c =
+    let steps = c.in-Some.ensures.steps in
+    omega (arith, c.loop-run.invariant, one_more_run c.loop-run._run-iterator c.next.new.self _ steps.0 steps.1)
 
 pub returns : goal.returns
-returns c = runs_all c.args.pages.now c.loop-first.first c.loop-first.count c.loop-first-test.false c.loop-first.invariant
+returns c = omega (arith, c.loop-run.invariant, none_counted c.loop-run._run-iterator c.in-None.ensures.steps.0)

@@ -1,15 +1,25 @@
-use Rattle.std.proofs.Common.{◌<◌, arith, subst, sym}
-use Rattle.rig.proofs.RemainingLemmas.{AreBelow, one_more}
+use Rattle.std.proofs.Common.{◌∙◌, subst, sym}
+use Rattle.mig_base.proofs.Taken.{all_left, all_taken, none_taken, not_taken, part_page, taken, taken_page}
+use Rattle.rig.proofs.RemainingLemmas.{AreListed, listed_all, none_listed, one_more}
 use Rattle.rig.proofs.remaining.listed.Goals as goal
 
-pub loop-next-preserved : goal.loop-next-preserved
-loop-next-preserved c =
-    let at = c.loop-next.next in
-    let next = c.next-next-in-loop-next.result in
-    let less : at < next = omega (arith, c.next-next-in-loop-next.ensures.range) in
+pub loop-page-init : goal.loop-page-init
+loop-page-init c =
+    let all = c.into_iter-page-iterator.ensures.into_iter_gives ∙ c.iter-page-items.ensures in
+    record { part = all_left c.args.set.now _ all; listed = subst (AreListed _) (sym c.in_ok-pages.ensures.items) (none_listed _ (none_taken c.args.set.now _ all)) }
+
+pub loop-page-preserved : goal.loop-page-preserved
+loop-page-preserved c =
+    let steps = c.in-Some.ensures.steps in
+    let page = c.in-Some.page in
+    let set = c.args.set.now in
+    let left = c.loop-page.page-iterator in
+    let rest = c.next.new.self in
     record {
-      bound = c.next-next-in-loop-next.ensures.range.1;
-      below = subst (AreBelow c.args.set.now next) (sym c.in_ok-push.ensures.items)
-          (one_more c.args.set.now at next c.loop-next.pages.items c.loop-next.invariant.below (c.loop-next.invariant.here c.loop-next-test.true) less c.next-next-in-loop-next.ensures.before);
-      here = c.next-next-in-loop-next.ensures.here;
+      part = part_page set left rest page steps.0 steps.1 c.loop-page.invariant.part;
+      listed = subst (AreListed (taken set rest)) (sym c.in_ok-push.ensures.items)
+          (one_more (taken set left) (taken set rest) page c.loop-page.pages.items c.loop-page.invariant.listed (taken_page set left rest page steps.0 steps.1 c.loop-page.invariant.part) (not_taken set left page steps.0.here));
     }
+
+pub returns : goal.returns
+returns c = listed_all c.args.set.now _ c.loop-page.pages.items c.loop-page.invariant.listed (λ q. all_taken c.args.set.now c.loop-page.page-iterator q c.in-None.ensures.steps.0)

@@ -58,7 +58,7 @@ invariant_of-self-2 c = elim c.match-act.branch [
   | in-Zeroed+in-Ok w ↦
       let quiet : changing c.self.inside.space.object ≡ 0 = ap (λ (n : Destination). changing n.guest.space.object) c.self.view_is ∙ (first c).quiet in
       let nothing = (missing_at c.args.self.now (the_view c.self.inside) c.in_ok-fault.fault c.self.view_is (sym (resolves c) ∙ ap act_is w.in-Zeroed.is)).nothing in
-      rw w.self-inside-is (zeroed_order _ c.self.inside.space _ c.self.inside.owed c.in_ok-fault.fault.page quiet nothing (w.in-Ok.ensures.ok ∙ ap (zero_installed c.self.inside.space) w.page.ensures) c.self.invariant.0, c.self.invariant.1)
+      rw w.self-inside-is (zeroed_order _ c.self.inside.space _ c.self.inside.owed c.in_ok-fault.fault.page quiet nothing (w.in-Ok.ensures.ok ∙ ap (zero_installed c.self.inside.space) c.page-page.ensures) c.self.invariant.0, c.self.invariant.1)
   | in-Woke w ↦ rw w.self-inside-is c.self.invariant
 ]
 
@@ -71,10 +71,10 @@ returns-clause-made c =
       | in-Zeroed+in-Ok w ↦
           let zeroed = ap act_is w.in-Zeroed.is in
           act_done node _ c.effect-2.result [] fault machine.Act.Zeroed next (sym zeroed ∙ resolves c) (reported c machine.Act.Zeroed zeroed) refl
-          (zeroed_is node (the_view c.match-act.self-inside) w.make_zeros.new.space c.wake_span.new.self c.pop_front-2.new.self.items c.addr-addr.result fault.page
-          (ap the_view w.self-inside-is ∙ ap (λ (n : Destination). record n { guest = record n.guest { space = w.make_zeros.new.space } }) c.self.view_is) c.addr-addr.ensures
-          (w.in-Ok.ensures.ok ∙ ap (λ (n : Destination). zero_installed n.guest.space w.page.result) c.self.view_is ∙ ap (zero_installed node.guest.space) w.page.ensures)
-          c.wake_span.ensures c.pop_front-2.ensures.rest)
+          (zeroed_is node (the_view c.match-act.self-inside) w.make_zeros.new.space c.wake_page.new.self c.pop_front-2.new.self.items c.page-page.result fault.page
+          (ap the_view w.self-inside-is ∙ ap (λ (n : Destination). record n { guest = record n.guest { space = w.make_zeros.new.space } }) c.self.view_is) c.page-page.ensures
+          (w.in-Ok.ensures.ok ∙ ap (λ (n : Destination). zero_installed n.guest.space c.page-page.result) c.self.view_is ∙ ap (zero_installed node.guest.space) c.page-page.ensures)
+          c.wake_page.ensures c.pop_front-2.ensures.rest)
       | in-Woke w ↦
           ⊎_elim (λ (is : c.of-act.result ≡ Act.Woke). woken c machine.Act.Woke (ap act_is is) (inl refl) (ap the_view w.self-inside-is ∙ c.self.view_is) refl)
           (λ (is : c.of-act.result ≡ Act.Forgot). woken c machine.Act.Forgot (ap act_is is) (inr refl) (ap the_view w.self-inside-is ∙ c.self.view_is) refl) w.in-Woke.is
@@ -85,10 +85,10 @@ returns-clause-made c =
 
     woken : (c : goal.After-effect-2) (act : machine.Act) → act_is c.of-act.result ≡ act → (act ≡ machine.Act.Woke) ⊎ (act ≡ machine.Act.Forgot) → the_view c.match-act.self-inside ≡ c.args.self.now → [] ≡ act_frames act c.args.self.now →
         step.act c.args.self.now ≡ sent c.effect-2.result []
-        (record (the_view c.match-act.self-inside) { guest = record { space = c.match-act.self-inside.space; cpus = c.wake_span.new.self }; held = c.pop_front-2.new.self.items })
+        (record (the_view c.match-act.self-inside) { guest = record { space = c.match-act.self-inside.space; cpus = c.wake_page.new.self }; held = c.pop_front-2.new.self.items })
     woken c act is which same sends =
         act_done c.args.self.now _ c.effect-2.result [] c.in_ok-fault.fault act (sym c.next_fault.ensures ∙ c.in_ok-fault.was) (sym is ∙ resolves c) (reported c act is) sends
-        (woken_is c.args.self.now (the_view c.match-act.self-inside) c.wake_span.new.self c.pop_front-2.new.self.items c.addr-addr.result c.in_ok-fault.fault.page act same c.addr-addr.ensures c.wake_span.ensures c.pop_front-2.ensures.rest which)
+        (woken_is c.args.self.now (the_view c.match-act.self-inside) c.wake_page.new.self c.pop_front-2.new.self.items c.page-page.result c.in_ok-fault.fault.page act same c.page-page.ensures c.wake_page.ensures c.pop_front-2.ensures.rest which)
 
 pub returns-clause-zeroed : goal.returns-clause-zeroed
 returns-clause-zeroed c page is =

@@ -1,15 +1,10 @@
-use Rattle.std.proofs.Common.{◌≡◌, ℕ, ◌-◌, ◌<◌, ◌≤◌, ◌&&◌, ltb, true, cond, None}
+use Rattle.std.proofs.Common.{◌≡◌, ℕ, cond, None}
 use Rattle.std.specs.FinMap.{get}
-use Rattle.std.specs.FinSet.{contains}
-use Rattle.mig_base.specs.declared.TheConstants.{HIGH_PAGE}
+use Rattle.mig_base.proofs.Taken.{IsPart, taken}
 use Rattle.fault_handler.proofs.kept.Kept.discard.Given as goal
 
-abbrev pub invariant-loop-at : goal.invariant-loop-at
-invariant-loop-at l = record {
-  bound : l.at ≤ HIGH_PAGE;
-  out : (q : ℕ) → get l.self q ≡ cond (ltb q l.at && contains l.pages q) None (get l.fn.self q);
-  here : l.at < HIGH_PAGE → contains l.pages l.at ≡ true;
+abbrev pub invariant-loop-run : goal.invariant-loop-run
+invariant-loop-run l = record {
+  part : IsPart l.pages l.run-iterator;
+  out : (q : ℕ) → get l.self q ≡ cond (taken l.pages l.run-iterator q) None (get l.fn.self q);
 }
-
-abbrev pub decreases-loop-at : goal.decreases-loop-at
-decreases-loop-at l = 1048576 - l.at
