@@ -48,12 +48,12 @@ def imports(text):
 
 
 def contracts(text):
-    """The contracts of public functions, and the types that callers see."""
+    """The contracts of public functions and of iterators, and the types that callers see."""
     inside = False
     for line in text.splitlines():
         if re.match(r'\s*pub (const )?(extern "C" )?fn ', line):
             inside = True
-        if inside or "ghost Value" in line:
+        if inside or "ghost Value" in line or "ghost next_gives" in line:
             # (a clause may have a name of its own, which is no definition)
             yield re.sub(r"\b(requires|ensures) \w+ \{", "{", line)
         if re.match(r"\s*\{\}?\s*$", line) or line.endswith(" {}"):

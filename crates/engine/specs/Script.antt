@@ -35,9 +35,9 @@ printed Lines old outcome new = outcome_line outcome
 printed Transcript old outcome new = entry_lines (gained old new)
 
 -- the output of an order for progress
-abbrev pub told : Mode → WorldState → List ℕ
-told Lines state = progress_line (progress_in state)
-told Transcript state = []
+abbrev pub reported : Mode → WorldState → List ℕ
+reported Lines state = progress_line (progress_in state)
+reported Transcript state = []
 
 -- a step's effect on a world, and its output
 abbrev pub Makes : Mode → WorldState → Step → WorldState → List ℕ → Type 0
@@ -46,7 +46,7 @@ Makes mode old step new text = (outcome : Outcome) × Answered old step outcome 
 -- the same for the step of an order; an order for progress has none, and changes nothing
 abbrev pub MakesAny : Mode → WorldState → Option Step → WorldState → List ℕ → Type 0
 MakesAny mode old (Some step) new text = Makes mode old step new text
-MakesAny mode old None new text = (new ≡ old) × (text ≡ told mode old)
+MakesAny mode old None new text = (new ≡ old) × (text ≡ reported mode old)
 
 -- nothing changed, or the step was made
 abbrev pub MakesOrNot : Mode → WorldState → Step → WorldState → Type 0

@@ -5,7 +5,7 @@ ghost use Rattle.std.specs.Io.KnownBytes.{Appends};
 ghost use Rattle.engine.specs.declared.fault.RunFault.TheVariants.{WriteFault, NoMemory as OutOfMemory};
 ghost use Rattle.grammar.specs.declared.line.Language.TheVariants.{Script as AScript, Transcript as ATranscript};
 ghost use Rattle.grammar.specs.declared.line.Line.TheVariants.{Do, Enter};
-ghost use Rattle.engine.specs.Script.{entry_lines, told, Makes, Obeys, MakesOrNot, ObeysOrNot};
+ghost use Rattle.engine.specs.Script.{entry_lines, reported, Makes, Obeys, MakesOrNot, ObeysOrNot};
 ghost use Rattle.engine.specs.Engine.{Running, Keeping, Gathered, coded_gathered, work_of, language_of as language_of_work, kept_entries, world_of, Takes, Made, MakeFault, Leaves, Loses, Front};
 ghost use Rattle.engine.specs.WorldState.{first_state, progress_in};
 
@@ -103,7 +103,7 @@ pub fn progress(world: &World) -> Progress
 
 /// Replaces a text by the mode's output for the progress of a world.
 fn report_progress(world: &World, mode: Mode, text: &mut String) -> Result<(), RunFault>
-    ensures ok { OnOk result (string_bytes text.new ≡ told mode world.now) }
+    ensures ok { OnOk result (string_bytes text.new ≡ reported mode world.now) }
     ensures fault { IfErr result (λ fault. fault ≡ OutOfMemory) }
 {
     text.clear();

@@ -2,7 +2,7 @@
 
 ghost use Rattle.std.specs.Prelude.{◌≡◌, ◌<◌, ◌++◌, [], OnOk, string_bytes};
 ghost use Rattle.engine.specs.declared.line_runner.Mode.TheVariants.{Lines};
-ghost use Rattle.engine.specs.Script.{Makes, Obeys, told};
+ghost use Rattle.engine.specs.Script.{Makes, Obeys, reported};
 ghost use Rattle.explore.specs.Explorations.{IsComment, Adds, MakesIt, tail};
 
 use crate::course::Memo;
@@ -140,7 +140,7 @@ fn make_step(world: &mut World, step: Step, answer: &mut String) -> Result<Optio
 
 /// Replaces a text by the report of a world's progress.
 fn report_progress(world: &World, answer: &mut String) -> Result<(), RunFault>
-    ensures { OnOk result (string_bytes answer.new ≡ told Lines world.now) }
+    ensures { OnOk result (string_bytes answer.new ≡ reported Lines world.now) }
 {
     answer.clear();
     print_progress(answer, progress(world))?;

@@ -17,7 +17,7 @@ use Rattle.mig_base.proofs.BoundLemmas.{one_prot_some}
 use Rattle.mig_base.proofs.RangeLemmas.{none_below-from, none_below_tells}
 use Rattle.mig_base.proofs.ReplyLemmas.{done_passed, mmap_inside, mremap_told}
 use Rattle.mig_model.specs.Host.{Host, IsSound, memory}
-use Rattle.mig_model.specs.Space.{IsSoundSpace, Space, all_queued, call_messages, told}
+use Rattle.mig_model.specs.Space.{IsSoundSpace, Space, all_queued, call_messages, message_if}
 use Rattle.mig_base.specs.Userfault.{Noted, Object, is_registered, is_watched}
 use Rattle.mig_model.proofs.CalledLemmas.{IsLaid, remapped_laid}
 use Rattle.mig_model.proofs.CommandLemmas.{remapped_place}
@@ -37,7 +37,7 @@ all_append : (a b : List Message) → AllInside a → AllInside b → AllInside 
 all_append [] b one two = two
 all_append (message ∷ a) b one two = (one.0, all_append a b one.1 two)
 
-all_told : (reason : Bool) (message : Message) → (reason ≡ true → LiesInside message) → AllInside (told reason message)
+all_told : (reason : Bool) (message : Message) → (reason ≡ true → LiesInside message) → AllInside (message_if reason message)
 all_told true message inside = (inside refl, tt)
 all_told false message inside = tt
 
@@ -101,13 +101,13 @@ cut_lies start size low = grind (arith, nat_tests)
 tail_lies : (start few count : ℕ) → few < count → start + 4096 * count ≤ HIGH → ((start + 4096 * few) / 4096 ≤ (start + 4096 * count) / 4096) × ((start + 4096 * count) / 4096 ≤ HIGH_PAGE)
 tail_lies start few count less high = (omega (arith, less), omega (arith, high))
 
-empty_told : (space : Space) (first len : ℕ) (message : Message) → eqb len 0 ≡ true → AllInside (told (is_watched space.object first (pages_of len)) message)
+empty_told : (space : Space) (first len : ℕ) (message : Message) → eqb len 0 ≡ true → AllInside (message_if (is_watched space.object first (pages_of len)) message)
 unfolding none_below
 empty_told space first len message none = rw (eqb-true len 0 none) tt
 
-done_lies : (space : Space) (addr len : ℕ) → IsSoundSpace space → Done ≡ dontneed_reply (memory space.host) addr len → AllInside (told (is_watched space.object (addr / 4096) (pages_of len)) (Remove addr (addr + rounded len)))
+done_lies : (space : Space) (addr len : ℕ) → IsSoundSpace space → Done ≡ dontneed_reply (memory space.host) addr len → AllInside (message_if (is_watched space.object (addr / 4096) (pages_of len)) (Remove addr (addr + rounded len)))
 done_lies space addr len sound is =
-    let inside : eqb len 0 ≡ false → is_all_mapped (memory space.host) addr (rounded len) ≡ true → AllInside (told (is_watched space.object (addr / 4096) (pages_of len)) (Remove addr (addr + rounded len))) = λ some all.
+    let inside : eqb len 0 ≡ false → is_all_mapped (memory space.host) addr (rounded len) ≡ true → AllInside (message_if (is_watched space.object (addr / 4096) (pages_of len)) (Remove addr (addr + rounded len))) = λ some all.
     all_told _ _ (λ b. range_lies addr (rounded len) (range_high space.host addr (rounded len) sound.host (some_bytes len some) (λ i l none. false≢true (sym (ap is_some none) ∙ mapped_at (memory space.host) addr (rounded len) i all l)))) in
     ⊎_elim (λ (none : eqb len 0 ≡ true). empty_told space (addr / 4096) len (Remove addr (addr + rounded len)) none)
     (λ (all : is_all_mapped (memory space.host) addr (rounded len) ≡ true). by_len (eqb len 0) refl (λ some. inside some all))
@@ -119,7 +119,7 @@ done_lies space addr len sound is =
     mapped_at : (m : Memory) (addr size i : ℕ) → is_all_mapped m addr size ≡ true → i < size → is_some (m (addr + i)) ≡ true
     mapped_at m addr size i all l = not-false (is_some (m (addr + i))) (none_below_tells (λ k. not (is_mapped m (addr + k))) size i all l)
 
-    by_len : (b : Bool) → eqb len 0 ≡ b → (eqb len 0 ≡ false → AllInside (told (is_watched space.object (addr / 4096) (pages_of len)) (Remove addr (addr + rounded len)))) → AllInside (told (is_watched space.object (addr / 4096) (pages_of len)) (Remove addr (addr + rounded len)))
+    by_len : (b : Bool) → eqb len 0 ≡ b → (eqb len 0 ≡ false → AllInside (message_if (is_watched space.object (addr / 4096) (pages_of len)) (Remove addr (addr + rounded len)))) → AllInside (message_if (is_watched space.object (addr / 4096) (pages_of len)) (Remove addr (addr + rounded len)))
     by_len true is inside = empty_told space (addr / 4096) len (Remove addr (addr + rounded len)) is
     by_len false is inside = inside is
 

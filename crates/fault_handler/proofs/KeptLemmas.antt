@@ -12,6 +12,7 @@ use Rattle.mig_base.specs.declared.TheConstants.{HIGH_PAGE}
 use Rattle.mig_base.specs.Pages.{remove_range}
 use Rattle.mig_base.specs.Ranges.{in_range}
 use Rattle.mig_base.specs.Sets.{without}
+use Rattle.mig_base.proofs.TestLemmas.{cond_not}
 use Rattle.mig_base.proofs.PageLemmas.{same_pages, get-put, get-remove_range}
 use Rattle.mig_base.proofs.RangeLemmas.{ranges}
 use Rattle.mig_base.proofs.SetLemmas.{same_members, member_inserted, member_removed, member_without}

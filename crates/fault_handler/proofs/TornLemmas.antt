@@ -85,7 +85,7 @@ module _ (pages : FinSet nat_cmp) (areas : FinMap nat_cmp Prot) (run : PageRun) 
       let found = one_left_out (λ i. contains_key areas (run.first + i)) run.count (omega arith) in
       has_some pages (λ page. not (contains_key areas page)) (run.first + found.0) (inside (run.first + found.0) (in_range-true run.first run.count (run.first + found.0) (omega arith) (omega (arith, found.1)))) (ap not found.2)
 
-  -- the pages of a run are mapped, where so many are
+  -- the pages of a run are mapped, where none is missing from the count
   pub mapped_in : run.count ≤ count → (q : ℕ) → in_range run.first run.count q ≡ true → contains_key areas q ≡ true
   mapped_in all q within =
       let bounds = in_range_bounds run.first run.count q within in

@@ -12,7 +12,7 @@ use Rattle.engine.specs.declared.line_runner.Mode.{Mode}
 use Rattle.engine.specs.declared.line_runner.Mode.TheVariants.{Lines}
 use Rattle.engine.specs.declared.fault.RunFault.{RunFault}
 use Rattle.engine.specs.declared.fault.RunFault.TheVariants as faults
-use Rattle.engine.specs.Script.{told, MakesAny, Runs, StopsBy}
+use Rattle.engine.specs.Script.{reported, MakesAny, Runs, StopsBy}
 use Rattle.engine.specs.Engine.{Work, Running, Works, Outputs, ReadsAll, language_of, world_of}
 use Rattle.engine.specs.WorldState.{WorldState, epoch_in}
 use Rattle.finishing.specs.declared.ending.Ending.{Ending}
@@ -22,7 +22,7 @@ use Rattle.finishing.specs.Finished.{Ends, Fails, LeadsTo, Finishes, Stops}
 
 -- what an order does, it does whatever is printed of it
 any_lines : (mode : Mode) (old : WorldState) (made : Option Step) (new : WorldState) (text : List ℕ) → MakesAny mode old made new text → (out : List ℕ) × MakesAny Lines old made new out
-any_lines mode old None new text p = (told Lines old, (p.0, refl))
+any_lines mode old None new text p = (reported Lines old, (p.0, refl))
 any_lines mode old (Some step) new text p = (outcome_line p.0, (p.0, p.1, refl))
 
 works_run : (mode : Mode) (old : WorldState) (lines : List Line) (new : Work) (text : List ℕ) → Works (Running mode old) lines new text → (end : WorldState) × (out : List ℕ) × (new ≡ Running mode end) × Runs Lines old lines end out

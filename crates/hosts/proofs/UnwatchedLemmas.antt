@@ -20,7 +20,7 @@ use Rattle.mig_base.proofs.RangeLemmas.{none_below-from}
 use Rattle.mig_base.proofs.SetLemmas.{same_members, member_without, member_below}
 use Rattle.mig_model.specs.Host.{Host, memory, host_after, IsSound}
 use Rattle.mig_base.specs.Userfault.{fresh_object, is_registered, is_watched}
-use Rattle.mig_model.specs.Space.{Space, access_of, accessed_by, accessed, is_made, told, call_messages, modes_after, protected_after, all_queued, called_with, called}
+use Rattle.mig_model.specs.Space.{Space, access_of, accessed_by, accessed, is_made, message_if, call_messages, modes_after, protected_after, all_queued, called_with, called}
 use Rattle.mig_base.specs.Commands.{is_store, page_of, is_access}
 use Rattle.mig_model.proofs.CommandLemmas.{memory-changed}
 use Rattle.mig_model.proofs.SpaceLemmas.{IsSoundSpace-accessed, IsSoundSpace-called, no_member}
@@ -109,7 +109,7 @@ modes_fresh (Mremap addr old_len new_len may_move fixed) (At target) = same_sets
 modes_fresh (DontNeed addr len) reply = refl
 modes_fresh command reply = refl
 
-unheard : (due : Bool) (first count : ℕ) (message : Message) → told (due && is_watched fresh_object first count) message ≡ []
+unheard : (due : Bool) (first count : ℕ) (message : Message) → message_if (due && is_watched fresh_object first count) message ≡ []
 unheard due first count message = untold _ message (ap (λ b. due && b) (no_watch first count) ∙ and_false due)
 
 three_none : (a b c : List Message) → a ≡ [] → b ≡ [] → c ≡ [] → (a ++ b ++ c) ≡ []

@@ -13,7 +13,7 @@ use Rattle.mig_base.proofs.ReplyLemmas.IsWhere.{Shrunk, Grew, Moved, Told}
 use Rattle.mig_base.proofs.BoundLemmas.{apart_of, one_prot_some}
 use Rattle.mig_model.specs.Host.{Host, memory, IsSound}
 use Rattle.mig_base.specs.Userfault.{Object, is_watched}
-use Rattle.mig_model.specs.Space.{told, remap_messages}
+use Rattle.mig_model.specs.Space.{message_if, remap_messages}
 use Rattle.mig_model.proofs.HostLemmas.{is_mapped-memory}
 use Rattle.mig_model.proofs.CommandLemmas.{remapped_place}
 use Rattle.mig_model.proofs.SeenLemmas.{AreMapped, owed_none}
@@ -135,9 +135,9 @@ settled_remapped object here owed addr count target new_count inside mapped laid
     let to = target / 4096 in
     let away = not (eqb to from) in
     let shorter = ltb new_count count in
-    let one = told (away && is_watched object to new_count) (Unmap target (target + 4096 * new_count)) in
-    let two = told (shorter && is_watched object (from + new_count) (count - new_count)) (Unmap (addr + 4096 * new_count) (addr + 4096 * count)) in
-    let three = told (away && is_watched object from (lesser count new_count)) (Remap addr target (4096 * lesser count new_count)) in
+    let one = message_if (away && is_watched object to new_count) (Unmap target (target + 4096 * new_count)) in
+    let two = message_if (shorter && is_watched object (from + new_count) (count - new_count)) (Unmap (addr + 4096 * new_count) (addr + 4096 * count)) in
+    let three = message_if (away && is_watched object from (lesser count new_count)) (Remap addr target (4096 * lesser count new_count)) in
     let first = gone_if away owed to new_count in
     let second = gone_if shorter first (from + new_count) (count - new_count) in
     let third = shifted_if away second from to (lesser count new_count) in

@@ -7,14 +7,14 @@ use Rattle.mig_base.specs.declared.message.Message.TheVariants.{Remap, Remove, U
 use Rattle.mig_base.specs.Ranges.{in_range}
 use Rattle.mig_base.proofs.RangeLemmas.{none_below_tells}
 use Rattle.mig_base.specs.Userfault.{Object, is_registered, event_queued, is_watched}
-use Rattle.mig_model.specs.Space.{told, all_queued}
+use Rattle.mig_model.specs.Space.{message_if, all_queued}
 use Rattle.mig_model.specs.Invariant.{AreRight}
 use Rattle.mig_model.proofs.SeenLemmas.{owed_none}
 use Rattle.mig_model.specs.Owed.{owed_after, settled_by}
 use Rattle.mig_model.specs.Promises.{gone}
 use Rattle.mig_model.proofs.Facts.{in_range_first, settled-push}
 use Rattle.mig_model.proofs.SourceMessages.{events_queued, AreRight-append}
-pub use Rattle.mig_model.proofs.SourceMessages.{AllRight, AllRight-append as right-append, told_right as right-told}
+pub use Rattle.mig_model.proofs.SourceMessages.{AllRight, AllRight-append as right-append, told_right as right-message_if}
 pub use Rattle.mig_model.specs.Promises.{gone, moved_owed, owed_changed}
 
 -- Events queued
@@ -64,7 +64,7 @@ gone_none b o h = grind arith
 
 -- the pairs of a range that goes end, whether a page of it was registered or not
 pub told_gone : (b w : Bool) (object : Object) (owed : ℕ → Option ℕ) (first count : ℕ) (message : Message) → w ≡ is_watched object first count → AreInside object owed →
-    ((page : ℕ) → owed_after message owed page ≡ gone owed first count page) → settled_messages (told (b && w) message) owed ≡ gone_if b owed first count
+    ((page : ℕ) → owed_after message owed page ≡ gone owed first count page) → settled_messages (message_if (b && w) message) owed ≡ gone_if b owed first count
 told_gone false w object owed first count message is inside right = refl
 told_gone true true object owed first count message is inside right = λ i page. right page i
 told_gone true false object owed first count message is inside right =
@@ -77,7 +77,7 @@ shifted_none b c o p h g = grind arith
 -- and those of a range that moves move
 pub told_shifted : (b w : Bool) (object : Object) (owed : ℕ → Option ℕ) (from to count : ℕ) (message : Message) → w ≡ is_watched object from count → AreInside object owed →
     (b ≡ true → (page : ℕ) → to ≤ page → page < to + count → owed page ≡ None) →
-    ((page : ℕ) → owed_after message owed page ≡ shifted owed from to count page) → settled_messages (told (b && w) message) owed ≡ shifted_if b owed from to count
+    ((page : ℕ) → owed_after message owed page ≡ shifted owed from to count page) → settled_messages (message_if (b && w) message) owed ≡ shifted_if b owed from to count
 told_shifted false w object owed from to count message is inside free right = refl
 told_shifted true true object owed from to count message is inside free right = λ i page. right page i
 told_shifted true false object owed from to count message is inside free right =

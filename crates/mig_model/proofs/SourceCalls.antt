@@ -25,7 +25,7 @@ use Rattle.mig_base.proofs.BoundLemmas.{one_prot_some, apart_of}
 use Rattle.mig_model.specs.Host.{Host, memory, host_changed, IsSound}
 use Rattle.mig_base.specs.Commands.{is_access}
 use Rattle.mig_base.specs.Userfault.{Object, is_registered, is_watched}
-use Rattle.mig_model.specs.Space.{Space, IsSoundSpace, told, remap_messages, call_messages, modes_after, protected_after}
+use Rattle.mig_model.specs.Space.{Space, IsSoundSpace, message_if, remap_messages, call_messages, modes_after, protected_after}
 use Rattle.mig_model.proofs.HostLemmas.{is_mapped-memory, memory-none}
 use Rattle.mig_model.proofs.CommandLemmas.{remapped_place}
 use Rattle.mig_model.proofs.SourceMessages.{tells, unmapped_outside, removed_outside, dropped_outside, outside_told, in_bytes-pages, Stays, stays_there, moved_away, AllRight, AllRight-append, told_right}
@@ -158,9 +158,9 @@ dropped space first count page out = record { bytes = bytes_stay space.host.byte
 
 -- of the three messages that an mremap may send
 record AreSilent (object : Object) (addr count target new_count page : ℕ) : Type 0 where
-  replaced : tells (told (not (eqb (target / 4096) (addr / 4096)) && is_watched object (target / 4096) new_count) (Unmap target (target + 4096 * new_count))) page ≡ false
-  cut : tells (told (ltb new_count count && is_watched object (addr / 4096 + new_count) (count - new_count)) (Unmap (addr + 4096 * new_count) (addr + 4096 * count))) page ≡ false
-  moved : tells (told (not (eqb (target / 4096) (addr / 4096)) && is_watched object (addr / 4096) (lesser count new_count)) (Remap addr target (4096 * lesser count new_count))) page ≡ false
+  replaced : tells (message_if (not (eqb (target / 4096) (addr / 4096)) && is_watched object (target / 4096) new_count) (Unmap target (target + 4096 * new_count))) page ≡ false
+  cut : tells (message_if (ltb new_count count && is_watched object (addr / 4096 + new_count) (count - new_count)) (Unmap (addr + 4096 * new_count) (addr + 4096 * count))) page ≡ false
+  moved : tells (message_if (not (eqb (target / 4096) (addr / 4096)) && is_watched object (addr / 4096) (lesser count new_count)) (Remap addr target (4096 * lesser count new_count))) page ≡ false
 
 are_silent : (object : Object) (addr count target new_count page : ℕ) → tells (remap_messages object addr count target new_count) page ≡ false → AreSilent object addr count target new_count page
 are_silent object addr count target new_count page h = grind (arith, nat_tests)
@@ -231,12 +231,12 @@ right_remap host object addr old_len new_len target may_move fixed sound is =
     let length : 4096 * lesser count new_count / 4096 ≡ lesser count new_count = omega arith in
     let inside : target / 4096 + lesser count new_count ≤ HIGH_PAGE = omega (arith, high, fewer) in
     AllRight-append
-    (told (not (eqb (target / 4096) (addr / 4096)) && is_watched object (target / 4096) new_count) (Unmap target (target + 4096 * new_count))
-    ++ told (ltb new_count count && is_watched object (addr / 4096 + new_count) (count - new_count)) (Unmap (addr + 4096 * new_count) (addr + 4096 * count)))
-    (told (not (eqb (target / 4096) (addr / 4096)) && is_watched object (addr / 4096) (lesser count new_count)) (Remap addr target (4096 * lesser count new_count)))
+    (message_if (not (eqb (target / 4096) (addr / 4096)) && is_watched object (target / 4096) new_count) (Unmap target (target + 4096 * new_count))
+    ++ message_if (ltb new_count count && is_watched object (addr / 4096 + new_count) (count - new_count)) (Unmap (addr + 4096 * new_count) (addr + 4096 * count)))
+    (message_if (not (eqb (target / 4096) (addr / 4096)) && is_watched object (addr / 4096) (lesser count new_count)) (Remap addr target (4096 * lesser count new_count)))
     (AllRight-append
-    (told (not (eqb (target / 4096) (addr / 4096)) && is_watched object (target / 4096) new_count) (Unmap target (target + 4096 * new_count)))
-    (told (ltb new_count count && is_watched object (addr / 4096 + new_count) (count - new_count)) (Unmap (addr + 4096 * new_count) (addr + 4096 * count)))
+    (message_if (not (eqb (target / 4096) (addr / 4096)) && is_watched object (target / 4096) new_count) (Unmap target (target + 4096 * new_count)))
+    (message_if (ltb new_count count && is_watched object (addr / 4096 + new_count) (count - new_count)) (Unmap (addr + 4096 * new_count) (addr + 4096 * count)))
     (told_right _ _ (λ h. (start, whole_page target new_count start)))
     (told_right _ _ (λ h. (whole_page addr new_count whole, whole_page addr count whole))))
     (told_right _ _ (λ h. (
@@ -256,7 +256,7 @@ right_messages host object command reply sound is = grind (arith, nat_tests, mma
 abbrev pub IsUnregistered : Object → Type 0
 IsUnregistered object = (page : ℕ) → is_registered object page ≡ false
 
-pub untold : (reason : Bool) (message : Message) → reason ≡ false → told reason message ≡ []
+pub untold : (reason : Bool) (message : Message) → reason ≡ false → message_if reason message ≡ []
 untold reason message h = grind (arith, nat_tests)
 
 pub no_messages : (object : Object) (command : Command) (reply : Reply) → IsUnregistered object → call_messages object command reply ≡ []

@@ -9,7 +9,7 @@ use Rattle.mig_base.specs.Ranges.{in_range, lesser, none_below}
 use Rattle.mig_base.proofs.RangeLemmas.{none_below_tells}
 use Rattle.mig_base.specs.Userfault.{Noted, Object, is_registered, event_queued, is_watched}
 use Rattle.mig_model.specs.Guest.{is_changed_by, in_bytes}
-use Rattle.mig_model.specs.Space.{told, all_queued}
+use Rattle.mig_model.specs.Space.{message_if, all_queued}
 use Rattle.mig_model.specs.Whereabouts.{is_unread}
 use Rattle.mig_model.specs.Invariant.{IsRight, AreRight}
 use Rattle.mig_model.proofs.Facts.{in_range_first, or_assoc}
@@ -47,7 +47,7 @@ pub AllRight-append : (a b : List Message) → AllRight a → AllRight b → All
 AllRight-append [] b one two = two
 AllRight-append (message ∷ a) b one two = (one.0, AllRight-append a b one.1 two)
 
-pub told_right : (reason : Bool) (message : Message) → (reason ≡ true → IsRight message) → AllRight (told reason message)
+pub told_right : (reason : Bool) (message : Message) → (reason ≡ true → IsRight message) → AllRight (message_if reason message)
 told_right reason message right = grind (arith, nat_tests)
 
 -- A message is queued if a page of its range was registered
@@ -67,14 +67,14 @@ in_bytes-pages start count page = let n : (start + 4096 * count) / 4096 - start 
 
 -- a registered page that no message names lies outside of each range that a message would name
 pub outside_told : (reason : Bool) (message : Message) (object : Object) (first count page : ℕ) → (in_range first count page ≡ true → is_changed_by message page ≡ true) → reason ≡ true → is_registered object page ≡ true →
-    tells (told (reason && is_watched object first count) message) page ≡ false → in_range first count page ≡ false
+    tells (message_if (reason && is_watched object first count) message) page ≡ false → in_range first count page ≡ false
 outside_told reason message object first count page covers reasoned registered h = grind (arith, nat_tests, watched_page)
 
-pub unmapped_outside : (object : Object) (start count page : ℕ) → is_registered object page ≡ true → tells (told (is_watched object (start / 4096) count) (Unmap start (start + 4096 * count))) page ≡ false → in_range (start / 4096) count page ≡ false
+pub unmapped_outside : (object : Object) (start count page : ℕ) → is_registered object page ≡ true → tells (message_if (is_watched object (start / 4096) count) (Unmap start (start + 4096 * count))) page ≡ false → in_range (start / 4096) count page ≡ false
 unmapped_outside object start count page registered h =
     outside_told true (Unmap start (start + 4096 * count)) object (start / 4096) count page (λ inside. in_bytes-pages start count page ∙ inside) refl registered h
 
-pub removed_outside : (object : Object) (start count page : ℕ) → is_registered object page ≡ true → tells (told (is_watched object (start / 4096) count) (Remove start (start + 4096 * count))) page ≡ false → in_range (start / 4096) count page ≡ false
+pub removed_outside : (object : Object) (start count page : ℕ) → is_registered object page ≡ true → tells (message_if (is_watched object (start / 4096) count) (Remove start (start + 4096 * count))) page ≡ false → in_range (start / 4096) count page ≡ false
 removed_outside object start count page registered h =
     outside_told true (Remove start (start + 4096 * count)) object (start / 4096) count page (λ inside. in_bytes-pages start count page ∙ inside) refl registered h
 
@@ -85,7 +85,7 @@ below_end : (start count page end : ℕ) → page < HIGH_PAGE → start / 4096 �
 below_end start count page end below low high h = grind (arith, nat_tests)
 
 -- the same where the message names the range to its end, or to the end of the address space
-pub dropped_outside : (object : Object) (start count page : ℕ) → page < HIGH_PAGE → is_registered object page ≡ true → tells (told (is_watched object (start / 4096) count) (Remove start (lesser (start + 4096 * count) HIGH))) page ≡ false →
+pub dropped_outside : (object : Object) (start count page : ℕ) → page < HIGH_PAGE → is_registered object page ≡ true → tells (message_if (is_watched object (start / 4096) count) (Remove start (lesser (start + 4096 * count) HIGH))) page ≡ false →
     in_range (start / 4096) count page ≡ false
 dropped_outside object start count page below registered h =
     let end = lesser (start + 4096 * count) HIGH in

@@ -69,9 +69,9 @@ accessed space cpu command = accessed_by (access_of space command) space cpu com
 -- Map calls
 
 -- one message if the test holds, else none
-abbrev pub told : Bool → Message → List Message
-told true message = message ∷ []
-told false message = []
+abbrev pub message_if : Bool → Message → List Message
+message_if true message = message ∷ []
+message_if false message = []
 
 -- the events of mremap(2): UNMAP of a replaced target, UNMAP of a tail that was cut off, and REMAP of the range that moved, each only if
 -- a page of it was registered
@@ -79,18 +79,18 @@ abbrev pub remap_messages : Object → ℕ → ℕ → ℕ → ℕ → List Mess
 remap_messages object addr count target new_count =
     let from = addr / PAGE_SIZE in
     let to = target / PAGE_SIZE in
-    told (not (to == from) && is_watched object to new_count) (Unmap target (target + PAGE_SIZE * new_count))
-    ++ told (nat_lt new_count count && is_watched object (from + new_count) (count - new_count)) (Unmap (addr + PAGE_SIZE * new_count) (addr + PAGE_SIZE * count))
-    ++ told (not (to == from) && is_watched object from (lesser count new_count)) (Remap addr target (PAGE_SIZE * lesser count new_count))
+    message_if (not (to == from) && is_watched object to new_count) (Unmap target (target + PAGE_SIZE * new_count))
+    ++ message_if (nat_lt new_count count && is_watched object (from + new_count) (count - new_count)) (Unmap (addr + PAGE_SIZE * new_count) (addr + PAGE_SIZE * count))
+    ++ message_if (not (to == from) && is_watched object from (lesser count new_count)) (Remap addr target (PAGE_SIZE * lesser count new_count))
 
 -- the events of a map call with this reply, by the object as it was before: userfaultfd(2), UFFD_EVENT_UNMAP, UFFD_EVENT_REMOVE and
 -- UFFD_EVENT_REMAP. A range ends at the end of the address space at the latest
 abbrev pub call_messages : Object → Command → Reply → List Message
-call_messages object (Mmap len prot place) (At start) = told (is_watched object (start / PAGE_SIZE) (pages_of len)) (Unmap start (start + rounded len))
-call_messages object (Munmap addr len) Done = told (is_watched object (addr / PAGE_SIZE) (pages_of len)) (Unmap addr (addr + rounded len))
+call_messages object (Mmap len prot place) (At start) = message_if (is_watched object (start / PAGE_SIZE) (pages_of len)) (Unmap start (start + rounded len))
+call_messages object (Munmap addr len) Done = message_if (is_watched object (addr / PAGE_SIZE) (pages_of len)) (Unmap addr (addr + rounded len))
 call_messages object (Mremap addr old_len new_len may_move fixed) (At target) = remap_messages object addr (pages_of old_len) target (pages_of new_len)
-call_messages object (DontNeed addr len) Done = told (is_watched object (addr / PAGE_SIZE) (pages_of len)) (Remove addr (addr + rounded len))
-call_messages object (DontNeed addr len) (Refused Enomem) = told (is_watched object (addr / PAGE_SIZE) (pages_of len)) (Remove addr (lesser (addr + rounded len) HIGH))
+call_messages object (DontNeed addr len) Done = message_if (is_watched object (addr / PAGE_SIZE) (pages_of len)) (Remove addr (addr + rounded len))
+call_messages object (DontNeed addr len) (Refused Enomem) = message_if (is_watched object (addr / PAGE_SIZE) (pages_of len)) (Remove addr (lesser (addr + rounded len) HIGH))
 call_messages object _ _ = []
 
 -- the registered pages after a map call. A page keeps its mode when it moves, the pages by which a range grows have that of its last

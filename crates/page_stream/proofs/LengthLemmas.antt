@@ -2,9 +2,8 @@
 use Rattle.std.proofs.Common.{◌≡◌, ℕ, zero, suc, ◌+◌, ◌-◌, ◌<◌, ◌≤◌, ◌&&◌, ◌||◌, Bool, true, false, not, eqb, ltb, ne_eqb, Option, Some, None, is_some, List, [], ◌∷◌, length, refl, sym, ap, ◌∙◌, subst, ⊎_elim, arith}
 use Rattle.std.specs.Ordering.{nat_cmp}
 use Rattle.std.specs.FinMap.{FinMap, get}
-use Rattle.std.specs.FinSet.{FinSet, contains}
 use Rattle.std.proofs.lemmas.Bool.Decides.{nat_tests}
-use Rattle.std.proofs.lemmas.Bool.{cases_lt, false≢true, lt-ltb}
+use Rattle.std.proofs.lemmas.Bool.{cases_lt, lt-ltb}
 use Rattle.area_map.specs.Areas.{AreRuns, pages_in, prot_in}
 use Rattle.area_map.proofs.AreaLemmas.{prot_in-behind, prot_in-first, prot_in-rest_above, prot_in-rest_below}
 use Rattle.area_map.proofs.OneProtLemmas.{ends_there}
@@ -13,11 +12,11 @@ use Rattle.mig_base.specs.declared.Area.{Area}
 use Rattle.mig_base.specs.declared.Prot.{Prot}
 use Rattle.mig_base.specs.declared.TheConstants.{HIGH_PAGE}
 use Rattle.mig_base.specs.Ranges.{count_below}
-use Rattle.mig_base.proofs.RangeLemmas.{count_below-append, count_below-constant, count_below-few, count_below-same}
-use Rattle.mig_base.proofs.TestLemmas.{and_first, eqb-above, eqb-self}
+use Rattle.mig_base.proofs.RangeLemmas.{count_below-constant, count_below-same}
+use Rattle.mig_base.proofs.TestLemmas.{eqb-above, eqb-self}
 use Rattle.mig_model.specs.Ioctls.{same_prot}
 use Rattle.mig_model.proofs.IoctlLemmas.{same_prot-self}
-use Rattle.mig_model.specs.Lengths.{begins_run, begins_area, run_count, area_count}
+use Rattle.mig_model.specs.Lengths.{begins_area, area_count}
 
 -- Areas
 

@@ -26,7 +26,7 @@ use Rattle.mig_model.specs.Host.{Host, memory, host_changed, host_dropped, IsSou
 use Rattle.mig_base.specs.Commands.{is_access}
 use Rattle.mig_base.proofs.TestLemmas.{at_or_below, positive, none_is_some}
 use Rattle.mig_base.specs.Userfault.{Object, mode_at, is_registered, unregistered, moved_modes, is_watched}
-use Rattle.mig_model.specs.Space.{Space, IsSoundSpace, told, remap_messages, call_messages, modes_after, protected_after, all_queued, called, queued_by}
+use Rattle.mig_model.specs.Space.{Space, IsSoundSpace, message_if, remap_messages, call_messages, modes_after, protected_after, all_queued, called, queued_by}
 use Rattle.mig_model.proofs.CommandLemmas.{remapped_place}
 use Rattle.mig_model.proofs.SpaceLemmas.{IsSoundSpace-called}
 use Rattle.page_table.specs.Views.{Pages}
@@ -79,7 +79,7 @@ registered_below space sound page past =
 
 pub space_made : (space : Space) (areas : PageMap Prot) (pages : Pages) (object : Object) (cpu bytes start count end : ℕ) (prot : Prot) (place : Place) → At start ≡ mmap_reply (memory space.host) bytes prot place → count ≡ pages_of bytes → end ≡ 4096 * (start / 4096 + count)
     → areas ≡ set_range space.host.areas (start / 4096) count prot → pages.bytes ≡ remove_range space.host.bytes (start / 4096) count → pages.protected ≡ without space.protected (start / 4096) count
-    → object ≡ all_queued (unregistered space.object (start / 4096) count) (told (is_watched space.object (start / 4096) count) (Unmap start end)) cpu
+    → object ≡ all_queued (unregistered space.object (start / 4096) count) (message_if (is_watched space.object (start / 4096) count) (Unmap start end)) cpu
     → space_of areas pages object ≡ called space cpu (Mmap bytes prot place)
 space_made space areas pages object cpu bytes start count end prot place reply size is_end is_areas is_bytes is_protected is_object =
     let whole = (mmap_inside (memory space.host) bytes prot place start reply).whole in
@@ -89,15 +89,15 @@ space_made space areas pages object cpu bytes start count end prot place reply s
     (is_bytes ∙ ap (remove_range space.host.bytes (start / 4096)) size)
     (is_protected ∙ ap (without space.protected (start / 4096)) size)
     (is_object
-    ∙ ap (λ n. all_queued (unregistered space.object (start / 4096) n) (told (is_watched space.object (start / 4096) n) (Unmap start end)) cpu) size
-    ∙ ap (λ e. all_queued (unregistered space.object (start / 4096) (pages_of bytes)) (told (is_watched space.object (start / 4096) (pages_of bytes)) (Unmap start e)) cpu) last)
+    ∙ ap (λ n. all_queued (unregistered space.object (start / 4096) n) (message_if (is_watched space.object (start / 4096) n) (Unmap start end)) cpu) size
+    ∙ ap (λ e. all_queued (unregistered space.object (start / 4096) (pages_of bytes)) (message_if (is_watched space.object (start / 4096) (pages_of bytes)) (Unmap start e)) cpu) last)
     ∙ answered_is space cpu (Mmap bytes prot place) (At start) reply
 
 -- Pages unmapped
 
 pub space_unmapped : (space : Space) (areas : PageMap Prot) (pages : Pages) (object : Object) (cpu addr bytes count end : ℕ) → addr % 4096 ≡ 0 → 0 < bytes → count ≡ pages_of bytes → addr / 4096 + count ≤ HIGH_PAGE → end ≡ 4096 * (addr / 4096 + count)
     → areas ≡ remove_range space.host.areas (addr / 4096) count → pages.bytes ≡ remove_range space.host.bytes (addr / 4096) count → pages.protected ≡ without space.protected (addr / 4096) count
-    → object ≡ all_queued (unregistered space.object (addr / 4096) count) (told (is_watched space.object (addr / 4096) count) (Unmap addr end)) cpu
+    → object ≡ all_queued (unregistered space.object (addr / 4096) count) (message_if (is_watched space.object (addr / 4096) count) (Unmap addr end)) cpu
     → space_of areas pages object ≡ called space cpu (Munmap addr bytes)
 space_unmapped space areas pages object cpu addr bytes count end whole some size high is_end is_areas is_bytes is_protected is_object =
     let last : end ≡ addr + rounded bytes = omega arith in
@@ -106,8 +106,8 @@ space_unmapped space areas pages object cpu addr bytes count end whole some size
     (is_bytes ∙ ap (remove_range space.host.bytes (addr / 4096)) size)
     (is_protected ∙ ap (without space.protected (addr / 4096)) size)
     (is_object
-    ∙ ap (λ n. all_queued (unregistered space.object (addr / 4096) n) (told (is_watched space.object (addr / 4096) n) (Unmap addr end)) cpu) size
-    ∙ ap (λ e. all_queued (unregistered space.object (addr / 4096) (pages_of bytes)) (told (is_watched space.object (addr / 4096) (pages_of bytes)) (Unmap addr e)) cpu) last)
+    ∙ ap (λ n. all_queued (unregistered space.object (addr / 4096) n) (message_if (is_watched space.object (addr / 4096) n) (Unmap addr end)) cpu) size
+    ∙ ap (λ e. all_queued (unregistered space.object (addr / 4096) (pages_of bytes)) (message_if (is_watched space.object (addr / 4096) (pages_of bytes)) (Unmap addr e)) cpu) last)
     ∙ answered_is space cpu (Munmap addr bytes) Done (munmap_done addr bytes whole some (omega arith))
 
 -- A range at its new place
@@ -190,7 +190,7 @@ without_below set first count low end past is_low is_end =
     same_members (without set low (end - low)) (without set first count) (λ q.
     member_without set low (end - low) q ∙ clipped_out first count low end q (contains set q) is_low is_end (past q) ∙ sym (member_without set first count q))
 
-told_not : (due : Bool) (one other : Message) → due ≡ false → told due one ≡ told due other
+told_not : (due : Bool) (one other : Message) → due ≡ false → message_if due one ≡ message_if due other
 told_not true one other h = absurd (false≢true (sym h))
 told_not false one other h = refl
 
@@ -198,13 +198,13 @@ told_not false one other h = refl
 abbrev reply_by : Bool → Bool → Bool → Bool → Reply
 reply_by start none past all = cond (not start) (Refused Einval) (cond none Done (cond past (Refused Einval) (cond (not all) (Refused Enomem) Done)))
 
-dropped_told : (start none past all due : Bool) (addr last whole clip : ℕ) (reply : Reply) (messages : Reply → List Message) → (messages Done ≡ told due (Remove addr whole)) → (messages (Refused Enomem) ≡ told due (Remove addr clip)) → reply ≡ reply_by start none past all → (reply ≡ Refused Einval → ⊥)
-    → (none ≡ true → due ≡ false) → (start ≡ true → none ≡ false → all ≡ true → last ≡ whole) → (start ≡ true → last ≡ clip) → told due (Remove addr last) ≡ messages reply
+dropped_told : (start none past all due : Bool) (addr last whole clip : ℕ) (reply : Reply) (messages : Reply → List Message) → (messages Done ≡ message_if due (Remove addr whole)) → (messages (Refused Enomem) ≡ message_if due (Remove addr clip)) → reply ≡ reply_by start none past all → (reply ≡ Refused Einval → ⊥)
+    → (none ≡ true → due ≡ false) → (start ≡ true → none ≡ false → all ≡ true → last ≡ whole) → (start ≡ true → last ≡ clip) → message_if due (Remove addr last) ≡ messages reply
 dropped_told false none past all due addr last whole clip reply messages done hole is other nothing up cut = absurd (other is)
 dropped_told true true past all due addr last whole clip reply messages done hole is other nothing up cut = told_not due (Remove addr last) (Remove addr whole) (nothing refl) ∙ sym (ap messages is ∙ done)
 dropped_told true false true all due addr last whole clip reply messages done hole is other nothing up cut = absurd (other is)
-dropped_told true false false true due addr last whole clip reply messages done hole is other nothing up cut = ap (λ e. told due (Remove addr e)) (up refl refl refl) ∙ sym (ap messages is ∙ done)
-dropped_told true false false false due addr last whole clip reply messages done hole is other nothing up cut = ap (λ e. told due (Remove addr e)) (cut refl) ∙ sym (ap messages is ∙ hole)
+dropped_told true false false true due addr last whole clip reply messages done hole is other nothing up cut = ap (λ e. message_if due (Remove addr e)) (up refl refl refl) ∙ sym (ap messages is ∙ done)
+dropped_told true false false false due addr last whole clip reply messages done hole is other nothing up cut = ap (λ e. message_if due (Remove addr e)) (cut refl) ∙ sym (ap messages is ∙ hole)
 
 lesser_is : (a b : ℕ) → lesser a b ≡ min a b
 lesser_is a b = grind (arith, nat_tests)
@@ -225,12 +225,12 @@ mapped_inside host addr bytes sound some all =
     (at_or_below (addr + rounded bytes) HIGH)
 
 drop_told : (space : Space) (addr bytes low end last : ℕ) (reply : Reply) → IsSoundSpace space → reply ≡ dontneed_reply (memory space.host) addr bytes → (reply ≡ Refused Einval → ⊥) → low ≡ min (addr / 4096) HIGH_PAGE → end ≡ min (addr / 4096 + pages_of bytes) HIGH_PAGE → last ≡ 4096 * end
-    → told (is_watched space.object low (end - low)) (Remove addr last) ≡ call_messages space.object (DontNeed addr bytes) reply
+    → message_if (is_watched space.object low (end - low)) (Remove addr last) ≡ call_messages space.object (DontNeed addr bytes) reply
 drop_told space addr bytes low end last reply sound is other is_low is_end is_last =
     let first = addr / 4096 in
     let due = is_watched space.object first (pages_of bytes) in
     let all = is_all_mapped (memory space.host) addr (rounded bytes) in
-    ap (λ b. told (not b) (Remove addr last)) (clipped (is_registered space.object) first (pages_of bytes) low end (registered_below space sound) is_low is_end)
+    ap (λ b. message_if (not b) (Remove addr last)) (clipped (is_registered space.object) first (pages_of bytes) low end (registered_below space sound) is_low is_end)
     ∙ dropped_told (is_page_start addr) (eqb bytes 0) (leb (2 ^ 64) (addr + rounded bytes)) all due addr last (addr + rounded bytes) (lesser (addr + rounded bytes) HIGH) reply (call_messages space.object (DontNeed addr bytes)) refl refl is other
     (none_watched space.object first bytes)
     (λ start some mapped.
@@ -244,7 +244,7 @@ drop_told space addr bytes low end last reply sound is other is_low is_end is_la
     clip ∙ sym least)
 
 pub queued_dropped : (space value : Space) (addr bytes low end last queued : ℕ) (reply : Reply) → space ≡ value → IsSoundSpace space → reply ≡ dontneed_reply (memory space.host) addr bytes → (reply ≡ Refused Einval → ⊥) → low ≡ min (addr / 4096) HIGH_PAGE → end ≡ min (addr / 4096 + pages_of bytes) HIGH_PAGE → last ≡ 4096 * end
-    → queued ≡ length (told (is_watched space.object low (end - low)) (Remove addr last)) → queued ≡ queued_by value (DontNeed addr bytes)
+    → queued ≡ length (message_if (is_watched space.object low (end - low)) (Remove addr last)) → queued ≡ queued_by value (DontNeed addr bytes)
 queued_dropped space value addr bytes low end last queued reply view sound is other is_low is_end is_last counted =
     counted
     ∙ ap length (drop_told space addr bytes low end last reply sound is other is_low is_end is_last)
@@ -271,7 +271,7 @@ dropped_cases true false false true space cpu addr bytes reply is other = by_rep
 dropped_cases true false false false space cpu addr bytes reply is other = by_reply space cpu addr bytes reply (Refused Enomem) is refl
 
 pub space_dropped : (space : Space) (pages : Pages) (object : Object) (cpu addr bytes low end last : ℕ) (reply : Reply) → IsSoundSpace space → reply ≡ dontneed_reply (memory space.host) addr bytes → (reply ≡ Refused Einval → ⊥) → low ≡ min (addr / 4096) HIGH_PAGE → end ≡ min (addr / 4096 + pages_of bytes) HIGH_PAGE → last ≡ 4096 * end
-    → pages.bytes ≡ remove_range space.host.bytes low (end - low) → pages.protected ≡ without space.protected low (end - low) → object ≡ all_queued space.object (told (is_watched space.object low (end - low)) (Remove addr last)) cpu
+    → pages.bytes ≡ remove_range space.host.bytes low (end - low) → pages.protected ≡ without space.protected low (end - low) → object ≡ all_queued space.object (message_if (is_watched space.object low (end - low)) (Remove addr last)) cpu
     → space_of space.host.areas pages object ≡ called space cpu (DontNeed addr bytes)
 space_dropped space pages object cpu addr bytes low end last reply sound is other is_low is_end is_last is_bytes is_protected is_object =
     parts_are space.host.areas space.host.areas pages _ _ object _ refl

@@ -11,7 +11,7 @@ use Rattle.mig_base.specs.Sets.{moved_set}
 use Rattle.mig_base.proofs.RangeLemmas.{none_below_tells, none_below-from}
 use Rattle.mig_base.proofs.TestLemmas.{or_first, or_second}
 use Rattle.mig_base.specs.Userfault.{Object, mode_at, is_registered, is_watched, moved_modes}
-use Rattle.mig_model.specs.Space.{told, remap_messages}
+use Rattle.mig_model.specs.Space.{message_if, remap_messages}
 use Rattle.userfault.proofs.ModeLemmas.{is_pages_where}
 use Rattle.uffd_ioctl.specs.declared.remap.Remap.{Remap}
 use Rattle.uffd_ioctl.specs.Remaps.{IsRemap, AreLow, replaced_message, cut_message, moved_message}
@@ -63,8 +63,8 @@ remap_unwatched object range well low from to =
 
 -- Messages
 
-untold : (due watched : Bool) (message : Message) → (due ≡ true → watched ≡ false) → told (due && watched) message ≡ []
-untold true watched message h = ap (λ b. told b message) (h refl)
+untold : (due watched : Bool) (message : Message) → (due ≡ true → watched ≡ false) → message_if (due && watched) message ≡ []
+untold true watched message h = ap (λ b. message_if b message) (h refl)
 untold false watched message h = refl
 
 -- a remap of ranges without a registered page queues no message

@@ -1,28 +1,19 @@
 -- What a handler finds in the space that it is lent.
-use Rattle.std.proofs.Common.{◌≡◌, ℕ, ◌+◌, ◌*◌, ◌/◌, ◌%◌, ◌<◌, ◌≤◌, ◌&&◌, ◌||◌, ◌⊎◌, Bool, true, false, not, ltb, Some, None, Result, Ok, Err, List, [], ◌∷◌, is_some, unwrap_or, refl, sym, ap, ◌∙◌, ⊎_elim, arith}
-use Rattle.std.specs.FinMap.{get, contains_key}
+use Rattle.std.proofs.Common.{◌≡◌, ℕ, ◌+◌, ◌*◌, ◌%◌, ◌<◌, ◌≤◌, Bool, true, false, not, Some, None, Ok, Err, [], ◌∷◌, is_some, refl, sym, ap, ◌∙◌, ⊎_elim, arith}
+use Rattle.std.specs.FinMap.{contains_key}
 use Rattle.std.specs.FinSet.{contains}
-use Rattle.std.proofs.lemmas.Bool.{and_from, cases_lt, or_parts, false_from_ne_true, not_from_true, not-false}
+use Rattle.std.proofs.lemmas.Bool.{cases_lt, or_parts, false_from_ne_true, not-false}
 use Rattle.std.proofs.lemmas.Bool.Decides.{nat_tests}
 use Rattle.mig_base.specs.declared.TheConstants.{HIGH_PAGE, LOW_PAGE}
-use Rattle.mig_base.specs.declared.command.Errno.TheVariants.{Eagain, Eexist, Einval, Enoent}
-use Rattle.mig_base.specs.Bytes.{zero_page}
-use Rattle.mig_base.specs.Tests.{first_holding, same_bool}
-use Rattle.mig_base.proofs.RangeLemmas.{least_below-none}
+use Rattle.mig_base.specs.Tests.{first_holding}
 use Rattle.mig_model.specs.Bounds.{IsPage}
 use Rattle.mig_model.specs.Space.{Space, IsSoundSpace}
-use Rattle.mig_base.specs.Userfault.{changing, is_registered}
-use Rattle.mig_model.specs.Guest.{is_forgotten, is_present}
-use Rattle.mig_model.specs.Ioctls.{is_bad_range, is_one_area, installed, missing_run, put_pages, same_area, same_prot, put_answer, zeropage_answer, zeropage_error, zeropaged}
+use Rattle.mig_base.specs.Userfault.{is_registered}
+use Rattle.mig_model.specs.Guest.{is_forgotten}
+use Rattle.mig_model.specs.Ioctls.{is_bad_range}
 use Rattle.mig_model.proofs.Facts.{none_absurd}
-use Rattle.userfault.proofs.ModeLemmas.{is_pages_where}
-use Rattle.uffd_ioctl.specs.Puts.{IsShort, pages_put, result_of}
-use Rattle.uffd_ioctl.specs.declared.fault.Copied.{Copied}
-use Rattle.uffd_ioctl.specs.declared.fault.CopyFault.{CopyFault}
 use Rattle.uffd_ioctl.specs.Lent.{IsLent}
 use Rattle.mig_model.proofs.SourceRounds.{present_mapped}
-use Rattle.mig_model.proofs.PageCalls.{every_one, same_prot_self, same_bool_self}
-use Rattle.uffd_ioctl.proofs.InstallLemmas.{quiet_tested}
 
 -- Pages of a space
 

@@ -13,7 +13,7 @@ use Rattle.mig_base.specs.Sets.{without, with_range, moved_set}
 use Rattle.mig_base.proofs.SetLemmas.{same_members, member_without, member_with_range, member_below}
 use Rattle.mig_base.proofs.TestLemmas.{and_true, or_first, or_second}
 use Rattle.mig_base.specs.Userfault.{Noted, Object, Mode, mode_at, unregistered, moved_modes, event_queued, is_registered, is_watched, changing}
-use Rattle.mig_model.specs.Space.{told, remap_messages, all_queued}
+use Rattle.mig_model.specs.Space.{message_if, remap_messages, all_queued}
 use Rattle.mig_model.proofs.Registering.{pages_again}
 use Rattle.mig_model.proofs.Facts.{queued_missing, queued_protect}
 use Rattle.mig_model.proofs.SourceMessages.{noted_all, events_queued}
@@ -185,23 +185,23 @@ taken_back object before messages cpu queued is counted =
     ∙ ap (λ (l : List Noted). record before { events = take (length l - queued) l }) (events_queued before messages cpu)
     ∙ ap (λ (l : List Noted). record before { events = l }) left
 
-forgotten : (object : Object) (first count cpu : ℕ) (due : Bool) (message : Message) → unregistered (all_queued object (told due message) cpu) first count ≡ all_queued (unregistered object first count) (told due message) cpu
+forgotten : (object : Object) (first count cpu : ℕ) (due : Bool) (message : Message) → unregistered (all_queued object (message_if due message) cpu) first count ≡ all_queued (unregistered object first count) (message_if due message) cpu
 forgotten object first count cpu true message = refl
 forgotten object first count cpu false message = refl
 
 -- a message reports a range, and none of its pages is registered any more
-pub told_of : (object noted new : Object) (first count cpu : ℕ) (due : Bool) (message : Message) → noted ≡ all_queued object (told due message) cpu → new ≡ unregistered noted first count → due ≡ is_watched object first count
-    → new ≡ all_queued (unregistered object first count) (told (is_watched object first count) message) cpu
+pub told_of : (object noted new : Object) (first count cpu : ℕ) (due : Bool) (message : Message) → noted ≡ all_queued object (message_if due message) cpu → new ≡ unregistered noted first count → due ≡ is_watched object first count
+    → new ≡ all_queued (unregistered object first count) (message_if (is_watched object first count) message) cpu
 told_of object noted new first count cpu due message is_noted is is_due =
     is ∙ ap (λ o. unregistered o first count) is_noted
     ∙ forgotten object first count cpu due message
-    ∙ ap (λ b. all_queued (unregistered object first count) (told b message) cpu) is_due
+    ∙ ap (λ b. all_queued (unregistered object first count) (message_if b message) cpu) is_due
 
 abbrev messages_at : Object → ℕ → ℕ → ℕ → ℕ → ℕ → ℕ → List Message
 messages_at object addr count target new_count from to =
-    told (not (to == from) && is_watched object to new_count) (Unmap target (target + 4096 * new_count))
-    ++ told (nat_lt new_count count && is_watched object (from + new_count) (count - new_count)) (Unmap (addr + 4096 * new_count) (addr + 4096 * count))
-    ++ told (not (to == from) && is_watched object from (lesser count new_count)) (message.Remap addr target (4096 * lesser count new_count))
+    message_if (not (to == from) && is_watched object to new_count) (Unmap target (target + 4096 * new_count))
+    ++ message_if (nat_lt new_count count && is_watched object (from + new_count) (count - new_count)) (Unmap (addr + 4096 * new_count) (addr + 4096 * count))
+    ++ message_if (not (to == from) && is_watched object from (lesser count new_count)) (message.Remap addr target (4096 * lesser count new_count))
 
 pub messages_are : (object : Object) (range : Remap) → three_messages object range ≡ remap_messages object (4096 * range.from) range.count (4096 * range.to) range.new_count
 messages_are object range =

@@ -9,7 +9,7 @@ use Rattle.mig_base.specs.declared.message.Message.TheVariants.{Unmap}
 use Rattle.mig_base.specs.declared.message.Message.{Message}
 use Rattle.mig_base.specs.Ranges.{lesser}
 use Rattle.mig_base.specs.Userfault.{Object, mode_at, is_registered, is_watched, moved_modes}
-use Rattle.mig_model.specs.Space.{told}
+use Rattle.mig_model.specs.Space.{message_if}
 use Rattle.area_map.specs.Ranges.{HasOneProt}
 use Rattle.uffd_ioctl.specs.declared.remap.Remap.{Remap}
 
@@ -27,18 +27,18 @@ HasProt areas first count = (prot : Prot) × HasOneProt (λ page. get areas page
 -- the UNMAP of the pages that a moved range replaces, due if one of them is registered: userfaultfd(2), UFFD_EVENT_UNMAP
 abbrev pub replaced_message : Object → Remap → List Message
 replaced_message object range =
-    told (not (range.to == range.from) && is_watched object range.to range.new_count) (Unmap (PAGE_SIZE * range.to) (PAGE_SIZE * range.to + PAGE_SIZE * range.new_count))
+    message_if (not (range.to == range.from) && is_watched object range.to range.new_count) (Unmap (PAGE_SIZE * range.to) (PAGE_SIZE * range.to + PAGE_SIZE * range.new_count))
 
 -- the UNMAP of the end that a shrinking range loses, due if a page of it is registered: userfaultfd(2), UFFD_EVENT_UNMAP
 abbrev pub cut_message : Object → Remap → List Message
 cut_message object range =
-    told (nat_lt range.new_count range.count && is_watched object (range.from + range.new_count) (range.count - range.new_count))
+    message_if (nat_lt range.new_count range.count && is_watched object (range.from + range.new_count) (range.count - range.new_count))
     (Unmap (PAGE_SIZE * range.from + PAGE_SIZE * range.new_count) (PAGE_SIZE * range.from + PAGE_SIZE * range.count))
 
 -- the REMAP of the pages that move, due if one of them is registered: userfaultfd(2), UFFD_EVENT_REMAP
 abbrev pub moved_message : Object → Remap → List Message
 moved_message object range =
-    told (not (range.to == range.from) && is_watched object range.from (lesser range.count range.new_count))
+    message_if (not (range.to == range.from) && is_watched object range.from (lesser range.count range.new_count))
     (message.Remap (PAGE_SIZE * range.from) (PAGE_SIZE * range.to) (PAGE_SIZE * lesser range.count range.new_count))
 
 -- the messages of a remap, in the order in which they are queued

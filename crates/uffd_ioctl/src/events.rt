@@ -10,7 +10,7 @@ ghost use Rattle.mig_base.specs.Pages.{moved_range};
 ghost use Rattle.mig_base.specs.Sets.{moved_set};
 ghost use Rattle.mig_base.specs.declared.TheConstants.{HIGH_PAGE};
 ghost use Rattle.mig_base.specs.Userfault.{Object, changing};
-ghost use Rattle.mig_model.specs.Space.{told, remap_messages, all_queued};
+ghost use Rattle.mig_model.specs.Space.{message_if, remap_messages, all_queued};
 ghost use Rattle.userfault.specs.Modes.{opened, IsOpen};
 ghost use Rattle.uffd_ioctl.specs.Remaps.{IsRemap, HasProt, AreLow, room_first, room_count, modes_of, replaced_message, cut_message, moved_message, three_messages};
 
@@ -27,8 +27,8 @@ pub(crate) fn queue_if_due(
     message: Message,
     cpu: u8,
 ) -> Result<u8, NoMemory>
-    ensures object { OnOk result (object.new ≡ all_queued object.old (told is_due message) cpu) }
-    ensures count { IfOk result (λ count. count ≡ length (told is_due message)) }
+    ensures object { OnOk result (object.new ≡ all_queued object.old (message_if is_due message) cpu) }
+    ensures count { IfOk result (λ count. count ≡ length (message_if is_due message)) }
     ensures err { OnErr result (object.new ≡ object.old) }
 {
     if !is_due {
@@ -49,8 +49,8 @@ fn queue_more(
 ) -> Result<u8, NoMemory>
     requires few { queued ≤ 2 }
     requires queued { queued ≤ changing object.old }
-    ensures object { OnOk result (object.new ≡ all_queued object.old (told is_due message) cpu) }
-    ensures count { IfOk result (λ count. count ≡ queued + length (told is_due message)) }
+    ensures object { OnOk result (object.new ≡ all_queued object.old (message_if is_due message) cpu) }
+    ensures count { IfOk result (λ count. count ≡ queued + length (message_if is_due message)) }
     ensures err { OnErr result (object.new ≡ record object.old { events = take (changing object.old - queued) object.old.events }) }
 {
     let Ok(more) = queue_if_due(object, is_due, message, cpu) else {
@@ -134,7 +134,7 @@ fn queue_remap(object: &mut Userfault, range: Remap, cpu: u8) -> Result<u8, NoMe
 /// The UNMAP of the pages that the moved range replaces, and whether it is due.
 fn replaced_if_due(object: &Userfault, range: Remap) -> (bool, Message)
     requires { IsRemap range }
-    ensures { told result.0 result.1 ≡ replaced_message object.now range }
+    ensures { message_if result.0 result.1 ≡ replaced_message object.now range }
 {
     let is_due = range.to != range.from && object.is_any_registered(range.to, range.new_count);
     let message = Message::Unmap {
@@ -147,7 +147,7 @@ fn replaced_if_due(object: &Userfault, range: Remap) -> (bool, Message)
 /// The UNMAP of the end that is cut off, and whether it is due.
 fn cut_if_due(object: &Userfault, range: Remap) -> (bool, Message)
     requires { IsRemap range }
-    ensures { told result.0 result.1 ≡ cut_message object.now range }
+    ensures { message_if result.0 result.1 ≡ cut_message object.now range }
 {
     let first = range.from + range.new_count;
     let is_due = range.new_count < range.count
@@ -162,7 +162,7 @@ fn cut_if_due(object: &Userfault, range: Remap) -> (bool, Message)
 /// The REMAP of the pages that move, and whether it is due.
 fn moved_if_due(object: &Userfault, range: Remap) -> (bool, Message)
     requires { IsRemap range }
-    ensures { told result.0 result.1 ≡ moved_message object.now range }
+    ensures { message_if result.0 result.1 ≡ moved_message object.now range }
 {
     let kept = range.count.min(range.new_count);
     let is_due = range.to != range.from && object.is_any_registered(range.from, kept);

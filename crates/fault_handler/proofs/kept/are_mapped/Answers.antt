@@ -13,10 +13,10 @@ loop-run-init c =
 pub mapped_in-requires : goal.mapped_in-requires
 mapped_in-requires c = c.in-Some.ensures.steps.0.high
 
-pub returns-then-mapped_in-count : goal.returns-then-mapped_in-count
-returns-then-mapped_in-count c =
+pub returns-then-mapped_in-run : goal.returns-then-mapped_in-run
+returns-then-mapped_in-run c =
     let steps = c.in-Some.ensures.steps in
-    sym (unmapped_in c.args.pages.now c.args.areas.now c.in-Some.run' c.mapped_in.result c.mapped_in.ensures (run_is c.args.pages.now c.loop-run.run-iterator c.next.new.self c.in-Some.run' steps.0 steps.1 c.loop-run.invariant.part) c.if-mapped_in-count.true)
+    sym (unmapped_in c.args.pages.now c.args.areas.now c.in-Some.run' c.mapped_in.result c.mapped_in.ensures (run_is c.args.pages.now c.loop-run.run-iterator c.next.new.self c.in-Some.run' steps.0 steps.1 c.loop-run.invariant.part) c.if-mapped_in-run.true)
 
 pub loop-run-preserved : goal.loop-run-preserved
 loop-run-preserved c =
@@ -27,7 +27,7 @@ loop-run-preserved c =
     let rest = c.next.new.self in
     record {
       part = part_run pages left rest run steps.0 steps.1 c.loop-run.invariant.part;
-      mapped = λ q. each_more _ _ _ (taken_run pages left rest run steps.0 steps.1 c.loop-run.invariant.part q) (c.loop-run.invariant.mapped q) (mapped_in pages c.args.areas.now run c.mapped_in.result c.mapped_in.ensures c.if-mapped_in-count.false q);
+      mapped = λ q. each_more _ _ _ (taken_run pages left rest run steps.0 steps.1 c.loop-run.invariant.part q) (c.loop-run.invariant.mapped q) (mapped_in pages c.args.areas.now run c.mapped_in.result c.mapped_in.ensures c.if-mapped_in-run.false q);
     }
 
 pub returns : goal.returns

@@ -1,4 +1,4 @@
-use Rattle.std.proofs.Common.{◌≡◌, ◌+◌, ◌∙◌, ap, sym, arith}
+use Rattle.std.proofs.Common.{◌∙◌, ap, arith}
 use Rattle.mig_model.specs.Lengths.{run_count}
 use Rattle.page_stream.proofs.RunTexts.{few_runs, none_counted, one_more_run}
 use Rattle.page_stream.proofs.lengths.run_count.Goals as goal

@@ -1,6 +1,7 @@
-use Rattle.std.proofs.Common.{◌≡◌, ◌∷◌, None, Some, refl, sym, ap, ◌∙◌, subst, ℕ, ◌*◌, false}
+use Rattle.std.proofs.Common.{◌≡◌, ◌∷◌, None, Some, refl, sym, ap, ◌∙◌, subst, ℕ, ◌*◌, false, eqb}
 use Rattle.mig_base.specs.declared.effect.Effect.{Effect}
 use Rattle.std.specs.FinMap.{get}
+use Rattle.mig_model.specs.Cpus.{all_woken}
 use Rattle.mig_model.specs.Destination.{Destination, installed_at}
 use Rattle.mig_model.specs.Guest.{is_present}
 use Rattle.mig_model.specs.Owed.{home}
@@ -61,7 +62,7 @@ new : (c : goal.After-page_address-3) →
     } ≡ installed_at c.args.self.now (first c).copy (first c).rest c.in-Some.page
 new c =
     installed_is c.args.self.now (the_view c.self.inside) c.put_first.new.space c.wake_page.new.self c.settle.new.self c.end.new.self c.put_first.new.arrivals.items c.in_ok-origin.origin c.in-Some.page c.saturating_add-self-inside-2.result
-    (first c) c.self.view_is (c.in_ok-put_first.ensures.space (first c).copy (first c).rest (waits c)) c.wake_page.ensures (c.settle.ensures.settled c.in-Some.page (owes c)) c.end.ensures (c.in_ok-put_first.ensures.arrivals (first c).copy (first c).rest (waits c))
+    (first c) c.self.view_is (c.in_ok-put_first.ensures.space (first c).copy (first c).rest (waits c)) (c.wake_page.ensures ∙ ap (λ number. all_woken (λ q. eqb q number) c.self.inside.cpus) c.from.ensures) (c.settle.ensures.settled c.in-Some.page (owes c)) c.end.ensures (c.in_ok-put_first.ensures.arrivals (first c).copy (first c).rest (waits c))
     (c.saturating_add-self-inside-2.ensures ∙ counted_is c.self.inside.installed 1)
 
 pub returns-clause-made : goal.returns-clause-made

@@ -2,7 +2,7 @@ use Rattle.std.proofs.Common.{◌∙◌, ◌/◌, ◌+◌, ap, sym, min, refl, l
 use Rattle.std.proofs.lemmas.Bool.{false≢true}
 use Rattle.mig_base.specs.declared.command.Command.TheVariants.{DontNeed}
 use Rattle.mig_base.specs.declared.message.Message.TheVariants.{Remove}
-use Rattle.mig_model.specs.Space.{called, told, all_queued}
+use Rattle.mig_model.specs.Space.{called, message_if, all_queued}
 use Rattle.uffd_ioctl.specs.Spaces.{space_of}
 use Rattle.uffd_ioctl.proofs.CallLemmas.{space_dropped, queued_dropped, sound_called}
 use Rattle.uffd_ioctl.proofs.space.Space.dontneed.Goals as goal
@@ -16,7 +16,7 @@ invariant_of-self-2 c =
     (c.min-first.ensures ∙ ap (min (c.args.addr / 4096)) c.from-high.ensures)
     (c.min-end.ensures ∙ ap (λ n. min (c.args.addr / 4096 + n) c.from-high.result) c.page_count.ensures ∙ ap (min (c.args.addr / 4096 + _)) c.from-high.ensures)
     c.page_address.ensures
-    c.drop_range.ensures.bytes c.drop_range.ensures.protected (c.in_ok-queued.ensures.object ∙ ap (λ b. all_queued c.self.inside.object (told b (Remove c.args.addr c.page_address.result)) c.args.cpu) c.is_any_registered-is_due.ensures))
+    c.drop_range.ensures.bytes c.drop_range.ensures.protected (c.in_ok-queued.ensures.object ∙ ap (λ b. all_queued c.self.inside.object (message_if b (Remove c.args.addr c.page_address.result)) c.args.cpu) c.is_any_registered-is_due.ensures))
 
 pub returns-clause-queued : goal.returns-clause-queued
 returns-clause-queued c =
@@ -26,7 +26,7 @@ returns-clause-queued c =
     (c.min-first.ensures ∙ ap (min (c.args.addr / 4096)) c.from-high.ensures)
     (c.min-end.ensures ∙ ap (λ n. min (c.args.addr / 4096 + n) c.from-high.result) c.page_count.ensures ∙ ap (min (c.args.addr / 4096 + _)) c.from-high.ensures)
     c.page_address.ensures
-    (c.in_ok-queued.ensures.count ∙ ap (λ b. length (told b (Remove c.args.addr c.page_address.result))) c.is_any_registered-is_due.ensures)
+    (c.in_ok-queued.ensures.count ∙ ap (λ b. length (message_if b (Remove c.args.addr c.page_address.result))) c.is_any_registered-is_due.ensures)
 
 pub returns-clause-space : goal.returns-clause-space
 returns-clause-space c =
@@ -36,5 +36,5 @@ returns-clause-space c =
     (c.min-first.ensures ∙ ap (min (c.args.addr / 4096)) c.from-high.ensures)
     (c.min-end.ensures ∙ ap (λ n. min (c.args.addr / 4096 + n) c.from-high.result) c.page_count.ensures ∙ ap (min (c.args.addr / 4096 + _)) c.from-high.ensures)
     c.page_address.ensures
-    c.drop_range.ensures.bytes c.drop_range.ensures.protected (c.in_ok-queued.ensures.object ∙ ap (λ b. all_queued c.self.inside.object (told b (Remove c.args.addr c.page_address.result)) c.args.cpu) c.is_any_registered-is_due.ensures)
+    c.drop_range.ensures.bytes c.drop_range.ensures.protected (c.in_ok-queued.ensures.object ∙ ap (λ b. all_queued c.self.inside.object (message_if b (Remove c.args.addr c.page_address.result)) c.args.cpu) c.is_any_registered-is_due.ensures)
     ∙ ap (λ s. called s c.args.cpu (DontNeed c.args.addr c.args.len)) c.self.view_is
