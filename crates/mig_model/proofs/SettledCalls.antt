@@ -14,7 +14,7 @@ use Rattle.mig_model.specs.Owed.{owed_after, settled_by}
 use Rattle.mig_model.specs.Promises.{gone}
 use Rattle.mig_model.proofs.Facts.{in_range_first, settled-push}
 use Rattle.mig_model.proofs.SourceMessages.{events_queued, AreRight-append}
-pub use Rattle.mig_model.proofs.SourceMessages.{AllRight, AllRight-append as right-append, told_right as right-message_if}
+pub use Rattle.mig_model.proofs.SourceMessages.{AllRight, AllRight-append as right-append, told_right as right-told}
 pub use Rattle.mig_model.specs.Promises.{gone, moved_owed, owed_changed}
 
 -- Events queued

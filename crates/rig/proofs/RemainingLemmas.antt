@@ -31,7 +31,7 @@ module _ (test more : ℕ → Bool) (page : ℕ) (pages : List ℕ) (listed : Ar
   listed_if q false at is = Contains-append_left pages (page ∷ []) q ((listed.all q).0 is)
 
   passes_if : (q : ℕ) → Contains pages q ⊎ (page ≡ q) → (eqb q page || test q) ≡ true
-  passes_if q (inl there) = rw (listed.all q).1 there (either (eqb q page))
+  passes_if q (inl there) = ap (λ b. eqb q page || b) ((listed.all q).1 there) ∙ either (eqb q page)
     where
       either : (b : Bool) → (b || true) ≡ true
       either true = refl
