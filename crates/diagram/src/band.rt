@@ -43,7 +43,7 @@ pub(crate) struct Stretch {
 struct Thread {
     /// How many of its pages are in each state.
     counts: Counts,
-    /// The last state of [`State::ALL`] that a page has now, and that one had in this column.
+    /// The state of the highest rank that a page has now, and that one had in this column.
     now: State,
     peak: State,
     about: u32,
@@ -67,21 +67,18 @@ const STILL: Thread = Thread {
 };
 
 impl Thread {
-    /// Ends the open stretch before a column if another state is shown there.
-    fn cut(&mut self, column: u32, shown: State, out: &mut Vec<Stretch>) -> Result<(), NoMemory> {
+    /// Ends the open stretch before a column if another state is shown there. Returns it, unless nothing is drawn of it.
+    fn cut(&mut self, column: u32, shown: State) -> Option<Stretch> {
         self.peak = self.now;
-        if self.open.state == shown {
-            return Ok(());
-        }
         let mut ended = self.open;
+        if ended.state == shown {
+            return None;
+        }
         ended.to = column;
         self.open.from = column;
         self.open.state = shown;
         self.open.about = self.about;
-        if ended.state != State::Blank {
-            out.push(ended)?;
-        }
-        Ok(())
+        (ended.state != State::Blank).then_some(ended)
     }
 }
 
@@ -95,6 +92,15 @@ struct Band {
 }
 
 impl Band {
+    /// A band in which nothing has happened.
+    fn new(alloc: Global, rows: &Rows) -> Result<Band, NoMemory> {
+        Ok(Band {
+            threads: vec![in alloc; STILL; rows.rows.len()]?,
+            now: vec![in alloc; State::Blank; rows.of.len()]?,
+            stretches: Vec::new(alloc),
+        })
+    }
+
     /// Makes a change.
     fn change(&mut self, change: &Change, rows: &Rows) {
         let Some(row) = rows.row_of(change.row) else {
@@ -124,9 +130,36 @@ impl Band {
                 1 => thread.now,
                 _ => thread.peak,
             };
-            thread.cut(column, shown, &mut self.stretches)?;
+            if let Some(ended) = thread.cut(column, shown) {
+                self.stretches.push(ended)?;
+            }
         }
         Ok(())
+    }
+
+    /// Ends the stretches that do not go on in the columns from one on and before another.
+    fn cut_each(&mut self, from: u32, to: u32, columns: Columns) -> Result<(), NoMemory> {
+        for column in from..to {
+            self.cut(column, columns)?;
+        }
+        Ok(())
+    }
+
+    /// Makes all changes, and ends all stretches.
+    fn change_all(
+        &mut self,
+        changes: &[Change],
+        rows: &Rows,
+        columns: Columns,
+    ) -> Result<(), NoMemory> {
+        let mut column = 0u32;
+        for change in changes {
+            let next = columns.of(change.line).max(column);
+            self.cut_each(column, next, columns)?;
+            self.change(change, rows);
+            column = next;
+        }
+        self.cut_each(column, columns.count().saturating_add(1), columns)
     }
 }
 
@@ -137,21 +170,7 @@ pub(crate) fn stretches_of(
     rows: &Rows,
     columns: Columns,
 ) -> Result<Vec<Stretch>, NoMemory> {
-    let mut band = Band {
-        threads: vec![in alloc; STILL; rows.rows.len()]?,
-        now: vec![in alloc; State::Blank; rows.of.len()]?,
-        stretches: Vec::new(alloc),
-    };
-    let mut column = 0u32;
-    for change in changes {
-        for ended in column..columns.of(change.line) {
-            band.cut(ended, columns)?;
-        }
-        column = column.max(columns.of(change.line));
-        band.change(change, rows);
-    }
-    for ended in column..columns.count().saturating_add(1) {
-        band.cut(ended, columns)?;
-    }
+    let mut band = Band::new(alloc, rows)?;
+    band.change_all(changes, rows, columns)?;
     Ok(band.stretches)
 }

@@ -16,7 +16,7 @@ use crate::pen::{Frame, Pen};
 use crate::plan::{Plan, RIGHT};
 use crate::record::Record;
 use crate::text::Part::{At, Length, Words};
-use crate::text::push_all;
+use crate::text::{Part, push_all};
 use mig_base::NoMemory;
 use std::alloc::Global;
 use svg::{Attribute, Key, Sheet, Tag};
@@ -38,50 +38,55 @@ const STYLE: &str = "path{fill:none}text{font-family:sans-serif;fill:#222;font-s
 .g5{stroke:#222;stroke-width:1.2}.g6{stroke:#999;stroke-width:.6}.do{fill:#fff;stroke:#222}.dd{fill:#222}\
 .o1{fill:#fbdcc4}.o2{fill:#e69f00}.t1{stroke:#d55e00;stroke-width:1.3}.t2{stroke:#fff;stroke-width:1.6}";
 
-/// Writes the patterns that the style sheet names: stripes on a ground, each of a class.
+/// Writes a pattern: stripes on a ground, each of a class.
+fn pattern(pen: &mut Pen, id: &str, ground: &str, class: &str, stripes: &'static str) {
+    let attributes = [
+        Attribute {
+            key: Key::Id,
+            value: id.as_bytes(),
+        },
+        Attribute {
+            key: Key::Width,
+            value: b"6",
+        },
+        Attribute {
+            key: Key::Height,
+            value: b"6",
+        },
+        Attribute {
+            key: Key::PatternUnits,
+            value: b"userSpaceOnUse",
+        },
+    ];
+    pen.open(Tag::Pattern, &attributes);
+    pen.path(ground, &[Words("M0 0h6v6h-6z")]);
+    pen.path(class, &[Words(stripes)]);
+    pen.close();
+}
+
+/// Writes the patterns that the style sheet names.
 fn patterns(pen: &mut Pen) {
     let rising = "M-1 1L1-1M0 6L6 0M5 7L7 5";
     let falling = "M-1 5L1 7M0 0L6 6M5-1L7 1";
     pen.open(Tag::Defs, &[]);
-    for (id, ground, class, stripes) in [
-        ("dirty", "o2", "t2", rising),
-        ("request", "bg", "t1", rising),
-        ("page", "o1", "t1", falling),
-    ] {
-        let attributes = [
-            Attribute {
-                key: Key::Id,
-                value: id.as_bytes(),
-            },
-            Attribute {
-                key: Key::Width,
-                value: b"6",
-            },
-            Attribute {
-                key: Key::Height,
-                value: b"6",
-            },
-            Attribute {
-                key: Key::PatternUnits,
-                value: b"userSpaceOnUse",
-            },
-        ];
-        pen.open(Tag::Pattern, &attributes);
-        pen.path(ground, &[Words("M0 0h6v6h-6z")]);
-        pen.path(class, &[Words(stripes)]);
-        pen.close();
-    }
+    pattern(pen, "dirty", "o2", "t2", rising);
+    pattern(pen, "request", "bg", "t1", rising);
+    pattern(pen, "page", "o1", "t1", falling);
     pen.close();
+}
+
+/// A text in parts.
+fn text_of(alloc: Global, parts: &[Part]) -> Result<String, NoMemory> {
+    let mut text = String::new(alloc);
+    push_all(&mut text, parts)?;
+    Ok(text)
 }
 
 /// A sheet of a size.
 fn new_sheet(alloc: Global, width: u64, height: u64) -> Result<Sheet, NoMemory> {
-    let mut view = String::new(alloc);
-    let mut across = String::new(alloc);
-    let mut down = String::new(alloc);
-    push_all(&mut view, &[Words("0 0 "), At((width, height))])?;
-    push_all(&mut across, &[Length(width)])?;
-    push_all(&mut down, &[Length(height)])?;
+    let view = text_of(alloc, &[Words("0 0 "), At((width, height))])?;
+    let across = text_of(alloc, &[Length(width)])?;
+    let down = text_of(alloc, &[Length(height)])?;
     let attributes = [
         Attribute {
             key: Key::Namespace,

@@ -25,6 +25,27 @@ pub(crate) struct Row {
     pub top: u64,
 }
 
+impl Row {
+    /// The page behind the last.
+    fn end(&self) -> u32 {
+        self.first.saturating_add(self.pages)
+    }
+
+    /// This row with the page of another, if that page belongs there.
+    fn with(&self, next: Row, together: u32) -> Option<Row> {
+        let grouped = together > 1 && self.group == next.group;
+        let dull = self.dull && next.dull;
+        if !grouped && !(dull && self.end() == next.first) {
+            return None;
+        }
+        let mut row = *self;
+        row.pages = next.first.saturating_sub(self.first).saturating_add(1);
+        row.dull = dull;
+        row.group = next.group;
+        Some(row)
+    }
+}
+
 /// The rows of a band, and the row of each page.
 #[derive(Drop)]
 pub(crate) struct Rows {
@@ -45,27 +66,23 @@ impl Rows {
 
     /// Puts a page into the last row if it belongs there, and else into a new one.
     fn put(&mut self, page: u32, dull: bool) -> Result<(), NoMemory> {
-        let group = page.checked_div(self.together).unwrap_or(page);
-        let mut gap = false;
-        if let Some(last) = self.rows.last_mut() {
-            let follows = last.first.saturating_add(last.pages) == page;
-            let grouped = self.together > 1 && last.group == group;
-            if grouped || (dull && last.dull && follows) {
-                last.pages = page.saturating_sub(last.first).saturating_add(1);
-                last.dull = last.dull && dull;
-                last.group = group;
-                return Ok(());
-            }
-            gap = !follows;
-        }
-        self.rows.push(Row {
+        let together = self.together;
+        let mut next = Row {
             first: page,
             pages: 1,
-            gap,
+            gap: false,
             dull,
-            group,
+            group: page.checked_div(together).unwrap_or(page),
             top: 0,
-        })?;
+        };
+        if let Some(last) = self.rows.last_mut() {
+            if let Some(row) = last.with(next, together) {
+                *last = row;
+                return Ok(());
+            }
+            next.gap = last.end() != page;
+        }
+        self.rows.push(next)?;
         Ok(())
     }
 
@@ -114,6 +131,18 @@ pub(crate) enum Stir {
     Touched,
 }
 
+impl Stir {
+    /// What has happened once the page was in a state.
+    fn after(self, state: State) -> Stir {
+        match state {
+            State::Blank => self,
+            State::Empty if self == Stir::Never => Stir::Mapped,
+            State::Empty => self,
+            _ => Stir::Touched,
+        }
+    }
+}
+
 /// What has happened to each page of a node.
 pub(crate) fn stirs_of(
     alloc: Global,
@@ -124,12 +153,7 @@ pub(crate) fn stirs_of(
     let mut stirs = vec![in alloc; Stir::Never; track.now.len()]?;
     for change in &track.changes {
         if let Some(stir) = stirs.get_mut(change.row as usize) {
-            match change.state {
-                State::Blank => {}
-                State::Empty if *stir == Stir::Never => *stir = Stir::Mapped,
-                State::Empty => {}
-                _ => *stir = Stir::Touched,
-            }
+            *stir = stir.after(change.state);
         }
     }
     for dot in dots {

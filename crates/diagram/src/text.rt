@@ -1,6 +1,6 @@
 //! Texts in parts.
 
-use crate::state::{Counts, State};
+use crate::state::{Counts, State, WAITS};
 use mig_base::refusal::Refusal;
 use std::alloc::AllocError;
 
@@ -20,6 +20,8 @@ pub(crate) enum Part<'a> {
     Length(u64),
     /// A place, as its two lengths.
     At(Place),
+    /// A straight line of a shape, from one place to another.
+    Line(Place, Place),
     /// Why a line was refused.
     Refused(Refusal),
     /// The columns of a wait by state, and the steps of a column.
@@ -39,14 +41,34 @@ fn push_length(text: &mut String, length: u64) -> Result<(), AllocError> {
     write!(text, "{whole}.{tenth}")
 }
 
+/// Adds a place.
+fn push_place(text: &mut String, place: Place) -> Result<(), AllocError> {
+    push_length(text, place.0)?;
+    text.push(' ')?;
+    push_length(text, place.1)
+}
+
+/// Adds a straight line of a shape.
+fn push_line(text: &mut String, from: Place, to: Place) -> Result<(), AllocError> {
+    text.push('M')?;
+    push_place(text, from)?;
+    text.push('L')?;
+    push_place(text, to)
+}
+
+/// Adds the steps of a state to a sum, behind a sign.
+fn push_steps(text: &mut String, sign: &str, state: State, steps: u32) -> Result<(), AllocError> {
+    let word = state.look().part;
+    write!(text, " {sign} {word} {steps}")
+}
+
 /// Adds the steps of each state, as a sum behind what they sum to.
 fn push_sum(text: &mut String, counts: &Counts, per: u32) -> Result<(), AllocError> {
     let mut sign = "=";
-    for state in State::WAITS {
-        let steps = counts.of(state).saturating_mul(per);
+    for state in &WAITS {
+        let steps = counts.of(*state).saturating_mul(per);
         if steps > 0 {
-            let word = state.look().part;
-            write!(text, " {sign} {word} {steps}")?;
+            push_steps(text, sign, *state, steps)?;
             sign = "+";
         }
     }
@@ -68,11 +90,8 @@ fn push(text: &mut String, part: Part) -> Result<(), AllocError> {
         }
         Part::More(_) => Ok(()),
         Part::Length(length) => push_length(text, length),
-        Part::At(place) => {
-            push_length(text, place.0)?;
-            text.push(' ')?;
-            push_length(text, place.1)
-        }
+        Part::At(place) => push_place(text, place),
+        Part::Line(from, to) => push_line(text, from, to),
         Part::Refused(refusal) => write!(text, "{refusal}"),
         Part::Sum(counts, per) => push_sum(text, counts, per),
     }

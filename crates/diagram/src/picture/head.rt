@@ -3,8 +3,8 @@
 use crate::pen::Pen;
 use crate::plan::Plan;
 use crate::record::{Event, Record};
-use crate::text::NOTHING;
 use crate::text::Part::{Number, Sum, Words};
+use crate::text::{NOTHING, Part};
 use crate::waits::Total;
 
 /// The line at which the migration is complete, if it is, and how many steps nobody ran the processors.
@@ -27,10 +27,9 @@ fn outcome_of(plan: &Plan, record: &Record) -> (Option<u32>, u32) {
     (complete, nobody)
 }
 
-/// Writes how the run ends, and how long nobody ran the processors.
-fn outcome(pen: &mut Pen, plan: &Plan, record: &Record) {
-    let (complete, nobody) = outcome_of(plan, record);
-    let [one, two, three] = match complete {
+/// How the run ends: the migration is complete at a line, or not.
+fn ending(plan: &Plan, record: &Record, complete: Option<u32>) -> [Part<'static>; 3] {
+    match complete {
         Some(line) => [Words("Complete at line "), Number(line), Words(".")],
         None if record.marks.is_empty() => [Words("No migration."), NOTHING, NOTHING],
         None => [
@@ -38,19 +37,27 @@ fn outcome(pen: &mut Pen, plan: &Plan, record: &Record) {
             Number(plan.columns.lines),
             Words(" steps."),
         ],
-    };
-    if nobody == 0 {
-        return pen.words("n2", (100, 350), &[one, two, three]);
     }
-    let words = [
-        one,
-        two,
-        three,
+}
+
+/// How long nobody ran the processors, if that was so at all.
+fn pause(nobody: u32) -> [Part<'static>; 3] {
+    if nobody == 0 {
+        return [NOTHING; 3];
+    }
+    [
         Words(" Nobody ran the processors for "),
         Number(nobody),
         Words(" steps."),
-    ];
-    pen.words("n2", (100, 350), &words);
+    ]
+}
+
+/// Writes how the run ends, and how long nobody ran the processors.
+fn outcome(pen: &mut Pen, plan: &Plan, record: &Record) {
+    let (complete, nobody) = outcome_of(plan, record);
+    let [one, two, three] = ending(plan, record, complete);
+    let [four, five, six] = pause(nobody);
+    pen.words("n2", (100, 350), &[one, two, three, four, five, six]);
 }
 
 /// Writes how often and how long processors waited, and for whom.

@@ -4,7 +4,7 @@ use super::bands::run_of;
 use crate::pen::{Frame, Pen};
 use crate::plan::{Band, Plan};
 use crate::record::{End, Flight, Record};
-use crate::state::State;
+use crate::state::{IN_TURN, State};
 use crate::text::Place;
 use mig_base::NoMemory;
 use std::alloc::Global;
@@ -36,35 +36,51 @@ pub(super) struct Items {
     items: Vec<(Sign, Place)>,
     /// Whether the next item begins a column.
     is_first: bool,
+    /// Where the last item stands.
+    last: Place,
     pub width: u64,
     pub height: u64,
 }
 
 impl Items {
+    /// Begins a column of this name.
+    fn begin(&mut self, name: &'static str) -> Result<(), NoMemory> {
+        self.is_first = false;
+        self.last = (self.width.saturating_sub(100), 100);
+        self.width = self.width.saturating_add(COLUMN);
+        self.items.push((Sign::Name(name), self.last))?;
+        Ok(())
+    }
+
     /// Adds an item to a column of this name, below the last one.
     fn add(&mut self, name: &'static str, sign: Sign) -> Result<(), NoMemory> {
         if self.is_first {
-            self.is_first = false;
-            let x = self.width.saturating_sub(100);
-            self.items.push((Sign::Name(name), (x, 100)))?;
-            self.width = self.width.saturating_add(COLUMN);
+            self.begin(name)?;
         }
-        let (x, y) = match self.items.last() {
-            Some((_, place)) => *place,
-            None => (0, 0),
-        };
-        let y = y.saturating_add(ITEM);
-        self.items.push((sign, (x, y)))?;
+        let y = self.last.1.saturating_add(ITEM);
+        self.last.1 = y;
         self.height = self.height.max(y.saturating_add(300));
+        self.items.push((sign, self.last))?;
         Ok(())
     }
 
     /// Adds the states that a band has, in a column.
     fn add_states(&mut self, name: &'static str, band: &Band) -> Result<(), NoMemory> {
         self.is_first = true;
-        for state in State::IN_TURN {
-            if has_state(band, state) {
-                self.add(name, Sign::Box(state))?;
+        for state in &IN_TURN {
+            if has_state(band, *state) {
+                self.add(name, Sign::Box(*state))?;
+            }
+        }
+        Ok(())
+    }
+
+    /// Adds those signs that the picture has, in a column.
+    fn add_signs(&mut self, signs: &[(Sign, bool)]) -> Result<(), NoMemory> {
+        self.is_first = true;
+        for (sign, is_there) in signs {
+            if *is_there {
+                self.add("signs", *sign)?;
             }
         }
         Ok(())
@@ -91,23 +107,13 @@ fn has_lost(flights: &[Flight]) -> bool {
     false
 }
 
-/// The items of a picture.
-pub(super) fn find_items(alloc: Global, plan: &Plan, record: &Record) -> Result<Items, NoMemory> {
-    let mut items = Items {
-        items: Vec::new(alloc),
-        is_first: true,
-        width: 200,
-        height: 400,
-    };
-    items.add_states("source pages", &plan.source)?;
-    items.add_states("destination pages", &plan.destination)?;
-    items.add_states("processors", &plan.processors)?;
-    items.is_first = true;
+/// The signs of all pictures, each with whether this picture has it.
+fn signs_of(plan: &Plan, record: &Record) -> [(Sign, bool); 8] {
     let migrates = !record.marks.is_empty();
     let lost = has_lost(&record.forward.flights)
         || has_lost(&record.urgent.flights)
         || has_lost(&record.back.flights);
-    let signs = [
+    [
         (Sign::Line("lf", "page or request, sent to taken"), migrates),
         (
             Sign::Line("lu", "a page on the urgent wire"),
@@ -122,12 +128,22 @@ pub(super) fn find_items(alloc: Global, plan: &Plan, record: &Record) -> Result<
             !record.moves.is_empty(),
         ),
         (Sign::Age, run_of(plan, record).is_some()),
-    ];
-    for (sign, is_there) in signs {
-        if is_there {
-            items.add("signs", sign)?;
-        }
-    }
+    ]
+}
+
+/// The items of a picture.
+pub(super) fn find_items(alloc: Global, plan: &Plan, record: &Record) -> Result<Items, NoMemory> {
+    let mut items = Items {
+        items: Vec::new(alloc),
+        is_first: true,
+        last: (0, 0),
+        width: 200,
+        height: 400,
+    };
+    items.add_states("source pages", &plan.source)?;
+    items.add_states("destination pages", &plan.destination)?;
+    items.add_states("processors", &plan.processors)?;
+    items.add_signs(&signs_of(plan, record))?;
     Ok(items)
 }
 

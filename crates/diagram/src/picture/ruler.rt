@@ -4,7 +4,7 @@ use crate::pen::Pen;
 use crate::plan::{LEFT, Plan};
 use crate::record::Record;
 use crate::text::Part::{Number, Refused, Words};
-use crate::text::push_all;
+use crate::text::{NOTHING, push_all};
 use mig_base::NoMemory;
 use mig_base::refusal::Refusal;
 use std::alloc::Global;
@@ -39,12 +39,11 @@ fn text_of(
 ) -> Result<Text, NoMemory> {
     let shown = text.get(..SHOWN).unwrap_or(text);
     let mut words = String::from_utf8_lossy(alloc, shown)?;
-    let mut class = "mo en";
-    if let Some(reason) = refusal(record, column) {
-        push_all(&mut words, &[Words(": "), Refused(reason)])?;
-        class = "gm en";
-    }
-    push_all(&mut words, &[Words("  "), Number(line)])?;
+    let (class, colon, reason) = match refusal(record, column) {
+        Some(reason) => ("gm en", Words(": "), Refused(reason)),
+        None => ("mo en", NOTHING, NOTHING),
+    };
+    push_all(&mut words, &[colon, reason, Words("  "), Number(line)])?;
     Ok(Text { words, class })
 }
 
@@ -63,7 +62,7 @@ pub(super) fn find_texts(
     let mut number = 0u32;
     for raw in input.split(|byte| *byte == b'\n') {
         number = number.saturating_add(1);
-        if record.lines.get(column as usize) == Some(&number) {
+        if plan.line_of(record, column) == number {
             texts.push(text_of(alloc, record, column, number, raw.trim_ascii())?)?;
             column = column.saturating_add(1);
         }
