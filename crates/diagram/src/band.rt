@@ -67,6 +67,18 @@ const STILL: Thread = Thread {
 };
 
 impl Thread {
+    /// A page of the row changes its state from this one.
+    fn change(&mut self, before: State, change: &Change, row: u32) {
+        self.counts.take(before);
+        self.counts.add(change.state, 1);
+        self.open.row = row;
+        self.about = change.about;
+        self.now = self.counts.highest();
+        if self.now as usize > self.peak as usize {
+            self.peak = self.now;
+        }
+    }
+
     /// Ends the open stretch before a column if another state is shown there. Returns it, unless nothing is drawn of it.
     fn cut(&mut self, column: u32, shown: State) -> Option<Stretch> {
         self.peak = self.now;
@@ -82,13 +94,33 @@ impl Thread {
     }
 }
 
+/// Puts a state into a place, and returns the one before it.
+fn put(states: &mut [State], at: usize, state: State) -> State {
+    let mut before = State::Blank;
+    if let Some(now) = states.get_mut(at) {
+        before = *now;
+        *now = state;
+    }
+    before
+}
+
 /// The rows of a band while their stretches are found.
-#[derive(Drop)]
 struct Band {
     threads: Vec<Thread>,
     /// The state of each page.
     now: Vec<State>,
     stretches: Vec<Stretch>,
+}
+
+// Written by hand, so that each exit of a function that owns a band has one call instead of the drops of all parts.
+impl Drop for Band {
+    fn drop(self) {
+        let Band {
+            threads: _threads,
+            now: _now,
+            stretches: _stretches,
+        } = self;
+    }
 }
 
 impl Band {
@@ -106,18 +138,9 @@ impl Band {
         let Some(row) = rows.row_of(change.row) else {
             return;
         };
-        if let Some(now) = self.now.get_mut(change.row as usize)
-            && let Some(thread) = self.threads.get_mut(row as usize)
-        {
-            thread.counts.take(*now);
-            thread.counts.add(change.state, 1);
-            *now = change.state;
-            thread.open.row = row;
-            thread.about = change.about;
-            thread.now = thread.counts.highest();
-            if thread.now as usize > thread.peak as usize {
-                thread.peak = thread.now;
-            }
+        let before = put(&mut self.now, change.row as usize, change.state);
+        if let Some(thread) = self.threads.get_mut(row as usize) {
+            thread.change(before, change, row);
         }
     }
 
@@ -161,6 +184,16 @@ impl Band {
         }
         self.cut_each(column, columns.count().saturating_add(1), columns)
     }
+
+    /// The stretches that were found.
+    fn into_stretches(self) -> Vec<Stretch> {
+        let Band {
+            threads: _threads,
+            now: _now,
+            stretches,
+        } = self;
+        stretches
+    }
 }
 
 /// The stretches of a band, in the order of the columns in which they end.
@@ -172,5 +205,5 @@ pub(crate) fn stretches_of(
 ) -> Result<Vec<Stretch>, NoMemory> {
     let mut band = Band::new(alloc, rows)?;
     band.change_all(changes, rows, columns)?;
-    Ok(band.stretches)
+    Ok(band.into_stretches())
 }

@@ -51,7 +51,6 @@ fn barb(from: Place, to: Place, is_right: bool) -> Place {
 }
 
 /// A sheet that is drawn on. Where memory runs out the drawing goes on without it, and `finish` says so: a sheet remembers that too.
-#[derive(Drop)]
 pub(crate) struct Pen {
     sheet: Sheet,
     pub alloc: Global,
@@ -61,6 +60,19 @@ pub(crate) struct Pen {
     name: String,
     /// False once memory ran out.
     whole: bool,
+}
+
+// Written by hand, so that each exit of a function that owns a pen has one call instead of the drops of all parts.
+impl Drop for Pen {
+    fn drop(self) {
+        let Pen {
+            sheet: _sheet,
+            alloc: _alloc,
+            text: _text,
+            name: _name,
+            whole: _whole,
+        } = self;
+    }
 }
 
 impl Pen {
@@ -79,10 +91,17 @@ impl Pen {
     pub(crate) fn finish(self) -> Result<Vec<u8>, NoMemory>
         ensures { IfOk result (λ picture. IsPicture picture.items) }
     {
-        if !self.whole {
+        let Pen {
+            sheet,
+            alloc: _alloc,
+            text: _text,
+            name: _name,
+            whole,
+        } = self;
+        if !whole {
             return Err(NoMemory);
         }
-        self.sheet.finish()
+        sheet.finish()
     }
 
     /// Puts a text into the room for one.

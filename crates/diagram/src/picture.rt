@@ -15,8 +15,8 @@ mod strands;
 use crate::pen::{Frame, Pen};
 use crate::plan::{Plan, RIGHT};
 use crate::record::Record;
-use crate::text::Part::{At, Length, Words};
-use crate::text::{Part, push_all};
+use crate::text::Part::{At, Words};
+use crate::text::push_all;
 use mig_base::NoMemory;
 use std::alloc::Global;
 use svg::{Attribute, Key, Sheet, Tag};
@@ -75,18 +75,12 @@ fn patterns(pen: &mut Pen) {
     pen.close();
 }
 
-/// A text in parts.
-fn text_of(alloc: Global, parts: &[Part]) -> Result<String, NoMemory> {
-    let mut text = String::new(alloc);
-    push_all(&mut text, parts)?;
-    Ok(text)
-}
-
 /// A sheet of a size.
 fn new_sheet(alloc: Global, width: u64, height: u64) -> Result<Sheet, NoMemory> {
-    let view = text_of(alloc, &[Words("0 0 "), At((width, height))])?;
-    let across = text_of(alloc, &[Length(width)])?;
-    let down = text_of(alloc, &[Length(height)])?;
+    let mut view = String::new(alloc);
+    push_all(&mut view, &[Words("0 0 "), At((width, height))])?;
+    let size = view.get(4..).unwrap_or("");
+    let (across, down) = size.split_once(' ').unwrap_or(("", ""));
     let attributes = [
         Attribute {
             key: Key::Namespace,
@@ -126,35 +120,93 @@ fn ground(pen: &mut Pen, name: &str, width: u64, height: u64) {
     pen.rectangle("bg", frame);
 }
 
+/// The size of a picture, and where what stands below the bands begins.
+#[derive(Clone, Copy)]
+struct Size {
+    width: u64,
+    height: u64,
+    /// Where the legend begins.
+    legend: u64,
+    /// Where the list of the longest waits begins.
+    list: u64,
+}
+
+/// The size of a picture.
+fn size_of(alloc: Global, plan: &Plan, record: &Record, input: &[u8]) -> Result<Size, NoMemory> {
+    let below = ruler::height(alloc, plan, record, input)?;
+    let (across, down) = legend::size(plan, record);
+    let legend = plan.bottom.saturating_add(below).saturating_add(100);
+    let list = legend.saturating_add(down);
+    Ok(Size {
+        width: plan.right().saturating_add(RIGHT).max(across),
+        height: list.saturating_add(longest::height(plan)),
+        legend,
+        list,
+    })
+}
+
+/// A pen on a new sheet of this size.
+fn new_pen(alloc: Global, size: Size) -> Result<Pen, NoMemory> {
+    let sheet = new_sheet(alloc, size.width, size.height)?;
+    Ok(Pen::new(alloc, sheet))
+}
+
+/// Draws all that stands in the bands.
+fn draw_bands(pen: &mut Pen, plan: &Plan, record: &Record) -> Result<(), NoMemory> {
+    marks::grounds(pen, plan, record);
+    marks::phases(pen, plan, record);
+    bands::processors(pen, plan, record);
+    bands::nodes(pen, plan, record);
+    strands::wires(pen, plan, record)?;
+    notes::write_notes(pen, plan, record)
+}
+
+/// Draws all that stands below the bands, and the marks over all.
+fn draw_foot(
+    pen: &mut Pen,
+    plan: &Plan,
+    record: &Record,
+    input: &[u8],
+    size: Size,
+) -> Result<(), NoMemory> {
+    ruler::ruler(pen, plan, record, input)?;
+    marks::marks(pen, plan, record)?;
+    legend::legend(pen, plan, record, size.legend);
+    longest::longest(pen, plan, record, size.list);
+    Ok(())
+}
+
+/// Paints a picture in which everything has its place.
+fn paint_plan(
+    alloc: Global,
+    plan: &Plan,
+    record: &Record,
+    name: &str,
+    input: &[u8],
+) -> Result<Vec<u8>, NoMemory>
+    ensures { IfOk result (λ picture. IsPicture picture.items) }
+{
+    let size = size_of(alloc, plan, record, input)?;
+    let mut pen = new_pen(alloc, size)?;
+    ground(&mut pen, name, size.width, size.height);
+    head::head(&mut pen, plan, record, name);
+    draw_bands(&mut pen, plan, record)?;
+    draw_foot(&mut pen, plan, record, input, size)?;
+    pen.finish()
+}
+
+/// Where everything stands in the picture of a record.
+fn placed(alloc: Global, record: &Record) -> Result<Plan, NoMemory> {
+    let mut plan = Plan::new(alloc, record)?;
+    let above = marks::height(alloc, &plan, record)?;
+    plan.place(700u64.saturating_add(above));
+    Ok(plan)
+}
+
 /// Paints the picture of a record, which is named so. The input is the script.
 pub fn paint(alloc: Global, record: &Record, name: &str, input: &[u8]) -> Result<Vec<u8>, NoMemory>
     ensures { IfOk result (λ picture. IsPicture picture.items) }
 {
-    let mut plan = Plan::new(alloc, record)?;
-    let labels = marks::find_labels(alloc, &plan, record)?;
-    plan.place(700u64.saturating_add(labels.height));
-    let texts = ruler::find_texts(alloc, &plan, record, input)?;
-    let items = legend::find_items(alloc, &plan, record)?;
-    let waits = longest::longest_of(alloc, &plan)?;
-    let foot = plan
-        .bottom
-        .saturating_add(ruler::height(&texts))
-        .saturating_add(100);
-    let list = foot.saturating_add(items.height);
-    let height = list.saturating_add(longest::height(&waits));
-    let width = plan.right().saturating_add(RIGHT).max(items.width);
-    let mut pen = Pen::new(alloc, new_sheet(alloc, width, height)?);
-    ground(&mut pen, name, width, height);
-    head::head(&mut pen, &plan, record, name);
-    marks::grounds(&mut pen, &plan, record);
-    marks::phases(&mut pen, &plan, record);
-    bands::processors(&mut pen, &plan, record);
-    bands::nodes(&mut pen, &plan, record);
-    strands::wires(&mut pen, &plan, record)?;
-    notes::write_notes(&mut pen, &plan, record)?;
-    ruler::ruler(&mut pen, &plan, record, &texts);
-    marks::marks(&mut pen, &plan, &labels);
-    legend::legend(&mut pen, &items, foot);
-    longest::longest(&mut pen, &plan, record, &waits, list);
-    pen.finish()
+    let plan = placed(alloc, record)?;
+    paint_plan(alloc, &plan, record, name, input)
 }

@@ -21,7 +21,6 @@ const MOST_COLUMNS: u32 = 2000;
 const MOST_SHAPES: usize = 20_000;
 
 /// A band of rows: its rows, what is drawn in them, and where they stand.
-#[derive(Drop)]
 pub(crate) struct Band {
     pub rows: Rows,
     pub stretches: Vec<Stretch>,
@@ -31,8 +30,19 @@ pub(crate) struct Band {
     pub top: u64,
 }
 
+// Written by hand, so that each exit of a function that owns a band has one call instead of the drops of all parts.
+impl Drop for Band {
+    fn drop(self) {
+        let Band {
+            rows: _rows,
+            stretches: _stretches,
+            height: _height,
+            top: _top,
+        } = self;
+    }
+}
+
 /// A picture: its columns, its bands, and its size.
-#[derive(Drop)]
 pub(crate) struct Plan {
     pub columns: Columns,
     pub width: u64,
@@ -47,6 +57,24 @@ pub(crate) struct Plan {
     pub back: (u64, u64),
     /// Where the bands end.
     pub bottom: u64,
+}
+
+// As that of a band.
+impl Drop for Plan {
+    fn drop(self) {
+        let Plan {
+            columns: _columns,
+            width: _width,
+            source: _source,
+            destination: _destination,
+            processors: _processors,
+            waits: _waits,
+            top: _top,
+            forward: _forward,
+            back: _back,
+            bottom: _bottom,
+        } = self;
+    }
 }
 
 /// The height of a row, if there are this many.
@@ -182,6 +210,14 @@ impl Plan {
         })
     }
 
+    /// The number of shapes of the picture, about.
+    fn shapes(&self, record: &Record) -> usize {
+        frame_shapes(record, self.columns)
+            .saturating_add(self.source.stretches.len())
+            .saturating_add(self.destination.stretches.len())
+            .saturating_add(self.processors.stretches.len())
+    }
+
     /// The columns and the bands of a record: as few lines in a column and pages in a row as leave the picture small.
     pub(crate) fn new(alloc: Global, record: &Record) -> Result<Plan, NoMemory> {
         let lines = record.lines.len().min(u32::MAX as usize) as u32;
@@ -189,13 +225,7 @@ impl Plan {
         let mut together = 1u32;
         let mut plan = Plan::of(alloc, record, per, together)?;
         for _ in 0..16 {
-            let stretches = plan
-                .source
-                .stretches
-                .len()
-                .saturating_add(plan.destination.stretches.len())
-                .saturating_add(plan.processors.stretches.len());
-            if stretches.saturating_add(frame_shapes(record, plan.columns)) <= MOST_SHAPES {
+            if plan.shapes(record) <= MOST_SHAPES {
                 break;
             }
             per = per.saturating_mul(2);

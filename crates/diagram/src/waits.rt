@@ -23,31 +23,41 @@ impl Wait {
         self.to.saturating_sub(self.from)
     }
 
-    /// Whether a stretch goes on with the wait.
-    fn goes_on(&self, stretch: &Stretch) -> bool {
-        self.cpu == stretch.row && self.page == stretch.about && self.to == stretch.from
+    /// A wait of one stretch.
+    fn of(stretch: &Stretch) -> Wait {
+        let mut wait = Wait {
+            cpu: stretch.row,
+            page: stretch.about,
+            from: stretch.from,
+            to: stretch.to,
+            parts: Counts::NONE,
+        };
+        let columns = wait.columns();
+        wait.parts.add(stretch.state, columns);
+        wait
+    }
+
+    /// Takes a stretch that goes on with the wait. Returns whether it does.
+    fn take(&mut self, stretch: &Stretch) -> bool {
+        let same = self.cpu == stretch.row && self.page == stretch.about;
+        let takes = same && self.to == stretch.from;
+        if takes {
+            self.to = stretch.to;
+            let columns = stretch.to.saturating_sub(stretch.from);
+            self.parts.add(stretch.state, columns);
+        }
+        takes
     }
 }
 
 /// Adds a stretch to the last wait if that goes on with it, or a wait that begins with it.
 fn add(waits: &mut Vec<Wait>, stretch: &Stretch) -> Result<(), NoMemory> {
-    let columns = stretch.to.saturating_sub(stretch.from);
     if let Some(last) = waits.last_mut()
-        && last.goes_on(stretch)
+        && last.take(stretch)
     {
-        last.to = stretch.to;
-        last.parts.add(stretch.state, columns);
         return Ok(());
     }
-    let mut parts = Counts::NONE;
-    parts.add(stretch.state, columns);
-    waits.push(Wait {
-        cpu: stretch.row,
-        page: stretch.about,
-        from: stretch.from,
-        to: stretch.to,
-        parts,
-    })?;
+    waits.push(Wait::of(stretch))?;
     Ok(())
 }
 

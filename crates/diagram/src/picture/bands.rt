@@ -5,7 +5,7 @@ use crate::pen::{Frame, Pen};
 use crate::plan::{Band, LEFT, Plan};
 use crate::record::{Dot, Event, Move, Record};
 use crate::state::State;
-use crate::text::Part::{More, Number, Page, Words};
+use crate::text::Part::{Counted, Lines, More, Number, Page, Words};
 use crate::text::{NOTHING, Part, width_of};
 use crate::waits::{Total, Wait};
 
@@ -17,9 +17,9 @@ const BAR: u64 = 110;
 
 const AXLE: u64 = 200;
 
-/// The first of dots or of crosses: as many as are drawn.
-fn first<T>(all: &[T]) -> &[T] {
-    all.get(..MOST_DOTS).unwrap_or(all)
+/// The first `most` of a list, or all of it.
+fn first<T>(all: &[T], most: usize) -> &[T] {
+    all.get(..most).unwrap_or(all)
 }
 
 /// Draws a rectangle for some lines, and names whose it is and what it shows.
@@ -39,10 +39,7 @@ fn cell(
         four,
         Words(": "),
         Words(words),
-        Words(", lines "),
-        Number(lines.0),
-        Words(" to "),
-        Number(lines.1),
+        Lines(lines.0, lines.1),
     ]);
     pen.rectangle(class, frame);
 }
@@ -83,7 +80,7 @@ fn bar(pen: &mut Pen, plan: &Plan, record: &Record, stretch: &Stretch) {
 
 /// Whether words above a wait that end here would stand on a longer wait of the processor, among the next ones.
 fn hides(plan: &Plan, wait: &Wait, later: &[Wait], end: u64) -> bool {
-    for next in later.iter().take(8) {
+    for next in first(later, 8) {
         let longer = next.cpu == wait.cpu && next.columns() > wait.columns();
         if longer && plan.x_of(next.from) < end {
             return true;
@@ -126,14 +123,9 @@ fn wait_labels(pen: &mut Pen, plan: &Plan) {
 
 /// Writes how often and how long processors waited, and for whom most.
 fn write_total(pen: &mut Pen, total: &Total, per: u32, x: u64, y: u64) {
-    let noun = if total.waits == 1 {
-        " wait, "
-    } else {
-        " waits, "
-    };
     let sum = [
-        Number(total.waits),
-        Words(noun),
+        Counted(total.waits, " wait"),
+        Words(", "),
         Number(total.columns.saturating_mul(per)),
         Words(" steps"),
     ];
@@ -231,12 +223,12 @@ fn moved(pen: &mut Pen, plan: &Plan, band: &Band, one: &Move) {
 
 /// Draws the sleeps and the moves of mappings in a band.
 fn signs(pen: &mut Pen, plan: &Plan, record: &Record, band: &Band, at_destination: bool) {
-    for sleep in first(&record.dots) {
+    for sleep in first(&record.dots, MOST_DOTS) {
         if sleep.at_destination == at_destination {
             dot(pen, plan, band, sleep);
         }
     }
-    for one in first(&record.moves) {
+    for one in first(&record.moves, MOST_DOTS) {
         if one.at_destination == at_destination {
             moved(pen, plan, band, one);
         }
@@ -278,7 +270,7 @@ fn ages(pen: &mut Pen, plan: &Plan, record: &Record) {
 fn drops(pen: &mut Pen, plan: &Plan, record: &Record) {
     let band = &plan.destination;
     let reach = (band.height / 2).min(35);
-    for drop in first(&record.drops) {
+    for drop in first(&record.drops, MOST_DOTS) {
         if let Some(y) = band.middle_of(drop.1) {
             pen.cross("lx", (plan.x_at(drop.0), y), reach);
         }

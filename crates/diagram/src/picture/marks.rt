@@ -3,7 +3,7 @@
 use crate::pen::{Frame, Pen};
 use crate::plan::Plan;
 use crate::record::{Event, Mark, Record};
-use crate::text::Part::{Number, Words};
+use crate::text::Part::{Counted, Number, Words};
 use crate::text::{NOTHING, Part, push_all, width_of};
 use mig_base::NoMemory;
 use std::alloc::Global;
@@ -19,7 +19,7 @@ const MOST_WORDS: usize = 120;
 
 /// A mark as it is drawn.
 #[derive(Clone, Copy)]
-pub(super) struct Label {
+struct Label {
     x: u64,
     mark: Mark,
     /// Its row above the bands, if it has words.
@@ -28,9 +28,9 @@ pub(super) struct Label {
 
 /// The marks as they are drawn, from the last to the first.
 #[derive(Drop)]
-pub(super) struct Labels {
+struct Labels {
     labels: Vec<Label>,
-    pub height: u64,
+    height: u64,
 }
 
 /// How much a mark matters.
@@ -44,26 +44,15 @@ fn rank_of(event: Event) -> u8 {
 }
 
 /// The words of a break, which begin so: how many pages and how many requests it has lost.
-fn break_words(lost: Part<'static>, pages: u32, requests: u32) -> [Part<'static>; 6] {
+fn break_words(lost: Part<'static>, pages: u32, requests: u32) -> [Part<'static>; 4] {
     let none = NOTHING;
-    let page_word = Words(if pages == 1 { " page" } else { " pages" });
-    let request_word = Words(match requests {
-        1 => " request",
-        _ => " requests",
-    });
-    let (page_count, request_count) = (Number(pages), Number(requests));
+    let page_count = Counted(pages, " page");
+    let request_count = Counted(requests, " request");
     match (pages, requests) {
-        (0, 0) => [Words("break: no page lost"), none, none, none, none, none],
-        (_, 0) => [lost, page_count, page_word, none, none, none],
-        (0, _) => [lost, request_count, request_word, none, none, none],
-        _ => [
-            lost,
-            page_count,
-            page_word,
-            Words(", "),
-            request_count,
-            request_word,
-        ],
+        (0, 0) => [Words("break: no page lost"), none, none, none],
+        (_, 0) => [lost, page_count, none, none],
+        (0, _) => [lost, request_count, none, none],
+        _ => [lost, page_count, Words(", "), request_count],
     }
 }
 
@@ -84,16 +73,16 @@ fn word_of(event: Event) -> &'static str {
 }
 
 /// The words of a mark.
-fn words_of(mark: &Mark) -> [Part<'static>; 6] {
+fn words_of(mark: &Mark) -> [Part<'static>; 4] {
     let none = NOTHING;
     let word = Words(word_of(mark.event));
     let (first, second) = (Number(mark.first), Number(mark.second));
     match mark.event {
         Event::Break => break_words(word, mark.first, mark.second),
-        Event::Round => [word, first, Words(": "), second, none, none],
-        Event::Switch => [word, first, Words(" owed"), none, none, none],
-        Event::Resume => [word, first, none, none, none, none],
-        _ => [word, none, none, none, none, none],
+        Event::Round => [word, first, Words(": "), second],
+        Event::Switch => [word, first, Words(" owed"), none],
+        Event::Resume => [word, first, none, none],
+        _ => [word, none, none, none],
     }
 }
 
@@ -119,11 +108,14 @@ fn room_of(alloc: Global, mark: &Mark) -> Result<u64, NoMemory> {
 }
 
 impl Labels {
-    /// Adds a mark in a row for its words, which need so much room.
-    fn add_words(&mut self, x: u64, mark: Mark, room: u64) -> Result<(), NoMemory> {
-        let row = row_above(&self.labels, x, room);
-        self.height = self.height.max(row.saturating_add(1).saturating_mul(ROW));
-        let row = Some(row);
+    /// Adds a mark: with words, in a row for them, or without.
+    fn add(&mut self, alloc: Global, x: u64, mark: Mark, says: bool) -> Result<(), NoMemory> {
+        let mut row = None;
+        if says {
+            let above = row_above(&self.labels, x, room_of(alloc, &mark)?);
+            self.height = self.height.max(above.saturating_add(1).saturating_mul(ROW));
+            row = Some(above);
+        }
         self.labels.push(Label { x, mark, row })?;
         Ok(())
     }
@@ -136,19 +128,14 @@ fn staircase(alloc: Global, plan: &Plan, record: &Record, least: u8) -> Result<L
         height: 0,
     };
     for mark in record.marks.iter().rev() {
-        let x = plan.x_at(mark.line);
-        if rank_of(mark.event) >= least {
-            labels.add_words(x, *mark, room_of(alloc, mark)?)?;
-        } else {
-            let (mark, row) = (*mark, None);
-            labels.labels.push(Label { x, mark, row })?;
-        }
+        let says = rank_of(mark.event) >= least;
+        labels.add(alloc, plan.x_at(mark.line), *mark, says)?;
     }
     Ok(labels)
 }
 
 /// The marks as they are drawn: words that would need too many rows are left out, those that matter least first.
-pub(super) fn find_labels(alloc: Global, plan: &Plan, record: &Record) -> Result<Labels, NoMemory> {
+fn find_labels(alloc: Global, plan: &Plan, record: &Record) -> Result<Labels, NoMemory> {
     if record.marks.len() <= MOST_WORDS {
         for least in 1..5 {
             let labels = staircase(alloc, plan, record, least)?;
@@ -186,8 +173,15 @@ fn draw_mark(pen: &mut Pen, plan: &Plan, label: &Label) {
     }
 }
 
+/// The height of the words of the marks.
+pub(super) fn height(alloc: Global, plan: &Plan, record: &Record) -> Result<u64, NoMemory> {
+    let labels = find_labels(alloc, plan, record)?;
+    Ok(labels.height)
+}
+
 /// Draws the marks. Of those without words at one place, the last is drawn.
-pub(super) fn marks(pen: &mut Pen, plan: &Plan, labels: &Labels) {
+pub(super) fn marks(pen: &mut Pen, plan: &Plan, record: &Record) -> Result<(), NoMemory> {
+    let labels = find_labels(pen.alloc, plan, record)?;
     let mut before = u64::MAX;
     for label in &labels.labels {
         if label.row.is_some() || label.x != before {
@@ -195,6 +189,7 @@ pub(super) fn marks(pen: &mut Pen, plan: &Plan, labels: &Labels) {
         }
         before = label.x;
     }
+    Ok(())
 }
 
 /// Draws a ground from one line to another.
@@ -235,7 +230,7 @@ pub(super) fn grounds(pen: &mut Pen, plan: &Plan, record: &Record) {
     }
 }
 
-/// The words for a part of the migration, as many as there is room for: its name and its steps, its steps alone, or nothing.
+/// The words for a part of the migration that fit into the room for them: its name and its steps, its steps alone, or nothing.
 fn phase_words(pen: &mut Pen, word: &'static str, steps: u32, room: u64) -> [Part<'static>; 4] {
     let count = Number(steps);
     let whole = [Words(word), Words(": "), count, Words(" steps")];

@@ -78,9 +78,9 @@ fn routes_of(
     Ok(routes)
 }
 
-/// What a frame is: its word, and its pages if it has any.
-fn frame_of(flight: &Flight) -> [Part<'static>; 3] {
-    let word = match flight.kind {
+/// The word of a frame.
+fn word_of(kind: Kind) -> &'static str {
+    match kind {
         Kind::Page => "page ",
         Kind::Zero => "zeros ",
         Kind::Request => "request ",
@@ -91,7 +91,11 @@ fn frame_of(flight: &Flight) -> [Part<'static>; 3] {
         Kind::Resume => "resume",
         Kind::Received => "recv",
         Kind::Done => "done",
-    };
+    }
+}
+
+/// What a frame is: its word, and its pages if it has any.
+fn frame_of(flight: &Flight, word: &'static str) -> [Part<'static>; 3] {
     if flight.kind.has_page() {
         [Words(word), Page(flight.page), More(flight.pages)]
     } else {
@@ -101,7 +105,7 @@ fn frame_of(flight: &Flight) -> [Part<'static>; 3] {
 
 /// Names a frame by what it is, when it was sent, and how it ended.
 fn name_frame(pen: &mut Pen, plan: &Plan, record: &Record, flight: &Flight) {
-    let [word, page, more] = frame_of(flight);
+    let [word, page, more] = frame_of(flight, word_of(flight.kind));
     let ended = match flight.end {
         End::Open => ", in flight at the end, line ",
         End::Taken => ", taken at line ",
@@ -180,6 +184,19 @@ fn place_of(route: &Route, width: u64, written: &[Label]) -> Option<Label> {
     None
 }
 
+/// Writes what a frame is on its line, where there is room. Returns where.
+fn frame_label(pen: &mut Pen, route: &Route, written: &[Label]) -> Option<Label> {
+    let word = match route.flight.kind {
+        Kind::Page | Kind::Request => "",
+        kind => word_of(kind),
+    };
+    let words = frame_of(&route.flight, word);
+    let place = place_of(route, pen.width(&words, 90), written)?;
+    let x = place.left.saturating_add(place.right) / 2;
+    pen.words("mo mi ha", (x, place.y), &words);
+    Some(place)
+}
+
 /// Writes what the frames of a wire are on their lines, where there is room: if their pages are named, also on the lines of those that
 /// have pages.
 fn frame_labels(
@@ -189,17 +206,11 @@ fn frame_labels(
     written: &mut Vec<Label>,
 ) -> Result<(), NoMemory> {
     for route in routes {
-        if (pages || !route.flight.kind.has_page()) && written.len() < MOST_WORDS {
-            let mut words = frame_of(&route.flight);
-            if matches!(route.flight.kind, Kind::Page | Kind::Request) {
-                words[0] = NOTHING;
-            }
-            let width = pen.width(&words, 90);
-            if let Some(place) = place_of(route, width, written) {
-                let x = place.left.saturating_add(place.right) / 2;
-                pen.words("mo mi ha", (x, place.y), &words);
-                written.push(place)?;
-            }
+        if (pages || !route.flight.kind.has_page())
+            && written.len() < MOST_WORDS
+            && let Some(place) = frame_label(pen, route, written)
+        {
+            written.push(place)?;
         }
     }
     Ok(())
