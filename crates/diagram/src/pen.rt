@@ -3,7 +3,7 @@
 ghost use Rattle.std.specs.Prelude.{IfOk};
 ghost use Rattle.svg.specs.Trees.{IsPicture};
 
-use crate::text::Part::{At, Length, Words};
+use crate::text::Part::{At, Length, Line, Words};
 use crate::text::{Part, Place, push_all, width_of};
 use mig_base::NoMemory;
 use std::alloc::Global;
@@ -23,17 +23,17 @@ pub(crate) fn share(length: u64, part: u64, whole: u64) -> u64 {
     length.saturating_mul(part).checked_div(whole).unwrap_or(0)
 }
 
-/// A height above or below another.
-fn shifted(y: u64, by: u64, up: bool) -> u64 {
-    if up {
-        y.saturating_sub(by)
+/// A height above or below another, or a place to the left or to the right of another.
+fn shifted(from: u64, by: u64, back: bool) -> u64 {
+    if back {
+        from.saturating_sub(by)
     } else {
-        y.saturating_add(by)
+        from.saturating_add(by)
     }
 }
 
-/// The two ends of the head of an arrow, which leads to the right, straight down or straight up.
-fn head(from: Place, to: Place) -> (Place, Place) {
+/// The right or the left end of the head of an arrow, which leads to the right, straight down or straight up.
+fn barb(from: Place, to: Place, is_right: bool) -> Place {
     let across = to.0.abs_diff(from.0);
     let down = to.1.abs_diff(from.1);
     let falls = to.1 > from.1;
@@ -43,17 +43,14 @@ fn head(from: Place, to: Place) -> (Place, Place) {
         .saturating_add(across.min(down).saturating_mul(3) / 8);
     let x = to.0.saturating_sub(share(55, across, length));
     let y = shifted(to.1, share(55, down, length), falls);
-    let right = x.saturating_add(share(26, down, length));
-    let left = x.saturating_sub(share(26, down, length));
     let aside = share(26, across, length);
     (
-        (right, shifted(y, aside, falls)),
-        (left, shifted(y, aside, !falls)),
+        shifted(x, share(26, down, length), !is_right),
+        shifted(y, aside, falls == is_right),
     )
 }
 
 /// A sheet that is drawn on. Where memory runs out the drawing goes on without it, and `finish` says so: a sheet remembers that too.
-#[derive(Drop)]
 pub(crate) struct Pen {
     sheet: Sheet,
     pub alloc: Global,
@@ -63,6 +60,19 @@ pub(crate) struct Pen {
     name: String,
     /// False once memory ran out.
     whole: bool,
+}
+
+// Written by hand, so that each exit of a function that owns a pen has one call instead of the drops of all parts.
+impl Drop for Pen {
+    fn drop(self) {
+        let Pen {
+            sheet: _sheet,
+            alloc: _alloc,
+            text: _text,
+            name: _name,
+            whole: _whole,
+        } = self;
+    }
 }
 
 impl Pen {
@@ -81,10 +91,17 @@ impl Pen {
     pub(crate) fn finish(self) -> Result<Vec<u8>, NoMemory>
         ensures { IfOk result (λ picture. IsPicture picture.items) }
     {
-        if !self.whole {
+        let Pen {
+            sheet,
+            alloc: _alloc,
+            text: _text,
+            name: _name,
+            whole,
+        } = self;
+        if !whole {
             return Err(NoMemory);
         }
-        self.sheet.finish()
+        sheet.finish()
     }
 
     /// Puts a text into the room for one.
@@ -141,16 +158,21 @@ impl Pen {
         let _ = self.sheet.begin(tag, &attributes);
     }
 
-    /// Draws a path, with its title.
-    pub(crate) fn path(&mut self, class: &str, shape: &[Part]) {
-        self.begin(Tag::Path, class, Key::Shape, shape);
+    /// Writes the title of a shape, if it has one.
+    fn title(&mut self) {
         if !self.name.is_empty() {
             let _ = self.sheet.begin(Tag::Title, &[]);
             let _ = self.sheet.write(self.name.as_bytes());
             let _ = self.sheet.close();
             self.name.clear();
         }
-        let _ = self.sheet.close();
+    }
+
+    /// Draws a path, with its title.
+    pub(crate) fn path(&mut self, class: &str, shape: &[Part]) {
+        self.begin(Tag::Path, class, Key::Shape, shape);
+        self.title();
+        self.close();
     }
 
     /// Draws a rectangle.
@@ -171,25 +193,15 @@ impl Pen {
 
     /// Draws a line.
     pub(crate) fn line(&mut self, class: &str, from: Place, to: Place) {
-        self.path(class, &[Words("M"), At(from), Words("L"), At(to)]);
+        self.path(class, &[Line(from, to)]);
     }
 
     /// Draws an arrow.
     pub(crate) fn arrow(&mut self, class: &str, from: Place, to: Place) {
-        let (right, left) = head(from, to);
         let shape = [
-            Words("M"),
-            At(from),
-            Words("L"),
-            At(to),
-            Words("M"),
-            At(right),
-            Words("L"),
-            At(to),
-            Words("M"),
-            At(left),
-            Words("L"),
-            At(to),
+            Line(from, to),
+            Line(barb(from, to, true), to),
+            Line(barb(from, to, false), to),
         ];
         self.path(class, &shape);
     }
@@ -201,14 +213,8 @@ impl Pen {
         let top = at.1.saturating_sub(reach);
         let bottom = at.1.saturating_add(reach);
         let shape = [
-            Words("M"),
-            At((left, top)),
-            Words("L"),
-            At((right, bottom)),
-            Words("M"),
-            At((left, bottom)),
-            Words("L"),
-            At((right, top)),
+            Line((left, top), (right, bottom)),
+            Line((left, bottom), (right, top)),
         ];
         self.path(class, &shape);
     }

@@ -2,7 +2,7 @@
 
 use crate::band::{Columns, Stretch, stretches_of};
 use crate::pen::{Frame, share};
-use crate::record::{Change, FEW, Record};
+use crate::record::{Change, Dot, FEW, Flight, Record, Track};
 use crate::rows::{Rows, Stir, stirs_of};
 use crate::waits::{Wait, find_waits};
 use mig_base::NoMemory;
@@ -21,7 +21,6 @@ const MOST_COLUMNS: u32 = 2000;
 const MOST_SHAPES: usize = 20_000;
 
 /// A band of rows: its rows, what is drawn in them, and where they stand.
-#[derive(Drop)]
 pub(crate) struct Band {
     pub rows: Rows,
     pub stretches: Vec<Stretch>,
@@ -31,8 +30,19 @@ pub(crate) struct Band {
     pub top: u64,
 }
 
+// Written by hand, so that each exit of a function that owns a band has one call instead of the drops of all parts.
+impl Drop for Band {
+    fn drop(self) {
+        let Band {
+            rows: _rows,
+            stretches: _stretches,
+            height: _height,
+            top: _top,
+        } = self;
+    }
+}
+
 /// A picture: its columns, its bands, and its size.
-#[derive(Drop)]
 pub(crate) struct Plan {
     pub columns: Columns,
     pub width: u64,
@@ -47,6 +57,24 @@ pub(crate) struct Plan {
     pub back: (u64, u64),
     /// Where the bands end.
     pub bottom: u64,
+}
+
+// As that of a band.
+impl Drop for Plan {
+    fn drop(self) {
+        let Plan {
+            columns: _columns,
+            width: _width,
+            source: _source,
+            destination: _destination,
+            processors: _processors,
+            waits: _waits,
+            top: _top,
+            forward: _forward,
+            back: _back,
+            bottom: _bottom,
+        } = self;
+    }
 }
 
 /// The height of a row, if there are this many.
@@ -78,6 +106,25 @@ impl Band {
             height,
             top: 0,
         })
+    }
+
+    /// The band of the pages of a node.
+    fn of_pages(
+        alloc: Global,
+        track: &Track,
+        dots: &[Dot],
+        at_destination: bool,
+        columns: Columns,
+        together: u32,
+    ) -> Result<Band, NoMemory> {
+        let stirs = stirs_of(alloc, track, dots, at_destination)?;
+        Band::new(alloc, &track.changes, &stirs, together, columns)
+    }
+
+    /// The band of the processors.
+    fn of_processors(alloc: Global, record: &Record, columns: Columns) -> Result<Band, NoMemory> {
+        let stirs = vec![in alloc; Stir::Touched; record.cpus as usize]?;
+        Band::new(alloc, &record.processors.changes, &stirs, 1, columns)
     }
 
     /// Places the rows from here on downwards, with a gap where pages between two are missing. Returns where they end.
@@ -117,24 +164,25 @@ fn width_of(lines: u32) -> u64 {
     small.saturating_add(more).min(16000)
 }
 
-/// The number of shapes for the frames of the wires: one for each pair of columns.
-fn frame_shapes(record: &Record, columns: Columns) -> usize {
+/// The number of shapes for the frames of a wire: one for each pair of columns.
+fn shapes_of(flights: &[Flight], columns: Columns) -> usize {
     let mut shapes = 0usize;
-    for flights in [
-        &record.forward.flights,
-        &record.urgent.flights,
-        &record.back.flights,
-    ] {
-        let mut before = (u32::MAX, u32::MAX);
-        for flight in flights {
-            let place = (columns.of(flight.sent), columns.of(flight.ended));
-            if place != before {
-                shapes = shapes.saturating_add(1);
-            }
-            before = place;
+    let mut before = (u32::MAX, u32::MAX);
+    for flight in flights {
+        let place = (columns.of(flight.sent), columns.of(flight.ended));
+        if place != before {
+            shapes = shapes.saturating_add(1);
         }
+        before = place;
     }
     shapes
+}
+
+/// The number of shapes for the frames of all wires.
+fn frame_shapes(record: &Record, columns: Columns) -> usize {
+    shapes_of(&record.forward.flights, columns)
+        .saturating_add(shapes_of(&record.urgent.flights, columns))
+        .saturating_add(shapes_of(&record.back.flights, columns))
 }
 
 impl Plan {
@@ -142,13 +190,11 @@ impl Plan {
     fn of(alloc: Global, record: &Record, per: u32, together: u32) -> Result<Plan, NoMemory> {
         let lines = record.lines.len().clamp(1, u32::MAX as usize) as u32;
         let columns = Columns { lines, per };
-        let stirs = stirs_of(alloc, &record.source, &record.dots, false)?;
-        let source = Band::new(alloc, &record.source.changes, &stirs, together, columns)?;
-        let stirs = stirs_of(alloc, &record.destination, &record.dots, true)?;
-        let changes = &record.destination.changes;
-        let destination = Band::new(alloc, changes, &stirs, together, columns)?;
-        let stirs = vec![in alloc; Stir::Touched; record.cpus as usize]?;
-        let processors = Band::new(alloc, &record.processors.changes, &stirs, 1, columns)?;
+        let dots = &record.dots;
+        let source = Band::of_pages(alloc, &record.source, dots, false, columns, together)?;
+        let goal = &record.destination;
+        let destination = Band::of_pages(alloc, goal, dots, true, columns, together)?;
+        let processors = Band::of_processors(alloc, record, columns)?;
         let waits = find_waits(alloc, &processors.stretches, record.cpus)?;
         Ok(Plan {
             columns,
@@ -164,6 +210,14 @@ impl Plan {
         })
     }
 
+    /// The number of shapes of the picture, about.
+    fn shapes(&self, record: &Record) -> usize {
+        frame_shapes(record, self.columns)
+            .saturating_add(self.source.stretches.len())
+            .saturating_add(self.destination.stretches.len())
+            .saturating_add(self.processors.stretches.len())
+    }
+
     /// The columns and the bands of a record: as few lines in a column and pages in a row as leave the picture small.
     pub(crate) fn new(alloc: Global, record: &Record) -> Result<Plan, NoMemory> {
         let lines = record.lines.len().min(u32::MAX as usize) as u32;
@@ -171,13 +225,7 @@ impl Plan {
         let mut together = 1u32;
         let mut plan = Plan::of(alloc, record, per, together)?;
         for _ in 0..16 {
-            let stretches = plan
-                .source
-                .stretches
-                .len()
-                .saturating_add(plan.destination.stretches.len())
-                .saturating_add(plan.processors.stretches.len());
-            if stretches.saturating_add(frame_shapes(record, plan.columns)) <= MOST_SHAPES {
+            if plan.shapes(record) <= MOST_SHAPES {
                 break;
             }
             per = per.saturating_mul(2);
@@ -229,11 +277,14 @@ impl Plan {
 
     /// The line of the file at which a column begins.
     pub(crate) fn line_of(&self, record: &Record, column: u32) -> u32 {
-        let at = column.saturating_mul(self.columns.per) as usize;
-        match record.lines.get(at) {
-            Some(line) => *line,
-            None => record.lines.last().copied().unwrap_or(0),
-        }
+        let last = record.lines.len().saturating_sub(1);
+        let at = (column.saturating_mul(self.columns.per) as usize).min(last);
+        record.lines.get(at).copied().unwrap_or(0)
+    }
+
+    /// The lines of the file at which two columns begin.
+    pub(crate) fn lines_of(&self, record: &Record, from: u32, to: u32) -> (u32, u32) {
+        (self.line_of(record, from), self.line_of(record, to))
     }
 
     /// The rectangle of a stretch in a row that begins and is high so.

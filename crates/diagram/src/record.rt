@@ -19,11 +19,20 @@ pub struct Change {
 }
 
 /// The changes of the rows of one band.
-#[derive(Drop)]
 pub struct Track {
     pub changes: Vec<Change>,
     /// The state that each row has at the end. All that have changed are among them.
     pub now: Vec<State>,
+}
+
+// Written by hand, so that each exit of a function that owns a record has one call instead of the drops of all parts.
+impl Drop for Track {
+    fn drop(self) {
+        let Track {
+            changes: _changes,
+            now: _now,
+        } = self;
+    }
 }
 
 /// How a frame ended.
@@ -70,11 +79,20 @@ pub struct Flight {
 }
 
 /// The frames of one wire, in the order in which they were sent.
-#[derive(Drop)]
 pub struct Lane {
     pub flights: Vec<Flight>,
     /// The number of those that were taken or lost.
     pub ended: usize,
+}
+
+// As that of a track.
+impl Drop for Lane {
+    fn drop(self) {
+        let Lane {
+            flights: _flights,
+            ended: _ended,
+        } = self;
+    }
 }
 
 /// What a mark says.
@@ -121,7 +139,6 @@ pub struct Move {
 }
 
 /// What a run did.
-#[derive(Drop)]
 pub struct Record {
     /// The line of the file of each order.
     pub lines: Vec<u32>,
@@ -140,4 +157,25 @@ pub struct Record {
     pub refused: Vec<(u32, Refusal)>,
     /// The number of processors.
     pub cpus: u32,
+}
+
+// As that of a track.
+impl Drop for Record {
+    fn drop(self) {
+        let Record {
+            lines: _lines,
+            source: _source,
+            destination: _destination,
+            processors: _processors,
+            forward: _forward,
+            urgent: _urgent,
+            back: _back,
+            marks: _marks,
+            dots: _dots,
+            moves: _moves,
+            drops: _drops,
+            refused: _refused,
+            cpus: _cpus,
+        } = self;
+    }
 }

@@ -1,6 +1,6 @@
 //! Which pages stand in which row.
 
-use crate::record::{Dot, Track};
+use crate::record::{Change, Dot, Track};
 use crate::state::State;
 use mig_base::{HIGH_PAGE, NoMemory};
 use std::alloc::Global;
@@ -25,13 +25,43 @@ pub(crate) struct Row {
     pub top: u64,
 }
 
+impl Row {
+    /// The page behind the last.
+    fn end(&self) -> u32 {
+        self.first.saturating_add(self.pages)
+    }
+
+    /// Takes the page of another row, if that page belongs there. Returns whether it does.
+    fn take(&mut self, next: &Row, together: u32) -> bool {
+        let grouped = together > 1 && self.group == next.group;
+        let dull = self.dull && next.dull;
+        let takes = grouped || (dull && self.end() == next.first);
+        if takes {
+            self.pages = next.first.saturating_sub(self.first).saturating_add(1);
+            self.dull = dull;
+            self.group = next.group;
+        }
+        takes
+    }
+}
+
 /// The rows of a band, and the row of each page.
-#[derive(Drop)]
 pub(crate) struct Rows {
     pub rows: Vec<Row>,
     pub of: Vec<u32>,
     /// How many neighbours stand in one row.
     pub together: u32,
+}
+
+// Written by hand, so that each exit of a function that owns rows has one call instead of the drops of all parts.
+impl Drop for Rows {
+    fn drop(self) {
+        let Rows {
+            rows: _rows,
+            of: _of,
+            together: _together,
+        } = self;
+    }
 }
 
 impl Rows {
@@ -45,28 +75,31 @@ impl Rows {
 
     /// Puts a page into the last row if it belongs there, and else into a new one.
     fn put(&mut self, page: u32, dull: bool) -> Result<(), NoMemory> {
-        let group = page.checked_div(self.together).unwrap_or(page);
-        let mut gap = false;
-        if let Some(last) = self.rows.last_mut() {
-            let follows = last.first.saturating_add(last.pages) == page;
-            let grouped = self.together > 1 && last.group == group;
-            if grouped || (dull && last.dull && follows) {
-                last.pages = page.saturating_sub(last.first).saturating_add(1);
-                last.dull = last.dull && dull;
-                last.group = group;
-                return Ok(());
-            }
-            gap = !follows;
-        }
-        self.rows.push(Row {
+        let together = self.together;
+        let mut next = Row {
             first: page,
             pages: 1,
-            gap,
+            gap: false,
             dull,
-            group,
+            group: page.checked_div(together).unwrap_or(page),
             top: 0,
-        })?;
+        };
+        if let Some(last) = self.rows.last_mut() {
+            if last.take(&next, together) {
+                return Ok(());
+            }
+            next.gap = last.end() != page;
+        }
+        self.rows.push(next)?;
         Ok(())
+    }
+
+    /// Notes that a page stands in the last row.
+    fn note(&mut self, page: u32) {
+        let last = self.rows.len().saturating_sub(1).min(HIGH_PAGE as usize) as u32;
+        if let Some(row) = self.of.get_mut(page as usize) {
+            *row = last;
+        }
     }
 
     /// Puts the pages into rows, with that many neighbours together.
@@ -76,9 +109,7 @@ impl Rows {
         for stir in stirs {
             if *stir != Stir::Never {
                 self.put(page, *stir == Stir::Mapped)?;
-                if let Some(row) = self.of.get_mut(page as usize) {
-                    *row = self.rows.len().saturating_sub(1).min(HIGH_PAGE as usize) as u32;
-                }
+                self.note(page);
             }
             page = page.saturating_add(1);
         }
@@ -114,6 +145,38 @@ pub(crate) enum Stir {
     Touched,
 }
 
+impl Stir {
+    /// What has happened once the page was in a state.
+    fn after(self, state: State) -> Stir {
+        match state {
+            State::Blank => self,
+            State::Empty if self == Stir::Never => Stir::Mapped,
+            State::Empty => self,
+            _ => Stir::Touched,
+        }
+    }
+}
+
+/// Notes what the changes of its state say of each page.
+fn stir_changed(stirs: &mut [Stir], changes: &[Change]) {
+    for change in changes {
+        if let Some(stir) = stirs.get_mut(change.row as usize) {
+            *stir = stir.after(change.state);
+        }
+    }
+}
+
+/// Notes the pages on which a processor of a node went to sleep.
+fn stir_slept_on(stirs: &mut [Stir], dots: &[Dot], at_destination: bool) {
+    for dot in dots {
+        if dot.at_destination == at_destination
+            && let Some(stir) = stirs.get_mut(dot.page as usize)
+        {
+            *stir = Stir::Touched;
+        }
+    }
+}
+
 /// What has happened to each page of a node.
 pub(crate) fn stirs_of(
     alloc: Global,
@@ -122,22 +185,7 @@ pub(crate) fn stirs_of(
     at_destination: bool,
 ) -> Result<Vec<Stir>, NoMemory> {
     let mut stirs = vec![in alloc; Stir::Never; track.now.len()]?;
-    for change in &track.changes {
-        if let Some(stir) = stirs.get_mut(change.row as usize) {
-            match change.state {
-                State::Blank => {}
-                State::Empty if *stir == Stir::Never => *stir = Stir::Mapped,
-                State::Empty => {}
-                _ => *stir = Stir::Touched,
-            }
-        }
-    }
-    for dot in dots {
-        if dot.at_destination == at_destination
-            && let Some(stir) = stirs.get_mut(dot.page as usize)
-        {
-            *stir = Stir::Touched;
-        }
-    }
+    stir_changed(&mut stirs, &track.changes);
+    stir_slept_on(&mut stirs, dots, at_destination);
     Ok(stirs)
 }

@@ -35,12 +35,9 @@ fn page_of(command: Command) -> PageNo {
     }
 }
 
-/// Puts a page into a set.
-fn include(set: &mut PageSet, page: PageNo) -> Result<(), NoMemory> {
-    if page < HIGH_PAGE {
-        set.insert(page)?;
-    }
-    Ok(())
+/// Puts a page into a set. Returns whether there was memory for it.
+fn include(set: &mut PageSet, page: PageNo) -> bool {
+    page >= HIGH_PAGE || set.insert(page).is_ok()
 }
 
 /// Takes a page out of a set.
@@ -84,8 +81,7 @@ struct Before {
     back: u64,
 }
 
-/// Runs a script on a world, and records what it does.
-#[derive(Drop)]
+/// Runs a script on a world, and records what it does. Where memory runs out a step is recorded without it, and `make` says so.
 pub(crate) struct Recorder {
     alloc: Global,
     world: World,
@@ -105,6 +101,28 @@ pub(crate) struct Recorder {
     high: PageNo,
     /// The number of the line, among those that are orders.
     line: u32,
+    /// False once memory ran out.
+    whole: bool,
+}
+
+// Written by hand, so that each exit of a function that owns a recorder has one call instead of the drops of all parts.
+impl Drop for Recorder {
+    fn drop(self) {
+        let Recorder {
+            alloc: _alloc,
+            world: _world,
+            record: _record,
+            source_areas: _source_areas,
+            destination_areas: _destination_areas,
+            came: _came,
+            flying: _flying,
+            asking: _asking,
+            sleeping: _sleeping,
+            high: _high,
+            line: _line,
+            whole: _whole,
+        } = self;
+    }
 }
 
 impl Recorder {
@@ -139,6 +157,7 @@ impl Recorder {
             sleeping: PageSet::new(alloc),
             high: 0,
             line: 0,
+            whole: true,
         })
     }
 
@@ -171,26 +190,37 @@ impl Recorder {
         self.record.lines.push(number)?;
         match self.world.step(step) {
             Ok(effect) => self.see(before, effect),
-            Err(Refusal::NoMemory) => Err(NoMemory),
-            Err(refusal) => {
-                if self.line < FEW {
-                    self.record.refused.push((self.line, refusal))?;
-                }
-                Ok(())
-            }
+            Err(refusal) => self.refuse(refusal),
+        }
+        if self.whole { Ok(()) } else { Err(NoMemory) }
+    }
+
+    /// Notes whether memory was there for what was recorded.
+    fn keep(&mut self, kept: bool) {
+        if !kept {
+            self.whole = false;
+        }
+    }
+
+    /// Notes that the step was refused, if it is among the first lines.
+    fn refuse(&mut self, refusal: Refusal) {
+        if matches!(refusal, Refusal::NoMemory) {
+            self.whole = false;
+        } else if self.line < FEW {
+            let kept = self.record.refused.push((self.line, refusal)).is_ok();
+            self.keep(kept);
         }
     }
 
     /// Records an effect.
-    fn see(&mut self, before: Before, effect: Effect) -> Result<(), NoMemory> {
-        self.see_sent(before, effect)?;
-        self.see_taken(before, effect)?;
-        self.see_marks(effect)?;
-        self.watch_processors()?;
-        self.see_commands(before, effect)?;
-        self.see_handlers(before, effect)?;
-        self.see_source(effect)?;
-        self.see_destination(effect)?;
-        Ok(())
+    fn see(&mut self, before: Before, effect: Effect) {
+        self.see_sent(before, effect);
+        self.see_taken(before.step, effect);
+        self.see_marks(effect);
+        self.watch_processors();
+        self.see_commands(before, effect);
+        self.see_handlers(before, effect);
+        self.see_source(effect);
+        self.see_destination(effect);
     }
 }

@@ -14,12 +14,19 @@ use grammar::{Language, Line, Token};
 use std::alloc::Global;
 use std::io::{ErrorKind, Read, Write};
 
+/// The fault of a read that failed so.
+fn fault_of(kind: ErrorKind) -> RunFault {
+    match kind {
+        ErrorKind::OutOfMemory => RunFault::NoMemory,
+        _ => RunFault::ReadFault,
+    }
+}
+
 /// Appends all that a reader has to the bytes.
 fn read_whole<R: Read>(reader: &mut R, bytes: &mut Vec<u8>) -> Result<(), RunFault> {
     match reader.read_to_end(bytes) {
         Ok(_) => Ok(()),
-        Err(error) if error.kind() == ErrorKind::OutOfMemory => Err(RunFault::NoMemory),
-        Err(_) => Err(RunFault::ReadFault),
+        Err(error) => Err(fault_of(error.kind())),
     }
 }
 
@@ -63,6 +70,15 @@ fn do_lines(alloc: Global, recorder: &mut Recorder, input: &[u8]) -> Result<(), 
     do_line(recorder, &mut tokens, number, rest)
 }
 
+/// The picture of a script.
+fn picture_in(alloc: Global, input: &[u8], name: &str, cpus: u8) -> Result<Vec<u8>, RunFault>
+    ensures { IfOk result (λ picture. IsPicture picture.items) }
+{
+    let mut recorder = Recorder::new(alloc, cpus)?;
+    do_lines(alloc, &mut recorder, input)?;
+    Ok(paint(alloc, &recorder.record, name, input)?)
+}
+
 /// The picture of the script that a reader has.
 fn picture_of<R: Read>(
     alloc: Global,
@@ -70,15 +86,11 @@ fn picture_of<R: Read>(
     name: &str,
     cpus: u8,
 ) -> Result<Vec<u8>, RunFault>
-    requires low { 1 ≤ cpus }
-    requires high { cpus ≤ 16 }
     ensures { IfOk result (λ picture. IsPicture picture.items) }
 {
     let mut input = Vec::new(alloc);
     read_whole(reader, &mut input)?;
-    let mut recorder = Recorder::new(alloc, cpus)?;
-    do_lines(alloc, &mut recorder, &input)?;
-    Ok(paint(alloc, &recorder.record, name, &input)?)
+    picture_in(alloc, &input, name, cpus)
 }
 
 /// Reads a script, makes its steps on a new world of `cpus` processors, 1 to 16, and writes the picture of what they did, named `name`.

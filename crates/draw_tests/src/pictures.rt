@@ -25,14 +25,27 @@ static WORDS: &[&[u8]] = &[
     b"switch: 1 owed",
 ];
 
+/// Whether a picture has all words of [`WORDS`], and ends as a picture ends.
+fn says_all(picture: &[u8]) -> bool {
+    for words in WORDS {
+        if memmem::find(picture, words).is_none() {
+            return false;
+        }
+    }
+    picture.ends_with(b"</text></svg>")
+}
+
 /// Draws a script. It is drawn again if memory is refused; nothing was written then.
-fn drawn(alloc: Global, script: &[u8]) -> Result<(Result<(), RunFault>, Vec<u8>), AllocError> {
+fn draw(
+    alloc: Global,
+    script: &[u8],
+    picture: &mut Vec<u8>,
+) -> Result<Result<(), RunFault>, AllocError> {
     for _ in 0..2 {
         let mut reader = script;
-        let mut writer = Vec::new(alloc);
-        let outcome = run_draw(alloc, &mut reader, &mut writer, "a & <b>", 2);
-        if outcome != Err(RunFault::NoMemory) {
-            return Ok((outcome, writer));
+        match run_draw(alloc, &mut reader, picture, "a & <b>", 2) {
+            Err(RunFault::NoMemory) => {}
+            outcome => return Ok(outcome),
         }
     }
     Err(AllocError)
@@ -40,18 +53,17 @@ fn drawn(alloc: Global, script: &[u8]) -> Result<(Result<(), RunFault>, Vec<u8>)
 
 #[test]
 fn words(rt: HostRuntime) -> Result<(), Fail> {
-    let (outcome, picture) = drawn(rt.alloc(), STORY)?;
+    let mut picture = Vec::new(rt.alloc());
+    let outcome = draw(rt.alloc(), STORY, &mut picture)?;
     assert_eq!(rt; outcome, Ok(()));
-    for words in WORDS {
-        assert!(rt; memmem::find(&picture, words).is_some());
-    }
-    assert!(rt; picture.ends_with(b"</text></svg>"));
+    assert!(rt; says_all(&picture));
     Ok(())
 }
 
 #[test]
 fn wrong_line(rt: HostRuntime) -> Result<(), Fail> {
-    let (outcome, picture) = drawn(rt.alloc(), b"start\n# no order\ngo\n")?;
+    let mut picture = Vec::new(rt.alloc());
+    let outcome = draw(rt.alloc(), b"start\n# no order\ngo\n", &mut picture)?;
     assert_eq!(rt; outcome, Err(RunFault::Line(3)));
     assert!(rt; picture.is_empty());
     Ok(())

@@ -1,5 +1,5 @@
 -- How text is escaped.
-use Rattle.std.specs.Prelude.{ℕ, Bool, List, [], ◌∷◌, ◌==◌, ◌&&◌, nat_lt, codes, if◌then◌else◌}
+use Rattle.std.specs.Prelude.{ℕ, List, [], ◌∷◌, ◌==◌, ◌&&◌, nat_lt, codes, if◌then◌else◌}
 use Rattle.std.specs.List.{flat_map}
 
 -- what stands for a byte of a text: a name for `&`, `<`, `>` and `"`, the byte for another character of ASCII that prints, else `?`

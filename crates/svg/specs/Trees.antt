@@ -17,9 +17,13 @@ pub data Contents : Type 0 where
   Words : Contents → List ℕ → Contents
   Element : Contents → Tag → List Pair → Contents → Contents
 
+-- what stands before the value of an attribute in a tag, with a space before it
+abbrev pub attribute_start : Key → List ℕ
+attribute_start key = 32 ∷ (key_name key ++ codes "=\"")
+
 -- an attribute in a tag, with a space before it
 abbrev pub attribute_text : Pair → List ℕ
-attribute_text pair = 32 ∷ (key_name pair.0 ++ codes "=\"" ++ escaped pair.1 ++ 34 ∷ [])
+attribute_text pair = attribute_start pair.0 ++ escaped pair.1 ++ 34 ∷ []
 
 -- the attributes in a tag
 abbrev pub attributes_text : List Pair → List ℕ

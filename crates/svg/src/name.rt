@@ -1,10 +1,11 @@
 //! The names of elements and of attributes.
 
-ghost use Rattle.std.specs.Prelude.{◌≡◌};
-ghost use Rattle.svg.specs.Names.{tag_name, key_name};
+ghost use Rattle.std.specs.Prelude.{◌≡◌, ◌∷◌};
+ghost use Rattle.svg.specs.Names.{tag_name};
+ghost use Rattle.svg.specs.Trees.{attribute_start, end_tag};
 
 /// The elements of a picture.
-#[derive(Clone, Copy, Debug, PartialEq, Eq)]
+#[derive(Clone, Copy)]
 pub enum Tag {
     Svg,
     Title,
@@ -17,7 +18,7 @@ pub enum Tag {
 }
 
 /// The attributes of elements.
-#[derive(Clone, Copy, Debug, PartialEq, Eq)]
+#[derive(Clone, Copy)]
 pub enum Key {
     Namespace,
     ViewBox,
@@ -32,39 +33,55 @@ pub enum Key {
 }
 
 impl Tag {
-    /// The name in a tag.
-    pub fn name(self) -> &'static [u8]
-        ensures { result.now ≡ tag_name self }
+    /// What begins its tag: `<` and its name.
+    pub(crate) fn start(self) -> &'static [u8]
+        ensures { result.now ≡ 60 ∷ tag_name self }
     {
         match self {
-            Tag::Svg => b"svg",
-            Tag::Title => b"title",
-            Tag::Style => b"style",
-            Tag::Defs => b"defs",
-            Tag::Pattern => b"pattern",
-            Tag::Group => b"g",
-            Tag::Path => b"path",
-            Tag::Text => b"text",
+            Tag::Svg => b"<svg",
+            Tag::Title => b"<title",
+            Tag::Style => b"<style",
+            Tag::Defs => b"<defs",
+            Tag::Pattern => b"<pattern",
+            Tag::Group => b"<g",
+            Tag::Path => b"<path",
+            Tag::Text => b"<text",
+        }
+    }
+
+    /// The tag that ends its element.
+    pub(crate) fn end(self) -> &'static [u8]
+        ensures { result.now ≡ end_tag self }
+    {
+        match self {
+            Tag::Svg => b"</svg>",
+            Tag::Title => b"</title>",
+            Tag::Style => b"</style>",
+            Tag::Defs => b"</defs>",
+            Tag::Pattern => b"</pattern>",
+            Tag::Group => b"</g>",
+            Tag::Path => b"</path>",
+            Tag::Text => b"</text>",
         }
     }
 }
 
 impl Key {
-    /// The name in a tag.
-    pub fn name(self) -> &'static [u8]
-        ensures { result.now ≡ key_name self }
+    /// What stands before its value, with a space before its name.
+    pub(crate) fn start(self) -> &'static [u8]
+        ensures { result.now ≡ attribute_start self }
     {
         match self {
-            Key::Namespace => b"xmlns",
-            Key::ViewBox => b"viewBox",
-            Key::Width => b"width",
-            Key::Height => b"height",
-            Key::Role => b"role",
-            Key::Id => b"id",
-            Key::Class => b"class",
-            Key::PatternUnits => b"patternUnits",
-            Key::Shape => b"d",
-            Key::Transform => b"transform",
+            Key::Namespace => b" xmlns=\"",
+            Key::ViewBox => b" viewBox=\"",
+            Key::Width => b" width=\"",
+            Key::Height => b" height=\"",
+            Key::Role => b" role=\"",
+            Key::Id => b" id=\"",
+            Key::Class => b" class=\"",
+            Key::PatternUnits => b" patternUnits=\"",
+            Key::Shape => b" d=\"",
+            Key::Transform => b" transform=\"",
         }
     }
 }

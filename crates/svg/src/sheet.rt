@@ -1,6 +1,6 @@
 //! A picture that is being written.
 
-ghost use Rattle.std.specs.Prelude.{◌≡◌, ◌++◌, length, IfOk, OnOk};
+ghost use Rattle.std.specs.Prelude.{◌≡◌, ◌++◌, IfOk, OnOk};
 ghost use Rattle.svg.specs.Escapes.{escaped};
 ghost use Rattle.svg.specs.Given.{all_given};
 ghost use Rattle.svg.specs.Trees.{IsPicture, start_tag};
@@ -45,13 +45,6 @@ impl Sheet {
             inner: Vec::new(alloc),
             whole: true,
         })
-    }
-
-    /// The number of bytes up to now.
-    pub fn len(&self) -> usize
-        ensures { result ≡ length self.now }
-    {
-        self.bytes.len()
     }
 
     /// Opens an element inside the innermost that is open. After `NoMemory` the picture cannot be finished.

@@ -2,7 +2,7 @@
 
 ghost use Rattle.std.specs.Prelude.{◌≡◌, ◌++◌, OnOk};
 ghost use Rattle.svg.specs.Trees.{attribute_text, attributes_text, end_tag, start_tag};
-ghost use Rattle.svg.specs.Given.{given, all_given};
+ghost use Rattle.svg.specs.Given.{all_given};
 
 use crate::escape::push_escaped;
 use crate::name::{Key, Tag};
@@ -16,13 +16,11 @@ pub struct Attribute<'a> {
 }
 
 /// Appends an attribute, with a space before it.
-fn push_attribute(bytes: &mut Vec<u8>, attribute: &Attribute) -> Result<(), NoMemory>
-    ensures { OnOk result (bytes.new.items ≡ bytes.old.items ++ attribute_text (given attribute.now)) }
+fn push_attribute(bytes: &mut Vec<u8>, key: Key, value: &[u8]) -> Result<(), NoMemory>
+    ensures { OnOk result (bytes.new.items ≡ bytes.old.items ++ attribute_text (key, value.now)) }
 {
-    bytes.push(b' ')?;
-    bytes.extend_from_slice(attribute.key.name())?;
-    bytes.extend_from_slice(b"=\"")?;
-    push_escaped(bytes, attribute.value)?;
+    bytes.extend_from_slice(key.start())?;
+    push_escaped(bytes, value)?;
     bytes.push(b'"')?;
     Ok(())
 }
@@ -32,7 +30,7 @@ fn push_attributes(bytes: &mut Vec<u8>, attributes: &[Attribute]) -> Result<(), 
     ensures { OnOk result (bytes.new.items ≡ bytes.old.items ++ attributes_text (all_given attributes.now)) }
 {
     for attribute in attributes {
-        push_attribute(bytes, attribute)?;
+        push_attribute(bytes, attribute.key, attribute.value)?;
     }
     Ok(())
 }
@@ -45,8 +43,7 @@ pub(crate) fn push_start(
 ) -> Result<(), NoMemory>
     ensures { OnOk result (bytes.new.items ≡ bytes.old.items ++ start_tag tag (all_given attributes.now)) }
 {
-    bytes.push(b'<')?;
-    bytes.extend_from_slice(tag.name())?;
+    bytes.extend_from_slice(tag.start())?;
     push_attributes(bytes, attributes)?;
     bytes.push(b'>')?;
     Ok(())
@@ -56,8 +53,6 @@ pub(crate) fn push_start(
 pub(crate) fn push_end(bytes: &mut Vec<u8>, tag: Tag) -> Result<(), NoMemory>
     ensures { OnOk result (bytes.new.items ≡ bytes.old.items ++ end_tag tag) }
 {
-    bytes.extend_from_slice(b"</")?;
-    bytes.extend_from_slice(tag.name())?;
-    bytes.push(b'>')?;
+    bytes.extend_from_slice(tag.end())?;
     Ok(())
 }

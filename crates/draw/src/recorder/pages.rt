@@ -2,13 +2,22 @@
 
 use super::tracks::{note, state_of};
 use super::{Before, Node, Recorder, end_of, page_at, page_of};
+use area_map::AreaMap;
 use diagram::State;
 use diagram::record::{Change, Dot, Move};
 use mig_base::cpu_state::CpuState;
 use mig_base::effect::Effect;
 use mig_base::phase::SourcePhase;
 use mig_base::schedule::Step;
-use mig_base::{Addr, Command, HIGH_PAGE, Message, NoMemory, PageNo, Reply, WorldPhase};
+use mig_base::{Addr, Area, Command, HIGH_PAGE, Message, NoMemory, PageNo, Reply, WorldPhase};
+
+/// The page behind the last area.
+fn end_of_areas(areas: &[Area]) -> PageNo {
+    match areas.last() {
+        Some(last) => last.first.saturating_add(last.count).min(HIGH_PAGE),
+        None => 0,
+    }
+}
 
 impl Recorder {
     /// What a present page of the source is.
@@ -75,82 +84,97 @@ impl Recorder {
     }
 
     /// Notes the state of a page.
-    fn note(&mut self, node: Node, page: PageNo, state: State) -> Result<(), NoMemory> {
+    fn note(&mut self, node: Node, page: PageNo, state: State) {
         let change = Change {
             line: self.line,
             row: page,
             state,
             about: 0,
         };
-        match node {
-            Node::Source => note(&mut self.record.source, change),
-            Node::Destination => note(&mut self.record.destination, change),
-        }
+        let kept = match node {
+            Node::Source => note(&mut self.record.source, change).is_ok(),
+            Node::Destination => note(&mut self.record.destination, change).is_ok(),
+        };
+        self.keep(kept);
     }
 
     /// Asks the world for the pages from `first` on and before `end`, and notes what they are.
-    fn look(&mut self, node: Node, first: PageNo, end: PageNo) -> Result<(), NoMemory> {
+    fn look(&mut self, node: Node, first: PageNo, end: PageNo) {
         for page in first..end.min(self.high) {
             let state = match node {
                 Node::Source => self.page_at_source(page),
                 Node::Destination => self.page_at_destination(page),
             };
-            self.note(node, page, state)?;
+            self.note(node, page, state);
         }
-        Ok(())
     }
 
     /// Asks for one page.
-    fn look_at(&mut self, node: Node, page: PageNo) -> Result<(), NoMemory> {
+    fn look_at(&mut self, node: Node, page: PageNo) {
         self.look(node, page, page.saturating_add(1))
     }
 
     /// Asks for the pages of a range of bytes.
-    fn look_in(&mut self, node: Node, addr: Addr, len: u64) -> Result<(), NoMemory> {
+    fn look_in(&mut self, node: Node, addr: Addr, len: u64) {
         self.look(node, page_at(addr), end_of(addr, len))
     }
 
-    /// Asks for the mapped pages of a node.
-    fn look_at_areas(&mut self, node: Node) -> Result<(), NoMemory> {
-        let areas = match node {
-            Node::Source => self.world.source_space().areas()?,
-            Node::Destination => self.world.destination_space().areas()?,
-        };
-        if let Some(last) = areas.areas().last() {
-            let end = last.first.saturating_add(last.count);
-            self.high = self.high.max(end.min(HIGH_PAGE));
+    /// The mapped pages of a node.
+    fn areas_of(&self, node: Node) -> Result<AreaMap, NoMemory> {
+        match node {
+            Node::Source => self.world.source_space().areas(),
+            Node::Destination => self.world.destination_space().areas(),
         }
+    }
+
+    /// Asks for the mapped pages of a node.
+    fn look_at_areas(&mut self, node: Node) {
+        let Ok(areas) = self.areas_of(node) else {
+            self.whole = false;
+            return;
+        };
+        self.high = self.high.max(end_of_areas(areas.areas()));
         match node {
             Node::Source => self.source_areas = areas,
             Node::Destination => self.destination_areas = areas,
         }
-        Ok(())
     }
 
-    /// Notes that a mapping has moved, and lets its pages keep what they are where they move to: the world is asked after that.
-    fn carry(&mut self, from: PageNo, to: PageNo, count: u32) -> Result<(), NoMemory> {
+    /// Lets a page of the destination keep what it is where it moves to.
+    fn carry_page(&mut self, from: PageNo, to: PageNo) {
+        let state = state_of(&self.record.destination, from);
+        if matches!(state, State::InPlace | State::Installed) {
+            self.note(Node::Destination, to, state);
+        }
+    }
+
+    /// Notes that a mapping has moved, if it has, and lets its pages keep what they are where they move to: the world is asked after that.
+    fn carry(&mut self, old: Addr, new: Addr, len: u64) {
+        if old == new {
+            return;
+        }
+        let (from, to) = (page_at(old), page_at(new));
+        let count = end_of(old, len).saturating_sub(from);
         let at_destination = self.node() == Node::Destination;
-        self.record.moves.push(Move {
+        let one = Move {
             line: self.line,
             from,
             to,
             at_destination,
-        })?;
+        };
+        let kept = self.record.moves.push(one).is_ok();
+        self.keep(kept);
         if !at_destination {
-            return Ok(());
+            return;
         }
         for at in 0..count {
-            let state = state_of(&self.record.destination, from.saturating_add(at));
-            if matches!(state, State::InPlace | State::Installed) {
-                self.note(Node::Destination, to.saturating_add(at), state)?;
-            }
+            self.carry_page(from.saturating_add(at), to.saturating_add(at));
         }
-        Ok(())
     }
 
     /// Notes what a map call that gave a reply has done.
-    fn see_call(&mut self, node: Node, command: Command, reply: Reply) -> Result<(), NoMemory> {
-        self.look_at_areas(node)?;
+    fn see_call(&mut self, node: Node, command: Command, reply: Reply) {
+        self.look_at_areas(node);
         match (command, reply) {
             (Command::Mmap { addr_len, .. }, Reply::At(addr)) => self.look_in(node, addr, addr_len),
             (Command::Munmap { addr, len } | Command::DontNeed { addr, len }, _) => {
@@ -165,51 +189,51 @@ impl Recorder {
                 },
                 Reply::At(to),
             ) => {
-                if to != addr {
-                    let count = end_of(addr, old_len).saturating_sub(page_at(addr));
-                    self.carry(page_at(addr), page_at(to), count)?;
-                }
-                self.look_in(node, addr, old_len)?;
+                self.carry(addr, to, old_len);
+                self.look_in(node, addr, old_len);
                 self.look_in(node, to, new_len)
             }
-            _ => Ok(()),
+            _ => {}
         }
     }
 
+    /// Notes that a processor went to sleep on a page.
+    fn see_asleep(&mut self, node: Node, cpu: u8, page: PageNo) {
+        let dot = Dot {
+            line: self.line,
+            page,
+            cpu,
+            at_destination: node == Node::Destination,
+        };
+        let kept = self.record.dots.push(dot).is_ok();
+        self.keep(kept);
+        self.look_at(node, page);
+    }
+
     /// Notes what a command has done that was answered, or whose call goes on.
-    pub(super) fn see_commands(&mut self, before: Before, effect: Effect) -> Result<(), NoMemory> {
+    pub(super) fn see_commands(&mut self, before: Before, effect: Effect) {
         let node = self.node();
         let Some(command) = before.command else {
-            return Ok(());
+            return;
         };
         match effect {
-            Effect::Asleep { cpu } => {
-                let page = page_of(command);
-                let dot = Dot {
-                    line: self.line,
-                    page,
-                    cpu,
-                    at_destination: node == Node::Destination,
-                };
-                self.record.dots.push(dot)?;
-                self.look_at(node, page)
-            }
+            Effect::Asleep { cpu } => self.see_asleep(node, cpu, page_of(command)),
             Effect::Answered { .. } if command.is_access() => self.look_at(node, page_of(command)),
             Effect::Answered { reply, .. } => self.see_call(node, command, reply),
             Effect::InCall { cpu, .. } => match self.world.cpu_state(cpu) {
                 Ok(CpuState::InCall { reply, .. }) => self.see_call(node, command, reply),
-                _ => Ok(()),
+                _ => {}
             },
-            _ => Ok(()),
+            _ => {}
         }
     }
 
     /// Notes what an event that was read has changed.
-    fn see_event(&mut self, node: Node, event: Message) -> Result<(), NoMemory> {
+    fn see_event(&mut self, node: Node, event: Message) {
         match event {
             Message::PageFault { addr, .. } => self.look_at(node, page_at(addr)),
             Message::Remap { from, to, len } => {
-                self.look_in(node, from, len)?;
+                self.look_in(node, from, len);
                 self.look_in(node, to, len)
             }
             Message::Remove { start, end } | Message::Unmap { start, end } => {
@@ -219,7 +243,7 @@ impl Recorder {
     }
 
     /// Notes what a handler has done.
-    pub(super) fn see_handlers(&mut self, before: Before, effect: Effect) -> Result<(), NoMemory> {
+    pub(super) fn see_handlers(&mut self, before: Before, effect: Effect) {
         let node = match before.step {
             Step::SourceRead | Step::SourceAct => Node::Source,
             _ => Node::Destination,
@@ -232,12 +256,12 @@ impl Recorder {
             | Effect::Zeroed { addr }
             | Effect::Woke { addr }
             | Effect::Forgot { addr } => self.look_at(node, page_at(addr)),
-            _ => Ok(()),
+            _ => {}
         }
     }
 
     /// Notes what has changed at the source.
-    pub(super) fn see_source(&mut self, effect: Effect) -> Result<(), NoMemory> {
+    pub(super) fn see_source(&mut self, effect: Effect) {
         match effect {
             Effect::SentPage { addr } | Effect::SentZero { addr } => {
                 self.look_at(Node::Source, page_at(addr))
@@ -250,37 +274,52 @@ impl Recorder {
             | Effect::TookRecv { .. }
             | Effect::TookDone
             | Effect::Resumed { .. } => self.look(Node::Source, 0, HIGH_PAGE),
-            _ => Ok(()),
+            _ => {}
+        }
+    }
+
+    /// The copy of a page of the source has come.
+    fn copy_came(&mut self, page: PageNo) {
+        if self.node() == Node::Source {
+            return self.note(Node::Destination, page, State::Kept);
+        }
+        match self.world.owed().home(page) {
+            Some(home) => self.look_at(Node::Destination, home),
+            None => {}
         }
     }
 
     /// Copies of neighbouring pages have come.
-    fn copies_came(&mut self, first: PageNo, pages: u32) -> Result<(), NoMemory> {
-        let runs = self.node() == Node::Destination;
+    fn copies_came(&mut self, first: PageNo, pages: u32) {
         for page in first..first.saturating_add(pages) {
-            if !runs {
-                self.note(Node::Destination, page, State::Kept)?;
-            } else if let Some(home) = self.world.owed().home(page) {
-                self.look_at(Node::Destination, home)?;
-            }
+            self.copy_came(page);
         }
-        Ok(())
+    }
+
+    /// Notes that the destination drops a copy.
+    fn note_drop(&mut self, page: PageNo) {
+        let kept = self.record.drops.push((self.line, page)).is_ok();
+        self.keep(kept);
+    }
+
+    /// Whether a page has a copy at the destination, which may be stale: that of a page that is not clean at the source, or all of them.
+    fn is_stale(&self, page: PageNo, all: bool) -> bool {
+        state_of(&self.record.destination, page) == State::Kept
+            && (all || !self.world.dirty_log().clean().contains(page))
     }
 
     /// The destination drops the copies whose pages were stored to since they were sent, or all of them.
-    fn discard(&mut self, all: bool) -> Result<(), NoMemory> {
+    fn discard(&mut self, all: bool) {
         for page in 0..self.high {
-            let kept = state_of(&self.record.destination, page) == State::Kept;
-            if kept && (all || !self.world.dirty_log().clean().contains(page)) {
-                self.note(Node::Destination, page, State::Blank)?;
-                self.record.drops.push((self.line, page))?;
+            if self.is_stale(page, all) {
+                self.note(Node::Destination, page, State::Blank);
+                self.note_drop(page);
             }
         }
-        Ok(())
     }
 
     /// Notes what has changed at the destination.
-    pub(super) fn see_destination(&mut self, effect: Effect) -> Result<(), NoMemory> {
+    pub(super) fn see_destination(&mut self, effect: Effect) {
         match effect {
             Effect::TookPage { addr } | Effect::TookZero { addr } => {
                 self.copies_came(page_at(addr), 1)
@@ -289,17 +328,14 @@ impl Recorder {
             Effect::TookDiscard { .. } => self.discard(false),
             Effect::TookResume if self.node() == Node::Source => self.discard(true),
             Effect::TookPackage { .. } => {
-                self.look_at_areas(Node::Destination)?;
+                self.look_at_areas(Node::Destination);
                 self.look(Node::Destination, 0, HIGH_PAGE)
             }
             Effect::Installed { addr, .. } => {
                 self.note(Node::Destination, page_at(addr), State::Installed)
             }
-            Effect::Dropped { origin } => {
-                self.record.drops.push((self.line, page_at(origin)))?;
-                Ok(())
-            }
-            _ => Ok(()),
+            Effect::Dropped { origin } => self.note_drop(page_at(origin)),
+            _ => {}
         }
     }
 }

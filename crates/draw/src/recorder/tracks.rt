@@ -1,7 +1,7 @@
 //! What a record keeps of rows and of frames.
 
 use diagram::State;
-use diagram::record::{Change, End, Flight, Kind, Lane, Track};
+use diagram::record::{Change, End, Flight, Lane, Track};
 use mig_base::{HIGH_PAGE, NoMemory};
 
 /// The rows for which room is made at once.
@@ -12,37 +12,26 @@ pub(super) fn state_of(track: &Track, row: u32) -> State {
     track.now.get(row as usize).copied().unwrap_or(State::Blank)
 }
 
+/// Puts a state into a place, if there is one. Returns whether it changes there.
+fn put(states: &mut [State], at: usize, state: State) -> bool {
+    match states.get_mut(at) {
+        Some(now) if *now != state => {
+            *now = state;
+            true
+        }
+        _ => false,
+    }
+}
+
 /// Notes the state of a row.
 pub(super) fn note(track: &mut Track, change: Change) -> Result<(), NoMemory> {
     let row = change.row as usize;
     if row >= track.now.len() && change.row < HIGH_PAGE {
         track.now.resize((row / ROOM + 1) * ROOM, State::Blank)?;
     }
-    if let Some(now) = track.now.get_mut(row)
-        && *now != change.state
-    {
-        *now = change.state;
+    if put(&mut track.now, row, change.state) {
         track.changes.push(change)?;
     }
-    Ok(())
-}
-
-/// A frame is sent.
-pub(super) fn put(
-    lane: &mut Lane,
-    line: u32,
-    kind: Kind,
-    page: u32,
-    pages: u32,
-) -> Result<(), NoMemory> {
-    lane.flights.push(Flight {
-        kind,
-        page,
-        pages,
-        sent: line,
-        ended: line,
-        end: End::Open,
-    })?;
     Ok(())
 }
 
@@ -55,18 +44,26 @@ pub(super) fn take(lane: &mut Lane, line: u32) {
     }
 }
 
+/// A frame is lost. Returns the number of pages that it had, or named.
+fn lose_flight(flight: &mut Flight, line: u32) -> u32 {
+    flight.ended = line;
+    flight.end = End::Lost;
+    if flight.kind.has_page() {
+        flight.pages
+    } else {
+        0
+    }
+}
+
 /// All frames in flight are lost. Returns the number of pages that they had, or named.
 pub(super) fn lose(lane: &mut Lane, line: u32) -> u32 {
     let mut pages = 0u32;
-    for at in lane.ended..lane.flights.len() {
+    let count = lane.flights.len();
+    for at in lane.ended..count {
         if let Some(flight) = lane.flights.get_mut(at) {
-            flight.ended = line;
-            flight.end = End::Lost;
-            if flight.kind.has_page() {
-                pages = pages.saturating_add(flight.pages);
-            }
+            pages = pages.saturating_add(lose_flight(flight, line));
         }
     }
-    lane.ended = lane.flights.len();
+    lane.ended = count;
     pages
 }

@@ -6,7 +6,7 @@ use diagram::State;
 use diagram::record::Change;
 use mig_base::cpu_state::CpuState;
 use mig_base::phase::{DestPhase, SourcePhase};
-use mig_base::{NoMemory, PageNo, PageSet, WorldPhase};
+use mig_base::{PageNo, PageSet, WorldPhase};
 
 impl Recorder {
     /// Whether the channel is broken, or a node has not gone on since it was.
@@ -63,24 +63,29 @@ impl Recorder {
         }
     }
 
-    /// Notes the states of all processors.
-    pub(super) fn watch_processors(&mut self) -> Result<(), NoMemory> {
-        self.sleeping = PageSet::new(self.alloc);
-        let at_destination = self.node() == Node::Destination;
-        for cpu in 0..self.world.cpus() {
-            let (state, about) = self.processor(cpu);
-            let change = Change {
-                line: self.line,
-                row: u32::from(cpu),
-                state,
-                about,
-            };
-            note(&mut self.record.processors, change)?;
-            let sleeps = !matches!(state, State::Blank | State::Woken | State::InCall);
-            if sleeps && at_destination {
-                include(&mut self.sleeping, about)?;
-            }
+    /// Notes the state of a processor, and the page on which it sleeps at the destination.
+    fn watch(&mut self, cpu: u8) {
+        let (state, about) = self.processor(cpu);
+        let change = Change {
+            line: self.line,
+            row: u32::from(cpu),
+            state,
+            about,
+        };
+        let kept = note(&mut self.record.processors, change).is_ok();
+        self.keep(kept);
+        let sleeps = !matches!(state, State::Blank | State::Woken | State::InCall);
+        if sleeps && matches!(self.node(), Node::Destination) {
+            let kept = include(&mut self.sleeping, about);
+            self.keep(kept);
         }
-        Ok(())
+    }
+
+    /// Notes the states of all processors.
+    pub(super) fn watch_processors(&mut self) {
+        self.sleeping = PageSet::new(self.alloc);
+        for cpu in 0..self.world.cpus() {
+            self.watch(cpu);
+        }
     }
 }

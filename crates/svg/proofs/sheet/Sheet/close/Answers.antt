@@ -1,4 +1,3 @@
-use Rattle.std.proofs.Common.{◌≡◌, ◌∷◌, ◌++◌, []}
 use Rattle.svg.proofs.Drawn.{drawn_close}
 use Rattle.svg.proofs.sheet.Sheet.close.Goals as goal
 
