@@ -43,7 +43,7 @@ pub(crate) struct Stretch {
 struct Thread {
     /// How many of its pages are in each state.
     counts: Counts,
-    /// The state of the highest rank that a page has now, and that one had in this column.
+    /// The last state of [`State::ALL`] that a page has now, and that one had in this column.
     now: State,
     peak: State,
     about: u32,
@@ -67,44 +67,26 @@ const STILL: Thread = Thread {
 };
 
 impl Thread {
-    /// A page of the row changes its state from this one.
-    fn change(&mut self, before: State, change: &Change, row: u32) {
-        self.counts.take(before);
-        self.counts.add(change.state, 1);
-        self.open.row = row;
-        self.about = change.about;
-        self.now = self.counts.highest();
-        if self.now as usize > self.peak as usize {
-            self.peak = self.now;
-        }
-    }
-
-    /// Ends the open stretch before a column if another state is shown there. Returns it, unless nothing is drawn of it.
-    fn cut(&mut self, column: u32, shown: State) -> Option<Stretch> {
+    /// Ends the open stretch before a column if another state is shown there.
+    fn cut(&mut self, column: u32, shown: State, out: &mut Vec<Stretch>) -> Result<(), NoMemory> {
         self.peak = self.now;
-        let mut ended = self.open;
-        if ended.state == shown {
-            return None;
+        if self.open.state == shown {
+            return Ok(());
         }
+        let mut ended = self.open;
         ended.to = column;
         self.open.from = column;
         self.open.state = shown;
         self.open.about = self.about;
-        (ended.state != State::Blank).then_some(ended)
+        if ended.state != State::Blank {
+            out.push(ended)?;
+        }
+        Ok(())
     }
-}
-
-/// Puts a state into a place, and returns the one before it.
-fn put(states: &mut [State], at: usize, state: State) -> State {
-    let mut before = State::Blank;
-    if let Some(now) = states.get_mut(at) {
-        before = *now;
-        *now = state;
-    }
-    before
 }
 
 /// The rows of a band while their stretches are found.
+#[derive(Drop)]
 struct Band {
     threads: Vec<Thread>,
     /// The state of each page.
@@ -112,35 +94,24 @@ struct Band {
     stretches: Vec<Stretch>,
 }
 
-// Written by hand, so that each exit of a function that owns a band has one call instead of the drops of all parts.
-impl Drop for Band {
-    fn drop(self) {
-        let Band {
-            threads: _threads,
-            now: _now,
-            stretches: _stretches,
-        } = self;
-    }
-}
-
 impl Band {
-    /// A band in which nothing has happened.
-    fn new(alloc: Global, rows: &Rows) -> Result<Band, NoMemory> {
-        Ok(Band {
-            threads: vec![in alloc; STILL; rows.rows.len()]?,
-            now: vec![in alloc; State::Blank; rows.of.len()]?,
-            stretches: Vec::new(alloc),
-        })
-    }
-
     /// Makes a change.
     fn change(&mut self, change: &Change, rows: &Rows) {
         let Some(row) = rows.row_of(change.row) else {
             return;
         };
-        let before = put(&mut self.now, change.row as usize, change.state);
-        if let Some(thread) = self.threads.get_mut(row as usize) {
-            thread.change(before, change, row);
+        if let Some(now) = self.now.get_mut(change.row as usize)
+            && let Some(thread) = self.threads.get_mut(row as usize)
+        {
+            thread.counts.take(*now);
+            thread.counts.add(change.state, 1);
+            *now = change.state;
+            thread.open.row = row;
+            thread.about = change.about;
+            thread.now = thread.counts.highest();
+            if thread.now as usize > thread.peak as usize {
+                thread.peak = thread.now;
+            }
         }
     }
 
@@ -153,46 +124,9 @@ impl Band {
                 1 => thread.now,
                 _ => thread.peak,
             };
-            if let Some(ended) = thread.cut(column, shown) {
-                self.stretches.push(ended)?;
-            }
+            thread.cut(column, shown, &mut self.stretches)?;
         }
         Ok(())
-    }
-
-    /// Ends the stretches that do not go on in the columns from one on and before another.
-    fn cut_each(&mut self, from: u32, to: u32, columns: Columns) -> Result<(), NoMemory> {
-        for column in from..to {
-            self.cut(column, columns)?;
-        }
-        Ok(())
-    }
-
-    /// Makes all changes, and ends all stretches.
-    fn change_all(
-        &mut self,
-        changes: &[Change],
-        rows: &Rows,
-        columns: Columns,
-    ) -> Result<(), NoMemory> {
-        let mut column = 0u32;
-        for change in changes {
-            let next = columns.of(change.line).max(column);
-            self.cut_each(column, next, columns)?;
-            self.change(change, rows);
-            column = next;
-        }
-        self.cut_each(column, columns.count().saturating_add(1), columns)
-    }
-
-    /// The stretches that were found.
-    fn into_stretches(self) -> Vec<Stretch> {
-        let Band {
-            threads: _threads,
-            now: _now,
-            stretches,
-        } = self;
-        stretches
     }
 }
 
@@ -203,7 +137,21 @@ pub(crate) fn stretches_of(
     rows: &Rows,
     columns: Columns,
 ) -> Result<Vec<Stretch>, NoMemory> {
-    let mut band = Band::new(alloc, rows)?;
-    band.change_all(changes, rows, columns)?;
-    Ok(band.into_stretches())
+    let mut band = Band {
+        threads: vec![in alloc; STILL; rows.rows.len()]?,
+        now: vec![in alloc; State::Blank; rows.of.len()]?,
+        stretches: Vec::new(alloc),
+    };
+    let mut column = 0u32;
+    for change in changes {
+        for ended in column..columns.of(change.line) {
+            band.cut(ended, columns)?;
+        }
+        column = column.max(columns.of(change.line));
+        band.change(change, rows);
+    }
+    for ended in column..columns.count().saturating_add(1) {
+        band.cut(ended, columns)?;
+    }
+    Ok(band.stretches)
 }

@@ -3,7 +3,7 @@
 ghost use Rattle.std.specs.Prelude.{IfOk};
 ghost use Rattle.svg.specs.Trees.{IsPicture};
 
-use crate::text::Part::{At, Length, Line, Words};
+use crate::text::Part::{At, Length, Words};
 use crate::text::{Part, Place, push_all, width_of};
 use mig_base::NoMemory;
 use std::alloc::Global;
@@ -23,17 +23,17 @@ pub(crate) fn share(length: u64, part: u64, whole: u64) -> u64 {
     length.saturating_mul(part).checked_div(whole).unwrap_or(0)
 }
 
-/// A height above or below another, or a place to the left or to the right of another.
-fn shifted(from: u64, by: u64, back: bool) -> u64 {
-    if back {
-        from.saturating_sub(by)
+/// A height above or below another.
+fn shifted(y: u64, by: u64, up: bool) -> u64 {
+    if up {
+        y.saturating_sub(by)
     } else {
-        from.saturating_add(by)
+        y.saturating_add(by)
     }
 }
 
-/// The right or the left end of the head of an arrow, which leads to the right, straight down or straight up.
-fn barb(from: Place, to: Place, is_right: bool) -> Place {
+/// The two ends of the head of an arrow, which leads to the right, straight down or straight up.
+fn head(from: Place, to: Place) -> (Place, Place) {
     let across = to.0.abs_diff(from.0);
     let down = to.1.abs_diff(from.1);
     let falls = to.1 > from.1;
@@ -43,10 +43,12 @@ fn barb(from: Place, to: Place, is_right: bool) -> Place {
         .saturating_add(across.min(down).saturating_mul(3) / 8);
     let x = to.0.saturating_sub(share(55, across, length));
     let y = shifted(to.1, share(55, down, length), falls);
+    let right = x.saturating_add(share(26, down, length));
+    let left = x.saturating_sub(share(26, down, length));
     let aside = share(26, across, length);
     (
-        shifted(x, share(26, down, length), !is_right),
-        shifted(y, aside, falls == is_right),
+        (right, shifted(y, aside, falls)),
+        (left, shifted(y, aside, !falls)),
     )
 }
 
@@ -158,21 +160,16 @@ impl Pen {
         let _ = self.sheet.begin(tag, &attributes);
     }
 
-    /// Writes the title of a shape, if it has one.
-    fn title(&mut self) {
+    /// Draws a path, with its title.
+    pub(crate) fn path(&mut self, class: &str, shape: &[Part]) {
+        self.begin(Tag::Path, class, Key::Shape, shape);
         if !self.name.is_empty() {
             let _ = self.sheet.begin(Tag::Title, &[]);
             let _ = self.sheet.write(self.name.as_bytes());
             let _ = self.sheet.close();
             self.name.clear();
         }
-    }
-
-    /// Draws a path, with its title.
-    pub(crate) fn path(&mut self, class: &str, shape: &[Part]) {
-        self.begin(Tag::Path, class, Key::Shape, shape);
-        self.title();
-        self.close();
+        let _ = self.sheet.close();
     }
 
     /// Draws a rectangle.
@@ -193,15 +190,25 @@ impl Pen {
 
     /// Draws a line.
     pub(crate) fn line(&mut self, class: &str, from: Place, to: Place) {
-        self.path(class, &[Line(from, to)]);
+        self.path(class, &[Words("M"), At(from), Words("L"), At(to)]);
     }
 
     /// Draws an arrow.
     pub(crate) fn arrow(&mut self, class: &str, from: Place, to: Place) {
+        let (right, left) = head(from, to);
         let shape = [
-            Line(from, to),
-            Line(barb(from, to, true), to),
-            Line(barb(from, to, false), to),
+            Words("M"),
+            At(from),
+            Words("L"),
+            At(to),
+            Words("M"),
+            At(right),
+            Words("L"),
+            At(to),
+            Words("M"),
+            At(left),
+            Words("L"),
+            At(to),
         ];
         self.path(class, &shape);
     }
@@ -213,8 +220,14 @@ impl Pen {
         let top = at.1.saturating_sub(reach);
         let bottom = at.1.saturating_add(reach);
         let shape = [
-            Line((left, top), (right, bottom)),
-            Line((left, bottom), (right, top)),
+            Words("M"),
+            At((left, top)),
+            Words("L"),
+            At((right, bottom)),
+            Words("M"),
+            At((left, bottom)),
+            Words("L"),
+            At((right, top)),
         ];
         self.path(class, &shape);
     }

@@ -15,7 +15,7 @@ mod strands;
 use crate::pen::{Frame, Pen};
 use crate::plan::{Plan, RIGHT};
 use crate::record::Record;
-use crate::text::Part::{At, Words};
+use crate::text::Part::{At, Length, Words};
 use crate::text::push_all;
 use mig_base::NoMemory;
 use std::alloc::Global;
@@ -38,49 +38,50 @@ const STYLE: &str = "path{fill:none}text{font-family:sans-serif;fill:#222;font-s
 .g5{stroke:#222;stroke-width:1.2}.g6{stroke:#999;stroke-width:.6}.do{fill:#fff;stroke:#222}.dd{fill:#222}\
 .o1{fill:#fbdcc4}.o2{fill:#e69f00}.t1{stroke:#d55e00;stroke-width:1.3}.t2{stroke:#fff;stroke-width:1.6}";
 
-/// Writes a pattern: stripes on a ground, each of a class.
-fn pattern(pen: &mut Pen, id: &str, ground: &str, class: &str, stripes: &'static str) {
-    let attributes = [
-        Attribute {
-            key: Key::Id,
-            value: id.as_bytes(),
-        },
-        Attribute {
-            key: Key::Width,
-            value: b"6",
-        },
-        Attribute {
-            key: Key::Height,
-            value: b"6",
-        },
-        Attribute {
-            key: Key::PatternUnits,
-            value: b"userSpaceOnUse",
-        },
-    ];
-    pen.open(Tag::Pattern, &attributes);
-    pen.path(ground, &[Words("M0 0h6v6h-6z")]);
-    pen.path(class, &[Words(stripes)]);
-    pen.close();
-}
-
-/// Writes the patterns that the style sheet names.
+/// Writes the patterns that the style sheet names: stripes on a ground, each of a class.
 fn patterns(pen: &mut Pen) {
     let rising = "M-1 1L1-1M0 6L6 0M5 7L7 5";
     let falling = "M-1 5L1 7M0 0L6 6M5-1L7 1";
     pen.open(Tag::Defs, &[]);
-    pattern(pen, "dirty", "o2", "t2", rising);
-    pattern(pen, "request", "bg", "t1", rising);
-    pattern(pen, "page", "o1", "t1", falling);
+    for (id, ground, class, stripes) in [
+        ("dirty", "o2", "t2", rising),
+        ("request", "bg", "t1", rising),
+        ("page", "o1", "t1", falling),
+    ] {
+        let attributes = [
+            Attribute {
+                key: Key::Id,
+                value: id.as_bytes(),
+            },
+            Attribute {
+                key: Key::Width,
+                value: b"6",
+            },
+            Attribute {
+                key: Key::Height,
+                value: b"6",
+            },
+            Attribute {
+                key: Key::PatternUnits,
+                value: b"userSpaceOnUse",
+            },
+        ];
+        pen.open(Tag::Pattern, &attributes);
+        pen.path(ground, &[Words("M0 0h6v6h-6z")]);
+        pen.path(class, &[Words(stripes)]);
+        pen.close();
+    }
     pen.close();
 }
 
 /// A sheet of a size.
 fn new_sheet(alloc: Global, width: u64, height: u64) -> Result<Sheet, NoMemory> {
     let mut view = String::new(alloc);
+    let mut across = String::new(alloc);
+    let mut down = String::new(alloc);
     push_all(&mut view, &[Words("0 0 "), At((width, height))])?;
-    let size = view.get(4..).unwrap_or("");
-    let (across, down) = size.split_once(' ').unwrap_or(("", ""));
+    push_all(&mut across, &[Length(width)])?;
+    push_all(&mut down, &[Length(height)])?;
     let attributes = [
         Attribute {
             key: Key::Namespace,
@@ -120,93 +121,35 @@ fn ground(pen: &mut Pen, name: &str, width: u64, height: u64) {
     pen.rectangle("bg", frame);
 }
 
-/// The size of a picture, and where what stands below the bands begins.
-#[derive(Clone, Copy)]
-struct Size {
-    width: u64,
-    height: u64,
-    /// Where the legend begins.
-    legend: u64,
-    /// Where the list of the longest waits begins.
-    list: u64,
-}
-
-/// The size of a picture.
-fn size_of(alloc: Global, plan: &Plan, record: &Record, input: &[u8]) -> Result<Size, NoMemory> {
-    let below = ruler::height(alloc, plan, record, input)?;
-    let (across, down) = legend::size(plan, record);
-    let legend = plan.bottom.saturating_add(below).saturating_add(100);
-    let list = legend.saturating_add(down);
-    Ok(Size {
-        width: plan.right().saturating_add(RIGHT).max(across),
-        height: list.saturating_add(longest::height(plan)),
-        legend,
-        list,
-    })
-}
-
-/// A pen on a new sheet of this size.
-fn new_pen(alloc: Global, size: Size) -> Result<Pen, NoMemory> {
-    let sheet = new_sheet(alloc, size.width, size.height)?;
-    Ok(Pen::new(alloc, sheet))
-}
-
-/// Draws all that stands in the bands.
-fn draw_bands(pen: &mut Pen, plan: &Plan, record: &Record) -> Result<(), NoMemory> {
-    marks::grounds(pen, plan, record);
-    marks::phases(pen, plan, record);
-    bands::processors(pen, plan, record);
-    bands::nodes(pen, plan, record);
-    strands::wires(pen, plan, record)?;
-    notes::write_notes(pen, plan, record)
-}
-
-/// Draws all that stands below the bands, and the marks over all.
-fn draw_foot(
-    pen: &mut Pen,
-    plan: &Plan,
-    record: &Record,
-    input: &[u8],
-    size: Size,
-) -> Result<(), NoMemory> {
-    ruler::ruler(pen, plan, record, input)?;
-    marks::marks(pen, plan, record)?;
-    legend::legend(pen, plan, record, size.legend);
-    longest::longest(pen, plan, record, size.list);
-    Ok(())
-}
-
-/// Paints a picture in which everything has its place.
-fn paint_plan(
-    alloc: Global,
-    plan: &Plan,
-    record: &Record,
-    name: &str,
-    input: &[u8],
-) -> Result<Vec<u8>, NoMemory>
-    ensures { IfOk result (λ picture. IsPicture picture.items) }
-{
-    let size = size_of(alloc, plan, record, input)?;
-    let mut pen = new_pen(alloc, size)?;
-    ground(&mut pen, name, size.width, size.height);
-    head::head(&mut pen, plan, record, name);
-    draw_bands(&mut pen, plan, record)?;
-    draw_foot(&mut pen, plan, record, input, size)?;
-    pen.finish()
-}
-
-/// Where everything stands in the picture of a record.
-fn placed(alloc: Global, record: &Record) -> Result<Plan, NoMemory> {
-    let mut plan = Plan::new(alloc, record)?;
-    let above = marks::height(alloc, &plan, record)?;
-    plan.place(700u64.saturating_add(above));
-    Ok(plan)
-}
-
 /// Paints the picture of a record, which is named so. The input is the script.
 pub fn paint(alloc: Global, record: &Record, name: &str, input: &[u8]) -> Result<Vec<u8>, NoMemory>
     ensures { IfOk result (λ picture. IsPicture picture.items) }
 {
-    let plan = placed(alloc, record)?;
-    paint_plan(alloc, &plan, record, name, input)
+    let mut plan = Plan::new(alloc, record)?;
+    let labels = marks::find_labels(alloc, &plan, record)?;
+    plan.place(700u64.saturating_add(labels.height));
+    let texts = ruler::find_texts(alloc, &plan, record, input)?;
+    let items = legend::find_items(alloc, &plan, record)?;
+    let waits = longest::longest_of(alloc, &plan)?;
+    let foot = plan
+        .bottom
+        .saturating_add(ruler::height(&texts))
+        .saturating_add(100);
+    let list = foot.saturating_add(items.height);
+    let height = list.saturating_add(longest::height(&waits));
+    let width = plan.right().saturating_add(RIGHT).max(items.width);
+    let mut pen = Pen::new(alloc, new_sheet(alloc, width, height)?);
+    ground(&mut pen, name, width, height);
+    head::head(&mut pen, &plan, record, name);
+    marks::grounds(&mut pen, &plan, record);
+    marks::phases(&mut pen, &plan, record);
+    bands::processors(&mut pen, &plan, record);
+    bands::nodes(&mut pen, &plan, record);
+    strands::wires(&mut pen, &plan, record)?;
+    notes::write_notes(&mut pen, &plan, record)?;
+    ruler::ruler(&mut pen, &plan, record, &texts);
+    marks::marks(&mut pen, &plan, &labels);
+    legend::legend(&mut pen, &items, foot);
+    longest::longest(&mut pen, &plan, record, &waits, list);
+    pen.finish()
 }

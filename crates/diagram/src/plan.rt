@@ -2,7 +2,7 @@
 
 use crate::band::{Columns, Stretch, stretches_of};
 use crate::pen::{Frame, share};
-use crate::record::{Change, Dot, FEW, Flight, Record, Track};
+use crate::record::{Change, FEW, Record};
 use crate::rows::{Rows, Stir, stirs_of};
 use crate::waits::{Wait, find_waits};
 use mig_base::NoMemory;
@@ -108,25 +108,6 @@ impl Band {
         })
     }
 
-    /// The band of the pages of a node.
-    fn of_pages(
-        alloc: Global,
-        track: &Track,
-        dots: &[Dot],
-        at_destination: bool,
-        columns: Columns,
-        together: u32,
-    ) -> Result<Band, NoMemory> {
-        let stirs = stirs_of(alloc, track, dots, at_destination)?;
-        Band::new(alloc, &track.changes, &stirs, together, columns)
-    }
-
-    /// The band of the processors.
-    fn of_processors(alloc: Global, record: &Record, columns: Columns) -> Result<Band, NoMemory> {
-        let stirs = vec![in alloc; Stir::Touched; record.cpus as usize]?;
-        Band::new(alloc, &record.processors.changes, &stirs, 1, columns)
-    }
-
     /// Places the rows from here on downwards, with a gap where pages between two are missing. Returns where they end.
     fn place(&mut self, top: u64, gap: u64) -> u64 {
         let mut y = top;
@@ -164,25 +145,24 @@ fn width_of(lines: u32) -> u64 {
     small.saturating_add(more).min(16000)
 }
 
-/// The number of shapes for the frames of a wire: one for each pair of columns.
-fn shapes_of(flights: &[Flight], columns: Columns) -> usize {
+/// The number of shapes for the frames of the wires: one for each pair of columns.
+fn frame_shapes(record: &Record, columns: Columns) -> usize {
     let mut shapes = 0usize;
-    let mut before = (u32::MAX, u32::MAX);
-    for flight in flights {
-        let place = (columns.of(flight.sent), columns.of(flight.ended));
-        if place != before {
-            shapes = shapes.saturating_add(1);
+    for flights in [
+        &record.forward.flights,
+        &record.urgent.flights,
+        &record.back.flights,
+    ] {
+        let mut before = (u32::MAX, u32::MAX);
+        for flight in flights {
+            let place = (columns.of(flight.sent), columns.of(flight.ended));
+            if place != before {
+                shapes = shapes.saturating_add(1);
+            }
+            before = place;
         }
-        before = place;
     }
     shapes
-}
-
-/// The number of shapes for the frames of all wires.
-fn frame_shapes(record: &Record, columns: Columns) -> usize {
-    shapes_of(&record.forward.flights, columns)
-        .saturating_add(shapes_of(&record.urgent.flights, columns))
-        .saturating_add(shapes_of(&record.back.flights, columns))
 }
 
 impl Plan {
@@ -190,11 +170,13 @@ impl Plan {
     fn of(alloc: Global, record: &Record, per: u32, together: u32) -> Result<Plan, NoMemory> {
         let lines = record.lines.len().clamp(1, u32::MAX as usize) as u32;
         let columns = Columns { lines, per };
-        let dots = &record.dots;
-        let source = Band::of_pages(alloc, &record.source, dots, false, columns, together)?;
-        let goal = &record.destination;
-        let destination = Band::of_pages(alloc, goal, dots, true, columns, together)?;
-        let processors = Band::of_processors(alloc, record, columns)?;
+        let stirs = stirs_of(alloc, &record.source, &record.dots, false)?;
+        let source = Band::new(alloc, &record.source.changes, &stirs, together, columns)?;
+        let stirs = stirs_of(alloc, &record.destination, &record.dots, true)?;
+        let changes = &record.destination.changes;
+        let destination = Band::new(alloc, changes, &stirs, together, columns)?;
+        let stirs = vec![in alloc; Stir::Touched; record.cpus as usize]?;
+        let processors = Band::new(alloc, &record.processors.changes, &stirs, 1, columns)?;
         let waits = find_waits(alloc, &processors.stretches, record.cpus)?;
         Ok(Plan {
             columns,
@@ -210,14 +192,6 @@ impl Plan {
         })
     }
 
-    /// The number of shapes of the picture, about.
-    fn shapes(&self, record: &Record) -> usize {
-        frame_shapes(record, self.columns)
-            .saturating_add(self.source.stretches.len())
-            .saturating_add(self.destination.stretches.len())
-            .saturating_add(self.processors.stretches.len())
-    }
-
     /// The columns and the bands of a record: as few lines in a column and pages in a row as leave the picture small.
     pub(crate) fn new(alloc: Global, record: &Record) -> Result<Plan, NoMemory> {
         let lines = record.lines.len().min(u32::MAX as usize) as u32;
@@ -225,7 +199,13 @@ impl Plan {
         let mut together = 1u32;
         let mut plan = Plan::of(alloc, record, per, together)?;
         for _ in 0..16 {
-            if plan.shapes(record) <= MOST_SHAPES {
+            let stretches = plan
+                .source
+                .stretches
+                .len()
+                .saturating_add(plan.destination.stretches.len())
+                .saturating_add(plan.processors.stretches.len());
+            if stretches.saturating_add(frame_shapes(record, plan.columns)) <= MOST_SHAPES {
                 break;
             }
             per = per.saturating_mul(2);
@@ -277,14 +257,11 @@ impl Plan {
 
     /// The line of the file at which a column begins.
     pub(crate) fn line_of(&self, record: &Record, column: u32) -> u32 {
-        let last = record.lines.len().saturating_sub(1);
-        let at = (column.saturating_mul(self.columns.per) as usize).min(last);
-        record.lines.get(at).copied().unwrap_or(0)
-    }
-
-    /// The lines of the file at which two columns begin.
-    pub(crate) fn lines_of(&self, record: &Record, from: u32, to: u32) -> (u32, u32) {
-        (self.line_of(record, from), self.line_of(record, to))
+        let at = column.saturating_mul(self.columns.per) as usize;
+        match record.lines.get(at) {
+            Some(line) => *line,
+            None => record.lines.last().copied().unwrap_or(0),
+        }
     }
 
     /// The rectangle of a stretch in a row that begins and is high so.

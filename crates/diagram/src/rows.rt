@@ -1,6 +1,6 @@
 //! Which pages stand in which row.
 
-use crate::record::{Change, Dot, Track};
+use crate::record::{Dot, Track};
 use crate::state::State;
 use mig_base::{HIGH_PAGE, NoMemory};
 use std::alloc::Global;
@@ -23,26 +23,6 @@ pub(crate) struct Row {
     group: u32,
     /// Where it begins, once the band is placed.
     pub top: u64,
-}
-
-impl Row {
-    /// The page behind the last.
-    fn end(&self) -> u32 {
-        self.first.saturating_add(self.pages)
-    }
-
-    /// Takes the page of another row, if that page belongs there. Returns whether it does.
-    fn take(&mut self, next: &Row, together: u32) -> bool {
-        let grouped = together > 1 && self.group == next.group;
-        let dull = self.dull && next.dull;
-        let takes = grouped || (dull && self.end() == next.first);
-        if takes {
-            self.pages = next.first.saturating_sub(self.first).saturating_add(1);
-            self.dull = dull;
-            self.group = next.group;
-        }
-        takes
-    }
 }
 
 /// The rows of a band, and the row of each page.
@@ -75,31 +55,28 @@ impl Rows {
 
     /// Puts a page into the last row if it belongs there, and else into a new one.
     fn put(&mut self, page: u32, dull: bool) -> Result<(), NoMemory> {
-        let together = self.together;
-        let mut next = Row {
-            first: page,
-            pages: 1,
-            gap: false,
-            dull,
-            group: page.checked_div(together).unwrap_or(page),
-            top: 0,
-        };
+        let group = page.checked_div(self.together).unwrap_or(page);
+        let mut gap = false;
         if let Some(last) = self.rows.last_mut() {
-            if last.take(&next, together) {
+            let follows = last.first.saturating_add(last.pages) == page;
+            let grouped = self.together > 1 && last.group == group;
+            if grouped || (dull && last.dull && follows) {
+                last.pages = page.saturating_sub(last.first).saturating_add(1);
+                last.dull = last.dull && dull;
+                last.group = group;
                 return Ok(());
             }
-            next.gap = last.end() != page;
+            gap = !follows;
         }
-        self.rows.push(next)?;
+        self.rows.push(Row {
+            first: page,
+            pages: 1,
+            gap,
+            dull,
+            group,
+            top: 0,
+        })?;
         Ok(())
-    }
-
-    /// Notes that a page stands in the last row.
-    fn note(&mut self, page: u32) {
-        let last = self.rows.len().saturating_sub(1).min(HIGH_PAGE as usize) as u32;
-        if let Some(row) = self.of.get_mut(page as usize) {
-            *row = last;
-        }
     }
 
     /// Puts the pages into rows, with that many neighbours together.
@@ -109,7 +86,9 @@ impl Rows {
         for stir in stirs {
             if *stir != Stir::Never {
                 self.put(page, *stir == Stir::Mapped)?;
-                self.note(page);
+                if let Some(row) = self.of.get_mut(page as usize) {
+                    *row = self.rows.len().saturating_sub(1).min(HIGH_PAGE as usize) as u32;
+                }
             }
             page = page.saturating_add(1);
         }
@@ -145,38 +124,6 @@ pub(crate) enum Stir {
     Touched,
 }
 
-impl Stir {
-    /// What has happened once the page was in a state.
-    fn after(self, state: State) -> Stir {
-        match state {
-            State::Blank => self,
-            State::Empty if self == Stir::Never => Stir::Mapped,
-            State::Empty => self,
-            _ => Stir::Touched,
-        }
-    }
-}
-
-/// Notes what the changes of its state say of each page.
-fn stir_changed(stirs: &mut [Stir], changes: &[Change]) {
-    for change in changes {
-        if let Some(stir) = stirs.get_mut(change.row as usize) {
-            *stir = stir.after(change.state);
-        }
-    }
-}
-
-/// Notes the pages on which a processor of a node went to sleep.
-fn stir_slept_on(stirs: &mut [Stir], dots: &[Dot], at_destination: bool) {
-    for dot in dots {
-        if dot.at_destination == at_destination
-            && let Some(stir) = stirs.get_mut(dot.page as usize)
-        {
-            *stir = Stir::Touched;
-        }
-    }
-}
-
 /// What has happened to each page of a node.
 pub(crate) fn stirs_of(
     alloc: Global,
@@ -185,7 +132,22 @@ pub(crate) fn stirs_of(
     at_destination: bool,
 ) -> Result<Vec<Stir>, NoMemory> {
     let mut stirs = vec![in alloc; Stir::Never; track.now.len()]?;
-    stir_changed(&mut stirs, &track.changes);
-    stir_slept_on(&mut stirs, dots, at_destination);
+    for change in &track.changes {
+        if let Some(stir) = stirs.get_mut(change.row as usize) {
+            match change.state {
+                State::Blank => {}
+                State::Empty if *stir == Stir::Never => *stir = Stir::Mapped,
+                State::Empty => {}
+                _ => *stir = Stir::Touched,
+            }
+        }
+    }
+    for dot in dots {
+        if dot.at_destination == at_destination
+            && let Some(stir) = stirs.get_mut(dot.page as usize)
+        {
+            *stir = Stir::Touched;
+        }
+    }
     Ok(stirs)
 }

@@ -79,8 +79,8 @@ const BLANK: Look = Look {
     height: 0,
 };
 
-/// How the states look, in the order of [`RANKED`].
-static LOOKS: [Look; STATES] = [
+/// How the states look, in the order of [`State::ALL`].
+const LOOKS: [Look; STATES] = [
     BLANK,
     Look {
         class: "e",
@@ -238,80 +238,80 @@ static LOOKS: [Look; STATES] = [
     },
 ];
 
-/// All states, in the order of their ranks.
-static RANKED: [State; STATES] = [
-    State::Blank,
-    State::Empty,
-    State::Clean,
-    State::Pushed,
-    State::Unsent,
-    State::Dirty,
-    State::Unpushed,
-    State::Kept,
-    State::InPlace,
-    State::Installed,
-    State::Made,
-    State::Owed,
-    State::Came,
-    State::SleptOn,
-    State::InCall,
-    State::Woken,
-    State::Handler,
-    State::Install,
-    State::OnWire,
-    State::Request,
-    State::AtSource,
-    State::Stopped,
-    State::NoLink,
-];
-
-/// The states in the order in which a legend has them: as they follow one another.
-pub(crate) static IN_TURN: [State; STATES] = [
-    State::Empty,
-    State::Unsent,
-    State::Clean,
-    State::Dirty,
-    State::Unpushed,
-    State::Pushed,
-    State::Kept,
-    State::InPlace,
-    State::Owed,
-    State::SleptOn,
-    State::Came,
-    State::Installed,
-    State::Made,
-    State::Handler,
-    State::Request,
-    State::AtSource,
-    State::OnWire,
-    State::Install,
-    State::Woken,
-    State::NoLink,
-    State::Stopped,
-    State::InCall,
-    State::Blank,
-];
-
-/// The states of a processor that waits, in the order in which they come.
-pub(crate) static WAITS: [State; 8] = [
-    State::Stopped,
-    State::Handler,
-    State::Request,
-    State::AtSource,
-    State::OnWire,
-    State::NoLink,
-    State::Install,
-    State::Woken,
-];
-
 impl State {
+    /// All states, in the order of their ranks.
+    pub(crate) const ALL: [State; STATES] = [
+        State::Blank,
+        State::Empty,
+        State::Clean,
+        State::Pushed,
+        State::Unsent,
+        State::Dirty,
+        State::Unpushed,
+        State::Kept,
+        State::InPlace,
+        State::Installed,
+        State::Made,
+        State::Owed,
+        State::Came,
+        State::SleptOn,
+        State::InCall,
+        State::Woken,
+        State::Handler,
+        State::Install,
+        State::OnWire,
+        State::Request,
+        State::AtSource,
+        State::Stopped,
+        State::NoLink,
+    ];
+
+    /// The states in the order in which a legend has them: as they follow one another.
+    pub(crate) const IN_TURN: [State; STATES] = [
+        State::Empty,
+        State::Unsent,
+        State::Clean,
+        State::Dirty,
+        State::Unpushed,
+        State::Pushed,
+        State::Kept,
+        State::InPlace,
+        State::Owed,
+        State::SleptOn,
+        State::Came,
+        State::Installed,
+        State::Made,
+        State::Handler,
+        State::Request,
+        State::AtSource,
+        State::OnWire,
+        State::Install,
+        State::Woken,
+        State::NoLink,
+        State::Stopped,
+        State::InCall,
+        State::Blank,
+    ];
+
+    /// The states of a processor that waits, in the order in which they come.
+    pub(crate) const WAITS: [State; 8] = [
+        State::Stopped,
+        State::Handler,
+        State::Request,
+        State::AtSource,
+        State::OnWire,
+        State::NoLink,
+        State::Install,
+        State::Woken,
+    ];
+
     /// How it looks.
     pub(crate) fn look(self) -> Look {
         LOOKS.get(self as usize).copied().unwrap_or(BLANK)
     }
 }
 
-/// Counts by state: by its place in [`RANKED`].
+/// Counts by state: by its place in [`State::ALL`].
 #[derive(Clone, Copy)]
 pub(crate) struct Counts([u32; STATES]);
 
@@ -341,9 +341,9 @@ impl Counts {
     /// The last of the states that have a count.
     pub(crate) fn highest(&self) -> State {
         let mut found = State::Blank;
-        for state in &RANKED {
-            if self.of(*state) > 0 {
-                found = *state;
+        for state in State::ALL {
+            if self.of(state) > 0 {
+                found = state;
             }
         }
         found

@@ -1,7 +1,7 @@
 //! How long processors waited, and for whom.
 
 use crate::band::Stretch;
-use crate::state::{Counts, State, WAITS};
+use crate::state::{Counts, State};
 use mig_base::NoMemory;
 use std::alloc::Global;
 
@@ -22,42 +22,29 @@ impl Wait {
     pub(crate) fn columns(&self) -> u32 {
         self.to.saturating_sub(self.from)
     }
-
-    /// A wait of one stretch.
-    fn of(stretch: &Stretch) -> Wait {
-        let mut wait = Wait {
-            cpu: stretch.row,
-            page: stretch.about,
-            from: stretch.from,
-            to: stretch.to,
-            parts: Counts::NONE,
-        };
-        let columns = wait.columns();
-        wait.parts.add(stretch.state, columns);
-        wait
-    }
-
-    /// Takes a stretch that goes on with the wait. Returns whether it does.
-    fn take(&mut self, stretch: &Stretch) -> bool {
-        let same = self.cpu == stretch.row && self.page == stretch.about;
-        let takes = same && self.to == stretch.from;
-        if takes {
-            self.to = stretch.to;
-            let columns = stretch.to.saturating_sub(stretch.from);
-            self.parts.add(stretch.state, columns);
-        }
-        takes
-    }
 }
 
 /// Adds a stretch to the last wait if that goes on with it, or a wait that begins with it.
 fn add(waits: &mut Vec<Wait>, stretch: &Stretch) -> Result<(), NoMemory> {
+    let columns = stretch.to.saturating_sub(stretch.from);
     if let Some(last) = waits.last_mut()
-        && last.take(stretch)
+        && last.cpu == stretch.row
+        && last.page == stretch.about
+        && last.to == stretch.from
     {
+        last.to = stretch.to;
+        last.parts.add(stretch.state, columns);
         return Ok(());
     }
-    waits.push(Wait::of(stretch))?;
+    let mut parts = Counts::NONE;
+    parts.add(stretch.state, columns);
+    waits.push(Wait {
+        cpu: stretch.row,
+        page: stretch.about,
+        from: stretch.from,
+        to: stretch.to,
+        parts,
+    })?;
     Ok(())
 }
 
@@ -98,8 +85,8 @@ impl Total {
             if first <= wait.cpu && wait.cpu <= last {
                 total.waits = total.waits.saturating_add(1);
                 total.columns = total.columns.saturating_add(wait.columns());
-                for state in &WAITS {
-                    total.parts.add(*state, wait.parts.of(*state));
+                for state in State::WAITS {
+                    total.parts.add(state, wait.parts.of(state));
                 }
             }
         }
@@ -109,10 +96,10 @@ impl Total {
     /// The state with the most columns, and how many it has.
     pub(crate) fn most(&self) -> (State, u32) {
         let mut most = (State::Blank, 0);
-        for state in &WAITS {
-            let columns = self.parts.of(*state);
+        for state in State::WAITS {
+            let columns = self.parts.of(state);
             if columns > most.1 {
-                most = (*state, columns);
+                most = (state, columns);
             }
         }
         most

@@ -5,7 +5,7 @@ use crate::pen::{Frame, Pen};
 use crate::plan::{Band, LEFT, Plan};
 use crate::record::{Dot, Event, Move, Record};
 use crate::state::State;
-use crate::text::Part::{Counted, Lines, More, Number, Page, Words};
+use crate::text::Part::{More, Number, Page, Words};
 use crate::text::{NOTHING, Part, width_of};
 use crate::waits::{Total, Wait};
 
@@ -17,20 +17,17 @@ const BAR: u64 = 110;
 
 const AXLE: u64 = 200;
 
-/// The first `most` of a list, or all of it.
-fn first<T>(all: &[T], most: usize) -> &[T] {
-    all.get(..most).unwrap_or(all)
-}
-
-/// Draws a rectangle for some lines, and names whose it is and what it shows.
-fn cell(
+/// Draws a stretch in a row that begins and is high so, and names whose it is and what it shows. Returns its rectangle.
+fn cell<'a>(
     pen: &mut Pen,
-    class: &str,
-    frame: Frame,
-    whose: [Part<'static>; 4],
-    words: &'static str,
-    lines: (u32, u32),
-) {
+    plan: &Plan,
+    record: &Record,
+    stretch: &Stretch,
+    extent: (u64, u64),
+    whose: [Part<'a>; 4],
+    words: &'a str,
+) -> Frame {
+    let frame = plan.frame_of(stretch, extent.0, extent.1);
     let [one, two, three, four] = whose;
     pen.name(&[
         one,
@@ -39,9 +36,13 @@ fn cell(
         four,
         Words(": "),
         Words(words),
-        Lines(lines.0, lines.1),
+        Words(", lines "),
+        Number(plan.line_of(record, stretch.from)),
+        Words(" to "),
+        Number(plan.line_of(record, stretch.to)),
     ]);
-    pen.rectangle(class, frame);
+    pen.rectangle(stretch.state.look().class, frame);
+    frame
 }
 
 /// The class of the words in a part of a wait.
@@ -53,34 +54,28 @@ fn word_class(state: State) -> &'static str {
     }
 }
 
-/// Writes the word of a state into its rectangle, where there is room.
-fn bar_word(pen: &mut Pen, state: State, frame: Frame, y: u64) {
-    let word = state.look().part;
-    if width_of(word.len(), 80).saturating_add(20) <= frame.width {
-        let x = frame.x.saturating_add(frame.width / 2);
-        pen.word(word_class(state), (x, y), word);
-    }
-}
-
 /// Draws a part of a wait.
 fn bar(pen: &mut Pen, plan: &Plan, record: &Record, stretch: &Stretch) {
-    let look = stretch.state.look();
     let top = plan.processors.top_of(stretch.row);
-    let frame = plan.frame_of(stretch, top.saturating_add(AXLE - BAR / 2), BAR);
+    let extent = (top.saturating_add(AXLE - BAR / 2), BAR);
     let whose = [
         Words("cpu "),
         Number(stretch.row),
         Words(", page "),
         Page(stretch.about),
     ];
-    let lines = plan.lines_of(record, stretch.from, stretch.to);
-    cell(pen, look.class, frame, whose, look.part, lines);
-    bar_word(pen, stretch.state, frame, top.saturating_add(AXLE + 28));
+    let word = stretch.state.look().part;
+    let frame = cell(pen, plan, record, stretch, extent, whose, word);
+    if width_of(word.len(), 80).saturating_add(20) <= frame.width {
+        let x = frame.x.saturating_add(frame.width / 2);
+        let y = top.saturating_add(AXLE + 28);
+        pen.word(word_class(stretch.state), (x, y), word);
+    }
 }
 
 /// Whether words above a wait that end here would stand on a longer wait of the processor, among the next ones.
 fn hides(plan: &Plan, wait: &Wait, later: &[Wait], end: u64) -> bool {
-    for next in first(later, 8) {
+    for next in later.iter().take(8) {
         let longer = next.cpu == wait.cpu && next.columns() > wait.columns();
         if longer && plan.x_of(next.from) < end {
             return true;
@@ -121,16 +116,32 @@ fn wait_labels(pen: &mut Pen, plan: &Plan) {
     }
 }
 
-/// Writes how often and how long processors waited, and for whom most.
-fn write_total(pen: &mut Pen, total: &Total, per: u32, x: u64, y: u64) {
+/// Draws the lane of a processor, and writes how often and how long it waited, and for whom most.
+fn lane(pen: &mut Pen, plan: &Plan, cpu: u32) {
+    let top = plan.processors.top_of(cpu);
+    let axle = top.saturating_add(AXLE);
+    pen.line("g2", (LEFT, axle), (plan.right(), axle));
+    let place = (LEFT - 60, axle.saturating_add(30));
+    pen.words("mo en", place, &[Words("cpu "), Number(cpu)]);
+    let total = Total::of(&plan.waits, cpu, cpu);
+    let x = plan.right().saturating_add(100);
+    let y = top.saturating_add(AXLE - 10);
+    if total.waits == 0 {
+        return pen.word("sm", (x, y), "never waited");
+    }
+    let per = plan.columns.per;
+    let (state, most) = total.most();
     let sum = [
-        Counted(total.waits, " wait"),
-        Words(", "),
+        Number(total.waits),
+        Words(if total.waits == 1 {
+            " wait, "
+        } else {
+            " waits, "
+        }),
         Number(total.columns.saturating_mul(per)),
         Words(" steps"),
     ];
     pen.words("", (x, y), &sum);
-    let (state, most) = total.most();
     let most = [
         Words("most: "),
         Words(state.look().part),
@@ -138,22 +149,6 @@ fn write_total(pen: &mut Pen, total: &Total, per: u32, x: u64, y: u64) {
         Number(most.saturating_mul(per)),
     ];
     pen.words("sm", (x, y.saturating_add(105)), &most);
-}
-
-/// Draws the lane of a processor, and writes what it waited on the right of it.
-fn lane(pen: &mut Pen, plan: &Plan, cpu: u32) {
-    let right = plan.right();
-    let axle = plan.processors.top_of(cpu).saturating_add(AXLE);
-    pen.line("g2", (LEFT, axle), (right, axle));
-    let place = (LEFT - 60, axle.saturating_add(30));
-    pen.words("mo en", place, &[Words("cpu "), Number(cpu)]);
-    let total = Total::of(&plan.waits, cpu, cpu);
-    let (x, y) = (right.saturating_add(100), axle.saturating_sub(10));
-    if total.waits == 0 {
-        pen.word("sm", (x, y), "never waited");
-    } else {
-        write_total(pen, &total, plan.columns.per, x, y);
-    }
 }
 
 /// Draws the band of the processors.
@@ -169,21 +164,16 @@ pub(super) fn processors(pen: &mut Pen, plan: &Plan, record: &Record) {
     wait_labels(pen, plan);
 }
 
-/// Draws what the pages of a node are.
+/// Draws what the pages of a node are, and writes the names of the rows where there is room.
 fn pages(pen: &mut Pen, plan: &Plan, record: &Record, band: &Band) {
     for stretch in &band.stretches {
         if let Some(row) = band.rows.rows.get(stretch.row as usize) {
-            let look = stretch.state.look();
-            let frame = plan.frame_of(stretch, row.top, band.height);
             let whose = [Page(row.first), More(row.pages), NOTHING, NOTHING];
-            let lines = plan.lines_of(record, stretch.from, stretch.to);
-            cell(pen, look.class, frame, whose, look.words, lines);
+            let words = stretch.state.look().words;
+            let extent = (row.top, band.height);
+            cell(pen, plan, record, stretch, extent, whose, words);
         }
     }
-}
-
-/// Writes the names of the rows where there is room.
-fn row_names(pen: &mut Pen, band: &Band) {
     let mut free = 0u64;
     for row in &band.rows.rows {
         let y = row.top.saturating_add(band.height / 2).saturating_add(30);
@@ -223,12 +213,12 @@ fn moved(pen: &mut Pen, plan: &Plan, band: &Band, one: &Move) {
 
 /// Draws the sleeps and the moves of mappings in a band.
 fn signs(pen: &mut Pen, plan: &Plan, record: &Record, band: &Band, at_destination: bool) {
-    for sleep in first(&record.dots, MOST_DOTS) {
+    for sleep in record.dots.iter().take(MOST_DOTS) {
         if sleep.at_destination == at_destination {
             dot(pen, plan, band, sleep);
         }
     }
-    for one in first(&record.moves, MOST_DOTS) {
+    for one in record.moves.iter().take(MOST_DOTS) {
         if one.at_destination == at_destination {
             moved(pen, plan, band, one);
         }
@@ -270,7 +260,7 @@ fn ages(pen: &mut Pen, plan: &Plan, record: &Record) {
 fn drops(pen: &mut Pen, plan: &Plan, record: &Record) {
     let band = &plan.destination;
     let reach = (band.height / 2).min(35);
-    for drop in first(&record.drops, MOST_DOTS) {
+    for drop in record.drops.iter().take(MOST_DOTS) {
         if let Some(y) = band.middle_of(drop.1) {
             pen.cross("lx", (plan.x_at(drop.0), y), reach);
         }
@@ -297,11 +287,9 @@ fn title(pen: &mut Pen, band: &Band, name: &str) {
 pub(super) fn nodes(pen: &mut Pen, plan: &Plan, record: &Record) {
     title(pen, &plan.source, "source pages");
     pages(pen, plan, record, &plan.source);
-    row_names(pen, &plan.source);
     signs(pen, plan, record, &plan.source, false);
     title(pen, &plan.destination, "destination pages");
     pages(pen, plan, record, &plan.destination);
-    row_names(pen, &plan.destination);
     ages(pen, plan, record);
     signs(pen, plan, record, &plan.destination, true);
     drops(pen, plan, record);

@@ -3,72 +3,64 @@
 use crate::pen::Pen;
 use crate::plan::Plan;
 use crate::record::{Event, Record};
-use crate::text::Part::{Counted, Number, Sum, Words};
-use crate::text::{NOTHING, Part};
+use crate::text::NOTHING;
+use crate::text::Part::{Number, Sum, Words};
 use crate::waits::Total;
 
-/// The line of the first mark of a kind, if there is one.
-fn line_of(record: &Record, event: Event) -> Option<u32> {
+/// The line at which the migration is complete, if it is, and how many steps nobody ran the processors.
+fn outcome_of(plan: &Plan, record: &Record) -> (Option<u32>, u32) {
+    let mut complete = None;
+    let mut switched = None;
+    let mut nobody = 0u32;
     for mark in &record.marks {
-        if mark.event == event {
-            return Some(mark.line);
+        match (mark.event, switched) {
+            (Event::Switch, None) => switched = Some(mark.line),
+            (Event::Package, Some(line)) if nobody == 0 => {
+                nobody = mark.line.saturating_sub(line);
+            }
+            (Event::Complete, _) if complete.is_none() => {
+                complete = Some(plan.line_of(record, plan.columns.of(mark.line)));
+            }
+            _ => {}
         }
     }
-    None
-}
-
-/// How many steps nobody ran the processors.
-fn nobody_ran(record: &Record) -> u32 {
-    match (
-        line_of(record, Event::Switch),
-        line_of(record, Event::Package),
-    ) {
-        (Some(switch), Some(package)) => package.saturating_sub(switch),
-        _ => 0,
-    }
-}
-
-/// How the run ends: the migration is complete at a line, or not.
-fn ending(plan: &Plan, record: &Record) -> [Part<'static>; 3] {
-    if let Some(line) = line_of(record, Event::Complete) {
-        let line = plan.line_of(record, plan.columns.of(line));
-        return [Words("Complete at line "), Number(line), Words(".")];
-    }
-    if record.marks.is_empty() {
-        return [Words("No migration."), NOTHING, NOTHING];
-    }
-    [
-        Words("Not complete after "),
-        Number(plan.columns.lines),
-        Words(" steps."),
-    ]
-}
-
-/// How long nobody ran the processors, if that was so at all.
-fn pause(nobody: u32) -> [Part<'static>; 3] {
-    if nobody == 0 {
-        return [NOTHING; 3];
-    }
-    [
-        Words(" Nobody ran the processors for "),
-        Number(nobody),
-        Words(" steps."),
-    ]
+    (complete, nobody)
 }
 
 /// Writes how the run ends, and how long nobody ran the processors.
 fn outcome(pen: &mut Pen, plan: &Plan, record: &Record) {
-    let [one, two, three] = ending(plan, record);
-    let [four, five, six] = pause(nobody_ran(record));
-    pen.words("n2", (100, 350), &[one, two, three, four, five, six]);
+    let (complete, nobody) = outcome_of(plan, record);
+    let [one, two, three] = match complete {
+        Some(line) => [Words("Complete at line "), Number(line), Words(".")],
+        None if record.marks.is_empty() => [Words("No migration."), NOTHING, NOTHING],
+        None => [
+            Words("Not complete after "),
+            Number(plan.columns.lines),
+            Words(" steps."),
+        ],
+    };
+    if nobody == 0 {
+        return pen.words("n2", (100, 350), &[one, two, three]);
+    }
+    let words = [
+        one,
+        two,
+        three,
+        Words(" Nobody ran the processors for "),
+        Number(nobody),
+        Words(" steps."),
+    ];
+    pen.words("n2", (100, 350), &words);
 }
 
 /// Writes how often and how long processors waited, and for whom.
 fn waits(pen: &mut Pen, plan: &Plan) {
     let total = Total::of(&plan.waits, 0, u32::MAX);
     let per = plan.columns.per;
+    let noun = if total.waits == 1 { " wait" } else { " waits" };
     let words = [
-        Counted(total.waits, " wait"),
+        Number(total.waits),
+        Words(noun),
         Words(" of processors, "),
         Number(total.columns.saturating_mul(per)),
         Words(" steps in all"),

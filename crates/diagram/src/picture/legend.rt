@@ -4,8 +4,10 @@ use super::bands::run_of;
 use crate::pen::{Frame, Pen};
 use crate::plan::{Band, Plan};
 use crate::record::{End, Flight, Record};
-use crate::state::{IN_TURN, State};
+use crate::state::State;
 use crate::text::Place;
+use mig_base::NoMemory;
+use std::alloc::Global;
 
 /// The height of an item, and the width of a column of items.
 const ITEM: u64 = 140;
@@ -15,6 +17,8 @@ const COLUMN: u64 = 2150;
 /// What an item shows.
 #[derive(Clone, Copy)]
 enum Sign {
+    /// The name of a column of items.
+    Name(&'static str),
     /// A state.
     Box(State),
     /// The line of frames, by its class.
@@ -23,6 +27,48 @@ enum Sign {
     Dot,
     Cross,
     Age,
+}
+
+/// The items of a legend, in columns.
+#[derive(Drop)]
+pub(super) struct Items {
+    /// Each with its place in the legend.
+    items: Vec<(Sign, Place)>,
+    /// Whether the next item begins a column.
+    is_first: bool,
+    pub width: u64,
+    pub height: u64,
+}
+
+impl Items {
+    /// Adds an item to a column of this name, below the last one.
+    fn add(&mut self, name: &'static str, sign: Sign) -> Result<(), NoMemory> {
+        if self.is_first {
+            self.is_first = false;
+            let x = self.width.saturating_sub(100);
+            self.items.push((Sign::Name(name), (x, 100)))?;
+            self.width = self.width.saturating_add(COLUMN);
+        }
+        let (x, y) = match self.items.last() {
+            Some((_, place)) => *place,
+            None => (0, 0),
+        };
+        let y = y.saturating_add(ITEM);
+        self.items.push((sign, (x, y)))?;
+        self.height = self.height.max(y.saturating_add(300));
+        Ok(())
+    }
+
+    /// Adds the states that a band has, in a column.
+    fn add_states(&mut self, name: &'static str, band: &Band) -> Result<(), NoMemory> {
+        self.is_first = true;
+        for state in State::IN_TURN {
+            if has_state(band, state) {
+                self.add(name, Sign::Box(state))?;
+            }
+        }
+        Ok(())
+    }
 }
 
 /// Whether a band has a state.
@@ -45,184 +91,90 @@ fn has_lost(flights: &[Flight]) -> bool {
     false
 }
 
-/// The signs of a legend.
-static SIGNS: [Sign; 8] = [
-    Sign::Line("lf", "page or request, sent to taken"),
-    Sign::Line("lu", "a page on the urgent wire"),
-    Sign::Line("lo", "another frame"),
-    Sign::Line("ls", "lost in a break"),
-    Sign::Dot,
-    Sign::Cross,
-    Sign::Line("g5", "a mapping moves"),
-    Sign::Age,
-];
-
-/// Whether a picture has each of [`SIGNS`].
-fn signs_of(plan: &Plan, record: &Record) -> [bool; 8] {
+/// The items of a picture.
+pub(super) fn find_items(alloc: Global, plan: &Plan, record: &Record) -> Result<Items, NoMemory> {
+    let mut items = Items {
+        items: Vec::new(alloc),
+        is_first: true,
+        width: 200,
+        height: 400,
+    };
+    items.add_states("source pages", &plan.source)?;
+    items.add_states("destination pages", &plan.destination)?;
+    items.add_states("processors", &plan.processors)?;
+    items.is_first = true;
     let migrates = !record.marks.is_empty();
     let lost = has_lost(&record.forward.flights)
         || has_lost(&record.urgent.flights)
         || has_lost(&record.back.flights);
-    [
-        migrates,
-        !record.urgent.flights.is_empty(),
-        migrates,
-        lost,
-        !record.dots.is_empty(),
-        !record.drops.is_empty(),
-        !record.moves.is_empty(),
-        run_of(plan, record).is_some(),
-    ]
-}
-
-/// The number of states that a band has.
-fn count_states(band: &Band) -> u64 {
-    let mut count = 0u64;
-    for state in &IN_TURN {
-        if has_state(band, *state) {
-            count = count.saturating_add(1);
+    let signs = [
+        (Sign::Line("lf", "page or request, sent to taken"), migrates),
+        (
+            Sign::Line("lu", "a page on the urgent wire"),
+            !record.urgent.flights.is_empty(),
+        ),
+        (Sign::Line("lo", "another frame"), migrates),
+        (Sign::Line("ls", "lost in a break"), lost),
+        (Sign::Dot, !record.dots.is_empty()),
+        (Sign::Cross, !record.drops.is_empty()),
+        (
+            Sign::Line("g5", "a mapping moves"),
+            !record.moves.is_empty(),
+        ),
+        (Sign::Age, run_of(plan, record).is_some()),
+    ];
+    for (sign, is_there) in signs {
+        if is_there {
+            items.add("signs", sign)?;
         }
     }
-    count
+    Ok(items)
 }
 
-/// The number of signs that a picture has.
-fn count_signs(there: &[bool]) -> u64 {
-    let mut count = 0u64;
-    for is_there in there {
-        if *is_there {
-            count = count.saturating_add(1);
-        }
-    }
-    count
-}
-
-/// The size of a legend: how wide and how high it is.
-#[derive(Clone, Copy)]
-struct Extent {
-    width: u64,
-    height: u64,
-}
-
-impl Extent {
-    /// The size with one more column of `count` items; an empty one takes no room.
-    fn with(self, count: u64) -> Extent {
-        if count == 0 {
-            return self;
-        }
-        Extent {
-            width: self.width.saturating_add(COLUMN),
-            height: self
-                .height
-                .max(count.saturating_mul(ITEM).saturating_add(400)),
-        }
-    }
-}
-
-/// The width and the height of a legend.
-pub(super) fn size(plan: &Plan, record: &Record) -> (u64, u64) {
-    let size = Extent {
-        width: 200,
-        height: 400,
-    }
-    .with(count_states(&plan.source))
-    .with(count_states(&plan.destination))
-    .with(count_states(&plan.processors))
-    .with(count_signs(&signs_of(plan, record)));
-    (size.width, size.height)
-}
-
-/// What a sign means.
-fn words_of(sign: Sign) -> &'static str {
-    match sign {
-        Sign::Box(state) => state.look().words,
-        Sign::Line(_, words) => words,
-        Sign::Dot => "a processor goes to sleep",
-        Sign::Cross => "a copy is dropped",
-        Sign::Age => "installed 9 steps after the run",
-    }
-}
-
-/// Draws the rectangle of a state.
-fn draw_box(pen: &mut Pen, state: State, x: u64, top: u64) {
-    let look = state.look();
-    let frame = Frame {
-        x,
-        y: top.saturating_add(look.top.saturating_mul(6)),
-        width: 160,
-        height: look.height.saturating_mul(6).max(8),
-    };
-    pen.rectangle(look.class, frame);
-}
-
-/// Draws the bar of a page that is installed, with a number in it.
-fn draw_age(pen: &mut Pen, x: u64, top: u64) {
-    let frame = Frame {
+/// Draws an item.
+fn draw_item(pen: &mut Pen, sign: Sign, x: u64, y: u64) {
+    let top = y.saturating_sub(80);
+    let middle = (x.saturating_add(80), top.saturating_add(45));
+    let end = (x.saturating_add(160), y);
+    let mut frame = Frame {
         x,
         y: top,
         width: 160,
         height: 100,
     };
-    pen.rectangle("i", frame);
-    let place = (x.saturating_add(30), top.saturating_add(70));
-    pen.word("wl", place, "+9");
-}
-
-/// Draws a sign.
-fn draw_sign(pen: &mut Pen, sign: Sign, x: u64, y: u64) {
-    let top = y.saturating_sub(80);
-    let middle = (x.saturating_add(80), top.saturating_add(45));
-    match sign {
-        Sign::Box(state) => draw_box(pen, state, x, top),
-        Sign::Line(class, _) => pen.line(class, (x, top), (x.saturating_add(160), y)),
-        Sign::Dot => pen.disk("do", middle, 45),
-        Sign::Cross => pen.cross("lx", middle, 32),
-        Sign::Age => draw_age(pen, x, top),
-    }
-}
-
-/// Draws an item below the last one of a column, and before the first one the name of the column. Returns its place.
-fn draw_item(pen: &mut Pen, name: &'static str, sign: Sign, last: Place, top: u64) -> Place {
-    let (x, above) = last;
-    if above == top {
-        pen.word("n3", (x, above), name);
-    }
-    let y = above.saturating_add(ITEM);
-    draw_sign(pen, sign, x, y);
-    pen.word("", (x.saturating_add(220), y), words_of(sign));
-    (x, y)
-}
-
-/// Draws the states that a band has, in a column. Returns where the next column begins.
-fn draw_states(pen: &mut Pen, name: &'static str, band: &Band, x: u64, top: u64) -> u64 {
-    let mut last = (x, top);
-    for state in &IN_TURN {
-        if has_state(band, *state) {
-            last = draw_item(pen, name, Sign::Box(*state), last, top);
+    let words = match sign {
+        Sign::Name(name) => return pen.word("n3", (x, y), name),
+        Sign::Box(state) => {
+            let look = state.look();
+            frame.y = top.saturating_add(look.top.saturating_mul(6));
+            frame.height = look.height.saturating_mul(6).max(8);
+            pen.rectangle(look.class, frame);
+            look.words
         }
-    }
-    if last.1 == top {
-        x
-    } else {
-        x.saturating_add(COLUMN)
-    }
-}
-
-/// Draws the signs that a picture has, in a column.
-fn draw_signs(pen: &mut Pen, there: &[bool], x: u64, top: u64) {
-    let mut last = (x, top);
-    for (sign, is_there) in SIGNS.iter().zip(there) {
-        if *is_there {
-            last = draw_item(pen, "signs", *sign, last, top);
+        Sign::Line(class, words) => {
+            pen.line(class, (x, top), end);
+            words
         }
-    }
+        Sign::Dot => {
+            pen.disk("do", middle, 45);
+            "a processor goes to sleep"
+        }
+        Sign::Cross => {
+            pen.cross("lx", middle, 32);
+            "a copy is dropped"
+        }
+        Sign::Age => {
+            pen.rectangle("i", frame);
+            pen.word("wl", (x.saturating_add(30), y.saturating_sub(10)), "+9");
+            "installed 9 steps after the run"
+        }
+    };
+    pen.word("", (x.saturating_add(220), y), words);
 }
 
 /// Draws the legend from here on downwards.
-pub(super) fn legend(pen: &mut Pen, plan: &Plan, record: &Record, from: u64) {
-    let top = from.saturating_add(100);
-    let x = draw_states(pen, "source pages", &plan.source, 100, top);
-    let x = draw_states(pen, "destination pages", &plan.destination, x, top);
-    let x = draw_states(pen, "processors", &plan.processors, x, top);
-    draw_signs(pen, &signs_of(plan, record), x, top);
+pub(super) fn legend(pen: &mut Pen, items: &Items, top: u64) {
+    for (sign, place) in &items.items {
+        draw_item(pen, *sign, place.0, place.1.saturating_add(top));
+    }
 }

@@ -3,7 +3,7 @@
 use crate::pen::{Frame, Pen};
 use crate::plan::Plan;
 use crate::record::{Event, Mark, Record};
-use crate::text::Part::{Counted, Number, Words};
+use crate::text::Part::{Number, Words};
 use crate::text::{NOTHING, Part, push_all, width_of};
 use mig_base::NoMemory;
 use std::alloc::Global;
@@ -19,7 +19,7 @@ const MOST_WORDS: usize = 120;
 
 /// A mark as it is drawn.
 #[derive(Clone, Copy)]
-struct Label {
+pub(super) struct Label {
     x: u64,
     mark: Mark,
     /// Its row above the bands, if it has words.
@@ -28,9 +28,9 @@ struct Label {
 
 /// The marks as they are drawn, from the last to the first.
 #[derive(Drop)]
-struct Labels {
+pub(super) struct Labels {
     labels: Vec<Label>,
-    height: u64,
+    pub height: u64,
 }
 
 /// How much a mark matters.
@@ -43,47 +43,53 @@ fn rank_of(event: Event) -> u8 {
     }
 }
 
-/// The words of a break, which begin so: how many pages and how many requests it has lost.
-fn break_words(lost: Part<'static>, pages: u32, requests: u32) -> [Part<'static>; 4] {
+/// The words of a break: how many pages and how many requests it has lost.
+fn break_words(pages: u32, requests: u32) -> [Part<'static>; 6] {
+    let pages_word = Words(if pages == 1 { " page" } else { " pages" });
+    let requests_word = Words(if requests == 1 {
+        " request"
+    } else {
+        " requests"
+    });
+    let lost = Words("break: lost ");
     let none = NOTHING;
-    let page_count = Counted(pages, " page");
-    let request_count = Counted(requests, " request");
+    let (page_count, request_count) = (Number(pages), Number(requests));
     match (pages, requests) {
-        (0, 0) => [Words("break: no page lost"), none, none, none],
-        (_, 0) => [lost, page_count, none, none],
-        (0, _) => [lost, request_count, none, none],
-        _ => [lost, page_count, Words(", "), request_count],
-    }
-}
-
-/// The first words of a mark.
-fn word_of(event: Event) -> &'static str {
-    match event {
-        Event::Start => "start",
-        Event::Round => "round ",
-        Event::Switch => "switch: ",
-        Event::Package => "package: the destination runs",
-        Event::End => "end sent",
-        Event::Complete => "complete",
-        Event::Break => "break: lost ",
-        Event::SourceNotice => "source pauses",
-        Event::DestinationNotice => "destination pauses",
-        Event::Resume => "resume, epoch ",
+        (0, 0) => [Words("break: no page lost"), none, none, none, none, none],
+        (_, 0) => [lost, page_count, pages_word, none, none, none],
+        (0, _) => [lost, request_count, requests_word, none, none, none],
+        _ => [
+            lost,
+            page_count,
+            pages_word,
+            Words(", "),
+            request_count,
+            requests_word,
+        ],
     }
 }
 
 /// The words of a mark.
-fn words_of(mark: &Mark) -> [Part<'static>; 4] {
-    let none = NOTHING;
-    let word = Words(word_of(mark.event));
+fn words_of(mark: &Mark) -> [Part<'static>; 6] {
     let (first, second) = (Number(mark.first), Number(mark.second));
-    match mark.event {
-        Event::Break => break_words(word, mark.first, mark.second),
-        Event::Round => [word, first, Words(": "), second],
-        Event::Switch => [word, first, Words(" owed"), none],
-        Event::Resume => [word, first, none, none],
-        _ => [word, none, none, none],
-    }
+    let [one, two, three, four] = match mark.event {
+        Event::Break => return break_words(mark.first, mark.second),
+        Event::Round => [Words("round "), first, Words(": "), second],
+        Event::Switch => [Words("switch: "), first, Words(" owed"), NOTHING],
+        Event::Resume => [Words("resume, epoch "), first, NOTHING, NOTHING],
+        event => {
+            let words = match event {
+                Event::Start => "start",
+                Event::End => "end sent",
+                Event::Complete => "complete",
+                Event::Package => "package: the destination runs",
+                Event::SourceNotice => "source pauses",
+                _ => "destination pauses",
+            };
+            [Words(words), NOTHING, NOTHING, NOTHING]
+        }
+    };
+    [one, two, three, four, NOTHING, NOTHING]
 }
 
 /// The row of words that begin at a place and are so wide: one above each of those on the right that begin under them.
@@ -100,42 +106,32 @@ fn row_above(labels: &[Label], x: u64, width: u64) -> u64 {
     row
 }
 
-/// The room that the words of a mark need.
-fn room_of(alloc: Global, mark: &Mark) -> Result<u64, NoMemory> {
-    let mut words = String::new(alloc);
-    push_all(&mut words, &words_of(mark))?;
-    Ok(width_of(words.len(), 100).saturating_add(60))
-}
-
-impl Labels {
-    /// Adds a mark: with words, in a row for them, or without.
-    fn add(&mut self, alloc: Global, x: u64, mark: Mark, says: bool) -> Result<(), NoMemory> {
-        let mut row = None;
-        if says {
-            let above = row_above(&self.labels, x, room_of(alloc, &mark)?);
-            self.height = self.height.max(above.saturating_add(1).saturating_mul(ROW));
-            row = Some(above);
-        }
-        self.labels.push(Label { x, mark, row })?;
-        Ok(())
-    }
-}
-
 /// The marks of at least a rank with their rows, and the others without words.
 fn staircase(alloc: Global, plan: &Plan, record: &Record, least: u8) -> Result<Labels, NoMemory> {
-    let mut labels = Labels {
-        labels: Vec::new(alloc),
-        height: 0,
-    };
+    let mut labels = Vec::new(alloc);
+    let mut words = String::new(alloc);
+    let mut rows = 0u64;
     for mark in record.marks.iter().rev() {
-        let says = rank_of(mark.event) >= least;
-        labels.add(alloc, plan.x_at(mark.line), *mark, says)?;
+        let x = plan.x_at(mark.line);
+        let mut row = None;
+        if rank_of(mark.event) >= least {
+            words.clear();
+            push_all(&mut words, &words_of(mark))?;
+            let above = row_above(&labels, x, width_of(words.len(), 100).saturating_add(60));
+            rows = rows.max(above.saturating_add(1));
+            row = Some(above);
+        }
+        let mark = *mark;
+        labels.push(Label { x, mark, row })?;
     }
-    Ok(labels)
+    Ok(Labels {
+        labels,
+        height: rows.saturating_mul(ROW),
+    })
 }
 
 /// The marks as they are drawn: words that would need too many rows are left out, those that matter least first.
-fn find_labels(alloc: Global, plan: &Plan, record: &Record) -> Result<Labels, NoMemory> {
+pub(super) fn find_labels(alloc: Global, plan: &Plan, record: &Record) -> Result<Labels, NoMemory> {
     if record.marks.len() <= MOST_WORDS {
         for least in 1..5 {
             let labels = staircase(alloc, plan, record, least)?;
@@ -157,39 +153,24 @@ fn classes_of(event: Event) -> (&'static str, &'static str) {
     }
 }
 
-/// Draws a mark, with its words if they have a row.
-fn draw_mark(pen: &mut Pen, plan: &Plan, label: &Label) {
-    let (line, class) = classes_of(label.mark.event);
-    let words = words_of(&label.mark);
-    let x = label.x;
-    let y = match label.row {
-        Some(row) => plan.top.saturating_sub(row.saturating_mul(ROW)),
-        None => plan.top.saturating_add(90),
-    };
-    pen.name(&words);
-    pen.line(line, (x, y.saturating_sub(90)), (x, plan.bottom));
-    if label.row.is_some() {
-        pen.words(class, (x.saturating_add(30), y), &words);
-    }
-}
-
-/// The height of the words of the marks.
-pub(super) fn height(alloc: Global, plan: &Plan, record: &Record) -> Result<u64, NoMemory> {
-    let labels = find_labels(alloc, plan, record)?;
-    Ok(labels.height)
-}
-
-/// Draws the marks. Of those without words at one place, the last is drawn.
-pub(super) fn marks(pen: &mut Pen, plan: &Plan, record: &Record) -> Result<(), NoMemory> {
-    let labels = find_labels(pen.alloc, plan, record)?;
+/// Draws the marks, each with its words if they have a row. Of those without words at one place, the last is drawn.
+pub(super) fn marks(pen: &mut Pen, plan: &Plan, labels: &Labels) {
     let mut before = u64::MAX;
     for label in &labels.labels {
-        if label.row.is_some() || label.x != before {
-            draw_mark(pen, plan, label);
+        let (line, class) = classes_of(label.mark.event);
+        let words = words_of(&label.mark);
+        let foot = (label.x, plan.bottom);
+        if let Some(row) = label.row {
+            let y = plan.top.saturating_sub(row.saturating_mul(ROW));
+            pen.name(&words);
+            pen.line(line, (label.x, y.saturating_sub(90)), foot);
+            pen.words(class, (label.x.saturating_add(30), y), &words);
+        } else if label.x != before {
+            pen.name(&words);
+            pen.line(line, (label.x, plan.top), foot);
         }
         before = label.x;
     }
-    Ok(())
 }
 
 /// Draws a ground from one line to another.
@@ -230,26 +211,19 @@ pub(super) fn grounds(pen: &mut Pen, plan: &Plan, record: &Record) {
     }
 }
 
-/// The words for a part of the migration that fit into the room for them: its name and its steps, its steps alone, or nothing.
-fn phase_words(pen: &mut Pen, word: &'static str, steps: u32, room: u64) -> [Part<'static>; 4] {
-    let count = Number(steps);
-    let whole = [Words(word), Words(": "), count, Words(" steps")];
-    if pen.width(&whole, 95).saturating_add(100) <= room {
-        return whole;
-    }
-    let short = [count, NOTHING, NOTHING, NOTHING];
-    if pen.width(&short, 95).saturating_add(100) <= room {
-        return short;
-    }
-    [NOTHING; 4]
-}
-
-/// Writes how long a part of the migration took.
-fn phase(pen: &mut Pen, plan: &Plan, word: &'static str, lines: (u32, u32)) {
+/// Writes how long a part of the migration took, where there is room: its name and its steps, its steps alone, or nothing.
+fn phase(pen: &mut Pen, plan: &Plan, word: &str, lines: (u32, u32)) {
+    let steps = Number(lines.1.saturating_sub(lines.0));
     let left = plan.x_at(lines.0);
     let right = plan.x_at(lines.1);
     let room = right.saturating_sub(left);
-    let words = phase_words(pen, word, lines.1.saturating_sub(lines.0), room);
+    let mut words = [Words(word), Words(": "), steps, Words(" steps")];
+    if pen.width(&words, 95).saturating_add(100) > room {
+        words = [steps, NOTHING, NOTHING, NOTHING];
+    }
+    if pen.width(&words, 95).saturating_add(100) > room {
+        words = [NOTHING; 4];
+    }
     let half = pen.width(&words, 110) / 2;
     let middle = left.saturating_add(room / 2);
     let y = plan.top.saturating_add(150);

@@ -3,11 +3,9 @@
 use crate::pen::Pen;
 use crate::plan::Plan;
 use crate::record::{End, Flight, Kind, Record};
-use crate::rows::Row;
 use crate::state::{Counts, State};
 use crate::text::Part::{Number, Words};
 use mig_base::{HIGH_PAGE, NoMemory, PageSet};
-use std::alloc::Global;
 
 /// Writes those counts that are not 0, on the right of a band that begins here.
 fn list(pen: &mut Pen, plan: &Plan, top: u64, counts: &[(&str, u32)]) {
@@ -48,23 +46,17 @@ fn gather(pages: &mut PageSet, flights: &[Flight]) -> Result<(), NoMemory> {
     Ok(())
 }
 
-/// The number of different pages that were sent.
-fn different_pages(alloc: Global, record: &Record) -> Result<u32, NoMemory> {
-    let mut different = PageSet::new(alloc);
-    gather(&mut different, &record.forward.flights)?;
-    gather(&mut different, &record.urgent.flights)?;
-    Ok(different.len())
-}
-
 /// Writes how many pages were sent, and how many of them again, by which wire, and in vain.
 fn forward_notes(pen: &mut Pen, plan: &Plan, record: &Record) -> Result<(), NoMemory> {
     let (sent, lost) = pages_of(&record.forward.flights);
     let (overtaking, urgent_lost) = pages_of(&record.urgent.flights);
-    let different = different_pages(pen.alloc, record)?;
+    let mut different = PageSet::new(pen.alloc);
+    gather(&mut different, &record.forward.flights)?;
+    gather(&mut different, &record.urgent.flights)?;
     let sent = sent.saturating_add(overtaking);
     let counts = [
         ("pages sent: ", sent),
-        ("again: ", sent.saturating_sub(different)),
+        ("again: ", sent.saturating_sub(different.len())),
         ("on the urgent wire: ", overtaking),
         ("lost: ", lost.saturating_add(urgent_lost)),
     ];
@@ -91,20 +83,14 @@ fn destination_notes(pen: &mut Pen, plan: &Plan, record: &Record) {
     list(pen, plan, plan.destination.top, &counts);
 }
 
-/// The number of pages of the source to which more has happened than that they were mapped.
-fn touched_pages(rows: &[Row]) -> u32 {
+/// Writes the counts of pages.
+pub(super) fn write_notes(pen: &mut Pen, plan: &Plan, record: &Record) -> Result<(), NoMemory> {
     let mut touched = 0u32;
-    for row in rows {
+    for row in &plan.source.rows.rows {
         if !row.dull {
             touched = touched.saturating_add(row.pages);
         }
     }
-    touched
-}
-
-/// Writes the counts of pages.
-pub(super) fn write_notes(pen: &mut Pen, plan: &Plan, record: &Record) -> Result<(), NoMemory> {
-    let touched = touched_pages(&plan.source.rows.rows);
     list(pen, plan, plan.source.top, &[("with contents: ", touched)]);
     let (requests, lost) = pages_of(&record.back.flights);
     let counts = [("requests: ", requests), ("lost: ", lost)];

@@ -4,13 +4,20 @@ use crate::pen::Pen;
 use crate::plan::{LEFT, Plan};
 use crate::record::Record;
 use crate::text::Part::{Number, Refused, Words};
-use crate::text::{NOTHING, push_all};
+use crate::text::push_all;
 use mig_base::NoMemory;
 use mig_base::refusal::Refusal;
 use std::alloc::Global;
 
 /// The most bytes of a line that are shown.
 const SHOWN: usize = 34;
+
+/// A line of the script as it stands below its column.
+#[derive(Drop)]
+pub(super) struct Text {
+    words: String,
+    class: &'static str,
+}
 
 /// The refusal of a line, if it was refused.
 fn refusal(record: &Record, column: u32) -> Option<Refusal> {
@@ -22,59 +29,55 @@ fn refusal(record: &Record, column: u32) -> Option<Refusal> {
     None
 }
 
-/// The line of a script with a number.
-fn line_at(input: &[u8], number: u32) -> &[u8] {
-    let mut start = 0usize;
-    let mut at = 0usize;
-    let mut line = 1u32;
-    for byte in input {
-        if *byte == b'\n' {
-            if line == number {
-                break;
-            }
-            line = line.saturating_add(1);
-            start = at.saturating_add(1);
-        }
-        at = at.saturating_add(1);
-    }
-    input.get(start..at).unwrap_or(&[])
-}
-
 /// What stands below a column: its line, why that was refused, and its number.
 fn text_of(
     alloc: Global,
     record: &Record,
     column: u32,
     line: u32,
-    input: &[u8],
-) -> Result<String, NoMemory> {
-    let raw = line_at(input, line).trim_ascii();
-    let mut words = String::from_utf8_lossy(alloc, raw.get(..SHOWN).unwrap_or(raw))?;
-    let (colon, reason) = match refusal(record, column) {
-        Some(reason) => (Words(": "), Refused(reason)),
-        None => (NOTHING, NOTHING),
-    };
-    push_all(&mut words, &[colon, reason, Words("  "), Number(line)])?;
-    Ok(words)
+    text: &[u8],
+) -> Result<Text, NoMemory> {
+    let shown = text.get(..SHOWN).unwrap_or(text);
+    let mut words = String::from_utf8_lossy(alloc, shown)?;
+    let mut class = "mo en";
+    if let Some(reason) = refusal(record, column) {
+        push_all(&mut words, &[Words(": "), Refused(reason)])?;
+        class = "gm en";
+    }
+    push_all(&mut words, &[Words("  "), Number(line)])?;
+    Ok(Text { words, class })
 }
 
-/// The height of what stands below the bands: in a picture with words, that of the longest line of the script.
-pub(super) fn height(
+/// The lines of the script, as they stand below their columns in a picture with words.
+pub(super) fn find_texts(
     alloc: Global,
     plan: &Plan,
     record: &Record,
     input: &[u8],
-) -> Result<u64, NoMemory> {
-    let mut longest = 0usize;
-    if plan.is_small() {
-        let mut column = 0u32;
-        for line in &record.lines {
-            let words = text_of(alloc, record, column, *line, input)?;
-            longest = longest.max(words.len());
+) -> Result<Vec<Text>, NoMemory> {
+    let mut texts = Vec::new(alloc);
+    if !plan.is_small() {
+        return Ok(texts);
+    }
+    let mut column = 0u32;
+    let mut number = 0u32;
+    for raw in input.split(|byte| *byte == b'\n') {
+        number = number.saturating_add(1);
+        if record.lines.get(column as usize) == Some(&number) {
+            texts.push(text_of(alloc, record, column, number, raw.trim_ascii())?)?;
             column = column.saturating_add(1);
         }
     }
-    Ok((longest as u64).saturating_mul(55).saturating_add(200))
+    Ok(texts)
+}
+
+/// The height of what stands below the bands.
+pub(super) fn height(texts: &[Text]) -> u64 {
+    let mut longest = 0usize;
+    for text in texts {
+        longest = longest.max(text.words.len());
+    }
+    (longest as u64).saturating_mul(55).saturating_add(200)
 }
 
 /// Whether two numbers have room beside each other, if `lines` lie between the two.
@@ -116,34 +119,17 @@ fn numbers(pen: &mut Pen, plan: &Plan, record: &Record) {
     }
 }
 
-/// Writes the lines of the script below their columns.
-fn lines(pen: &mut Pen, plan: &Plan, record: &Record, input: &[u8]) -> Result<(), NoMemory> {
-    let y = plan.bottom.saturating_add(60);
+/// Draws what stands below the bands.
+pub(super) fn ruler(pen: &mut Pen, plan: &Plan, record: &Record, texts: &[Text]) {
+    let y = plan.bottom;
+    pen.line("g3", (LEFT, y), (plan.right(), y));
+    if !plan.is_small() {
+        return numbers(pen, plan, record);
+    }
     let mut column = 0u32;
-    for line in &record.lines {
-        let words = text_of(pen.alloc, record, column, *line, input)?;
-        let class = match refusal(record, column) {
-            Some(_) => "gm en",
-            None => "mo en",
-        };
-        let place = (plan.x_of(column).saturating_add(30), y);
-        pen.turned(class, place, "rotate(-90)", &[Words(&words)]);
+    for text in texts {
+        let place = (plan.x_of(column).saturating_add(30), y.saturating_add(60));
+        pen.turned(text.class, place, "rotate(-90)", &[Words(&text.words)]);
         column = column.saturating_add(1);
     }
-    Ok(())
-}
-
-/// Draws what stands below the bands.
-pub(super) fn ruler(
-    pen: &mut Pen,
-    plan: &Plan,
-    record: &Record,
-    input: &[u8],
-) -> Result<(), NoMemory> {
-    pen.line("g3", (LEFT, plan.bottom), (plan.right(), plan.bottom));
-    if plan.is_small() {
-        return lines(pen, plan, record, input);
-    }
-    numbers(pen, plan, record);
-    Ok(())
 }

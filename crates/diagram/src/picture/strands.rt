@@ -17,6 +17,14 @@ const MOST_WORDS: usize = 400;
 
 const MOST_FRAMES: usize = 16;
 
+/// A wire as it is drawn: where its frames begin and end, and the class of their pages.
+#[derive(Clone, Copy)]
+struct Strand {
+    from: u64,
+    to: u64,
+    class: &'static str,
+}
+
 /// The place on a way from one height to another, after a part of the whole.
 fn part_of(from: u64, to: u64, part: u64, whole: u64) -> u64 {
     let along = share(from.abs_diff(to), part, whole);
@@ -27,19 +35,19 @@ fn part_of(from: u64, to: u64, part: u64, whole: u64) -> u64 {
     }
 }
 
-/// The place where a frame of a wire that leads from one height to another ends: a lost one where the break found it, the oldest farthest.
-fn end_of(plan: &Plan, wire: (u64, u64), flight: &Flight, oldest: u32) -> Place {
+/// The place where a frame ends: a lost one where the break found it, the oldest farthest.
+fn end_of(plan: &Plan, strand: Strand, flight: &Flight, oldest: u32) -> Place {
     match flight.end {
-        End::Taken => (plan.x_at(flight.ended), wire.1),
+        End::Taken => (plan.x_at(flight.ended), strand.to),
         End::Lost => {
             let age = u64::from(flight.ended.saturating_sub(flight.sent));
             let most = u64::from(flight.ended.saturating_sub(oldest)).saturating_add(1);
             let part = age.saturating_mul(8).saturating_add(most);
             let whole = most.saturating_mul(10);
-            let y = part_of(wire.0, wire.1, part, whole);
+            let y = part_of(strand.from, strand.to, part, whole);
             (plan.x_at(flight.ended), y)
         }
-        End::Open => (plan.right(), part_of(wire.0, wire.1, 1, 2)),
+        End::Open => (plan.right(), part_of(strand.from, strand.to, 1, 2)),
     }
 }
 
@@ -51,11 +59,11 @@ struct Route {
     to: Place,
 }
 
-/// The frames of a wire that leads from one height to another. Of those that have the same columns, the first is there.
+/// The frames of a wire. Of those that have the same columns, the first is there.
 fn routes_of(
     alloc: Global,
     plan: &Plan,
-    wire: (u64, u64),
+    strand: Strand,
     flights: &[Flight],
 ) -> Result<Vec<Route>, NoMemory> {
     let mut routes = Vec::new(alloc);
@@ -69,8 +77,8 @@ fn routes_of(
         if place != before {
             routes.push(Route {
                 flight: *one,
-                from: (plan.x_of(place.0), wire.0),
-                to: end_of(plan, wire, one, lost.1),
+                from: (plan.x_of(place.0), strand.from),
+                to: end_of(plan, strand, one, lost.1),
             })?;
         }
         before = place;
@@ -78,9 +86,9 @@ fn routes_of(
     Ok(routes)
 }
 
-/// The word of a frame.
-fn word_of(kind: Kind) -> &'static str {
-    match kind {
+/// What a frame is: its word, and its pages if it has any.
+fn frame_of(flight: &Flight) -> [Part<'static>; 3] {
+    let word = match flight.kind {
         Kind::Page => "page ",
         Kind::Zero => "zeros ",
         Kind::Request => "request ",
@@ -91,11 +99,7 @@ fn word_of(kind: Kind) -> &'static str {
         Kind::Resume => "resume",
         Kind::Received => "recv",
         Kind::Done => "done",
-    }
-}
-
-/// What a frame is: its word, and its pages if it has any.
-fn frame_of(flight: &Flight, word: &'static str) -> [Part<'static>; 3] {
+    };
     if flight.kind.has_page() {
         [Words(word), Page(flight.page), More(flight.pages)]
     } else {
@@ -103,33 +107,28 @@ fn frame_of(flight: &Flight, word: &'static str) -> [Part<'static>; 3] {
     }
 }
 
-/// Names a frame by what it is, when it was sent, and how it ended.
-fn name_frame(pen: &mut Pen, plan: &Plan, record: &Record, flight: &Flight) {
-    let [word, page, more] = frame_of(flight, word_of(flight.kind));
+/// Draws a frame, named by when it was sent and how it ended: as an arrow if it was taken and there is room, with a cross at its end if it
+/// was lost.
+fn draw_frame(pen: &mut Pen, plan: &Plan, record: &Record, class: &str, route: &Route) {
+    let flight = &route.flight;
+    let [word, page, more] = frame_of(flight);
     let ended = match flight.end {
         End::Open => ", in flight at the end, line ",
         End::Taken => ", taken at line ",
         End::Lost => ", lost at line ",
     };
-    let sent = plan.columns.of(flight.sent);
-    let lines = plan.lines_of(record, sent, plan.columns.of(flight.ended));
     pen.name(&[
         word,
         page,
         more,
         Words(": sent at line "),
-        Number(lines.0),
+        Number(plan.line_of(record, plan.columns.of(flight.sent))),
         Words(ended),
-        Number(lines.1),
+        Number(plan.line_of(record, plan.columns.of(flight.ended))),
     ]);
-}
-
-/// Draws a frame: as an arrow if it was taken and there is room, with a cross at its end if it was lost.
-fn draw_frame(pen: &mut Pen, class: &str, route: &Route, small: bool) {
-    let flight = &route.flight;
     let class = if flight.kind.has_page() { class } else { "lo" };
     match flight.end {
-        End::Taken if small => pen.arrow(class, route.from, route.to),
+        End::Taken if plan.is_small() => pen.arrow(class, route.from, route.to),
         End::Taken | End::Open => pen.line(class, route.from, route.to),
         End::Lost => {
             pen.line("ls", route.from, route.to);
@@ -138,12 +137,10 @@ fn draw_frame(pen: &mut Pen, class: &str, route: &Route, small: bool) {
     }
 }
 
-/// Draws the frames of a wire, whose pages have a class.
-fn frames(pen: &mut Pen, plan: &Plan, record: &Record, class: &str, routes: &[Route]) {
-    let small = plan.is_small();
+/// Draws the frames of a wire.
+fn frames(pen: &mut Pen, plan: &Plan, record: &Record, strand: Strand, routes: &[Route]) {
     for route in routes {
-        name_frame(pen, plan, record, &route.flight);
-        draw_frame(pen, class, route, small);
+        draw_frame(pen, plan, record, strand.class, route);
     }
 }
 
@@ -184,19 +181,6 @@ fn place_of(route: &Route, width: u64, written: &[Label]) -> Option<Label> {
     None
 }
 
-/// Writes what a frame is on its line, where there is room. Returns where.
-fn frame_label(pen: &mut Pen, route: &Route, written: &[Label]) -> Option<Label> {
-    let word = match route.flight.kind {
-        Kind::Page | Kind::Request => "",
-        kind => word_of(kind),
-    };
-    let words = frame_of(&route.flight, word);
-    let place = place_of(route, pen.width(&words, 90), written)?;
-    let x = place.left.saturating_add(place.right) / 2;
-    pen.words("mo mi ha", (x, place.y), &words);
-    Some(place)
-}
-
 /// Writes what the frames of a wire are on their lines, where there is room: if their pages are named, also on the lines of those that
 /// have pages.
 fn frame_labels(
@@ -206,11 +190,17 @@ fn frame_labels(
     written: &mut Vec<Label>,
 ) -> Result<(), NoMemory> {
     for route in routes {
-        if (pages || !route.flight.kind.has_page())
-            && written.len() < MOST_WORDS
-            && let Some(place) = frame_label(pen, route, written)
-        {
-            written.push(place)?;
+        if (pages || !route.flight.kind.has_page()) && written.len() < MOST_WORDS {
+            let mut words = frame_of(&route.flight);
+            if matches!(route.flight.kind, Kind::Page | Kind::Request) {
+                words[0] = NOTHING;
+            }
+            let width = pen.width(&words, 90);
+            if let Some(place) = place_of(route, width, written) {
+                let x = place.left.saturating_add(place.right) / 2;
+                pen.words("mo mi ha", (x, place.y), &words);
+                written.push(place)?;
+            }
         }
     }
     Ok(())
@@ -239,67 +229,66 @@ fn arrivals(pen: &mut Pen, plan: &Plan, record: &Record) {
     }
 }
 
-/// Draws a rail between which and another frames travel, with its name.
-fn rail(pen: &mut Pen, plan: &Plan, y: u64, name: &'static str) {
-    pen.line("g1", (LEFT, y), (plan.right(), y));
-    pen.word("sm en", (LEFT - 60, y.saturating_add(30)), name);
-}
-
-/// Draws the rails, and writes the names of the wires.
+/// Draws the rails between which frames travel, with their names and those of the wires.
 fn rails(pen: &mut Pen, plan: &Plan) {
+    let rails = [
+        (plan.forward.0, "source"),
+        (plan.forward.1, "destination"),
+        (plan.back.0, ""),
+        (plan.back.1, ""),
+    ];
+    for (y, name) in rails {
+        pen.line("g1", (LEFT, y), (plan.right(), y));
+        pen.word("sm en", (LEFT - 60, y.saturating_add(30)), name);
+    }
     let top = plan.forward.0;
-    let back = plan.back.1;
-    rail(pen, plan, top, "source");
-    rail(pen, plan, plan.forward.1, "destination");
-    rail(pen, plan, plan.back.0, "");
-    rail(pen, plan, back, "");
     pen.word("n3", (100, top.saturating_sub(50)), "wires");
     pen.word("en", (LEFT - 60, top.saturating_add(450)), "forward");
-    pen.word("en", (LEFT - 60, back.saturating_add(230)), "back");
+    let middle = plan.back.1.saturating_add(230);
+    pen.word("en", (LEFT - 60, middle), "back");
 }
 
-/// Draws the frames to the destination: those of the urgent wire above the others.
-fn forward(pen: &mut Pen, plan: &Plan, record: &Record, slow: &[Route], fast: &[Route]) {
-    if plan.is_small() {
-        departures(pen, plan, slow);
-        departures(pen, plan, fast);
+/// Draws the frames to the destination.
+fn forward(pen: &mut Pen, plan: &Plan, record: &Record) -> Result<(), NoMemory> {
+    let (from, to) = plan.forward;
+    let down = Strand {
+        from,
+        to,
+        class: "lf",
+    };
+    let urgent = Strand {
+        from,
+        to,
+        class: "lu",
+    };
+    let slow = routes_of(pen.alloc, plan, down, &record.forward.flights)?;
+    let fast = routes_of(pen.alloc, plan, urgent, &record.urgent.flights)?;
+    let small = plan.is_small();
+    if small {
+        departures(pen, plan, &slow);
+        departures(pen, plan, &fast);
         arrivals(pen, plan, record);
     }
-    frames(pen, plan, record, "lf", slow);
-    frames(pen, plan, record, "lu", fast);
-}
-
-/// Writes what the frames to the destination are: those of the urgent wire first.
-fn forward_labels(
-    pen: &mut Pen,
-    slow: &[Route],
-    fast: &[Route],
-    small: bool,
-) -> Result<(), NoMemory> {
+    frames(pen, plan, record, down, &slow);
+    frames(pen, plan, record, urgent, &fast);
     let mut written = Vec::new(pen.alloc);
-    frame_labels(pen, fast, small || fast.len() <= MOST_FRAMES, &mut written)?;
-    frame_labels(pen, slow, small, &mut written)
-}
-
-/// Draws the frames to the destination, and writes what they are.
-fn way_there(pen: &mut Pen, plan: &Plan, record: &Record) -> Result<(), NoMemory> {
-    let slow = routes_of(pen.alloc, plan, plan.forward, &record.forward.flights)?;
-    let fast = routes_of(pen.alloc, plan, plan.forward, &record.urgent.flights)?;
-    forward(pen, plan, record, &slow, &fast);
-    forward_labels(pen, &slow, &fast, plan.is_small())
-}
-
-/// Draws the frames to the source, and writes what they are.
-fn way_back(pen: &mut Pen, plan: &Plan, record: &Record) -> Result<(), NoMemory> {
-    let routes = routes_of(pen.alloc, plan, plan.back, &record.back.flights)?;
-    frames(pen, plan, record, "lq", &routes);
-    let few = plan.is_small() || routes.len() <= MOST_FRAMES;
-    frame_labels(pen, &routes, few, &mut Vec::new(pen.alloc))
+    frame_labels(pen, &fast, small || fast.len() <= MOST_FRAMES, &mut written)?;
+    frame_labels(pen, &slow, small, &mut written)
 }
 
 /// Draws the wires.
 pub(super) fn wires(pen: &mut Pen, plan: &Plan, record: &Record) -> Result<(), NoMemory> {
     rails(pen, plan);
-    way_there(pen, plan, record)?;
-    way_back(pen, plan, record)
+    forward(pen, plan, record)?;
+    let (from, to) = plan.back;
+    let up = Strand {
+        from,
+        to,
+        class: "lq",
+    };
+    let routes = routes_of(pen.alloc, plan, up, &record.back.flights)?;
+    frames(pen, plan, record, up, &routes);
+    let few = plan.is_small() || routes.len() <= MOST_FRAMES;
+    let mut written = Vec::new(pen.alloc);
+    frame_labels(pen, &routes, few, &mut written)
 }
