@@ -6,7 +6,6 @@ use Rattle.std.specs.FinMap.{FinMap, get, contains_key, retain_keys, get-empty, 
 use Rattle.std.specs.FinSet as set
 use Rattle.std.specs.FinSet.{FinSet, contains, retain, len, contains-empty, contains-retain, len-empty, empty_of_len, nat_cmp-IsAntisymmetric}
 use Rattle.std.proofs.lemmas.Bool.{and_from, and_parts, false≢true, cases_Bool, cases_lt, eqb-true, not-false, or_from}
-use Rattle.mig_base.specs.declared.TheConstants.{HIGH_PAGE}
 use Rattle.mig_base.specs.declared.Prot.{Prot}
 use Rattle.mig_base.specs.declared.Run.{Run as PageRun}
 use Rattle.mig_base.specs.Ranges.{count_below, in_range}
