@@ -81,7 +81,8 @@ struct Before {
     back: u64,
 }
 
-/// Runs a script on a world, and records what it does. Where memory runs out a step is recorded without it, and `make` says so.
+/// Runs a script on a world, and records what it does. If memory runs out, the rest of the step is still recorded, and `make` then
+/// returns `NoMemory`.
 pub(crate) struct Recorder {
     alloc: Global,
     world: World,

@@ -3,8 +3,8 @@
 //! Addresses, pages and protections; the commands of processors and the replies to them; the steps of a world and their
 //! outcomes, in [`schedule`], [`effect`], [`refusal`], [`fault`], [`phase`], [`cpu_state`] and [`counts`]; [`Message`], which a
 //! userfault object reports, [`Wake`], the processors that its calls wake, and [`flags`], the numbers of these calls; [`PageSet`], a set
-//! of pages, and [`PageBytes`], the bytes of one page. Refusals, effects, replies and messages are `Display`: `specs/Texts.antt` defines
-//! their texts.
+//! of pages, with its iterators in [`iter`], and [`PageBytes`], the bytes of one page. Refusals, effects, replies and messages are
+//! `Display`: `specs/Texts.antt` defines their texts.
 //! The definition `specs/Flat.antt` says what the commands do to one flat memory, after mmap(2), munmap(2), mremap(2) and
 //! madvise(2). This crate executes no command.
 #![tactic(auto)]
