@@ -1,10 +1,9 @@
 //! The stretches of columns in which a row stays the same.
 
+use crate::memory::Memory;
 use crate::record::Change;
 use crate::rows::Rows;
 use crate::state::{Counts, State};
-use mig_base::NoMemory;
-use std::alloc::Global;
 
 /// The lines of a run, in columns of some lines each.
 #[derive(Clone, Copy)]
@@ -67,21 +66,21 @@ const STILL: Thread = Thread {
 };
 
 impl Thread {
-    /// Ends the open stretch before a column if another state is shown there.
-    fn cut(&mut self, column: u32, shown: State, out: &mut Vec<Stretch>) -> Result<(), NoMemory> {
+    /// Ends the open stretch before a column if another state is shown there. Returns it if it is drawn.
+    fn cut(&mut self, column: u32, shown: State) -> Option<Stretch> {
         self.peak = self.now;
         if self.open.state == shown {
-            return Ok(());
+            return None;
         }
         let mut ended = self.open;
         ended.to = column;
         self.open.from = column;
         self.open.state = shown;
         self.open.about = self.about;
-        if ended.state != State::Blank {
-            out.push(ended)?;
+        match ended.state {
+            State::Blank => None,
+            _ => Some(ended),
         }
-        Ok(())
     }
 }
 
@@ -116,7 +115,7 @@ impl Band {
     }
 
     /// Ends the stretches that do not go on in a column: all of them behind the last.
-    fn cut(&mut self, column: u32, columns: Columns) -> Result<(), NoMemory> {
+    fn cut(&mut self, memory: &mut Memory, column: u32, columns: Columns) {
         let last = column >= columns.count();
         for thread in self.threads.iter_mut() {
             let shown = match columns.per {
@@ -124,34 +123,35 @@ impl Band {
                 1 => thread.now,
                 _ => thread.peak,
             };
-            thread.cut(column, shown, &mut self.stretches)?;
+            if let Some(ended) = thread.cut(column, shown) {
+                memory.push(&mut self.stretches, ended);
+            }
         }
-        Ok(())
     }
 }
 
 /// The stretches of a band, in the order of the columns in which they end.
 pub(crate) fn stretches_of(
-    alloc: Global,
+    memory: &mut Memory,
     changes: &[Change],
     rows: &Rows,
     columns: Columns,
-) -> Result<Vec<Stretch>, NoMemory> {
+) -> Vec<Stretch> {
     let mut band = Band {
-        threads: vec![in alloc; STILL; rows.rows.len()]?,
-        now: vec![in alloc; State::Blank; rows.of.len()]?,
-        stretches: Vec::new(alloc),
+        threads: memory.filled(STILL, rows.rows.len()),
+        now: memory.filled(State::Blank, rows.of.len()),
+        stretches: Vec::new(memory.alloc),
     };
     let mut column = 0u32;
     for change in changes {
         for ended in column..columns.of(change.line) {
-            band.cut(ended, columns)?;
+            band.cut(memory, ended, columns);
         }
         column = column.max(columns.of(change.line));
         band.change(change, rows);
     }
     for ended in column..columns.count().saturating_add(1) {
-        band.cut(ended, columns)?;
+        band.cut(memory, ended, columns);
     }
-    Ok(band.stretches)
+    band.stretches
 }

@@ -8,6 +8,8 @@
 #![tactic(auto)]
 
 mod band;
+mod class;
+mod memory;
 mod pen;
 mod picture;
 mod plan;

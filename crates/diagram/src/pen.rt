@@ -3,10 +3,11 @@
 ghost use Rattle.std.specs.Prelude.{IfOk};
 ghost use Rattle.svg.specs.Trees.{IsPicture};
 
+use crate::class::Class;
+use crate::memory::Memory;
 use crate::text::Part::{At, Length, Words};
-use crate::text::{Part, Place, push_all, width_of};
+use crate::text::{Part, Place, width_of};
 use mig_base::NoMemory;
-use std::alloc::Global;
 use svg::{Attribute, Key, Sheet, Tag};
 
 /// A box: where it begins, and how large it is.
@@ -55,13 +56,11 @@ fn head(from: Place, to: Place) -> (Place, Place) {
 /// A sheet that is drawn on. Where memory runs out the drawing goes on without it, and `finish` says so: a sheet remembers that too.
 pub(crate) struct Pen {
     sheet: Sheet,
-    pub alloc: Global,
+    pub memory: Memory,
     /// Room for the attribute of a shape, or for words.
     text: String,
     /// The title of the next shape, if it is not empty.
     name: String,
-    /// False once memory ran out.
-    whole: bool,
 }
 
 // Written by hand, so that each exit of a function that owns a pen has one call instead of the drops of all parts.
@@ -69,23 +68,21 @@ impl Drop for Pen {
     fn drop(self) {
         let Pen {
             sheet: _sheet,
-            alloc: _alloc,
+            memory: _memory,
             text: _text,
             name: _name,
-            whole: _whole,
         } = self;
     }
 }
 
 impl Pen {
     /// A pen for a sheet.
-    pub(crate) fn new(alloc: Global, sheet: Sheet) -> Pen {
+    pub(crate) fn new(memory: Memory, sheet: Sheet) -> Pen {
         Pen {
             sheet,
-            alloc,
-            text: String::new(alloc),
-            name: String::new(alloc),
-            whole: true,
+            memory,
+            text: String::new(memory.alloc),
+            name: String::new(memory.alloc),
         }
     }
 
@@ -95,12 +92,11 @@ impl Pen {
     {
         let Pen {
             sheet,
-            alloc: _alloc,
+            memory,
             text: _text,
             name: _name,
-            whole,
         } = self;
-        if !whole {
+        if !memory.whole {
             return Err(NoMemory);
         }
         sheet.finish()
@@ -109,16 +105,12 @@ impl Pen {
     /// Puts a text into the room for one.
     fn say(&mut self, parts: &[Part]) {
         self.text.clear();
-        if push_all(&mut self.text, parts).is_err() {
-            self.whole = false;
-        }
+        self.memory.write(&mut self.text, parts);
     }
 
     /// Gives the next shape a title.
     pub(crate) fn name(&mut self, parts: &[Part]) {
-        if push_all(&mut self.name, parts).is_err() {
-            self.whole = false;
-        }
+        self.memory.write(&mut self.name, parts);
     }
 
     /// How wide a text is, at a size in tenths of a pixel.
@@ -145,12 +137,12 @@ impl Pen {
     }
 
     /// Opens an element of a class, with an attribute of this text.
-    fn begin(&mut self, tag: Tag, class: &str, key: Key, parts: &[Part]) {
+    fn begin(&mut self, tag: Tag, class: Class, key: Key, parts: &[Part]) {
         self.say(parts);
         let attributes = [
             Attribute {
                 key: Key::Class,
-                value: class.as_bytes(),
+                value: class.name().as_bytes(),
             },
             Attribute {
                 key,
@@ -161,7 +153,7 @@ impl Pen {
     }
 
     /// Draws a path, with its title.
-    pub(crate) fn path(&mut self, class: &str, shape: &[Part]) {
+    pub(crate) fn path(&mut self, class: Class, shape: &[Part]) {
         self.begin(Tag::Path, class, Key::Shape, shape);
         if !self.name.is_empty() {
             let _ = self.sheet.begin(Tag::Title, &[]);
@@ -173,7 +165,7 @@ impl Pen {
     }
 
     /// Draws a rectangle.
-    pub(crate) fn rectangle(&mut self, class: &str, frame: Frame) {
+    pub(crate) fn rectangle(&mut self, class: Class, frame: Frame) {
         let shape = [
             Words("M"),
             At((frame.x, frame.y)),
@@ -189,12 +181,12 @@ impl Pen {
     }
 
     /// Draws a line.
-    pub(crate) fn line(&mut self, class: &str, from: Place, to: Place) {
+    pub(crate) fn line(&mut self, class: Class, from: Place, to: Place) {
         self.path(class, &[Words("M"), At(from), Words("L"), At(to)]);
     }
 
     /// Draws an arrow.
-    pub(crate) fn arrow(&mut self, class: &str, from: Place, to: Place) {
+    pub(crate) fn arrow(&mut self, class: Class, from: Place, to: Place) {
         let (right, left) = head(from, to);
         let shape = [
             Words("M"),
@@ -214,7 +206,7 @@ impl Pen {
     }
 
     /// Draws a cross.
-    pub(crate) fn cross(&mut self, class: &str, at: Place, reach: u64) {
+    pub(crate) fn cross(&mut self, class: Class, at: Place, reach: u64) {
         let left = at.0.saturating_sub(reach);
         let right = at.0.saturating_add(reach);
         let top = at.1.saturating_sub(reach);
@@ -233,7 +225,7 @@ impl Pen {
     }
 
     /// Draws a disk.
-    pub(crate) fn disk(&mut self, class: &str, at: Place, reach: u64) {
+    pub(crate) fn disk(&mut self, class: Class, at: Place, reach: u64) {
         let across = reach.saturating_mul(2);
         let shape = [
             Words("M"),
@@ -251,22 +243,29 @@ impl Pen {
         self.path(class, &shape);
     }
 
-    /// Writes words at a place, turned so.
-    pub(crate) fn turned(&mut self, class: &str, at: Place, turn: &str, words: &[Part]) {
+    /// Opens words at a place, turned so.
+    fn begin_words(&mut self, class: Class, at: Place, turn: &str) {
         let place = [Words("translate("), At(at), Words(")"), Words(turn)];
         self.begin(Tag::Text, class, Key::Transform, &place);
+    }
+
+    /// Writes words.
+    pub(crate) fn words(&mut self, class: Class, at: Place, words: &[Part]) {
+        self.begin_words(class, at, "");
         self.say(words);
         let _ = self.sheet.write(self.text.as_bytes());
         let _ = self.sheet.close();
     }
 
-    /// Writes words.
-    pub(crate) fn words(&mut self, class: &str, at: Place, words: &[Part]) {
-        self.turned(class, at, "", words);
+    /// Writes a text at a place, turned so.
+    pub(crate) fn turned(&mut self, class: Class, at: Place, turn: &str, text: &str) {
+        self.begin_words(class, at, turn);
+        let _ = self.sheet.write(text.as_bytes());
+        let _ = self.sheet.close();
     }
 
     /// Writes a word.
-    pub(crate) fn word(&mut self, class: &str, at: Place, word: &str) {
-        self.turned(class, at, "", &[Words(word)]);
+    pub(crate) fn word(&mut self, class: Class, at: Place, word: &str) {
+        self.turned(class, at, "", word);
     }
 }

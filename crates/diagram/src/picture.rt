@@ -12,11 +12,13 @@ mod notes;
 mod ruler;
 mod strands;
 
+use crate::class::Class;
+use crate::memory::Memory;
 use crate::pen::{Frame, Pen};
 use crate::plan::{Plan, RIGHT};
 use crate::record::Record;
 use crate::text::Part::{At, Length, Words};
-use crate::text::push_all;
+use crate::waits::Wait;
 use mig_base::NoMemory;
 use std::alloc::Global;
 use svg::{Attribute, Key, Sheet, Tag};
@@ -38,50 +40,56 @@ const STYLE: &str = "path{fill:none}text{font-family:sans-serif;fill:#222;font-s
 .g5{stroke:#222;stroke-width:1.2}.g6{stroke:#999;stroke-width:.6}.do{fill:#fff;stroke:#222}.dd{fill:#222}\
 .o1{fill:#fbdcc4}.o2{fill:#e69f00}.t1{stroke:#d55e00;stroke-width:1.3}.t2{stroke:#fff;stroke-width:1.6}";
 
-/// Writes the patterns that the style sheet names: stripes on a ground, each of a class.
+/// Writes a pattern that the style sheet names: stripes on a ground.
+fn pattern(pen: &mut Pen, id: &str, ground: Class, class: Class, stripes: &str) {
+    let side = b"6";
+    let attributes = [
+        Attribute {
+            key: Key::Id,
+            value: id.as_bytes(),
+        },
+        Attribute {
+            key: Key::Width,
+            value: side,
+        },
+        Attribute {
+            key: Key::Height,
+            value: side,
+        },
+        Attribute {
+            key: Key::PatternUnits,
+            value: b"userSpaceOnUse",
+        },
+    ];
+    pen.open(Tag::Pattern, &attributes);
+    let frame = Frame {
+        x: 0,
+        y: 0,
+        width: 60,
+        height: 60,
+    };
+    pen.rectangle(ground, frame);
+    pen.path(class, &[Words(stripes)]);
+    pen.close();
+}
+
+/// Writes the patterns.
 fn patterns(pen: &mut Pen) {
     let rising = "M-1 1L1-1M0 6L6 0M5 7L7 5";
     let falling = "M-1 5L1 7M0 0L6 6M5-1L7 1";
     pen.open(Tag::Defs, &[]);
-    for (id, ground, class, stripes) in [
-        ("dirty", "o2", "t2", rising),
-        ("request", "bg", "t1", rising),
-        ("page", "o1", "t1", falling),
-    ] {
-        let attributes = [
-            Attribute {
-                key: Key::Id,
-                value: id.as_bytes(),
-            },
-            Attribute {
-                key: Key::Width,
-                value: b"6",
-            },
-            Attribute {
-                key: Key::Height,
-                value: b"6",
-            },
-            Attribute {
-                key: Key::PatternUnits,
-                value: b"userSpaceOnUse",
-            },
-        ];
-        pen.open(Tag::Pattern, &attributes);
-        pen.path(ground, &[Words("M0 0h6v6h-6z")]);
-        pen.path(class, &[Words(stripes)]);
-        pen.close();
-    }
+    let (strong, pale) = (Class::StrongGround, Class::PaleGround);
+    pattern(pen, "dirty", strong, Class::WhiteStripes, rising);
+    pattern(pen, "request", Class::Ground, Class::Stripes, rising);
+    pattern(pen, "page", pale, Class::Stripes, falling);
     pen.close();
 }
 
 /// A sheet of a size.
-fn new_sheet(alloc: Global, width: u64, height: u64) -> Result<Sheet, NoMemory> {
-    let mut view = String::new(alloc);
-    let mut across = String::new(alloc);
-    let mut down = String::new(alloc);
-    push_all(&mut view, &[Words("0 0 "), At((width, height))])?;
-    push_all(&mut across, &[Length(width)])?;
-    push_all(&mut down, &[Length(height)])?;
+fn new_sheet(memory: &mut Memory, width: u64, height: u64) -> Result<Sheet, NoMemory> {
+    let view = memory.text(&[Words("0 0 "), At((width, height))]);
+    let across = memory.text(&[Length(width)]);
+    let down = memory.text(&[Length(height)]);
     let attributes = [
         Attribute {
             key: Key::Namespace,
@@ -104,7 +112,7 @@ fn new_sheet(alloc: Global, width: u64, height: u64) -> Result<Sheet, NoMemory> 
             value: b"img",
         },
     ];
-    Sheet::new(alloc, &attributes)
+    Sheet::new(memory.alloc, &attributes)
 }
 
 /// Writes what stands behind all bands.
@@ -118,38 +126,93 @@ fn ground(pen: &mut Pen, name: &str, width: u64, height: u64) {
         width,
         height,
     };
-    pen.rectangle("bg", frame);
+    pen.rectangle(Class::Ground, frame);
 }
 
-/// Paints the picture of a record, which is named so. The input is the script.
-pub fn paint(alloc: Global, record: &Record, name: &str, input: &[u8]) -> Result<Vec<u8>, NoMemory>
-    ensures { IfOk result (λ picture. IsPicture picture.items) }
-{
-    let mut plan = Plan::new(alloc, record)?;
-    let labels = marks::find_labels(alloc, &plan, record)?;
+/// All that is drawn, and where it stands.
+struct Layout {
+    plan: Plan,
+    labels: marks::Labels,
+    texts: Vec<ruler::Text>,
+    items: legend::Items,
+    waits: Vec<Wait>,
+    /// Where the legend begins, and where the list of waits.
+    foot: u64,
+    list: u64,
+    width: u64,
+    height: u64,
+}
+
+// As that of a pen.
+impl Drop for Layout {
+    fn drop(self) {
+        let Layout {
+            plan: _plan,
+            labels: _labels,
+            texts: _texts,
+            items: _items,
+            waits: _waits,
+            foot: _foot,
+            list: _list,
+            width: _width,
+            height: _height,
+        } = self;
+    }
+}
+
+/// The layout of the picture of a record.
+fn lay_out(memory: &mut Memory, record: &Record) -> Layout {
+    let mut plan = Plan::new(memory, record);
+    let labels = marks::find_labels(memory, &plan, record);
     plan.place(700u64.saturating_add(labels.height));
-    let texts = ruler::find_texts(alloc, &plan, record, input)?;
-    let items = legend::find_items(alloc, &plan, record)?;
-    let waits = longest::longest_of(alloc, &plan)?;
+    let texts = ruler::find_texts(memory, &plan, record);
+    let items = legend::find_items(memory, &plan, record);
+    let waits = longest::longest_of(memory, &plan);
     let foot = plan
         .bottom
         .saturating_add(ruler::height(&texts))
         .saturating_add(100);
     let list = foot.saturating_add(items.height);
-    let height = list.saturating_add(longest::height(&waits));
     let width = plan.right().saturating_add(RIGHT).max(items.width);
-    let mut pen = Pen::new(alloc, new_sheet(alloc, width, height)?);
-    ground(&mut pen, name, width, height);
-    head::head(&mut pen, &plan, record, name);
-    marks::grounds(&mut pen, &plan, record);
-    marks::phases(&mut pen, &plan, record);
-    bands::processors(&mut pen, &plan, record);
-    bands::nodes(&mut pen, &plan, record);
-    strands::wires(&mut pen, &plan, record)?;
-    notes::write_notes(&mut pen, &plan, record)?;
-    ruler::ruler(&mut pen, &plan, record, &texts);
-    marks::marks(&mut pen, &plan, &labels);
-    legend::legend(&mut pen, &items, foot);
-    longest::longest(&mut pen, &plan, record, &waits, list);
+    let height = list.saturating_add(longest::height(&waits));
+    Layout {
+        plan,
+        labels,
+        texts,
+        items,
+        waits,
+        foot,
+        list,
+        width,
+        height,
+    }
+}
+
+/// Draws a layout.
+fn draw(pen: &mut Pen, layout: &Layout, record: &Record, name: &str) {
+    let plan = &layout.plan;
+    ground(pen, name, layout.width, layout.height);
+    head::head(pen, plan, record, name);
+    marks::grounds(pen, plan, record);
+    marks::phases(pen, plan, record);
+    bands::processors(pen, plan, record);
+    bands::nodes(pen, plan, record);
+    strands::wires(pen, plan, record);
+    notes::write_notes(pen, plan, record);
+    ruler::ruler(pen, plan, record, &layout.texts);
+    marks::marks(pen, plan, &layout.labels);
+    legend::legend(pen, &layout.items, layout.foot);
+    longest::longest(pen, plan, record, &layout.waits, layout.list);
+}
+
+/// Paints the picture of a record, which is named so.
+pub fn paint(alloc: Global, record: &Record, name: &str) -> Result<Vec<u8>, NoMemory>
+    ensures { IfOk result (λ picture. IsPicture picture.items) }
+{
+    let mut memory = Memory { alloc, whole: true };
+    let layout = lay_out(&mut memory, record);
+    let sheet = new_sheet(&mut memory, layout.width, layout.height)?;
+    let mut pen = Pen::new(memory, sheet);
+    draw(&mut pen, &layout, record, name);
     pen.finish()
 }

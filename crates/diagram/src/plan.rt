@@ -1,12 +1,11 @@
 //! Where everything stands in a picture.
 
 use crate::band::{Columns, Stretch, stretches_of};
+use crate::memory::Memory;
 use crate::pen::{Frame, share};
 use crate::record::{Change, FEW, Record};
 use crate::rows::{Rows, Stir, stirs_of};
 use crate::waits::{Wait, find_waits};
-use mig_base::NoMemory;
-use std::alloc::Global;
 
 /// Where the columns begin, in tenths of a pixel.
 pub(crate) const LEFT: u64 = 840;
@@ -91,21 +90,21 @@ fn row_height(rows: usize) -> u64 {
 impl Band {
     /// A band of pages or processors to which this has happened.
     fn new(
-        alloc: Global,
+        memory: &mut Memory,
         changes: &[Change],
         stirs: &[Stir],
         together: u32,
         columns: Columns,
-    ) -> Result<Band, NoMemory> {
-        let rows = Rows::new(alloc, stirs, together)?;
-        let stretches = stretches_of(alloc, changes, &rows, columns)?;
+    ) -> Band {
+        let rows = Rows::new(memory, stirs, together);
+        let stretches = stretches_of(memory, changes, &rows, columns);
         let height = row_height(rows.rows.len());
-        Ok(Band {
+        Band {
             rows,
             stretches,
             height,
             top: 0,
-        })
+        }
     }
 
     /// Places the rows from here on downwards, with a gap where pages between two are missing. Returns where they end.
@@ -167,18 +166,18 @@ fn frame_shapes(record: &Record, columns: Columns) -> usize {
 
 impl Plan {
     /// The columns and the bands of a record, with `per` lines in a column and `together` pages in a row.
-    fn of(alloc: Global, record: &Record, per: u32, together: u32) -> Result<Plan, NoMemory> {
+    fn of(memory: &mut Memory, record: &Record, per: u32, together: u32) -> Plan {
         let lines = record.lines.len().clamp(1, u32::MAX as usize) as u32;
         let columns = Columns { lines, per };
-        let stirs = stirs_of(alloc, &record.source, &record.dots, false)?;
-        let source = Band::new(alloc, &record.source.changes, &stirs, together, columns)?;
-        let stirs = stirs_of(alloc, &record.destination, &record.dots, true)?;
+        let stirs = stirs_of(memory, &record.source, &record.dots, false);
+        let source = Band::new(memory, &record.source.changes, &stirs, together, columns);
+        let stirs = stirs_of(memory, &record.destination, &record.dots, true);
         let changes = &record.destination.changes;
-        let destination = Band::new(alloc, changes, &stirs, together, columns)?;
-        let stirs = vec![in alloc; Stir::Touched; record.cpus as usize]?;
-        let processors = Band::new(alloc, &record.processors.changes, &stirs, 1, columns)?;
-        let waits = find_waits(alloc, &processors.stretches, record.cpus)?;
-        Ok(Plan {
+        let destination = Band::new(memory, changes, &stirs, together, columns);
+        let stirs = memory.filled(Stir::Touched, record.cpus as usize);
+        let processors = Band::new(memory, &record.processors.changes, &stirs, 1, columns);
+        let waits = find_waits(memory, &processors.stretches, record.cpus);
+        Plan {
             columns,
             width: width_of(lines),
             source,
@@ -189,15 +188,15 @@ impl Plan {
             forward: (0, 0),
             back: (0, 0),
             bottom: 0,
-        })
+        }
     }
 
     /// The columns and the bands of a record: as few lines in a column and pages in a row as leave the picture small.
-    pub(crate) fn new(alloc: Global, record: &Record) -> Result<Plan, NoMemory> {
+    pub(crate) fn new(memory: &mut Memory, record: &Record) -> Plan {
         let lines = record.lines.len().min(u32::MAX as usize) as u32;
         let mut per = lines.div_ceil(MOST_COLUMNS).max(1);
         let mut together = 1u32;
-        let mut plan = Plan::of(alloc, record, per, together)?;
+        let mut plan = Plan::of(memory, record, per, together);
         for _ in 0..16 {
             let stretches = plan
                 .source
@@ -210,9 +209,9 @@ impl Plan {
             }
             per = per.saturating_mul(2);
             together = together.saturating_mul(2);
-            plan = Plan::of(alloc, record, per, together)?;
+            plan = Plan::of(memory, record, per, together);
         }
-        Ok(plan)
+        plan
     }
 
     /// Places the bands below the marks.

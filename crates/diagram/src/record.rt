@@ -6,6 +6,9 @@ use mig_base::refusal::Refusal;
 /// The number of lines that a picture shows in words, if it has no more.
 pub const FEW: u32 = 76;
 
+/// The most bytes of a line that are shown.
+pub const SHOWN: usize = 34;
+
 /// A change of the state of a row: a page at one node, or a processor.
 #[derive(Clone, Copy)]
 pub struct Change {
@@ -36,7 +39,7 @@ impl Drop for Track {
 }
 
 /// How a frame ended.
-#[derive(Clone, Copy, PartialEq, Eq)]
+#[derive(Clone, Copy)]
 pub enum End {
     /// It is still in flight.
     Open,
@@ -45,7 +48,7 @@ pub enum End {
 }
 
 /// What a frame is.
-#[derive(Clone, Copy, PartialEq, Eq)]
+#[derive(Clone, Copy)]
 pub enum Kind {
     Page,
     Zero,
@@ -96,7 +99,7 @@ impl Drop for Lane {
 }
 
 /// What a mark says.
-#[derive(Clone, Copy, PartialEq, Eq)]
+#[derive(Clone, Copy)]
 pub enum Event {
     Start,
     Round,
@@ -142,6 +145,8 @@ pub struct Move {
 pub struct Record {
     /// The line of the file of each order.
     pub lines: Vec<u32>,
+    /// The first lines, as far as they are shown.
+    pub texts: Vec<String>,
     pub source: Track,
     pub destination: Track,
     pub processors: Track,
@@ -164,6 +169,7 @@ impl Drop for Record {
     fn drop(self) {
         let Record {
             lines: _lines,
+            texts: _texts,
             source: _source,
             destination: _destination,
             processors: _processors,

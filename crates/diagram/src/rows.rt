@@ -1,9 +1,9 @@
 //! Which pages stand in which row.
 
+use crate::memory::Memory;
 use crate::record::{Dot, Track};
 use crate::state::State;
-use mig_base::{HIGH_PAGE, NoMemory};
-use std::alloc::Global;
+use mig_base::HIGH_PAGE;
 
 /// The most rows of a band.
 const MOST_ROWS: usize = 256;
@@ -54,7 +54,7 @@ impl Rows {
     }
 
     /// Puts a page into the last row if it belongs there, and else into a new one.
-    fn put(&mut self, page: u32, dull: bool) -> Result<(), NoMemory> {
+    fn put(&mut self, memory: &mut Memory, page: u32, dull: bool) {
         let group = page.checked_div(self.together).unwrap_or(page);
         let mut gap = false;
         if let Some(last) = self.rows.last_mut() {
@@ -64,57 +64,56 @@ impl Rows {
                 last.pages = page.saturating_sub(last.first).saturating_add(1);
                 last.dull = last.dull && dull;
                 last.group = group;
-                return Ok(());
+                return;
             }
             gap = !follows;
         }
-        self.rows.push(Row {
+        let row = Row {
             first: page,
             pages: 1,
             gap,
             dull,
             group,
             top: 0,
-        })?;
-        Ok(())
+        };
+        memory.push(&mut self.rows, row);
     }
 
     /// Puts the pages into rows, with that many neighbours together.
-    fn fill(&mut self, stirs: &[Stir]) -> Result<(), NoMemory> {
+    fn fill(&mut self, memory: &mut Memory, stirs: &[Stir]) {
         self.rows.clear();
         let mut page = 0u32;
         for stir in stirs {
-            if *stir != Stir::Never {
-                self.put(page, *stir == Stir::Mapped)?;
+            if !matches!(*stir, Stir::Never) {
+                self.put(memory, page, matches!(*stir, Stir::Mapped));
                 if let Some(row) = self.of.get_mut(page as usize) {
                     *row = self.rows.len().saturating_sub(1).min(HIGH_PAGE as usize) as u32;
                 }
             }
             page = page.saturating_add(1);
         }
-        Ok(())
     }
 
     /// The rows of a band: each page by itself, or enough neighbours together that there are not too many rows.
-    pub(crate) fn new(alloc: Global, stirs: &[Stir], least: u32) -> Result<Rows, NoMemory> {
+    pub(crate) fn new(memory: &mut Memory, stirs: &[Stir], least: u32) -> Rows {
         let mut rows = Rows {
-            rows: Vec::new(alloc),
-            of: vec![in alloc; u32::MAX; stirs.len()]?,
+            rows: Vec::new(memory.alloc),
+            of: memory.filled(u32::MAX, stirs.len()),
             together: least,
         };
         for _ in 0..24 {
-            rows.fill(stirs)?;
+            rows.fill(memory, stirs);
             if rows.rows.len() <= MOST_ROWS {
                 break;
             }
             rows.together = rows.together.saturating_mul(2);
         }
-        Ok(rows)
+        rows
     }
 }
 
 /// What has happened to a page.
-#[derive(Clone, Copy, PartialEq, Eq)]
+#[derive(Clone, Copy)]
 pub(crate) enum Stir {
     /// It was never there.
     Never,
@@ -126,17 +125,17 @@ pub(crate) enum Stir {
 
 /// What has happened to each page of a node.
 pub(crate) fn stirs_of(
-    alloc: Global,
+    memory: &mut Memory,
     track: &Track,
     dots: &[Dot],
     at_destination: bool,
-) -> Result<Vec<Stir>, NoMemory> {
-    let mut stirs = vec![in alloc; Stir::Never; track.now.len()]?;
+) -> Vec<Stir> {
+    let mut stirs = memory.filled(Stir::Never, track.now.len());
     for change in &track.changes {
         if let Some(stir) = stirs.get_mut(change.row as usize) {
             match change.state {
                 State::Blank => {}
-                State::Empty if *stir == Stir::Never => *stir = Stir::Mapped,
+                State::Empty if matches!(*stir, Stir::Never) => *stir = Stir::Mapped,
                 State::Empty => {}
                 _ => *stir = Stir::Touched,
             }
@@ -149,5 +148,5 @@ pub(crate) fn stirs_of(
             *stir = Stir::Touched;
         }
     }
-    Ok(stirs)
+    stirs
 }

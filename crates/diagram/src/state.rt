@@ -1,5 +1,7 @@
 //! What is drawn: the states of pages and of processors.
 
+use crate::class::Class;
+
 /// The state of a page at a node, or of a processor, from one line to the next. The states of each band stand in the order of their rank:
 /// where pages or lines are merged, the last of this list is shown.
 #[derive(Clone, Copy, PartialEq, Eq)]
@@ -59,7 +61,7 @@ pub(crate) const STATES: usize = 23;
 #[derive(Clone, Copy)]
 pub(crate) struct Look {
     /// Its class in the style sheet.
-    pub class: &'static str,
+    pub class: Class,
     /// What it says in a legend, and of a page.
     pub words: &'static str,
     /// The word of a wait's part.
@@ -72,7 +74,7 @@ pub(crate) struct Look {
 
 /// How a state looks that is not drawn.
 const BLANK: Look = Look {
-    class: "z",
+    class: Class::Blank,
     words: "",
     part: "",
     top: 0,
@@ -83,154 +85,154 @@ const BLANK: Look = Look {
 const LOOKS: [Look; STATES] = [
     BLANK,
     Look {
-        class: "e",
+        class: Class::Empty,
         words: "mapped, no contents",
         part: "",
         top: 7,
         height: 1,
     },
     Look {
-        class: "c",
+        class: Class::Clean,
         words: "clean (sent, protected)",
         part: "",
         top: 0,
         height: 14,
     },
     Look {
-        class: "p",
+        class: Class::Pushed,
         words: "pushed",
         part: "",
         top: 0,
         height: 14,
     },
     Look {
-        class: "u",
+        class: Class::Unsent,
         words: "has contents, not sent",
         part: "",
         top: 0,
         height: 14,
     },
     Look {
-        class: "d",
+        class: Class::Dirty,
         words: "stored to since it was sent",
         part: "",
         top: 0,
         height: 14,
     },
     Look {
-        class: "o",
+        class: Class::Owed,
         words: "owed, not pushed",
         part: "",
         top: 0,
         height: 14,
     },
     Look {
-        class: "c",
+        class: Class::Clean,
         words: "copy, before the run",
         part: "",
         top: 6,
         height: 8,
     },
     Look {
-        class: "c",
+        class: Class::Clean,
         words: "copy of pre-copy in place",
         part: "",
         top: 0,
         height: 14,
     },
     Look {
-        class: "i",
+        class: Class::Installed,
         words: "installed",
         part: "",
         top: 0,
         height: 14,
     },
     Look {
-        class: "m",
+        class: Class::Made,
         words: "zeros of its own",
         part: "",
         top: 1,
         height: 12,
     },
     Look {
-        class: "o",
+        class: Class::Owed,
         words: "owed",
         part: "",
         top: 6,
         height: 3,
     },
     Look {
-        class: "a",
+        class: Class::Came,
         words: "has come, not installed",
         part: "",
         top: 5,
         height: 9,
     },
     Look {
-        class: "h",
+        class: Class::Waiting,
         words: "a processor sleeps on it",
         part: "",
         top: 3,
         height: 9,
     },
     Look {
-        class: "k",
+        class: Class::InCall,
         words: "in a map call",
         part: "in call",
         top: 4,
         height: 8,
     },
     Look {
-        class: "w",
+        class: Class::Woken,
         words: "woken, to try again",
         part: "woken",
         top: 0,
         height: 16,
     },
     Look {
-        class: "h",
+        class: Class::Waiting,
         words: "a handler has to act",
         part: "handler",
         top: 0,
         height: 16,
     },
     Look {
-        class: "a",
+        class: Class::Came,
         words: "the page came, to be installed",
         part: "install",
         top: 0,
         height: 16,
     },
     Look {
-        class: "f",
+        class: Class::OnWire,
         words: "the page is on a wire",
         part: "page",
         top: 0,
         height: 16,
     },
     Look {
-        class: "r",
+        class: Class::Request,
         words: "its request is on the wire",
         part: "request",
         top: 0,
         height: 16,
     },
     Look {
-        class: "s",
+        class: Class::AtSource,
         words: "requested, not pushed yet",
         part: "source",
         top: 0,
         height: 16,
     },
     Look {
-        class: "n",
+        class: Class::Down,
         words: "nobody runs the processors",
         part: "stopped",
         top: 0,
         height: 16,
     },
     Look {
-        class: "n",
+        class: Class::Down,
         words: "no link",
         part: "no link",
         top: 0,

@@ -10,8 +10,11 @@ pub(crate) type Place = (u64, u64);
 /// A part of a text.
 #[derive(Clone, Copy)]
 pub(crate) enum Part<'a> {
+    Nothing,
     Words(&'a str),
     Number(u32),
+    /// A number of things, and what they are: with an s behind it unless there is one.
+    Count(u32, &'a str),
     /// A page, as its address.
     Page(u32),
     /// The number of pages that follow the first, if any do: this number includes the first.
@@ -26,9 +29,6 @@ pub(crate) enum Part<'a> {
     Sum(&'a Counts, u32),
 }
 
-/// No part of a text.
-pub(crate) const NOTHING: Part<'static> = Part::Words("");
-
 /// Adds a length.
 fn push_length(text: &mut String, length: u64) -> Result<(), AllocError> {
     let whole = length / 10;
@@ -37,6 +37,15 @@ fn push_length(text: &mut String, length: u64) -> Result<(), AllocError> {
         return write!(text, "{whole}");
     }
     write!(text, "{whole}.{tenth}")
+}
+
+/// Adds a number of things.
+fn push_count(text: &mut String, count: u32, what: &str) -> Result<(), AllocError> {
+    write!(text, "{count} {what}")?;
+    if count == 1 {
+        return Ok(());
+    }
+    text.push('s')
 }
 
 /// Adds the steps of each state, as a sum behind what they sum to.
@@ -58,6 +67,7 @@ fn push(text: &mut String, part: Part) -> Result<(), AllocError> {
     match part {
         Part::Words(words) => text.push_str(words),
         Part::Number(number) => write!(text, "{number}"),
+        Part::Count(count, what) => push_count(text, count, what),
         Part::Page(page) => {
             let addr = u64::from(page) * 4096;
             write!(text, "0x{addr:x}")
@@ -66,7 +76,7 @@ fn push(text: &mut String, part: Part) -> Result<(), AllocError> {
             let more = pages - 1;
             write!(text, " +{more}")
         }
-        Part::More(_) => Ok(()),
+        Part::More(_) | Part::Nothing => Ok(()),
         Part::Length(length) => push_length(text, length),
         Part::At(place) => {
             push_length(text, place.0)?;

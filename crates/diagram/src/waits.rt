@@ -1,9 +1,8 @@
 //! How long processors waited, and for whom.
 
 use crate::band::Stretch;
+use crate::memory::Memory;
 use crate::state::{Counts, State};
-use mig_base::NoMemory;
-use std::alloc::Global;
 
 /// A wait of a processor for one page.
 #[derive(Clone, Copy)]
@@ -25,7 +24,7 @@ impl Wait {
 }
 
 /// Adds a stretch to the last wait if that goes on with it, or a wait that begins with it.
-fn add(waits: &mut Vec<Wait>, stretch: &Stretch) -> Result<(), NoMemory> {
+fn add(memory: &mut Memory, waits: &mut Vec<Wait>, stretch: &Stretch) {
     let columns = stretch.to.saturating_sub(stretch.from);
     if let Some(last) = waits.last_mut()
         && last.cpu == stretch.row
@@ -34,35 +33,31 @@ fn add(waits: &mut Vec<Wait>, stretch: &Stretch) -> Result<(), NoMemory> {
     {
         last.to = stretch.to;
         last.parts.add(stretch.state, columns);
-        return Ok(());
+        return;
     }
     let mut parts = Counts::NONE;
     parts.add(stretch.state, columns);
-    waits.push(Wait {
+    let wait = Wait {
         cpu: stretch.row,
         page: stretch.about,
         from: stretch.from,
         to: stretch.to,
         parts,
-    })?;
-    Ok(())
+    };
+    memory.push(waits, wait);
 }
 
 /// The waits of all processors: those of the first in turn, then those of the second.
-pub(crate) fn find_waits(
-    alloc: Global,
-    stretches: &[Stretch],
-    cpus: u32,
-) -> Result<Vec<Wait>, NoMemory> {
-    let mut waits = Vec::new(alloc);
+pub(crate) fn find_waits(memory: &mut Memory, stretches: &[Stretch], cpus: u32) -> Vec<Wait> {
+    let mut waits = Vec::new(memory.alloc);
     for cpu in 0..cpus {
         for stretch in stretches {
-            if stretch.row == cpu && stretch.state != State::InCall {
-                add(&mut waits, stretch)?;
+            if stretch.row == cpu && !matches!(stretch.state, State::InCall) {
+                add(memory, &mut waits, stretch);
             }
         }
     }
-    Ok(waits)
+    waits
 }
 
 /// Waits together.

@@ -8,7 +8,7 @@ mod waits;
 
 use area_map::AreaMap;
 use diagram::Record;
-use diagram::record::{FEW, Lane, Track};
+use diagram::record::{FEW, Lane, SHOWN, Track};
 use mig_base::cpu_state::CpuState;
 use mig_base::effect::Effect;
 use mig_base::refusal::Refusal;
@@ -64,7 +64,7 @@ fn lane(alloc: Global) -> Lane {
 }
 
 /// A node.
-#[derive(Clone, Copy, PartialEq, Eq)]
+#[derive(Clone, Copy)]
 enum Node {
     Source,
     Destination,
@@ -137,6 +137,7 @@ impl Recorder {
             world,
             record: Record {
                 lines: Vec::new(alloc),
+                texts: Vec::new(alloc),
                 source: track(alloc),
                 destination: track(alloc),
                 processors: track(alloc),
@@ -179,8 +180,22 @@ impl Recorder {
         }
     }
 
-    /// Makes the step of a line of the file, and records what it did. A refusal is noted among the first lines.
-    pub(crate) fn make(&mut self, number: u32, step: Step) -> Result<(), NoMemory> {
+    /// Notes the text of a line, if it is among the first lines.
+    fn note_text(&mut self, text: &[u8]) {
+        if self.line >= FEW {
+            return;
+        }
+        let text = text.trim_ascii();
+        let shown = text.get(..SHOWN).unwrap_or(text);
+        let kept = match String::from_utf8_lossy(self.alloc, shown) {
+            Ok(words) => self.record.texts.push(words).is_ok(),
+            Err(_) => false,
+        };
+        self.keep(kept);
+    }
+
+    /// Makes the step of a line of the file, and records what it did. The text of the line and a refusal are noted among the first lines.
+    pub(crate) fn make(&mut self, number: u32, text: &[u8], step: Step) -> Result<(), NoMemory> {
         let before = Before {
             step,
             command: self.command_of(step),
@@ -189,6 +204,7 @@ impl Recorder {
         };
         self.line = self.record.lines.len().min(u32::MAX as usize) as u32;
         self.record.lines.push(number)?;
+        self.note_text(text);
         match self.world.step(step) {
             Ok(effect) => self.see(before, effect),
             Err(refusal) => self.refuse(refusal),

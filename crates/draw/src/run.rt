@@ -46,7 +46,7 @@ fn do_line(
     if let Line::Do(order) = line
         && let Some(step) = order.step(recorder.epoch())
     {
-        recorder.make(number.min(u64::from(u32::MAX)) as u32, step)?;
+        recorder.make(number.min(u64::from(u32::MAX)) as u32, text, step)?;
     }
     Ok(())
 }
@@ -76,7 +76,7 @@ fn picture_in(alloc: Global, input: &[u8], name: &str, cpus: u8) -> Result<Vec<u
 {
     let mut recorder = Recorder::new(alloc, cpus)?;
     do_lines(alloc, &mut recorder, input)?;
-    Ok(paint(alloc, &recorder.record, name, input)?)
+    Ok(paint(alloc, &recorder.record, name)?)
 }
 
 /// The picture of the script that a reader has.

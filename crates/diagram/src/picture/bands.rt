@@ -1,12 +1,13 @@
 //! The bands of processors and of pages.
 
 use crate::band::Stretch;
+use crate::class::Class;
 use crate::pen::{Frame, Pen};
 use crate::plan::{Band, LEFT, Plan};
 use crate::record::{Dot, Event, Move, Record};
 use crate::state::State;
-use crate::text::Part::{More, Number, Page, Words};
-use crate::text::{NOTHING, Part, width_of};
+use crate::text::Part::{Count, More, Nothing, Number, Page, Words};
+use crate::text::{Part, width_of};
 use crate::waits::{Total, Wait};
 
 /// The most dots and the most crosses that are drawn.
@@ -16,6 +17,11 @@ const MOST_DOTS: usize = 3000;
 const BAR: u64 = 110;
 
 const AXLE: u64 = 200;
+
+/// As many items as are drawn.
+fn drawn<T>(items: &[T]) -> &[T] {
+    items.get(..MOST_DOTS).unwrap_or(items)
+}
 
 /// Draws a stretch in a row that begins and is high so, and names whose it is and what it shows. Returns its rectangle.
 fn cell<'a>(
@@ -46,11 +52,11 @@ fn cell<'a>(
 }
 
 /// The class of the words in a part of a wait.
-fn word_class(state: State) -> &'static str {
+fn word_class(state: State) -> Class {
     match state {
-        State::Woken | State::OnWire | State::Request => "bl ha",
-        State::Install | State::InCall => "bl",
-        _ => "wh",
+        State::Woken | State::OnWire | State::Request => Class::BlackMiddleEdged,
+        State::Install | State::InCall => Class::BlackMiddle,
+        _ => Class::WhiteMiddle,
     }
 }
 
@@ -75,7 +81,7 @@ fn bar(pen: &mut Pen, plan: &Plan, record: &Record, stretch: &Stretch) {
 
 /// Whether words above a wait that end here would stand on a longer wait of the processor, among the next ones.
 fn hides(plan: &Plan, wait: &Wait, later: &[Wait], end: u64) -> bool {
-    for next in later.iter().take(8) {
+    for next in later.get(..8).unwrap_or(later) {
         let longer = next.cpu == wait.cpu && next.columns() > wait.columns();
         if longer && plan.x_of(next.from) < end {
             return true;
@@ -96,7 +102,11 @@ fn wait_label(pen: &mut Pen, plan: &Plan, wait: &Wait, later: &[Wait], free: u64
         return free;
     }
     let top = plan.processors.top_of(wait.cpu);
-    pen.words("mo ha", (x, top.saturating_add(AXLE - 75)), &words);
+    pen.words(
+        Class::FixedEdged,
+        (x, top.saturating_add(AXLE - 75)),
+        &words,
+    );
     end
 }
 
@@ -120,41 +130,37 @@ fn wait_labels(pen: &mut Pen, plan: &Plan) {
 fn lane(pen: &mut Pen, plan: &Plan, cpu: u32) {
     let top = plan.processors.top_of(cpu);
     let axle = top.saturating_add(AXLE);
-    pen.line("g2", (LEFT, axle), (plan.right(), axle));
+    pen.line(Class::Axle, (LEFT, axle), (plan.right(), axle));
     let place = (LEFT - 60, axle.saturating_add(30));
-    pen.words("mo en", place, &[Words("cpu "), Number(cpu)]);
+    pen.words(Class::FixedEnding, place, &[Words("cpu "), Number(cpu)]);
     let total = Total::of(&plan.waits, cpu, cpu);
     let x = plan.right().saturating_add(100);
     let y = top.saturating_add(AXLE - 10);
     if total.waits == 0 {
-        return pen.word("sm", (x, y), "never waited");
+        return pen.word(Class::Small, (x, y), "never waited");
     }
     let per = plan.columns.per;
     let (state, most) = total.most();
     let sum = [
-        Number(total.waits),
-        Words(if total.waits == 1 {
-            " wait, "
-        } else {
-            " waits, "
-        }),
+        Count(total.waits, "wait"),
+        Words(", "),
         Number(total.columns.saturating_mul(per)),
         Words(" steps"),
     ];
-    pen.words("", (x, y), &sum);
+    pen.words(Class::Plain, (x, y), &sum);
     let most = [
         Words("most: "),
         Words(state.look().part),
         Words(" "),
         Number(most.saturating_mul(per)),
     ];
-    pen.words("sm", (x, y.saturating_add(105)), &most);
+    pen.words(Class::Small, (x, y.saturating_add(105)), &most);
 }
 
 /// Draws the band of the processors.
 pub(super) fn processors(pen: &mut Pen, plan: &Plan, record: &Record) {
     let top = plan.processors.top.saturating_sub(20);
-    pen.word("n3", (100, top), "processors");
+    pen.word(Class::Heading, (100, top), "processors");
     for cpu in 0..record.cpus {
         lane(pen, plan, cpu);
     }
@@ -168,7 +174,7 @@ pub(super) fn processors(pen: &mut Pen, plan: &Plan, record: &Record) {
 fn pages(pen: &mut Pen, plan: &Plan, record: &Record, band: &Band) {
     for stretch in &band.stretches {
         if let Some(row) = band.rows.rows.get(stretch.row as usize) {
-            let whose = [Page(row.first), More(row.pages), NOTHING, NOTHING];
+            let whose = [Page(row.first), More(row.pages), Nothing, Nothing];
             let words = stretch.state.look().words;
             let extent = (row.top, band.height);
             cell(pen, plan, record, stretch, extent, whose, words);
@@ -179,7 +185,7 @@ fn pages(pen: &mut Pen, plan: &Plan, record: &Record, band: &Band) {
         let y = row.top.saturating_add(band.height / 2).saturating_add(30);
         if y >= free {
             let name = [Page(row.first), More(row.pages)];
-            pen.words("mo en", (LEFT - 60, y), &name);
+            pen.words(Class::FixedEnding, (LEFT - 60, y), &name);
             free = y.saturating_add(98);
         }
     }
@@ -194,10 +200,10 @@ fn dot(pen: &mut Pen, plan: &Plan, band: &Band, dot: &Dot) {
     let cpu = Number(u32::from(dot.cpu));
     pen.name(&[Words("cpu "), cpu, Words(" sleeps")]);
     if band.height < 90 {
-        return pen.disk("dd", (x, y), (band.height / 2).min(24));
+        return pen.disk(Class::SmallSleep, (x, y), (band.height / 2).min(24));
     }
-    pen.disk("do", (x, y), 50);
-    pen.words("bl", (x, y.saturating_add(30)), &[cpu]);
+    pen.disk(Class::Sleep, (x, y), 50);
+    pen.words(Class::BlackMiddle, (x, y.saturating_add(30)), &[cpu]);
 }
 
 /// Draws where a mapping moves to.
@@ -206,19 +212,19 @@ fn moved(pen: &mut Pen, plan: &Plan, band: &Band, one: &Move) {
         return;
     };
     let x = plan.x_at(one.line);
-    pen.arrow("g5", (x, from), (x, to));
+    pen.arrow(Class::Move, (x, from), (x, to));
     let y = from.saturating_add(to) / 2;
-    pen.word("sm ha", (x.saturating_add(40), y), "moved");
+    pen.word(Class::SmallEdged, (x.saturating_add(40), y), "moved");
 }
 
 /// Draws the sleeps and the moves of mappings in a band.
 fn signs(pen: &mut Pen, plan: &Plan, record: &Record, band: &Band, at_destination: bool) {
-    for sleep in record.dots.iter().take(MOST_DOTS) {
+    for sleep in drawn(&record.dots) {
         if sleep.at_destination == at_destination {
             dot(pen, plan, band, sleep);
         }
     }
-    for one in record.moves.iter().take(MOST_DOTS) {
+    for one in drawn(&record.moves) {
         if one.at_destination == at_destination {
             moved(pen, plan, band, one);
         }
@@ -231,7 +237,7 @@ pub(super) fn run_of(plan: &Plan, record: &Record) -> Option<u32> {
         return None;
     }
     for mark in &record.marks {
-        if mark.event == Event::Package {
+        if matches!(mark.event, Event::Package) {
             return Some(mark.line);
         }
     }
@@ -245,12 +251,12 @@ fn ages(pen: &mut Pen, plan: &Plan, record: &Record) {
     };
     let band = &plan.destination;
     for stretch in &band.stretches {
-        if stretch.state == State::Installed {
+        if matches!(stretch.state, State::Installed) {
             let words = [Words("+"), Number(stretch.from.saturating_sub(run))];
             let x = plan.x_of(stretch.from).saturating_add(30);
             if x.saturating_add(pen.width(&words, 80)) <= plan.x_of(stretch.to) {
                 let middle = band.top_of(stretch.row).saturating_add(band.height / 2);
-                pen.words("wl", (x, middle.saturating_add(22)), &words);
+                pen.words(Class::White, (x, middle.saturating_add(22)), &words);
             }
         }
     }
@@ -260,9 +266,9 @@ fn ages(pen: &mut Pen, plan: &Plan, record: &Record) {
 fn drops(pen: &mut Pen, plan: &Plan, record: &Record) {
     let band = &plan.destination;
     let reach = (band.height / 2).min(35);
-    for drop in record.drops.iter().take(MOST_DOTS) {
+    for drop in drawn(&record.drops) {
         if let Some(y) = band.middle_of(drop.1) {
-            pen.cross("lx", (plan.x_at(drop.0), y), reach);
+            pen.cross(Class::Cross, (plan.x_at(drop.0), y), reach);
         }
     }
 }
@@ -278,9 +284,9 @@ fn title(pen: &mut Pen, band: &Band, name: &str) {
             Number(together),
             Words(" in a row"),
         ];
-        return pen.words("n3", place, &words);
+        return pen.words(Class::Heading, place, &words);
     }
-    pen.word("n3", place, name);
+    pen.word(Class::Heading, place, name);
 }
 
 /// Draws the bands of the pages of both nodes.

@@ -1,10 +1,10 @@
 //! The name of a picture, and what it says in sentences.
 
+use crate::class::Class;
 use crate::pen::Pen;
 use crate::plan::Plan;
 use crate::record::{Event, Record};
-use crate::text::NOTHING;
-use crate::text::Part::{Number, Sum, Words};
+use crate::text::Part::{Count, Number, Sum, Words};
 use crate::waits::Total;
 
 /// The line at which the migration is complete, if it is, and how many steps nobody ran the processors.
@@ -30,49 +30,47 @@ fn outcome_of(plan: &Plan, record: &Record) -> (Option<u32>, u32) {
 /// Writes how the run ends, and how long nobody ran the processors.
 fn outcome(pen: &mut Pen, plan: &Plan, record: &Record) {
     let (complete, nobody) = outcome_of(plan, record);
-    let [one, two, three] = match complete {
-        Some(line) => [Words("Complete at line "), Number(line), Words(".")],
-        None if record.marks.is_empty() => [Words("No migration."), NOTHING, NOTHING],
-        None => [
+    let steps = plan.columns.lines;
+    let mut words = match complete {
+        Some(line) => pen
+            .memory
+            .text(&[Words("Complete at line "), Number(line), Words(".")]),
+        None if record.marks.is_empty() => pen.memory.text(&[Words("No migration.")]),
+        None => pen.memory.text(&[
             Words("Not complete after "),
-            Number(plan.columns.lines),
+            Number(steps),
             Words(" steps."),
-        ],
+        ]),
     };
-    if nobody == 0 {
-        return pen.words("n2", (100, 350), &[one, two, three]);
+    if nobody > 0 {
+        let more = [
+            Words(" Nobody ran the processors for "),
+            Number(nobody),
+            Words(" steps."),
+        ];
+        pen.memory.write(&mut words, &more);
     }
-    let words = [
-        one,
-        two,
-        three,
-        Words(" Nobody ran the processors for "),
-        Number(nobody),
-        Words(" steps."),
-    ];
-    pen.words("n2", (100, 350), &words);
+    pen.word(Class::Sentence, (100, 350), &words);
 }
 
 /// Writes how often and how long processors waited, and for whom.
 fn waits(pen: &mut Pen, plan: &Plan) {
     let total = Total::of(&plan.waits, 0, u32::MAX);
     let per = plan.columns.per;
-    let noun = if total.waits == 1 { " wait" } else { " waits" };
     let words = [
-        Number(total.waits),
-        Words(noun),
+        Count(total.waits, "wait"),
         Words(" of processors, "),
         Number(total.columns.saturating_mul(per)),
         Words(" steps in all"),
         Sum(&total.parts, per),
         Words("."),
     ];
-    pen.words("n2", (100, 485), &words);
+    pen.words(Class::Sentence, (100, 485), &words);
 }
 
 /// Writes the name of the picture, and what it says in sentences: also what is merged, if anything is.
 pub(super) fn head(pen: &mut Pen, plan: &Plan, record: &Record, name: &str) {
-    pen.word("n1", (100, 200), name);
+    pen.word(Class::Title, (100, 200), name);
     outcome(pen, plan, record);
     waits(pen, plan);
     let per = plan.columns.per;
@@ -82,6 +80,6 @@ pub(super) fn head(pen: &mut Pen, plan: &Plan, record: &Record, name: &str) {
             Number(per),
             Words(" steps. Where they differ, the state that matters most is shown."),
         ];
-        pen.words("n2", (100, 620), &words);
+        pen.words(Class::Sentence, (100, 620), &words);
     }
 }

@@ -1,32 +1,71 @@
 //! What the colours and the signs mean: those that the picture has.
 
 use super::bands::run_of;
+use crate::class::Class;
+use crate::memory::Memory;
 use crate::pen::{Frame, Pen};
 use crate::plan::{Band, Plan};
 use crate::record::{End, Flight, Record};
 use crate::state::State;
 use crate::text::Place;
-use mig_base::NoMemory;
-use std::alloc::Global;
 
 /// The height of an item, and the width of a column of items.
 const ITEM: u64 = 140;
 
 const COLUMN: u64 = 2150;
 
+/// A column of items.
+#[derive(Clone, Copy)]
+enum Column {
+    Source,
+    Destination,
+    Processors,
+    Signs,
+}
+
+/// A line of a picture.
+#[derive(Clone, Copy)]
+enum Line {
+    Page,
+    Urgent,
+    Other,
+    Lost,
+    Move,
+}
+
 /// What an item shows.
 #[derive(Clone, Copy)]
 enum Sign {
     /// The name of a column of items.
-    Name(&'static str),
+    Name(Column),
     /// A state.
     Box(State),
-    /// The line of frames, by its class.
-    Line(&'static str, &'static str),
+    Line(Line),
     /// A dot, a cross, and a number in the bar of a page that is installed.
     Dot,
     Cross,
     Age,
+}
+
+/// The name of a column.
+fn name_of(column: Column) -> &'static str {
+    match column {
+        Column::Source => "source pages",
+        Column::Destination => "destination pages",
+        Column::Processors => "processors",
+        Column::Signs => "signs",
+    }
+}
+
+/// The class of a line, and what it means.
+fn line_of(line: Line) -> (Class, &'static str) {
+    match line {
+        Line::Page => (Class::PageFrame, "page or request, sent to taken"),
+        Line::Urgent => (Class::UrgentFrame, "a page on the urgent wire"),
+        Line::Other => (Class::OtherFrame, "another frame"),
+        Line::Lost => (Class::LostFrame, "lost in a break"),
+        Line::Move => (Class::Move, "a mapping moves"),
+    }
 }
 
 /// The items of a legend, in columns.
@@ -41,12 +80,12 @@ pub(super) struct Items {
 }
 
 impl Items {
-    /// Adds an item to a column of this name, below the last one.
-    fn add(&mut self, name: &'static str, sign: Sign) -> Result<(), NoMemory> {
+    /// Adds an item to a column, below the last one.
+    fn add(&mut self, memory: &mut Memory, column: Column, sign: Sign) {
         if self.is_first {
             self.is_first = false;
             let x = self.width.saturating_sub(100);
-            self.items.push((Sign::Name(name), (x, 100)))?;
+            memory.push(&mut self.items, (Sign::Name(column), (x, 100)));
             self.width = self.width.saturating_add(COLUMN);
         }
         let (x, y) = match self.items.last() {
@@ -54,20 +93,18 @@ impl Items {
             None => (0, 0),
         };
         let y = y.saturating_add(ITEM);
-        self.items.push((sign, (x, y)))?;
+        memory.push(&mut self.items, (sign, (x, y)));
         self.height = self.height.max(y.saturating_add(300));
-        Ok(())
     }
 
     /// Adds the states that a band has, in a column.
-    fn add_states(&mut self, name: &'static str, band: &Band) -> Result<(), NoMemory> {
+    fn add_states(&mut self, memory: &mut Memory, column: Column, band: &Band) {
         self.is_first = true;
         for state in State::IN_TURN {
             if has_state(band, state) {
-                self.add(name, Sign::Box(state))?;
+                self.add(memory, column, Sign::Box(state));
             }
         }
-        Ok(())
     }
 }
 
@@ -84,7 +121,7 @@ fn has_state(band: &Band, state: State) -> bool {
 /// Whether a frame was lost.
 fn has_lost(flights: &[Flight]) -> bool {
     for flight in flights {
-        if flight.end == End::Lost {
+        if matches!(flight.end, End::Lost) {
             return true;
         }
     }
@@ -92,43 +129,37 @@ fn has_lost(flights: &[Flight]) -> bool {
 }
 
 /// The items of a picture.
-pub(super) fn find_items(alloc: Global, plan: &Plan, record: &Record) -> Result<Items, NoMemory> {
+pub(super) fn find_items(memory: &mut Memory, plan: &Plan, record: &Record) -> Items {
     let mut items = Items {
-        items: Vec::new(alloc),
+        items: Vec::new(memory.alloc),
         is_first: true,
         width: 200,
         height: 400,
     };
-    items.add_states("source pages", &plan.source)?;
-    items.add_states("destination pages", &plan.destination)?;
-    items.add_states("processors", &plan.processors)?;
+    items.add_states(memory, Column::Source, &plan.source);
+    items.add_states(memory, Column::Destination, &plan.destination);
+    items.add_states(memory, Column::Processors, &plan.processors);
     items.is_first = true;
     let migrates = !record.marks.is_empty();
     let lost = has_lost(&record.forward.flights)
         || has_lost(&record.urgent.flights)
         || has_lost(&record.back.flights);
     let signs = [
-        (Sign::Line("lf", "page or request, sent to taken"), migrates),
-        (
-            Sign::Line("lu", "a page on the urgent wire"),
-            !record.urgent.flights.is_empty(),
-        ),
-        (Sign::Line("lo", "another frame"), migrates),
-        (Sign::Line("ls", "lost in a break"), lost),
+        (Sign::Line(Line::Page), migrates),
+        (Sign::Line(Line::Urgent), !record.urgent.flights.is_empty()),
+        (Sign::Line(Line::Other), migrates),
+        (Sign::Line(Line::Lost), lost),
         (Sign::Dot, !record.dots.is_empty()),
         (Sign::Cross, !record.drops.is_empty()),
-        (
-            Sign::Line("g5", "a mapping moves"),
-            !record.moves.is_empty(),
-        ),
+        (Sign::Line(Line::Move), !record.moves.is_empty()),
         (Sign::Age, run_of(plan, record).is_some()),
     ];
     for (sign, is_there) in signs {
         if is_there {
-            items.add("signs", sign)?;
+            items.add(memory, Column::Signs, sign);
         }
     }
-    Ok(items)
+    items
 }
 
 /// Draws an item.
@@ -143,7 +174,7 @@ fn draw_item(pen: &mut Pen, sign: Sign, x: u64, y: u64) {
         height: 100,
     };
     let words = match sign {
-        Sign::Name(name) => return pen.word("n3", (x, y), name),
+        Sign::Name(column) => return pen.word(Class::Heading, (x, y), name_of(column)),
         Sign::Box(state) => {
             let look = state.look();
             frame.y = top.saturating_add(look.top.saturating_mul(6));
@@ -151,25 +182,30 @@ fn draw_item(pen: &mut Pen, sign: Sign, x: u64, y: u64) {
             pen.rectangle(look.class, frame);
             look.words
         }
-        Sign::Line(class, words) => {
+        Sign::Line(line) => {
+            let (class, words) = line_of(line);
             pen.line(class, (x, top), end);
             words
         }
         Sign::Dot => {
-            pen.disk("do", middle, 45);
+            pen.disk(Class::Sleep, middle, 45);
             "a processor goes to sleep"
         }
         Sign::Cross => {
-            pen.cross("lx", middle, 32);
+            pen.cross(Class::Cross, middle, 32);
             "a copy is dropped"
         }
         Sign::Age => {
-            pen.rectangle("i", frame);
-            pen.word("wl", (x.saturating_add(30), y.saturating_sub(10)), "+9");
+            pen.rectangle(Class::Installed, frame);
+            pen.word(
+                Class::White,
+                (x.saturating_add(30), y.saturating_sub(10)),
+                "+9",
+            );
             "installed 9 steps after the run"
         }
     };
-    pen.word("", (x.saturating_add(220), y), words);
+    pen.word(Class::Plain, (x.saturating_add(220), y), words);
 }
 
 /// Draws the legend from here on downwards.

@@ -1,12 +1,12 @@
 //! The longest waits of processors: how long each was, and who had to act.
 
+use crate::class::Class;
+use crate::memory::Memory;
 use crate::pen::Pen;
 use crate::plan::Plan;
 use crate::record::Record;
 use crate::text::Part::{Number, Page, Sum, Words};
 use crate::waits::Wait;
-use mig_base::NoMemory;
-use std::alloc::Global;
 
 /// The most waits that are listed.
 const MOST: usize = 6;
@@ -14,13 +14,30 @@ const MOST: usize = 6;
 /// The height of a line.
 const LINE: u64 = 140;
 
+/// Puts a wait among the longest, behind those that are as long.
+fn put(memory: &mut Memory, longest: &mut Vec<Wait>, wait: Wait) {
+    let mut next = wait;
+    let mut is_placed = false;
+    for place in longest.iter_mut() {
+        if is_placed || place.columns() < next.columns() {
+            let behind = *place;
+            *place = next;
+            next = behind;
+            is_placed = true;
+        }
+    }
+    if longest.len() < MOST {
+        memory.push(longest, next);
+    }
+}
+
 /// The longest waits, the longest first.
-pub(super) fn longest_of(alloc: Global, plan: &Plan) -> Result<Vec<Wait>, NoMemory> {
-    let mut all = Vec::new(alloc);
-    all.extend_from_slice(&plan.waits)?;
-    all.sort_by_key(|wait| u32::MAX.saturating_sub(wait.columns()))?;
-    all.truncate(MOST);
-    Ok(all)
+pub(super) fn longest_of(memory: &mut Memory, plan: &Plan) -> Vec<Wait> {
+    let mut longest = Vec::new(memory.alloc);
+    for wait in &plan.waits {
+        put(memory, &mut longest, *wait);
+    }
+    longest
 }
 
 /// The height of the list.
@@ -33,7 +50,7 @@ pub(super) fn longest(pen: &mut Pen, plan: &Plan, record: &Record, waits: &[Wait
     if waits.is_empty() {
         return;
     }
-    pen.word("n3", (100, top), "longest waits, in steps");
+    pen.word(Class::Heading, (100, top), "longest waits, in steps");
     let mut y = top;
     for wait in waits {
         y = y.saturating_add(LINE);
@@ -51,6 +68,6 @@ pub(super) fn longest(pen: &mut Pen, plan: &Plan, record: &Record, waits: &[Wait
             Number(wait.columns().saturating_mul(per)),
             Sum(&wait.parts, per),
         ];
-        pen.words("mo", (100, y), &words);
+        pen.words(Class::Fixed, (100, y), &words);
     }
 }

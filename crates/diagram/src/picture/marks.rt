@@ -1,12 +1,12 @@
 //! Marks: lines through all bands, with words above them.
 
+use crate::class::Class;
+use crate::memory::Memory;
 use crate::pen::{Frame, Pen};
 use crate::plan::Plan;
 use crate::record::{Event, Mark, Record};
-use crate::text::Part::{Number, Words};
-use crate::text::{NOTHING, Part, push_all, width_of};
-use mig_base::NoMemory;
-use std::alloc::Global;
+use crate::text::Part::{Count, Nothing, Number, Words};
+use crate::text::{Part, width_of};
 
 /// The most rows of words.
 const MOST_ROWS: u64 = 9;
@@ -44,52 +44,39 @@ fn rank_of(event: Event) -> u8 {
 }
 
 /// The words of a break: how many pages and how many requests it has lost.
-fn break_words(pages: u32, requests: u32) -> [Part<'static>; 6] {
-    let pages_word = Words(if pages == 1 { " page" } else { " pages" });
-    let requests_word = Words(if requests == 1 {
-        " request"
-    } else {
-        " requests"
-    });
+fn break_words(pages: u32, requests: u32) -> [Part<'static>; 4] {
     let lost = Words("break: lost ");
-    let none = NOTHING;
-    let (page_count, request_count) = (Number(pages), Number(requests));
+    let (pages_lost, requests_lost) = (Count(pages, "page"), Count(requests, "request"));
     match (pages, requests) {
-        (0, 0) => [Words("break: no page lost"), none, none, none, none, none],
-        (_, 0) => [lost, page_count, pages_word, none, none, none],
-        (0, _) => [lost, request_count, requests_word, none, none, none],
-        _ => [
-            lost,
-            page_count,
-            pages_word,
-            Words(", "),
-            request_count,
-            requests_word,
-        ],
+        (0, 0) => [Words("break: no page lost"), Nothing, Nothing, Nothing],
+        (_, 0) => [lost, pages_lost, Nothing, Nothing],
+        (0, _) => [lost, requests_lost, Nothing, Nothing],
+        _ => [lost, pages_lost, Words(", "), requests_lost],
+    }
+}
+
+/// The word of a mark that has no number.
+fn word_of(event: Event) -> &'static str {
+    match event {
+        Event::Start => "start",
+        Event::End => "end sent",
+        Event::Complete => "complete",
+        Event::Package => "package: the destination runs",
+        Event::SourceNotice => "source pauses",
+        _ => "destination pauses",
     }
 }
 
 /// The words of a mark.
-fn words_of(mark: &Mark) -> [Part<'static>; 6] {
+fn words_of(mark: &Mark) -> [Part<'static>; 4] {
     let (first, second) = (Number(mark.first), Number(mark.second));
-    let [one, two, three, four] = match mark.event {
-        Event::Break => return break_words(mark.first, mark.second),
+    match mark.event {
+        Event::Break => break_words(mark.first, mark.second),
         Event::Round => [Words("round "), first, Words(": "), second],
-        Event::Switch => [Words("switch: "), first, Words(" owed"), NOTHING],
-        Event::Resume => [Words("resume, epoch "), first, NOTHING, NOTHING],
-        event => {
-            let words = match event {
-                Event::Start => "start",
-                Event::End => "end sent",
-                Event::Complete => "complete",
-                Event::Package => "package: the destination runs",
-                Event::SourceNotice => "source pauses",
-                _ => "destination pauses",
-            };
-            [Words(words), NOTHING, NOTHING, NOTHING]
-        }
-    };
-    [one, two, three, four, NOTHING, NOTHING]
+        Event::Switch => [Words("switch: "), first, Words(" owed"), Nothing],
+        Event::Resume => [Words("resume, epoch "), first, Nothing, Nothing],
+        event => [Words(word_of(event)), Nothing, Nothing, Nothing],
+    }
 }
 
 /// The row of words that begin at a place and are so wide: one above each of those on the right that begin under them.
@@ -107,49 +94,47 @@ fn row_above(labels: &[Label], x: u64, width: u64) -> u64 {
 }
 
 /// The marks of at least a rank with their rows, and the others without words.
-fn staircase(alloc: Global, plan: &Plan, record: &Record, least: u8) -> Result<Labels, NoMemory> {
-    let mut labels = Vec::new(alloc);
-    let mut words = String::new(alloc);
+fn staircase(memory: &mut Memory, plan: &Plan, record: &Record, least: u8) -> Labels {
+    let mut labels = Vec::new(memory.alloc);
     let mut rows = 0u64;
     for mark in record.marks.iter().rev() {
         let x = plan.x_at(mark.line);
         let mut row = None;
         if rank_of(mark.event) >= least {
-            words.clear();
-            push_all(&mut words, &words_of(mark))?;
+            let words = memory.text(&words_of(mark));
             let above = row_above(&labels, x, width_of(words.len(), 100).saturating_add(60));
             rows = rows.max(above.saturating_add(1));
             row = Some(above);
         }
         let mark = *mark;
-        labels.push(Label { x, mark, row })?;
+        memory.push(&mut labels, Label { x, mark, row });
     }
-    Ok(Labels {
+    Labels {
         labels,
         height: rows.saturating_mul(ROW),
-    })
+    }
 }
 
 /// The marks as they are drawn: words that would need too many rows are left out, those that matter least first.
-pub(super) fn find_labels(alloc: Global, plan: &Plan, record: &Record) -> Result<Labels, NoMemory> {
+pub(super) fn find_labels(memory: &mut Memory, plan: &Plan, record: &Record) -> Labels {
     if record.marks.len() <= MOST_WORDS {
         for least in 1..5 {
-            let labels = staircase(alloc, plan, record, least)?;
+            let labels = staircase(memory, plan, record, least);
             if labels.height <= MOST_ROWS * ROW {
-                return Ok(labels);
+                return labels;
             }
         }
     }
-    staircase(alloc, plan, record, 5)
+    staircase(memory, plan, record, 5)
 }
 
 /// The class of the line of a mark, and of its words.
-fn classes_of(event: Event) -> (&'static str, &'static str) {
+fn classes_of(event: Event) -> (Class, Class) {
     match event {
-        Event::Break => ("g4", "n4 ha"),
-        Event::Switch | Event::Package | Event::Complete => ("g3", "n4 ha"),
-        Event::Start | Event::Resume => ("g3", "ha"),
-        _ => ("g1", "sm ha"),
+        Event::Break => (Class::BreakMark, Class::BoldEdged),
+        Event::Switch | Event::Package | Event::Complete => (Class::Mark, Class::BoldEdged),
+        Event::Start | Event::Resume => (Class::Mark, Class::Edged),
+        _ => (Class::Rail, Class::SmallEdged),
     }
 }
 
@@ -174,7 +159,7 @@ pub(super) fn marks(pen: &mut Pen, plan: &Plan, labels: &Labels) {
 }
 
 /// Draws a ground from one line to another.
-fn ground(pen: &mut Pen, plan: &Plan, class: &str, lines: (u32, u32), rows: (u64, u64)) {
+fn ground(pen: &mut Pen, plan: &Plan, class: Class, lines: (u32, u32), rows: (u64, u64)) {
     let x = plan.x_at(lines.0);
     let frame = Frame {
         x,
@@ -185,28 +170,39 @@ fn ground(pen: &mut Pen, plan: &Plan, class: &str, lines: (u32, u32), rows: (u64
     pen.rectangle(class, frame);
 }
 
-/// The line of the first mark of one of two kinds behind a line; the end of the columns if there is none.
-fn line_behind(record: &Record, line: u32, one: Event, other: Event) -> u32 {
+/// Whether an event ends what a switch or a break began: that nobody runs the processors, or that there is no link.
+fn ends(begin: Event, event: Event) -> bool {
+    match begin {
+        Event::Switch => matches!(event, Event::Package | Event::Complete),
+        _ => matches!(event, Event::Resume | Event::Break),
+    }
+}
+
+/// The lines from a mark to the one that ends what it began, or to the end of the columns.
+fn lines_from(record: &Record, begin: &Mark) -> (u32, u32) {
     for mark in &record.marks {
-        if mark.line > line && (mark.event == one || mark.event == other) {
-            return mark.line;
+        if mark.line > begin.line && ends(begin.event, mark.event) {
+            return (begin.line, mark.line);
         }
     }
-    u32::MAX
+    (begin.line, u32::MAX)
 }
 
 /// Draws the ground while nobody runs the processors, and while there is no link.
 pub(super) fn grounds(pen: &mut Pen, plan: &Plan, record: &Record) {
     for mark in &record.marks {
-        if mark.event == Event::Switch {
-            let end = line_behind(record, mark.line, Event::Package, Event::Complete);
-            let rows = (plan.top.saturating_add(60), plan.bottom);
-            ground(pen, plan, "st", (mark.line, end), rows);
-        }
-        if mark.event == Event::Break {
-            let end = line_behind(record, mark.line, Event::Resume, Event::Break);
-            let rows = (plan.forward.0, plan.back.0);
-            ground(pen, plan, "nl", (mark.line, end), rows);
+        match mark.event {
+            Event::Switch => {
+                let lines = lines_from(record, mark);
+                let rows = (plan.top.saturating_add(60), plan.bottom);
+                ground(pen, plan, Class::NobodyRuns, lines, rows);
+            }
+            Event::Break => {
+                let lines = lines_from(record, mark);
+                let rows = (plan.forward.0, plan.back.0);
+                ground(pen, plan, Class::NoLink, lines, rows);
+            }
+            _ => {}
         }
     }
 }
@@ -219,17 +215,17 @@ fn phase(pen: &mut Pen, plan: &Plan, word: &str, lines: (u32, u32)) {
     let room = right.saturating_sub(left);
     let mut words = [Words(word), Words(": "), steps, Words(" steps")];
     if pen.width(&words, 95).saturating_add(100) > room {
-        words = [steps, NOTHING, NOTHING, NOTHING];
+        words = [steps, Nothing, Nothing, Nothing];
     }
     if pen.width(&words, 95).saturating_add(100) > room {
-        words = [NOTHING; 4];
+        words = [Nothing; 4];
     }
     let half = pen.width(&words, 110) / 2;
     let middle = left.saturating_add(room / 2);
     let y = plan.top.saturating_add(150);
-    pen.line("g3", (left, y), (middle.saturating_sub(half), y));
-    pen.line("g3", (middle.saturating_add(half), y), (right, y));
-    pen.words("mi", (middle, y.saturating_add(35)), &words);
+    pen.line(Class::Mark, (left, y), (middle.saturating_sub(half), y));
+    pen.line(Class::Mark, (middle.saturating_add(half), y), (right, y));
+    pen.words(Class::Middle, (middle, y.saturating_add(35)), &words);
 }
 
 /// What follows a mark, if the migration is in another part then.

@@ -1,11 +1,13 @@
 //! Counts, on the right of the bands.
 
+use crate::class::Class;
+use crate::memory::Memory;
 use crate::pen::Pen;
 use crate::plan::Plan;
 use crate::record::{End, Flight, Kind, Record};
 use crate::state::{Counts, State};
 use crate::text::Part::{Number, Words};
-use mig_base::{HIGH_PAGE, NoMemory, PageSet};
+use mig_base::{HIGH_PAGE, PageSet};
 
 /// Writes those counts that are not 0, on the right of a band that begins here.
 fn list(pen: &mut Pen, plan: &Plan, top: u64, counts: &[(&str, u32)]) {
@@ -13,7 +15,7 @@ fn list(pen: &mut Pen, plan: &Plan, top: u64, counts: &[(&str, u32)]) {
     let mut y = top.saturating_add(90);
     for (words, count) in counts {
         if *count > 0 {
-            pen.words("", (x, y), &[Words(words), Number(*count)]);
+            pen.words(Class::Plain, (x, y), &[Words(words), Number(*count)]);
             y = y.saturating_add(125);
         }
     }
@@ -26,7 +28,7 @@ fn pages_of(flights: &[Flight]) -> (u32, u32) {
     for one in flights {
         if one.kind.has_page() {
             pages = pages.saturating_add(one.pages);
-            if one.end == End::Lost {
+            if matches!(one.end, End::Lost) {
                 lost = lost.saturating_add(one.pages);
             }
         }
@@ -35,24 +37,23 @@ fn pages_of(flights: &[Flight]) -> (u32, u32) {
 }
 
 /// Puts the pages of frames into a set.
-fn gather(pages: &mut PageSet, flights: &[Flight]) -> Result<(), NoMemory> {
+fn gather(memory: &mut Memory, pages: &mut PageSet, flights: &[Flight]) {
     for one in flights {
         if matches!(one.kind, Kind::Page | Kind::Zero) {
             for page in one.page..one.page.saturating_add(one.pages).min(HIGH_PAGE) {
-                pages.insert(page)?;
+                memory.note(pages.insert(page).is_ok());
             }
         }
     }
-    Ok(())
 }
 
 /// Writes how many pages were sent, and how many of them again, by which wire, and in vain.
-fn forward_notes(pen: &mut Pen, plan: &Plan, record: &Record) -> Result<(), NoMemory> {
+fn forward_notes(pen: &mut Pen, plan: &Plan, record: &Record) {
     let (sent, lost) = pages_of(&record.forward.flights);
     let (overtaking, urgent_lost) = pages_of(&record.urgent.flights);
-    let mut different = PageSet::new(pen.alloc);
-    gather(&mut different, &record.forward.flights)?;
-    gather(&mut different, &record.urgent.flights)?;
+    let mut different = PageSet::new(pen.memory.alloc);
+    gather(&mut pen.memory, &mut different, &record.forward.flights);
+    gather(&mut pen.memory, &mut different, &record.urgent.flights);
     let sent = sent.saturating_add(overtaking);
     let counts = [
         ("pages sent: ", sent),
@@ -61,7 +62,6 @@ fn forward_notes(pen: &mut Pen, plan: &Plan, record: &Record) -> Result<(), NoMe
         ("lost: ", lost.saturating_add(urgent_lost)),
     ];
     list(pen, plan, plan.forward.0, &counts);
-    Ok(())
 }
 
 /// Writes what the pages of the destination are at the end.
@@ -84,7 +84,7 @@ fn destination_notes(pen: &mut Pen, plan: &Plan, record: &Record) {
 }
 
 /// Writes the counts of pages.
-pub(super) fn write_notes(pen: &mut Pen, plan: &Plan, record: &Record) -> Result<(), NoMemory> {
+pub(super) fn write_notes(pen: &mut Pen, plan: &Plan, record: &Record) {
     let mut touched = 0u32;
     for row in &plan.source.rows.rows {
         if !row.dull {
@@ -96,5 +96,5 @@ pub(super) fn write_notes(pen: &mut Pen, plan: &Plan, record: &Record) -> Result
     let counts = [("requests: ", requests), ("lost: ", lost)];
     list(pen, plan, plan.back.1, &counts);
     destination_notes(pen, plan, record);
-    forward_notes(pen, plan, record)
+    forward_notes(pen, plan, record);
 }

@@ -1,22 +1,18 @@
 //! The numbers of the lines, and in a small picture the lines themselves.
 
+use crate::class::Class;
+use crate::memory::Memory;
 use crate::pen::Pen;
 use crate::plan::{LEFT, Plan};
 use crate::record::Record;
 use crate::text::Part::{Number, Refused, Words};
-use crate::text::push_all;
-use mig_base::NoMemory;
 use mig_base::refusal::Refusal;
-use std::alloc::Global;
-
-/// The most bytes of a line that are shown.
-const SHOWN: usize = 34;
 
 /// A line of the script as it stands below its column.
 #[derive(Drop)]
 pub(super) struct Text {
     words: String,
-    class: &'static str,
+    class: Class,
 }
 
 /// The refusal of a line, if it was refused.
@@ -30,45 +26,39 @@ fn refusal(record: &Record, column: u32) -> Option<Refusal> {
 }
 
 /// What stands below a column: its line, why that was refused, and its number.
-fn text_of(
-    alloc: Global,
-    record: &Record,
-    column: u32,
-    line: u32,
-    text: &[u8],
-) -> Result<Text, NoMemory> {
-    let shown = text.get(..SHOWN).unwrap_or(text);
-    let mut words = String::from_utf8_lossy(alloc, shown)?;
-    let mut class = "mo en";
-    if let Some(reason) = refusal(record, column) {
-        push_all(&mut words, &[Words(": "), Refused(reason)])?;
-        class = "gm en";
+fn text_of(memory: &mut Memory, record: &Record, column: u32, line: u32, text: &str) -> Text {
+    match refusal(record, column) {
+        Some(reason) => Text {
+            words: memory.text(&[
+                Words(text),
+                Words(": "),
+                Refused(reason),
+                Words("  "),
+                Number(line),
+            ]),
+            class: Class::GrayEnding,
+        },
+        None => Text {
+            words: memory.text(&[Words(text), Words("  "), Number(line)]),
+            class: Class::FixedEnding,
+        },
     }
-    push_all(&mut words, &[Words("  "), Number(line)])?;
-    Ok(Text { words, class })
 }
 
 /// The lines of the script, as they stand below their columns in a picture with words.
-pub(super) fn find_texts(
-    alloc: Global,
-    plan: &Plan,
-    record: &Record,
-    input: &[u8],
-) -> Result<Vec<Text>, NoMemory> {
-    let mut texts = Vec::new(alloc);
+pub(super) fn find_texts(memory: &mut Memory, plan: &Plan, record: &Record) -> Vec<Text> {
+    let mut texts = Vec::new(memory.alloc);
     if !plan.is_small() {
-        return Ok(texts);
+        return texts;
     }
     let mut column = 0u32;
-    let mut number = 0u32;
-    for raw in input.split(|byte| *byte == b'\n') {
-        number = number.saturating_add(1);
-        if record.lines.get(column as usize) == Some(&number) {
-            texts.push(text_of(alloc, record, column, number, raw.trim_ascii())?)?;
-            column = column.saturating_add(1);
-        }
+    for text in &record.texts {
+        let line = plan.line_of(record, column);
+        let text = text_of(memory, record, column, line, text);
+        memory.note(texts.push(text).is_ok());
+        column = column.saturating_add(1);
     }
-    Ok(texts)
+    texts
 }
 
 /// The height of what stands below the bands.
@@ -105,14 +95,22 @@ fn distance(plan: &Plan) -> u32 {
 fn numbers(pen: &mut Pen, plan: &Plan, record: &Record) {
     let y = plan.bottom;
     let apart = distance(plan);
-    pen.word("sm en", (LEFT - 60, y.saturating_add(150)), "line");
+    pen.word(
+        Class::SmallEnding,
+        (LEFT - 60, y.saturating_add(150)),
+        "line",
+    );
     let mut next = apart;
     for column in 0..plan.columns.count() {
         let line = plan.line_of(record, column);
         if line >= next {
             let x = plan.x_of(column);
-            pen.line("g2", (x, y), (x, y.saturating_add(50)));
-            pen.words("sm mi", (x, y.saturating_add(150)), &[Number(line)]);
+            pen.line(Class::Axle, (x, y), (x, y.saturating_add(50)));
+            pen.words(
+                Class::SmallMiddle,
+                (x, y.saturating_add(150)),
+                &[Number(line)],
+            );
             let steps = line.checked_div(apart).unwrap_or(0).saturating_add(1);
             next = steps.saturating_mul(apart);
         }
@@ -122,14 +120,14 @@ fn numbers(pen: &mut Pen, plan: &Plan, record: &Record) {
 /// Draws what stands below the bands.
 pub(super) fn ruler(pen: &mut Pen, plan: &Plan, record: &Record, texts: &[Text]) {
     let y = plan.bottom;
-    pen.line("g3", (LEFT, y), (plan.right(), y));
+    pen.line(Class::Mark, (LEFT, y), (plan.right(), y));
     if !plan.is_small() {
         return numbers(pen, plan, record);
     }
     let mut column = 0u32;
     for text in texts {
         let place = (plan.x_of(column).saturating_add(30), y.saturating_add(60));
-        pen.turned(text.class, place, "rotate(-90)", &[Words(&text.words)]);
+        pen.turned(text.class, place, "rotate(-90)", &text.words);
         column = column.saturating_add(1);
     }
 }

@@ -1,13 +1,13 @@
 //! The wires: each frame from the line that sent it to the line that took or lost it.
 
+use crate::class::Class;
+use crate::memory::Memory;
 use crate::pen::{Pen, share};
 use crate::plan::{LEFT, Plan};
 use crate::record::{End, Flight, Kind, Record};
 use crate::state::State;
-use crate::text::Part::{More, Number, Page, Words};
-use crate::text::{NOTHING, Part, Place};
-use mig_base::NoMemory;
-use std::alloc::Global;
+use crate::text::Part::{More, Nothing, Number, Page, Words};
+use crate::text::{Part, Place};
 
 /// Where words stand on the line of a frame, in tenths of its way.
 const HEIGHTS: [u64; 5] = [5, 3, 7, 2, 8];
@@ -22,7 +22,7 @@ const MOST_FRAMES: usize = 16;
 struct Strand {
     from: u64,
     to: u64,
-    class: &'static str,
+    class: Class,
 }
 
 /// The place on a way from one height to another, after a part of the whole.
@@ -60,30 +60,26 @@ struct Route {
 }
 
 /// The frames of a wire. Of those that have the same columns, the first is there.
-fn routes_of(
-    alloc: Global,
-    plan: &Plan,
-    strand: Strand,
-    flights: &[Flight],
-) -> Result<Vec<Route>, NoMemory> {
-    let mut routes = Vec::new(alloc);
+fn routes_of(memory: &mut Memory, plan: &Plan, strand: Strand, flights: &[Flight]) -> Vec<Route> {
+    let mut routes = Vec::new(memory.alloc);
     let mut before = (u32::MAX, u32::MAX);
     let mut lost = (u32::MAX, 0u32);
     for one in flights {
-        if one.end == End::Lost && lost.0 != one.ended {
+        if matches!(one.end, End::Lost) && lost.0 != one.ended {
             lost = (one.ended, one.sent);
         }
         let place = (plan.columns.of(one.sent), plan.columns.of(one.ended));
         if place != before {
-            routes.push(Route {
+            let route = Route {
                 flight: *one,
                 from: (plan.x_of(place.0), strand.from),
                 to: end_of(plan, strand, one, lost.1),
-            })?;
+            };
+            memory.push(&mut routes, route);
         }
         before = place;
     }
-    Ok(routes)
+    routes
 }
 
 /// What a frame is: its word, and its pages if it has any.
@@ -103,13 +99,13 @@ fn frame_of(flight: &Flight) -> [Part<'static>; 3] {
     if flight.kind.has_page() {
         [Words(word), Page(flight.page), More(flight.pages)]
     } else {
-        [Words(word), NOTHING, NOTHING]
+        [Words(word), Nothing, Nothing]
     }
 }
 
 /// Draws a frame, named by when it was sent and how it ended: as an arrow if it was taken and there is room, with a cross at its end if it
 /// was lost.
-fn draw_frame(pen: &mut Pen, plan: &Plan, record: &Record, class: &str, route: &Route) {
+fn draw_frame(pen: &mut Pen, plan: &Plan, record: &Record, class: Class, route: &Route) {
     let flight = &route.flight;
     let [word, page, more] = frame_of(flight);
     let ended = match flight.end {
@@ -126,13 +122,17 @@ fn draw_frame(pen: &mut Pen, plan: &Plan, record: &Record, class: &str, route: &
         Words(ended),
         Number(plan.line_of(record, plan.columns.of(flight.ended))),
     ]);
-    let class = if flight.kind.has_page() { class } else { "lo" };
+    let class = if flight.kind.has_page() {
+        class
+    } else {
+        Class::OtherFrame
+    };
     match flight.end {
         End::Taken if plan.is_small() => pen.arrow(class, route.from, route.to),
         End::Taken | End::Open => pen.line(class, route.from, route.to),
         End::Lost => {
-            pen.line("ls", route.from, route.to);
-            pen.cross("lx", route.to, 30);
+            pen.line(Class::LostFrame, route.from, route.to);
+            pen.cross(Class::Cross, route.to, 30);
         }
     }
 }
@@ -183,27 +183,21 @@ fn place_of(route: &Route, width: u64, written: &[Label]) -> Option<Label> {
 
 /// Writes what the frames of a wire are on their lines, where there is room: if their pages are named, also on the lines of those that
 /// have pages.
-fn frame_labels(
-    pen: &mut Pen,
-    routes: &[Route],
-    pages: bool,
-    written: &mut Vec<Label>,
-) -> Result<(), NoMemory> {
+fn frame_labels(pen: &mut Pen, routes: &[Route], pages: bool, written: &mut Vec<Label>) {
     for route in routes {
         if (pages || !route.flight.kind.has_page()) && written.len() < MOST_WORDS {
             let mut words = frame_of(&route.flight);
             if matches!(route.flight.kind, Kind::Page | Kind::Request) {
-                words[0] = NOTHING;
+                words[0] = Nothing;
             }
             let width = pen.width(&words, 90);
             if let Some(place) = place_of(route, width, written) {
                 let x = place.left.saturating_add(place.right) / 2;
-                pen.words("mo mi ha", (x, place.y), &words);
-                written.push(place)?;
+                pen.words(Class::FixedMiddleEdged, (x, place.y), &words);
+                pen.memory.push(written, place);
             }
         }
     }
-    Ok(())
 }
 
 /// Draws thin lines from the rows of pages at the source to where they are sent.
@@ -212,7 +206,7 @@ fn departures(pen: &mut Pen, plan: &Plan, routes: &[Route]) {
         if route.flight.kind.has_page()
             && let Some(y) = plan.source.middle_of(route.flight.page)
         {
-            pen.line("g6", (route.from.0, y), route.from);
+            pen.line(Class::Lead, (route.from.0, y), route.from);
         }
     }
 }
@@ -224,45 +218,50 @@ fn arrivals(pen: &mut Pen, plan: &Plan, record: &Record) {
             && let Some(y) = plan.destination.middle_of(change.row)
         {
             let x = plan.x_at(change.line);
-            pen.line("g6", (x, plan.forward.1), (x, y));
+            pen.line(Class::Lead, (x, plan.forward.1), (x, y));
         }
     }
 }
 
+/// Draws a rail, with its name.
+fn rail(pen: &mut Pen, plan: &Plan, y: u64, name: &str) {
+    pen.line(Class::Rail, (LEFT, y), (plan.right(), y));
+    let place = (LEFT - 60, y.saturating_add(30));
+    pen.word(Class::SmallEnding, place, name);
+}
+
 /// Draws the rails between which frames travel, with their names and those of the wires.
 fn rails(pen: &mut Pen, plan: &Plan) {
-    let rails = [
-        (plan.forward.0, "source"),
-        (plan.forward.1, "destination"),
-        (plan.back.0, ""),
-        (plan.back.1, ""),
-    ];
-    for (y, name) in rails {
-        pen.line("g1", (LEFT, y), (plan.right(), y));
-        pen.word("sm en", (LEFT - 60, y.saturating_add(30)), name);
-    }
     let top = plan.forward.0;
-    pen.word("n3", (100, top.saturating_sub(50)), "wires");
-    pen.word("en", (LEFT - 60, top.saturating_add(450)), "forward");
+    rail(pen, plan, top, "source");
+    rail(pen, plan, plan.forward.1, "destination");
+    rail(pen, plan, plan.back.0, "");
+    rail(pen, plan, plan.back.1, "");
+    pen.word(Class::Heading, (100, top.saturating_sub(50)), "wires");
+    pen.word(
+        Class::Ending,
+        (LEFT - 60, top.saturating_add(450)),
+        "forward",
+    );
     let middle = plan.back.1.saturating_add(230);
-    pen.word("en", (LEFT - 60, middle), "back");
+    pen.word(Class::Ending, (LEFT - 60, middle), "back");
 }
 
 /// Draws the frames to the destination.
-fn forward(pen: &mut Pen, plan: &Plan, record: &Record) -> Result<(), NoMemory> {
+fn forward(pen: &mut Pen, plan: &Plan, record: &Record) {
     let (from, to) = plan.forward;
     let down = Strand {
         from,
         to,
-        class: "lf",
+        class: Class::PageFrame,
     };
     let urgent = Strand {
         from,
         to,
-        class: "lu",
+        class: Class::UrgentFrame,
     };
-    let slow = routes_of(pen.alloc, plan, down, &record.forward.flights)?;
-    let fast = routes_of(pen.alloc, plan, urgent, &record.urgent.flights)?;
+    let slow = routes_of(&mut pen.memory, plan, down, &record.forward.flights);
+    let fast = routes_of(&mut pen.memory, plan, urgent, &record.urgent.flights);
     let small = plan.is_small();
     if small {
         departures(pen, plan, &slow);
@@ -271,24 +270,24 @@ fn forward(pen: &mut Pen, plan: &Plan, record: &Record) -> Result<(), NoMemory> 
     }
     frames(pen, plan, record, down, &slow);
     frames(pen, plan, record, urgent, &fast);
-    let mut written = Vec::new(pen.alloc);
-    frame_labels(pen, &fast, small || fast.len() <= MOST_FRAMES, &mut written)?;
-    frame_labels(pen, &slow, small, &mut written)
+    let mut written = Vec::new(pen.memory.alloc);
+    frame_labels(pen, &fast, small || fast.len() <= MOST_FRAMES, &mut written);
+    frame_labels(pen, &slow, small, &mut written);
 }
 
 /// Draws the wires.
-pub(super) fn wires(pen: &mut Pen, plan: &Plan, record: &Record) -> Result<(), NoMemory> {
+pub(super) fn wires(pen: &mut Pen, plan: &Plan, record: &Record) {
     rails(pen, plan);
-    forward(pen, plan, record)?;
+    forward(pen, plan, record);
     let (from, to) = plan.back;
     let up = Strand {
         from,
         to,
-        class: "lq",
+        class: Class::RequestFrame,
     };
-    let routes = routes_of(pen.alloc, plan, up, &record.back.flights)?;
+    let routes = routes_of(&mut pen.memory, plan, up, &record.back.flights);
     frames(pen, plan, record, up, &routes);
     let few = plan.is_small() || routes.len() <= MOST_FRAMES;
-    let mut written = Vec::new(pen.alloc);
-    frame_labels(pen, &routes, few, &mut written)
+    let mut written = Vec::new(pen.memory.alloc);
+    frame_labels(pen, &routes, few, &mut written);
 }

@@ -31,10 +31,11 @@ impl Recorder {
             State::Unpushed
         } else if log.clean().contains(page) {
             State::Clean
-        } else if switched && state_of(&self.record.source, page) == State::Clean {
-            State::Clean
         } else if switched {
-            State::Pushed
+            match state_of(&self.record.source, page) {
+                State::Clean => State::Clean,
+                _ => State::Pushed,
+            }
         } else if log.ever_sent().contains(page) {
             State::Dirty
         } else {
@@ -44,7 +45,7 @@ impl Recorder {
 
     /// What a page of the source is.
     fn page_at_source(&self, page: PageNo) -> State {
-        if self.world.source_phase() == SourcePhase::Released {
+        if matches!(self.world.source_phase(), SourcePhase::Released) {
             State::Blank
         } else if self.world.source_space().page(page).is_some() {
             self.present_at_source(page)
@@ -70,7 +71,7 @@ impl Recorder {
     /// What a page of the destination is.
     fn page_at_destination(&self, page: PageNo) -> State {
         let now = state_of(&self.record.destination, page);
-        if self.node() == Node::Source {
+        if matches!(self.node(), Node::Source) {
             return now;
         }
         if self.world.destination_space().page(page).is_none() {
@@ -155,7 +156,7 @@ impl Recorder {
         }
         let (from, to) = (page_at(old), page_at(new));
         let count = end_of(old, len).saturating_sub(from);
-        let at_destination = self.node() == Node::Destination;
+        let at_destination = matches!(self.node(), Node::Destination);
         let one = Move {
             line: self.line,
             from,
@@ -203,7 +204,7 @@ impl Recorder {
             line: self.line,
             page,
             cpu,
-            at_destination: node == Node::Destination,
+            at_destination: matches!(node, Node::Destination),
         };
         let kept = self.record.dots.push(dot).is_ok();
         self.keep(kept);
@@ -280,7 +281,7 @@ impl Recorder {
 
     /// The copy of a page of the source has come.
     fn copy_came(&mut self, page: PageNo) {
-        if self.node() == Node::Source {
+        if matches!(self.node(), Node::Source) {
             return self.note(Node::Destination, page, State::Kept);
         }
         match self.world.owed().home(page) {
@@ -304,7 +305,7 @@ impl Recorder {
 
     /// Whether a page has a copy at the destination, which may be stale: that of a page that is not clean at the source, or all of them.
     fn is_stale(&self, page: PageNo, all: bool) -> bool {
-        state_of(&self.record.destination, page) == State::Kept
+        matches!(state_of(&self.record.destination, page), State::Kept)
             && (all || !self.world.dirty_log().clean().contains(page))
     }
 
@@ -326,7 +327,7 @@ impl Recorder {
             }
             Effect::TookRun { addr, pages } => self.copies_came(page_at(addr), pages),
             Effect::TookDiscard { .. } => self.discard(false),
-            Effect::TookResume if self.node() == Node::Source => self.discard(true),
+            Effect::TookResume if matches!(self.node(), Node::Source) => self.discard(true),
             Effect::TookPackage { .. } => {
                 self.look_at_areas(Node::Destination);
                 self.look(Node::Destination, 0, HIGH_PAGE)

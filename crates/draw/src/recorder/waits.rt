@@ -12,8 +12,8 @@ impl Recorder {
     /// Whether the channel is broken, or a node has not gone on since it was.
     fn is_down(&self) -> bool {
         !self.world.is_up()
-            || self.world.destination_phase() == DestPhase::Paused
-            || self.world.source_phase() == SourcePhase::Paused
+            || matches!(self.world.destination_phase(), DestPhase::Paused)
+            || matches!(self.world.source_phase(), SourcePhase::Paused)
     }
 
     /// The node that runs the processors.
@@ -26,10 +26,10 @@ impl Recorder {
 
     /// Who has to act for a processor that sleeps on a page.
     fn cause(&self, page: PageNo) -> State {
-        if self.world.phase() == WorldPhase::Switching {
+        if matches!(self.world.phase(), WorldPhase::Switching) {
             return State::Stopped;
         }
-        if self.node() == Node::Source {
+        if matches!(self.node(), Node::Source) {
             return State::Handler;
         }
         let Some(origin) = self.world.owed().origin(page) else {
