@@ -1,6 +1,6 @@
 //! Readers and writers that take pieces or fail, and lines of any length.
 
-use crate::play::{Call, Case, MOST, play};
+use super::play::{Call, Case, MOST, play};
 use engine::RunFault;
 use grammar::Language;
 use std::alloc::{AllocError, Global};

@@ -1,3 +1,5 @@
+//! Orders with their texts, which are read back.
+
 use grammar::parse::parse;
 use grammar::{Language, Line, Order, OrderText};
 use mig_base::schedule::{Side, Step};

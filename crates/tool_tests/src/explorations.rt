@@ -1,3 +1,5 @@
+//! The crate `explore`: its scripts run, and their answers are those of the run.
+
 use engine::{Mode, RunFault, check_script, run_script};
 use explore::{Plan, Profile, run_explore};
 use std::alloc::{AllocError, Global};

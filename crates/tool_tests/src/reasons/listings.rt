@@ -1,9 +1,9 @@
 //! What is listed of lines.
 
-use crate::play::{Call, Case, MOST, play};
-use crate::script::SCRIPT;
-use crate::transcript::TRANSCRIPT;
-use crate::{script, transcript};
+use super::play::{Call, Case, MOST, play};
+use super::script::SCRIPT;
+use super::transcript::TRANSCRIPT;
+use super::{script, transcript};
 use grammar::Language;
 use std::test::Fail;
 

@@ -1,6 +1,6 @@
 //! Tests that `answer_script` writes.
 
-use crate::play::{WHOLE, answered, look};
+use super::play::{WHOLE, answered, look};
 use engine::RunFault;
 use expected::Outcome;
 use std::test::Fail;

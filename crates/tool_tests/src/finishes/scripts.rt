@@ -1,3 +1,5 @@
+//! Scripts with the lines that finish them.
+
 use engine::{Mode, RunFault, run_script};
 use finishing::{Ending, finish_script};
 use std::alloc::{AllocError, Global};

@@ -1,4 +1,4 @@
-//! Scripts, and what their pictures have.
+//! The crate `draw`: what the picture of a run says, and that nothing is written where a line is wrong.
 
 use draw::run_draw;
 use engine::RunFault;

@@ -1,6 +1,6 @@
 //! Reads and writes that fail.
 
-use crate::play::{How, WHOLE, answered, tested};
+use super::play::{How, WHOLE, answered, tested};
 use engine::RunFault;
 use expected::Outcome;
 use std::test::Fail;

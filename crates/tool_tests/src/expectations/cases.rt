@@ -1,6 +1,6 @@
 //! Answers that are met and answers that differ, wrong lines, and the number of processors.
 
-use crate::play::look;
+use super::play::look;
 use engine::RunFault;
 use expected::Outcome;
 use std::test::Fail;

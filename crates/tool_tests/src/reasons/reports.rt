@@ -1,6 +1,6 @@
 //! The reports on transcripts.
 
-use crate::play::{Call, Case, MOST, play};
+use super::play::{Call, Case, MOST, play};
 use engine::RunFault;
 use explain::Asks;
 use std::test::Fail;

@@ -1,7 +1,0 @@
-//! Tests of `finishing`: the text of each order is read back, and a script with the lines that finish it runs to the end of its migration.
-#![tactic(auto)]
-
-#[cfg(test)]
-mod lines;
-#[cfg(test)]
-mod scripts;
