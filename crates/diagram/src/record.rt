@@ -145,7 +145,7 @@ pub struct Move {
 pub struct Record {
     /// The line of the file of each order.
     pub lines: Vec<u32>,
-    /// The first lines, as far as they are shown.
+    /// The texts of the first [`FEW`] orders: the first [`SHOWN`] bytes of each line.
     pub texts: Vec<String>,
     pub source: Track,
     pub destination: Track,
