@@ -145,7 +145,7 @@ pub struct Move {
 pub struct Record {
     /// The line of the file of each order.
     pub lines: Vec<u32>,
-    /// The texts of the first [`FEW`] orders: the first [`SHOWN`] bytes of each line.
+    /// The lines of the first [`FEW`] orders, without the blanks around them: the first [`SHOWN`] bytes of each.
     pub texts: Vec<String>,
     pub source: Track,
     pub destination: Track,
