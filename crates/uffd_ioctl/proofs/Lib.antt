@@ -1,5 +1,5 @@
 pub mod MapCallLemmas
-pub mod PaddingLemmas
+pub mod NumberLemmas
 pub mod AnswerLemmas
 pub mod ChangeLemmas
 pub mod RemapLemmas

@@ -12,6 +12,7 @@ ghost use Rattle.uffd_ioctl.specs.Spaces.{memory_after, needs_room};
 
 use super::Space;
 use crate::access::{is_made, number};
+use byteorder::{ByteOrder, LittleEndian};
 use mig_base::command::{fits, is_aligned};
 use mig_base::{
     Access, Addr, Command, HIGH, NoMemory, PAGE_SIZE, PageNo, Prot, Reply, page_address,
@@ -151,7 +152,8 @@ impl Space {
         let page = (addr / PAGE_SIZE) as PageNo;
         self.make_present(page)?;
         let offset = (addr % PAGE_SIZE) as usize;
-        let bytes = value.to_le_bytes();
+        let mut bytes = [0; 8];
+        LittleEndian::write_u64(&mut bytes, value);
         self.pages.write(page, offset, &bytes[..usize::from(width)]);
         Ok(())
     }

@@ -6,7 +6,7 @@ use Rattle.uffd_ioctl.proofs.space.Space.write.Goals as goal
 
 pub write-requires-clause-inside : goal.write-requires-clause-inside
 write-requires-clause-inside c =
-    digits_fit c.args.addr c.args.width _ c.args.value c.requires.aligned (digits_of c.to_le_bytes-bytes.result c.from.result c.args.width c.args.value c.to_le_bytes-bytes.ensures c.from.ensures)
+    digits_fit c.args.addr c.args.width _ c.args.value c.requires.aligned (digits_of c.write_u64.new.buf c.from.result c.args.width c.args.value c.write_u64.ensures c.from.ensures)
 
 pub invariant_of-self : goal.invariant_of-self
 invariant_of-self c =
@@ -14,10 +14,10 @@ invariant_of-self c =
     let mapped : contains_key own.areas (c.args.addr / 4096) ≡ true = ap (λ s. contains_key s.host.areas (c.args.addr / 4096)) (c.self.view_is ∙ c.in_ok-make_present.ensures.ok) ∙ c.requires.mapped in
     let present : contains_key own.pages.bytes (c.args.addr / 4096) ≡ true = ap (λ s. contains_key s.host.bytes (c.args.addr / 4096)) c.self.view_is ∙ c.in_ok-make_present.ensures.present in
     sound_written own.areas own.pages c.write.new.self own.object c.args.addr c.args.width c.args.value _ c.self.invariant mapped present c.requires.aligned
-    (digits_of c.to_le_bytes-bytes.result c.from.result c.args.width c.args.value c.to_le_bytes-bytes.ensures c.from.ensures) c.write.ensures.bytes c.write.ensures.protected
+    (digits_of c.write_u64.new.buf c.from.result c.args.width c.args.value c.write_u64.ensures c.from.ensures) c.write.ensures.bytes c.write.ensures.protected
 
 pub returns-clause-ok : goal.returns-clause-ok
 returns-clause-ok c =
     let own = c.self.inside in
     written_space own.areas own.pages c.write.new.self own.object c.make_present.new.self c.args.self.now c.args.addr c.args.width c.args.value _ c.self.view_is c.in_ok-make_present.ensures.ok
-    (digits_of c.to_le_bytes-bytes.result c.from.result c.args.width c.args.value c.to_le_bytes-bytes.ensures c.from.ensures) c.write.ensures.bytes c.write.ensures.protected
+    (digits_of c.write_u64.new.buf c.from.result c.args.width c.args.value c.write_u64.ensures c.from.ensures) c.write.ensures.bytes c.write.ensures.protected
