@@ -1,5 +1,5 @@
 -- How the map calls change a space.
-use Rattle.std.proofs.Common.{◌≡◌, ℕ, ◌+◌, ◌-◌, ◌*◌, ◌/◌, ◌%◌, ◌^◌, ◌<◌, ◌≤◌, ◌&&◌, Bool, true, false, cond, not, eqb, leb, Option, None, List, length, refl, sym, ap, ◌∙◌, subst, ◌⊎◌, ⊎_elim, arith, min}
+use Rattle.std.proofs.Common.{◌≡◌, ℕ, ◌+◌, ◌-◌, ◌*◌, ◌/◌, ◌%◌, ◌^◌, ◌<◌, ◌≤◌, ◌&&◌, Bool, true, false, cond, not, eqb, ltb, leb, Option, None, Result, Ok, Err, OnErr, List, length, refl, sym, ap, ◌∙◌, subst, ◌⊎◌, ⊎_elim, arith, min}
 use Rattle.std.specs.Ordering.{nat_cmp}
 use Rattle.std.specs.FinMap.{FinMap, get}
 use Rattle.std.specs.FinSet.{FinSet, contains}
@@ -250,6 +250,13 @@ queued_dropped space value addr bytes low end last queued reply view sound is ot
     ∙ ap length (drop_told space addr bytes low end last reply sound is other is_low is_end is_last)
     ∙ ap (λ r. length (call_messages space.object (DontNeed addr bytes) r)) is
     ∙ ap (λ s. queued_by s (DontNeed addr bytes)) view
+
+-- a message that is due needs memory
+pub needs_dropped : {A E : Type 0} (r : Result A E) (space value : Space) (addr bytes low end last : ℕ) (reply : Reply) → space ≡ value → IsSoundSpace space → reply ≡ dontneed_reply (memory space.host) addr bytes → (reply ≡ Refused Einval → ⊥)
+    → low ≡ min (addr / 4096) HIGH_PAGE → end ≡ min (addr / 4096 + pages_of bytes) HIGH_PAGE → last ≡ 4096 * end → true ≡ is_watched space.object low (end - low) → OnErr r (ltb 0 (queued_by value (DontNeed addr bytes)) ≡ true)
+needs_dropped (Ok a) space value addr bytes low end last reply view sound is other is_low is_end is_last due = tt
+needs_dropped (Err e) space value addr bytes low end last reply view sound is other is_low is_end is_last due =
+    sym (ap (ltb 0) (queued_dropped space value addr bytes low end last 1 reply view sound is other is_low is_end is_last (ap (λ b. length (message_if b (Remove addr last))) due)))
 
 -- the space that a call leaves which is not invalid
 abbrev left_by : Space → ℕ → ℕ → ℕ → Reply → Space

@@ -1,5 +1,5 @@
 -- The machine's space that a space of the code means.
-use Rattle.std.specs.Prelude.{ℕ, ◌*◌, ◌==◌, ◌&&◌, not, Bool, true, false, if◌then◌else◌, Result, Ok, Err, refl}
+use Rattle.std.specs.Prelude.{ℕ, ◌*◌, ◌==◌, ◌&&◌, not, nat_lt, Bool, true, false, if◌then◌else◌, Result, Ok, Err, refl}
 use Rattle.std.specs.Ordering.{nat_cmp}
 use Rattle.std.specs.FinMap.{FinMap, contains_key}
 use Rattle.std.specs.FinSet as set
@@ -9,13 +9,16 @@ use Rattle.mig_base.specs.declared.Prot.{Prot}
 use Rattle.mig_base.specs.declared.TheConstants.{PAGE_SIZE}
 use Rattle.mig_base.specs.declared.command.Errno.{Errno}
 use Rattle.mig_base.specs.declared.command.Command.{Command}
+use Rattle.mig_base.specs.declared.command.Command.TheVariants.{DontNeed}
+use Rattle.mig_base.specs.declared.command.Reply.{Reply}
+use Rattle.mig_base.specs.declared.command.Reply.TheVariants.{Refused}
 use Rattle.mig_base.specs.declared.command.Access.{Access}
 use Rattle.mig_base.specs.declared.command.Access.TheVariants.{Answered, Missing, Protected}
-use Rattle.mig_base.specs.Commands.{is_store, page_of}
-use Rattle.mig_base.specs.Flat.{Memory, after}
-use Rattle.mig_model.specs.Host.{Host, coded_host}
+use Rattle.mig_base.specs.Commands.{is_access, is_store, page_of}
+use Rattle.mig_base.specs.Flat.{Memory, after, reply_of}
+use Rattle.mig_model.specs.Host.{Host, coded_host, memory}
 use Rattle.mig_base.specs.Userfault.{Object, fresh_object, enabled_with, registered_where, waits_fault}
-use Rattle.mig_model.specs.Space.{Space, access_of, is_made}
+use Rattle.mig_model.specs.Space.{Space, access_of, is_made, queued_by}
 use Rattle.mig_model.specs.Ioctls.{event_features, mode_of}
 use Rattle.page_table.specs.Views.{Pages}
 use Rattle.userfault.specs.Codes.{coded_object}
@@ -54,6 +57,20 @@ needs_room_by Protected space command = not (waits_fault space.object.faults (PA
 -- whether an access needs memory
 abbrev pub needs_room : Space → Command → Bool
 needs_room space command = needs_room_by (access_of space command) space command
+
+-- whether a reply is an error number
+abbrev pub is_refused : Reply → Bool
+is_refused (Refused errno) = true
+is_refused _ = false
+
+-- whether a map call needs memory: one that is refused needs none, and MADV_DONTNEED, which changes no mapping, needs it for a message alone
+abbrev pub call_needs_room : Space → Command → Bool
+call_needs_room space (DontNeed addr len) = nat_lt 0 (queued_by space (DontNeed addr len))
+call_needs_room space command = not (is_refused (reply_of (memory space.host) command))
+
+-- whether a command needs memory
+abbrev pub command_needs_room : Space → Command → Bool
+command_needs_room space command = if is_access command then needs_room space command else call_needs_room space command
 
 -- the flat memory after an access with this outcome: an access that is answered is made, and a page fault changes nothing
 abbrev pub memory_after : Access → Memory → Command → Memory

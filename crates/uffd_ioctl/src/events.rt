@@ -3,7 +3,7 @@
 //! If no page of a call's ranges is registered, the object stays as it is. Whatever may fail comes first, and is undone if a later
 //! part of the call runs out of memory. Only the modes of the pages that a range replaces are copied, to be restored then.
 
-ghost use Rattle.std.specs.Prelude.{◌≡◌, ℕ, ◌+◌, ◌-◌, ◌*◌, ◌<◌, ◌≤◌, false, None, IfOk, OnOk, OnErr, length, take};
+ghost use Rattle.std.specs.Prelude.{◌≡◌, ℕ, ◌+◌, ◌-◌, ◌*◌, ◌<◌, ◌≤◌, true, false, None, IfOk, OnOk, OnErr, length, take};
 ghost use Rattle.std.specs.FinMap as map;
 ghost use Rattle.std.specs.FinSet as set;
 ghost use Rattle.mig_base.specs.Pages.{moved_range};
@@ -20,7 +20,7 @@ use mig_base::{Message, NoMemory, PAGE_SIZE, page_address};
 use page_table::PageTable;
 use userfault::Userfault;
 
-/// Queues a message if it is due, and returns the number of messages queued, 0 or 1. `NoMemory` changes nothing.
+/// Queues a message if it is due, and returns the number of messages queued, 0 or 1. `NoMemory` only if it is due; it changes nothing.
 pub(crate) fn queue_if_due(
     object: &mut Userfault,
     is_due: bool,
@@ -29,6 +29,7 @@ pub(crate) fn queue_if_due(
 ) -> Result<u8, NoMemory>
     ensures object { OnOk result (object.new ≡ all_queued object.old (message_if is_due message) cpu) }
     ensures count { IfOk result (λ count. count ≡ length (message_if is_due message)) }
+    ensures due { OnErr result (is_due ≡ true) }
     ensures err { OnErr result (object.new ≡ object.old) }
 {
     if !is_due {

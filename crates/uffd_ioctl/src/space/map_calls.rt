@@ -1,10 +1,11 @@
 //! The map calls of processors.
 
-ghost use Rattle.std.specs.Prelude.{◌≡◌, IfOk, OnOk, OnErr, false};
+ghost use Rattle.std.specs.Prelude.{◌≡◌, IfOk, OnOk, OnErr, true, false};
 ghost use Rattle.mig_base.specs.Flat.{reply_of, after};
 ghost use Rattle.mig_model.specs.Host.{memory};
 ghost use Rattle.mig_base.specs.Commands.{is_access};
 ghost use Rattle.mig_model.specs.Space as machine;
+ghost use Rattle.uffd_ioctl.specs.Spaces.{call_needs_room};
 
 use super::Space;
 use crate::events::{queue_if_due, remapped};
@@ -18,13 +19,16 @@ use mig_base::{
 impl Space {
     /// Makes a map call of a processor, which is any command but a load or a store. Returns the reply of one flat memory, and the
     /// number of events that the call queued; the processor stays in its call until these are read. A page keeps its mode and its
-    /// protection when it moves, and the pages by which a range grows get the mode of its last page. `NoMemory` changes nothing.
+    /// protection when it moves, and the pages by which a range grows get the mode of its last page.
+    ///
+    /// `NoMemory` only if the call needs memory: for a mapping, which no call that is refused changes, or for a message; it changes nothing.
     pub fn map_call(&mut self, cpu: u8, command: Command) -> Result<(Reply, u8), NoMemory>
         requires { is_access command ≡ false }
         ensures reply { IfOk result (λ answer. answer.0 ≡ reply_of (memory self.old.host) command) }
         ensures queued { IfOk result (λ answer. answer.1 ≡ machine.queued_by self.old command) }
         ensures space { OnOk result (self.new ≡ machine.called self.old cpu command) }
         ensures memory { OnOk result (memory self.new.host ≡ after (memory self.old.host) command) }
+        ensures needs { OnErr result (call_needs_room self.old command ≡ true) }
         ensures err { OnErr result (self.new ≡ self.old) }
     {
         // The clause on memory rests on the invariant, which is known where a field is read.
@@ -52,6 +56,7 @@ impl Space {
         ensures reply { IfOk result (λ answer. answer.0 ≡ reply_of (memory self.old.host) (Command.Mmap len prot place)) }
         ensures queued { IfOk result (λ answer. answer.1 ≡ machine.queued_by self.old (Command.Mmap len prot place)) }
         ensures space { OnOk result (self.new ≡ machine.called self.old cpu (Command.Mmap len prot place)) }
+        ensures needs { OnErr result (call_needs_room self.old (Command.Mmap len prot place) ≡ true) }
         ensures err { OnErr result (self.new ≡ self.old) }
     {
         match mmap_place(&self.areas, len, place) {
@@ -78,6 +83,7 @@ impl Space {
         ensures reply { IfOk result (λ answer. answer.0 ≡ reply_of (memory self.old.host) (Command.Munmap addr len)) }
         ensures queued { IfOk result (λ answer. answer.1 ≡ machine.queued_by self.old (Command.Munmap addr len)) }
         ensures space { OnOk result (self.new ≡ machine.called self.old cpu (Command.Munmap addr len)) }
+        ensures needs { OnErr result (call_needs_room self.old (Command.Munmap addr len) ≡ true) }
         ensures err { OnErr result (self.new ≡ self.old) }
     {
         let count = page_count(len);
@@ -115,6 +121,7 @@ impl Space {
         ensures reply { IfOk result (λ answer. answer.0 ≡ reply_of (memory self.old.host) (Command.Mremap addr old_len new_len may_move fixed)) }
         ensures queued { IfOk result (λ answer. answer.1 ≡ machine.queued_by self.old (Command.Mremap addr old_len new_len may_move fixed)) }
         ensures space { OnOk result (self.new ≡ machine.called self.old cpu (Command.Mremap addr old_len new_len may_move fixed)) }
+        ensures needs { OnErr result (call_needs_room self.old (Command.Mremap addr old_len new_len may_move fixed) ≡ true) }
         ensures err { OnErr result (self.new ≡ self.old) }
     {
         match mremap_place(&self.areas, addr, old_len, new_len, may_move, fixed) {
@@ -142,6 +149,7 @@ impl Space {
         ensures reply { IfOk result (λ answer. answer.0 ≡ reply_of (memory self.old.host) (Command.DontNeed addr len)) }
         ensures queued { IfOk result (λ answer. answer.1 ≡ machine.queued_by self.old (Command.DontNeed addr len)) }
         ensures space { OnOk result (self.new ≡ machine.called self.old cpu (Command.DontNeed addr len)) }
+        ensures needs { OnErr result (call_needs_room self.old (Command.DontNeed addr len) ≡ true) }
         ensures err { OnErr result (self.new ≡ self.old) }
     {
         let reply = dontneed_reply(&self.areas, addr, len);
