@@ -1,11 +1,12 @@
 //! The outcome of a command.
 
-ghost use Rattle.std.specs.Prelude.{◌≡◌, ◌<◌, set, length, option_to_list, IfOk, OnOk, OnErr};
+ghost use Rattle.std.specs.Prelude.{◌≡◌, ◌<◌, true, set, length, option_to_list, IfOk, OnOk, OnErr};
 ghost use Rattle.mig_base.specs.Commands.{is_access};
 ghost use Rattle.mig_base.specs.declared.cpu_state.CpuState.{CpuState};
 ghost use Rattle.mig_model.specs.Cpus.{entries_of, processor_after, processor_at};
 ghost use Rattle.mig_model.specs.Guest.{space_by};
 ghost use Rattle.mig_model.specs.Effects.{try_effect};
+ghost use Rattle.uffd_ioctl.specs.Spaces.{command_needs_room};
 ghost use Rattle.guest.specs.Guests.{took_in};
 ghost use Rattle.guest.specs.Outcomes.{IsOutcome, took_of};
 
@@ -27,11 +28,12 @@ pub enum Took {
 }
 
 impl Took {
-    /// Makes a command in the space. `NoMemory` changes nothing.
+    /// Makes a command in the space. `NoMemory` only if the command needs memory; it changes nothing.
     pub fn of(space: &mut Space, cpu: u8, command: Command) -> Result<Self, NoMemory>
         ensures took { IfOk result (λ took. took_of took ≡ took_in space.old command) }
         ensures outcome { IfOk result (λ took. IsOutcome command took) }
         ensures space { OnOk result (space.new ≡ space_by (is_access command) space.old cpu command) }
+        ensures needs { OnErr result (command_needs_room space.old command ≡ true) }
         ensures err { OnErr result (space.new ≡ space.old) }
     {
         if command.is_access() {
