@@ -1,5 +1,6 @@
 -- A space whose userfault object is not enabled is a host and nothing else.
-use Rattle.std.proofs.Common.{◌≡◌, ℕ, ◌+◌, ◌&&◌, ◌||◌, ◌-◌, ◌++◌, [], Bool, true, false, cond, not, ltb, List, refl, sym, ap, ◌∙◌, subst}
+use Rattle.std.proofs.Common.{◌≡◌, ℕ, ◌+◌, ◌&&◌, ◌||◌, ◌-◌, ◌++◌, [], Bool, true, false, cond, not, ltb, List, length, Result, Ok, Err, OnErr, refl, sym, ap, ◌∙◌, subst}
+use Rattle.std.proofs.lemmas.Bool.{false≢true}
 use Rattle.std.specs.Ordering.{nat_cmp}
 use Rattle.std.specs.FinMap.{contains_key}
 use Rattle.std.specs.FinSet.{FinSet, contains, empty}
@@ -20,12 +21,13 @@ use Rattle.mig_base.proofs.RangeLemmas.{none_below-from}
 use Rattle.mig_base.proofs.SetLemmas.{same_members, member_without, member_below}
 use Rattle.mig_model.specs.Host.{Host, memory, host_after, IsSound}
 use Rattle.mig_base.specs.Userfault.{fresh_object, is_registered, is_watched}
-use Rattle.mig_model.specs.Space.{Space, access_of, accessed_by, accessed, is_made, message_if, call_messages, modes_after, protected_after, all_queued, called_with, called}
+use Rattle.mig_model.specs.Space.{Space, access_of, accessed_by, accessed, is_made, message_if, call_messages, modes_after, protected_after, all_queued, called_with, called, queued_by}
 use Rattle.mig_base.specs.Commands.{is_store, page_of, is_access}
 use Rattle.mig_model.proofs.CommandLemmas.{memory-changed}
 use Rattle.mig_model.proofs.SpaceLemmas.{IsSoundSpace-accessed, IsSoundSpace-called, no_member}
 use Rattle.mig_model.proofs.SourceCalls.{untold}
-use Rattle.hosts.specs.Spaces.{IsUnwatched}
+use Rattle.uffd_ioctl.specs.Spaces as spaces
+use Rattle.hosts.specs.Spaces.{IsUnwatched, needs_room}
 
 -- Accesses
 
@@ -172,3 +174,51 @@ stays_after_call space new cpu command call unwatched is = subst IsUnwatched (sy
 
 pub memory_kept : (host value new : Host) (command : Command) → host ≡ value → IsSound host → new ≡ host_after host command → memory new ≡ after (memory value) command
 memory_kept host value new command view sound is = ap memory is ∙ memory-changed host command (reply_of (memory host) command) sound refl ∙ ap (λ h. after (memory h) command) view
+
+-- Which commands need memory
+
+no_store : (made missing : Bool) → (made && false && missing) ≡ true → ⊥
+no_store true true h = false≢true h
+no_store true false h = false≢true h
+no_store false true h = false≢true h
+no_store false false h = false≢true h
+
+made_missing : (made missing : Bool) → (made && true && missing) ≡ true → (made && missing) ≡ true
+made_missing true true h = refl
+made_missing true false h = absurd (false≢true h)
+made_missing false true h = absurd (false≢true h)
+made_missing false false h = absurd (false≢true h)
+
+answered_needs : (space : Space) (command : Command) → is_access command ≡ true → spaces.needs_room_by (Answered (reply_of (memory space.host) command)) space command ≡ true → needs_room space.host command ≡ true
+answered_needs space (Load addr width) access h = absurd (no_store (is_made (reply_of (memory space.host) (Load addr width))) (not (contains_key space.host.bytes (page_of (Load addr width)))) h)
+answered_needs space (Store addr width value) access h =
+    made_missing (is_made (reply_of (memory space.host) (Store addr width value))) (not (contains_key space.host.bytes (page_of (Store addr width value)))) h
+answered_needs space (Mmap len prot place) access h = absurd (false≢true access)
+answered_needs space (Munmap addr len) access h = absurd (false≢true access)
+answered_needs space (Mremap addr old_len new_len may_move fixed) access h = absurd (false≢true access)
+answered_needs space (DontNeed addr len) access h = absurd (false≢true access)
+
+-- where a call has failed, this holds
+at_err : {A E P : Type 0} (r : Result A E) → P → OnErr r P
+at_err (Ok a) p = tt
+at_err (Err e) p = p
+
+pub access_needs : {A E : Type 0} (r : Result A E) (space : Space) (host : Host) (command : Command) → space.host ≡ host → is_access command ≡ true → IsUnwatched space → spaces.needs_room space command ≡ true → OnErr r (needs_room host command ≡ true)
+access_needs r space host command view access unwatched h =
+    at_err r (
+    sym (ap (λ k. needs_room k command) view) ∙ answered_needs space command access (sym (ap (λ a. spaces.needs_room_by a space command) (access_unwatched space command unwatched)) ∙ h))
+
+none_queued : (space : Space) (command : Command) → IsUnwatched space → queued_by space command ≡ 0
+none_queued space command unwatched =
+    ap (λ o. length (call_messages o command (reply_of (memory space.host) command))) unwatched.object ∙ ap length (messages_fresh command (reply_of (memory space.host) command))
+
+map_call_needs : (space : Space) (command : Command) → is_access command ≡ false → IsUnwatched space → spaces.call_needs_room space command ≡ true → needs_room space.host command ≡ true
+map_call_needs space (Load addr width) call unwatched h = absurd (false≢true (sym call))
+map_call_needs space (Store addr width value) call unwatched h = absurd (false≢true (sym call))
+map_call_needs space (Mmap len prot place) call unwatched h = h
+map_call_needs space (Munmap addr len) call unwatched h = h
+map_call_needs space (Mremap addr old_len new_len may_move fixed) call unwatched h = h
+map_call_needs space (DontNeed addr len) call unwatched h = absurd (false≢true (sym (ap (ltb 0) (none_queued space (DontNeed addr len) unwatched)) ∙ h))
+
+pub call_needs : {A E : Type 0} (r : Result A E) (space : Space) (host : Host) (command : Command) → space.host ≡ host → is_access command ≡ false → IsUnwatched space → spaces.call_needs_room space command ≡ true → OnErr r (needs_room host command ≡ true)
+call_needs r space host command view call unwatched h = at_err r (sym (ap (λ k. needs_room k command) view) ∙ map_call_needs space command call unwatched h)

@@ -1,12 +1,13 @@
 //! One host: an address space whose userfault object is not enabled.
 
-ghost use Rattle.std.specs.Prelude.{◌≡◌, ℕ, None, IfOk, OnOk, OnErr};
+ghost use Rattle.std.specs.Prelude.{◌≡◌, ℕ, true, None, IfOk, OnOk, OnErr};
 ghost use Rattle.std.specs.FinMap as map;
 ghost use Rattle.std.specs.FinSet as set;
 ghost use Rattle.std.specs.Option.{option_copied};
 ghost use Rattle.mig_base.specs.Flat.{reply_of, after};
 ghost use Rattle.mig_model.specs.Host.{bare_host, memory, host_after};
 ghost use Rattle.mig_base.specs.Commands.{is_access as is_load_or_store};
+ghost use Rattle.hosts.specs.Spaces.{needs_room};
 
 use area_map::AreaMap;
 use mig_base::{Access, Command, NoMemory, PageNo, PageSet, Reply};
@@ -79,11 +80,13 @@ impl Host {
         self.space.areas()
     }
 
-    /// Makes a command, and returns the reply of one flat memory. `NoMemory` changes nothing.
+    /// Makes a command, and returns the reply of one flat memory. `NoMemory` only if the command needs memory, to make the page of a store
+    /// present or to change which pages are mapped; it changes nothing.
     pub fn perform(&mut self, command: Command) -> Result<Reply, NoMemory>
         ensures reply { IfOk result (λ reply. reply ≡ reply_of (memory self.old) command) }
         ensures memory { OnOk result (memory self.new ≡ after (memory self.old) command) }
         ensures host { OnOk result (self.new ≡ host_after self.old command) }
+        ensures needs { OnErr result (needs_room self.old command ≡ true) }
         ensures err { OnErr result (self.new ≡ self.old) }
     {
         // No page is registered: no access sleeps, and no message names a processor.

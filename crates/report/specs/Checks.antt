@@ -1,8 +1,12 @@
 -- What a check finds: the first entry whose reply is not that of one flat memory.
-use Rattle.std.specs.Prelude.{◌≡◌, ◌≢◌, ℕ, List, Some, take, slice_get}
+use Rattle.std.specs.Prelude.{◌≡◌, ◌≢◌, ℕ, Bool, true, false, not, List, Some, take, slice_get}
 use Rattle.mig_base.specs.declared.command.Reply.{Reply}
 use Rattle.mig_base.specs.declared.command.Entry.{Entry}
-use Rattle.mig_base.specs.Flat.{reply_of, IsFlatRun, memory_of}
+use Rattle.mig_base.specs.declared.command.Command.{Command}
+use Rattle.mig_base.specs.declared.command.Command.TheVariants.{Load, Store, DontNeed}
+use Rattle.mig_base.specs.Flat.{Memory, reply_of, IsFlatRun, memory_of}
+use Rattle.mig_model.specs.Space.{is_made}
+use Rattle.uffd_ioctl.specs.Spaces.{is_refused}
 use Rattle.report.specs.declared.check.CheckFault.{CheckFault}
 use Rattle.report.specs.declared.check.CheckFault.TheVariants.{Wrong, NoMemory}
 
@@ -17,7 +21,22 @@ pub record FirstWrong (entries : List Entry) (index : ℕ) (expected : Reply) : 
   pub answers : expected ≡ reply_of (memory_of (take index entries)) entry.command
   pub differs : entry.reply ≢ expected
 
--- what a fault says about the entries: nothing if memory ran out
+-- whether one flat memory may need room for a command: for a store that is made, or for a mapping that mmap, munmap or mremap changes
+abbrev pub may_need_room : Memory → Command → Bool
+may_need_room memory (Load addr width) = false
+may_need_room memory (Store addr width value) = is_made (reply_of memory (Store addr width value))
+may_need_room memory (DontNeed addr len) = false
+may_need_room memory command = not (is_refused (reply_of memory command))
+
+-- memory ran out at one of the entries, whose command may need room; the entries before it are a flat run
+pub record LacksRoom (entries : List Entry) : Type 0 where
+  pub index : ℕ
+  pub entry : Entry
+  pub inside : slice_get entries index ≡ Some entry
+  pub before : IsFlatRun (take index entries)
+  pub needs : may_need_room (memory_of (take index entries)) entry.command ≡ true
+
+-- what a fault says about the entries
 abbrev pub IsFaultOf : List Entry → CheckFault → Type 0
 IsFaultOf entries (Wrong index expected) = FirstWrong entries index expected
-IsFaultOf entries NoMemory = Unit {0}
+IsFaultOf entries NoMemory = LacksRoom entries

@@ -16,13 +16,13 @@ pub enum CheckFault {
     /// The entry at this index, counted from 0, is the first whose reply is wrong: one flat memory answers `expected`.
     #[error("entry {index}: one flat memory answers otherwise")]
     Wrong { index: usize, expected: Reply },
-    /// An allocation failed, and nothing is known about the entries. The same check may succeed later.
+    /// An allocation failed, at an entry whose command may need memory; those before it are right. The same check may succeed later.
     #[error("no memory")]
     NoMemory,
 }
 
-/// Replays entries on one flat memory, kept in pages: it takes memory only for the areas and for the pages that are stored to.
-/// The processors of the entries do not matter.
+/// Replays entries on one flat memory, kept in pages: it takes memory only for the areas and for the pages that are stored to, so `NoMemory`
+/// comes only at a store that is made, or at an mmap, munmap or mremap that is not refused. The processors of the entries do not matter.
 pub fn check(alloc: Global, entries: &[Entry]) -> Result<(), CheckFault>
     ensures ok { OnOk result (IsFlatRun entries.now) }
     ensures wrong { IfErr result (λ fault. IsFaultOf entries.now fault) }

@@ -1,7 +1,7 @@
 use Rattle.std.proofs.Common.{◌∙◌, ap, sym}
 use Rattle.mig_base.specs.Flat.{reply_of}
 use Rattle.mig_model.specs.Host.{memory}
-use Rattle.hosts.proofs.UnwatchedLemmas.{never_missing, access_reply_is, accessed_host, called_host, stays_after_access, stays_after_call, memory_kept}
+use Rattle.hosts.proofs.UnwatchedLemmas.{access_needs, call_needs, never_missing, access_reply_is, accessed_host, called_host, stays_after_access, stays_after_call, memory_kept}
 use Rattle.hosts.proofs.host.Host.perform.Goals as goal
 
 pub unreachable-requires : goal.unreachable-requires
@@ -27,3 +27,11 @@ returns-in_ok-reply-2-clause-memory c =
 
 pub returns-in_ok-reply-2-clause-reply : goal.returns-in_ok-reply-2-clause-reply
 returns-in_ok-reply-2-clause-reply c = c.in_ok-reply-2.ensures.reply ∙ ap (λ h. reply_of (memory h) c.args.command) c.self.view_is
+
+pub returns-in_err-reply-clause-needs : goal.returns-in_err-reply-clause-needs
+returns-in_err-reply-clause-needs c =
+    access_needs c.from_residual.result c.self.inside.space c.args.self.now c.args.command c.self.view_is (sym c.is_access.ensures ∙ c.if-is_access.true) c.self.invariant c.in_err-reply.ensures.needs
+
+pub returns-in_err-reply-2-clause-needs : goal.returns-in_err-reply-2-clause-needs
+returns-in_err-reply-2-clause-needs c =
+    call_needs c.from_residual-in_err-reply-2.result c.self.inside.space c.args.self.now c.args.command c.self.view_is (sym c.is_access.ensures ∙ c.if-is_access.false) c.self.invariant c.in_err-reply-2.ensures.needs
