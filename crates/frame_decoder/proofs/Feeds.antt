@@ -93,6 +93,11 @@ pub lacks_body : (fixed : Option Version) (bytes : List ℕ) (h : Header) → 12
 unfolding lacks
 lacks_body fixed bytes h le e = let t : ltb (length bytes) 12 ≡ false = le-ltb _ _ le in rw (t, e) refl
 
+-- less than a frame lacks a byte at least
+pub lacks_some : (fixed : Option Version) (bytes : List ℕ) → IsPart fixed bytes → 0 < lacks fixed bytes
+lacks_some fixed bytes (inl p) = omega (arith, p.short, lacks_header fixed bytes p.short)
+lacks_some fixed bytes (inr p) = omega (arith, p.short, lacks_body fixed bytes p.header p.long p.reads)
+
 pub wait_part : (fixed : Option Version) (bytes piece : List ℕ) → IsPart fixed bytes → length piece < lacks fixed bytes → IsPart fixed (bytes ++ piece)
 wait_part fixed bytes piece (inl p) less =
     inl (record { short = omega (arith, p.short, less, lacks_header fixed bytes p.short, length-append bytes piece) })

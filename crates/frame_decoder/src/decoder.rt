@@ -1,6 +1,6 @@
 //! Reading frames from the pieces of a stream.
 
-ghost use Rattle.std.specs.Prelude.{◌≡◌, ◌+◌, ◌*◌, ◌<◌, ◌++◌, ◌≤◌, [], length, drop, take, Option, IfOk, OnOk, OnErr};
+ghost use Rattle.std.specs.Prelude.{◌≡◌, ◌+◌, ◌*◌, ◌<◌, ◌++◌, ◌≤◌, [], length, drop, take, Option, Err, IfOk, OnOk, OnErr};
 ghost use Rattle.mig_base.specs.declared.TheConstants.{MAX_CPUS, MAX_PAGES};
 ghost use Rattle.frame_decoder.specs.Streams.{Splits, IsPart, IsFault, IsTextOf, May, lacks, missing, sent_of, sents};
 ghost use Rattle.frame_decoder.specs.Feeding.{Fed, answer_of, answered, fresh};
@@ -192,12 +192,13 @@ fn read_piece(
     read_joined(alloc, fixed, held, piece)
 }
 
-/// Holds a piece that completes neither the header nor the frame. `NoMemory` leaves the held bytes as they were.
+/// Holds a piece that completes neither the header nor the frame. `NoMemory`, which no empty piece gets, leaves the held bytes as they were.
 fn wait_for_more(fixed: Option<Version>, held: &mut Vec<u8>, piece: &[u8]) -> Result<(), NoMemory>
     requires part { IsPart fixed held.old.items }
     requires less { length piece.now < lacks fixed held.old.items }
     ensures ok { OnOk result (held.new.items ≡ held.old.items ++ piece.now) }
     ensures part { IsPart fixed held.new.items }
+    ensures some { OnErr result (0 < length piece.now) }
     ensures err { OnErr result (held.new.items ≡ held.old.items) }
 {
     held.extend_from_slice(piece)?;
@@ -242,10 +243,12 @@ impl Decoder {
     /// Takes the next piece, which may be empty, and returns the frames that are whole now, each with its epoch.
     ///
     /// A fault is returned at once if the piece completes no frame before it, and by the next call otherwise; then by every later call
-    /// until [`reset`](Decoder::reset). `NoMemory` comes if an allocation fails: it takes nothing of the piece, which may be fed again.
+    /// until [`reset`](Decoder::reset). `NoMemory` comes if an allocation fails, and never for an empty piece: it takes nothing of the piece,
+    /// which may be fed again.
     pub fn feed(&mut self, piece: &[u8]) -> Result<Vec<(u32, Frame)>, StreamFault>
         ensures fed { Fed self.old piece.now (answer_of result) self.new }
         ensures bounded { length self.new.bytes < 12 + (9 + 17 * MAX_PAGES + 18 * MAX_CPUS) }
+        ensures memory { result ≡ Err StreamFault.NoMemory → 0 < length piece.now }
     {
         match self.fault {
             Some(fault) => return Err(fault),
