@@ -10,13 +10,16 @@ use mig_base::NoMemory;
 use page_stream::{Frame, encode_into};
 use std::alloc::Global;
 use std::marker::Model;
+use thiserror::Error;
 
 /// Why a piece is not taken. Nothing changes then.
-#[derive(Clone, Copy, Debug, PartialEq, Eq, Drop)]
+#[derive(Clone, Copy, Debug, PartialEq, Eq, Drop, Error)]
 pub enum FeedFault {
     /// Frames of the pieces before it wait.
+    #[error("frames wait")]
     Waiting,
     /// An allocation failed.
+    #[error("no memory")]
     NoMemory,
 }
 
