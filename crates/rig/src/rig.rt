@@ -24,17 +24,20 @@ use std::alloc::Global;
 use std::marker::Model;
 use std::sync::{Condvar, Mutex, Wait};
 use std::thread;
+use thiserror::Error;
 use world::World;
 
 /// The most times that a worker yields between two rounds of its steps, which takes some tens of microseconds.
 const LONGEST_REST: u32 = 64;
 
 /// Why the seats or claims with which a rig was closed do not agree with its world.
-#[derive(Clone, Copy, Debug, PartialEq, Eq)]
+#[derive(Clone, Copy, Debug, PartialEq, Eq, Error)]
 pub enum CloseFault {
     /// The answers of the processor with this number are not those of its seat, or its seat did not come back as it has to.
+    #[error("the answers of processor {0} are not those of its seat")]
     Answers(u8),
     /// A page of the claims neither remains to be sent nor was claimed by the seat that came with them.
+    #[error("a page of the claims is lost")]
     Claims,
 }
 
