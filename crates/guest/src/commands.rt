@@ -59,8 +59,6 @@ pub fn retry(space: &mut Space, cpus: &mut Cpus, cpu: u8, runs: bool) -> Result<
     let Ok(took) = Took::of(space, cpu, command) else {
         return Err(Refusal::NoMemory);
     };
-    let Ok(_) = cpus.take(cpu) else {
-        unreachable!();
-    };
+    cpus.go_idle(cpu);
     Ok(took.begin(cpus, cpu, command))
 }

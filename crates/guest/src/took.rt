@@ -71,18 +71,14 @@ impl Took {
                 }),
             },
             Took::Sleep => {
-                let Ok(()) = cpus.sleep(cpu, command) else {
-                    unreachable!();
-                };
+                cpus.fall_asleep(cpu, command);
                 Tried {
                     effect: Effect::Asleep { cpu },
                     entry: None,
                 }
             }
             Took::Call { reply, left } => {
-                let Ok(()) = cpus.call_sleeps(cpu, reply, left) else {
-                    unreachable!();
-                };
+                cpus.enter_call(cpu, reply, left);
                 Tried {
                     effect: Effect::InCall {
                         cpu,

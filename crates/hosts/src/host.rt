@@ -1,17 +1,12 @@
 //! One host: an address space whose userfault object is not enabled.
 
-ghost use Rattle.std.specs.Prelude.{◌≡◌, ℕ, true, None, IfOk, OnOk, OnErr};
-ghost use Rattle.std.specs.FinMap as map;
-ghost use Rattle.std.specs.FinSet as set;
-ghost use Rattle.std.specs.Option.{option_copied};
+ghost use Rattle.std.specs.Prelude.{◌≡◌, true, IfOk, OnOk, OnErr};
 ghost use Rattle.mig_base.specs.Flat.{reply_of, after};
 ghost use Rattle.mig_model.specs.Host.{bare_host, memory, host_after};
 ghost use Rattle.mig_base.specs.Commands.{is_access as is_load_or_store};
 ghost use Rattle.hosts.specs.Spaces.{needs_room};
 
-use area_map::AreaMap;
-use mig_base::{Access, Command, NoMemory, PageNo, PageSet, Reply};
-use page_table::PageTable;
+use mig_base::{Access, Command, NoMemory, Reply};
 use std::alloc::Global;
 use std::marker::Model;
 use uffd_ioctl::Space;
@@ -47,39 +42,6 @@ impl Host {
         }
     }
 
-    /// A host with these areas and present pages. Each present page has to be mapped, and none write-protected. It takes no memory.
-    pub fn assemble(alloc: Global, areas: AreaMap, pages: PageTable) -> Self
-        requires mapped { (page : ℕ) → map.get areas page ≡ None → map.get pages.bytes page ≡ None }
-        requires open { pages.protected ≡ set.empty }
-        ensures { result ≡ record { areas = areas; bytes = pages.bytes } }
-    {
-        let Ok(space) = Space::assemble(alloc, areas, pages, 0) else {
-            unreachable!()
-        };
-        Host { space }
-    }
-
-    /// The set of the present pages. `NoMemory` if it cannot be allocated.
-    pub fn present(&self) -> Result<PageSet, NoMemory>
-        ensures { IfOk result (λ pages. (q : ℕ) → set.contains pages q ≡ map.contains_key self.now.bytes q) }
-    {
-        self.space.present()
-    }
-
-    /// The bytes of a page, if it is present.
-    pub fn page(&self, page: PageNo) -> Option<&[u8; 4096]>
-        ensures { option_copied result ≡ map.get self.now.bytes page }
-    {
-        self.space.page(page)
-    }
-
-    /// A copy of the mapped pages, with their protections. `NoMemory` if it cannot be allocated.
-    pub fn areas(&self) -> Result<AreaMap, NoMemory>
-        ensures { IfOk result (λ areas. areas ≡ self.now.areas) }
-    {
-        self.space.areas()
-    }
-
     /// Makes a command, and returns the reply of one flat memory. `NoMemory` only if the command needs memory, to make the page of a store
     /// present or to change which pages are mapped; it changes nothing.
     pub fn perform(&mut self, command: Command) -> Result<Reply, NoMemory>
@@ -90,7 +52,7 @@ impl Host {
         ensures err { OnErr result (self.new ≡ self.old) }
     {
         // No page is registered: no access sleeps, and no message names a processor.
-        if is_access(command) {
+        if command.is_access() {
             let Access::Answered(reply) = self.space.access(0, command)? else {
                 unreachable!()
             };
@@ -100,11 +62,4 @@ impl Host {
             Ok(reply)
         }
     }
-}
-
-/// Whether a command is a load or store.
-fn is_access(command: Command) -> bool
-    ensures { result ≡ is_load_or_store command }
-{
-    matches!(command, Command::Load { .. } | Command::Store { .. })
 }

@@ -5,8 +5,8 @@ ghost use Rattle.std.specs.Prelude.{◌≡◌};
 use crate::NoMemory;
 
 /// Why a step is refused. A refused step changes nothing. If several reasons apply, the first of this list is given, and `NoMemory` comes
-/// last. One exception: a Deliver needs memory to read the frame that it completes, so it may answer `NoMemory` before `InstallFirst` and
-/// `UrgentFirst`.
+/// last. The numbers are fixed names of the reasons and not that order: 17 comes between 11 and 12. One exception to the order: a Deliver
+/// needs memory to read the frame that it completes, so it may return `NoMemory` before `InstallFirst` and `UrgentFirst`.
 #[derive(Clone, Copy, Debug, PartialEq, Eq)]
 pub enum Refusal {
     /// The guest has no such processor.

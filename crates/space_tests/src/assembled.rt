@@ -1,11 +1,11 @@
-//! A space and a host of parts that another host has sent.
+//! A space of parts that another host has sent, and a new host.
 
 ghost use Rattle.std.specs.Prelude.{◌≤◌};
 
 use crate::parts::parts;
 use crate::spaces::{Answer, Call, play_on};
 use hosts::Host;
-use mig_base::{Command, Errno, Message, NoMemory, PageNo, Place, Prot, Reply};
+use mig_base::{Command, Errno, Message, NoMemory, Place, Prot, Reply};
 use std::alloc::Global;
 use std::process::Abort;
 use std::test::Fail;
@@ -122,145 +122,6 @@ fn a_space_of_each_mode(rt: HostRuntime) -> Result<(), Fail> {
     Ok(())
 }
 
-/// Commands on a host of the parts, and their replies.
-const COMMANDS: [(Command, Reply); 6] = [
-    (
-        Command::Load {
-            addr: 0x10000,
-            width: 2,
-        },
-        Reply::Value(0x707),
-    ),
-    (
-        Command::Store {
-            addr: 0x11000,
-            width: 1,
-            value: 9,
-        },
-        Reply::Done,
-    ),
-    (
-        Command::Load {
-            addr: 0x11000,
-            width: 8,
-        },
-        Reply::Value(9),
-    ),
-    (
-        Command::Munmap {
-            addr: 0x10000,
-            len: 1,
-        },
-        Reply::Done,
-    ),
-    (
-        Command::Load {
-            addr: 0x10000,
-            width: 2,
-        },
-        Reply::Segv { mapped: false },
-    ),
-    (
-        Command::DontNeed {
-            addr: 0x10000,
-            len: 8192,
-        },
-        Reply::Refused(Errno::Enomem),
-    ),
-];
-
-fn prots(host: &Host) -> Result<[Option<Prot>; 2], NoMemory> {
-    let areas = host.areas()?;
-    Ok([areas.prot_at(0x10), areas.prot_at(0x11)])
-}
-
-fn first_byte(host: &Host, page: PageNo) -> Option<u8> {
-    match host.page(page) {
-        Some(bytes) => Some(bytes[0]),
-        None => None,
-    }
-}
-
-fn present(host: &Host) -> Result<u32, NoMemory> {
-    let pages = host.present()?;
-    Ok(pages.len())
-}
-
-/// The protections and the first bytes of the two pages, and how many are present.
-#[derive(Clone, Copy, PartialEq, Eq)]
-struct Seen {
-    prots: [Option<Prot>; 2],
-    bytes: [Option<u8>; 2],
-    present: u32,
-}
-
-fn look(host: &Host) -> Result<Seen, NoMemory> {
-    Ok(Seen {
-        prots: prots(host)?,
-        bytes: [first_byte(host, 0x10), first_byte(host, 0x11)],
-        present: present(host)?,
-    })
-}
-
-/// The same, on the second try if the first is refused memory.
-fn looked(host: &Host) -> Result<Seen, NoMemory> {
-    match look(host) {
-        Ok(pages) => Ok(pages),
-        Err(NoMemory) => look(host),
-    }
-}
-
-const WRITE: Option<Prot> = Some(Prot::ReadWrite);
-
-/// Two pages are mapped, and the first is present.
-const PARTS: Seen = Seen {
-    prots: [WRITE, WRITE],
-    bytes: [Some(7), None],
-    present: 1,
-};
-
-/// The commands leave the second page mapped.
-const SECOND: Seen = Seen {
-    prots: [None, WRITE],
-    bytes: [None, None],
-    present: 0,
-};
-
-const NOTHING: Seen = Seen {
-    prots: [None, None],
-    bytes: [None, None],
-    present: 0,
-};
-
-/// Looks at a host, makes commands on it, and looks at it again.
-fn command_host(
-    rt: &impl Abort,
-    host: &mut Host,
-    seen: Seen,
-    commands: &[(Command, Reply)],
-    left: Seen,
-) -> Result<(), Fail> {
-    assert!(rt; looked(host)? == seen);
-    for (i, (command, wanted)) in commands.iter().enumerate() {
-        let before = looked(host)?;
-        let mut reply = host.perform(*command);
-        if reply == Err(NoMemory) {
-            assert!(rt; looked(host)? == before, "command {i}");
-            reply = host.perform(*command);
-        }
-        assert_eq!(rt; reply, Ok(*wanted), "command {i}");
-    }
-    assert!(rt; looked(host)? == left);
-    Ok(())
-}
-
-#[test]
-fn a_host_of_parts(rt: HostRuntime) -> Result<(), Fail> {
-    let (areas, pages) = parts(rt.alloc())?;
-    let mut host = Host::assemble(rt.alloc(), areas, pages);
-    command_host(&rt, &mut host, PARTS, &COMMANDS, SECOND)
-}
-
 /// Commands on a host on which nothing is mapped, and their replies.
 const FROM_NOTHING: [(Command, Reply); 7] = [
     (
@@ -319,15 +180,15 @@ const FROM_NOTHING: [(Command, Reply); 7] = [
     ),
 ];
 
-/// The page has moved to the second place, and begins with a zero.
-const MOVED: Seen = Seen {
-    prots: [None, WRITE],
-    bytes: [None, Some(0)],
-    present: 1,
-};
-
 #[test]
 fn a_new_host(rt: HostRuntime) -> Result<(), Fail> {
     let mut host = Host::new(rt.alloc());
-    command_host(&rt, &mut host, NOTHING, &FROM_NOTHING, MOVED)
+    for (i, (command, wanted)) in FROM_NOTHING.iter().enumerate() {
+        let mut reply = host.perform(*command);
+        if reply == Err(NoMemory) {
+            reply = host.perform(*command);
+        }
+        assert_eq!(rt; reply, Ok(*wanted), "command {i}");
+    }
+    Ok(())
 }

@@ -1,4 +1,4 @@
-//! What a space and a host are assembled of: two mapped pages, of which the first is present.
+//! What a space is assembled of: two mapped pages, of which the first is present.
 
 ghost use Rattle.std.specs.Prelude.{◌≡◌, IfOk, replicate};
 ghost use Rattle.std.specs.FinMap as map;

@@ -2,7 +2,7 @@
 
 ghost use Rattle.std.specs.Prelude.{◌≡◌, ℕ, ◌+◌, ◌==◌, ◌<◌, ◌≤◌, ◌↔◌, true, false, map, set, length, OnOk, OnErr, IfOk};
 ghost use Rattle.mig_base.specs.Commands.{is_access};
-ghost use Rattle.mig_model.specs.Cpus.{all_woken, idle_answer, idle_processors, message_less, outstanding, processor_at, taken_over, woken_answer};
+ghost use Rattle.mig_model.specs.Cpus.{all_woken, idle_answer, idle_processors, is_woken, message_less, outstanding, processor_at, taken_over, woken_answer};
 ghost use Rattle.mig_model.specs.Guest.{in_bytes};
 ghost use Rattle.vcpu.specs.Processors.{HasMessage};
 ghost use Rattle.vcpu.specs.Answers.{is_count, message_answer, outstanding_answer, state_answer};
@@ -127,8 +127,18 @@ impl Cpus {
         ensures err { OnErr result (self.new ≡ self.old) }
     {
         self.ensure_idle(k)?;
-        self.put(usize::from(k), CpuState::Asleep(command));
+        self.fall_asleep(k, command);
         Ok(())
+    }
+
+    /// The same for a processor that is known to be idle.
+    pub fn fall_asleep(&mut self, k: u8, command: Command)
+        requires cpu { k < length self.old }
+        requires idle { processor_at self.old k ≡ CpuState.Idle }
+        requires access { is_access command ≡ true }
+        ensures { self.new ≡ set self.old k (CpuState.Asleep command) }
+    {
+        self.put(usize::from(k), CpuState::Asleep(command));
     }
 
     /// Puts processor `k` into a map call, which returns `reply` once `left` messages, at least one, have been read. `NoCpu` if
@@ -140,8 +150,18 @@ impl Cpus {
         ensures err { OnErr result (self.new ≡ self.old) }
     {
         self.ensure_idle(k)?;
-        self.put(usize::from(k), CpuState::InCall { reply, left });
+        self.enter_call(k, reply, left);
         Ok(())
+    }
+
+    /// The same for a processor that is known to be idle.
+    pub fn enter_call(&mut self, k: u8, reply: Reply, left: u8)
+        requires cpu { k < length self.old }
+        requires idle { processor_at self.old k ≡ CpuState.Idle }
+        requires messages { 0 < left }
+        ensures { self.new ≡ set self.old k (CpuState.InCall reply left) }
+    {
+        self.put(usize::from(k), CpuState::InCall { reply, left });
     }
 
     /// Returns the command of processor `k`, which was woken, and leaves the processor idle. Refused like `woken`.
@@ -151,8 +171,17 @@ impl Cpus {
         ensures err { OnErr result (self.new ≡ self.old) }
     {
         let command = self.woken(k)?;
-        self.put(usize::from(k), CpuState::Idle);
+        self.go_idle(k);
         Ok(command)
+    }
+
+    /// Leaves processor `k`, which was woken, idle: its command is tried again.
+    pub fn go_idle(&mut self, k: u8)
+        requires cpu { k < length self.old }
+        requires woken { is_woken (processor_at self.old k) ≡ true }
+        ensures { self.new ≡ set self.old k CpuState.Idle }
+    {
+        self.put(usize::from(k), CpuState::Idle);
     }
 
     /// Counts one message of processor `k`'s map call as read. With the last one it returns the reply of the call and leaves the

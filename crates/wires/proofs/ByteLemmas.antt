@@ -13,7 +13,7 @@ use Rattle.frame_decoder.specs.Feeding.{Decodes}
 use Rattle.frame_decoder.specs.Streams.{IsSent, texts}
 use Rattle.frame_decoder.specs.declared.version.Version.TheVariants as versions
 use Rattle.wires.specs.Chunks.{AreChunks, IsFull, frames_in, in_flight, in_full, left, pieces}
-use Rattle.wires.specs.Lanes.{IsHeld}
+use Rattle.mig_model.specs.Invariant.{HeldFits}
 use Rattle.wires.specs.declared.chunks.Chunks.{Chunks}
 use Rattle.wires.proofs.ChunkLemmas.{length-text_of}
 use Rattle.mig_base.proofs.ByteLemmas.{concat-push}
@@ -80,7 +80,7 @@ fewer_bytes old new sent rest was are first left =
 pub wire_decoded : (chunks : Chunks) → AreChunks chunks → Decodes (bytes_in chunks) (in_flight chunks) []
 wire_decoded chunks are = subst (λ (bytes : List ℕ). Decodes bytes (in_flight chunks) []) (sym (bytes_are chunks are)) (texts_decoded versions.Two (in_flight chunks) (all_sent chunks are))
 
-part_held : (frames : List Sent) (held : ℕ) → AllByRecursion (IsSent versions.Two) frames → IsHeld frames held → Decodes (take held (texts versions.Two frames)) [] (take held (texts versions.Two frames))
+part_held : (frames : List Sent) (held : ℕ) → AllByRecursion (IsSent versions.Two) frames → HeldFits frames held → Decodes (take held (texts versions.Two frames)) [] (take held (texts versions.Two frames))
 part_held [] held each is = subst (λ (held : ℕ). Decodes (take held []) [] (take held [])) (sym is) (texts_decoded versions.Two [] tt)
 part_held (sent ∷ rest) held each is =
     let long = length-text_of sent each.0 in
@@ -88,5 +88,5 @@ part_held (sent ∷ rest) held each is =
     let some : drop held (text_of sent) ≡ [] → ⊥ = λ none. let short = length-drop held (text_of sent) in let zero_long = ap length none in omega (arith, long, is, short, zero_long) in
     subst (λ (bytes : List ℕ). Decodes bytes [] bytes) (sym front) (part_decoded versions.Two [] sent (take held (text_of sent)) (drop held (text_of sent)) tt each.0 (sym (take-append-drop held (text_of sent))) some)
 
-pub held_decoded : (chunks : Chunks) (held : ℕ) → AreChunks chunks → IsHeld (in_flight chunks) held → Decodes (take held (bytes_in chunks)) [] (take held (bytes_in chunks))
+pub held_decoded : (chunks : Chunks) (held : ℕ) → AreChunks chunks → HeldFits (in_flight chunks) held → Decodes (take held (bytes_in chunks)) [] (take held (bytes_in chunks))
 held_decoded chunks held are is = subst (λ (bytes : List ℕ). Decodes (take held bytes) [] (take held bytes)) (sym (bytes_are chunks are)) (part_held (in_flight chunks) held (all_sent chunks are) is)

@@ -13,7 +13,8 @@ use Rattle.frame_decoder.specs.declared.version.Version.{Version}
 use Rattle.frame_decoder.specs.declared.version.Version.TheVariants as versions
 use Rattle.page_stream.specs.declared.frame.Frame.{Frame}
 use Rattle.wires.specs.Chunks.{AreChunks, IsFrontLen, frames_in, in_flight, in_full, left}
-use Rattle.wires.specs.Lanes.{Completes, IsFirstLen, IsHeld, IsMoved, IsWhole, sent_of}
+use Rattle.mig_model.specs.Invariant.{HeldFits}
+use Rattle.wires.specs.Lanes.{Completes, IsFirstLen, IsMoved, IsWhole, sent_of}
 use Rattle.wires.specs.declared.chunks.Chunks.{Chunks}
 use Rattle.wires.specs.declared.sent.Sent.{Sent}
 use Rattle.wires.proofs.ChunkLemmas.{AreThose, has_first}
@@ -65,11 +66,11 @@ has_front chunks bytes known len are is some knows kept read =
     }
 
 -- fewer bytes have come than its text has
-pub held_below : (frames : List machine.Sent) (sent : machine.Sent) (rest : List machine.Sent) (held : ℕ) → frames ≡ sent ∷ rest → IsHeld frames held → held < text_len sent.frame
-held_below frames sent rest held is below = subst (λ (frames : List machine.Sent). IsHeld frames held) is below
+pub held_below : (frames : List machine.Sent) (sent : machine.Sent) (rest : List machine.Sent) (held : ℕ) → frames ≡ sent ∷ rest → HeldFits frames held → held < text_len sent.frame
+held_below frames sent rest held is below = subst (λ (frames : List machine.Sent). HeldFits frames held) is below
 
-pub held_there : (frames : List machine.Sent) (sent : machine.Sent) (rest : List machine.Sent) (held : ℕ) → frames ≡ sent ∷ rest → held < text_len sent.frame → IsHeld frames held
-held_there frames sent rest held is below = subst (λ (frames : List machine.Sent). IsHeld frames held) (sym is) below
+pub held_there : (frames : List machine.Sent) (sent : machine.Sent) (rest : List machine.Sent) (held : ℕ) → frames ≡ sent ∷ rest → held < text_len sent.frame → HeldFits frames held
+held_there frames sent rest held is below = subst (λ (frames : List machine.Sent). HeldFits frames held) (sym is) below
 
 -- the length of the first frame is known now, and none is known of the next
 pub known_there : (frames : List machine.Sent) (sent : machine.Sent) (rest : List machine.Sent) (len : ℕ) → frames ≡ sent ∷ rest → len ≡ text_len sent.frame → IsFirstLen frames len
@@ -80,7 +81,7 @@ none_known [] = refl
 none_known (sent ∷ rest) = inl refl
 
 -- so none have come of the next
-pub none_held : (frames : List machine.Sent) → IsHeld frames 0
+pub none_held : (frames : List machine.Sent) → HeldFits frames 0
 none_held [] = refl
 none_held (sent ∷ rest) = omega arith
 

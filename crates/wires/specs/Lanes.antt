@@ -25,11 +25,6 @@ pub record Lane : Type 0 where
 abbrev pub bytes_of : Lane → List ℕ
 bytes_of lane = concat lane.pieces
 
--- fewer bytes of the first frame have come than its text has, and none if no frame is in flight
-abbrev pub IsHeld : List machine.Sent → ℕ → Type 0
-IsHeld [] held = held ≡ 0
-IsHeld (sent ∷ rest) held = held < text_len sent.frame
-
 -- the length of the first frame's text is known, or it is 0; and it is 0 if no frame is in flight
 abbrev pub IsFirstLen : List machine.Sent → ℕ → Type 0
 IsFirstLen [] len = len ≡ 0

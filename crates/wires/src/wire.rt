@@ -5,6 +5,7 @@ ghost use Rattle.std.specs.List.{AllByRecursion};
 ghost use Rattle.std.specs.Option.{IfSome};
 ghost use Rattle.mig_base.specs.Tests.{is_empty as is_none_of};
 ghost use Rattle.mig_model.specs.Bounds.{IsFrame};
+ghost use Rattle.mig_model.specs.Invariant.{HeldFits};
 ghost use Rattle.mig_model.specs.Wire as machine;
 ghost use Rattle.frame_texts.specs.Texts as written;
 ghost use Rattle.page_stream.specs.Frames.{frame_of};
@@ -12,7 +13,7 @@ ghost use Rattle.frame_decoder.specs.Feeding.{Decodes};
 ghost use Rattle.frame_decoder.specs.Streams.{IsSent, texts};
 ghost use Rattle.frame_decoder.specs.declared.version.Version.TheVariants.{Two};
 ghost use Rattle.wires.specs.Chunks.{IsFrontLen};
-ghost use Rattle.wires.specs.Lanes.{Arrives, IsHeld, bytes_of};
+ghost use Rattle.wires.specs.Lanes.{Arrives, bytes_of};
 
 use crate::chunks::Chunks;
 use crate::sent::Sent;
@@ -42,7 +43,8 @@ pub struct Wire {
 
 impl Model for Wire {
     ghost use Rattle.wires.specs.Chunks.{AreChunks, in_flight, pieces, room};
-    ghost use Rattle.wires.specs.Lanes.{IsFirstLen, IsHeld, Lane};
+    ghost use Rattle.mig_model.specs.Invariant.{HeldFits};
+    ghost use Rattle.wires.specs.Lanes.{IsFirstLen, Lane};
     ghost use Rattle.wires.specs.Codes.{coded_lane};
 
     ghost Value = { Lane };
@@ -51,7 +53,7 @@ impl Model for Wire {
 
     ghost view = { λ w. record { wire = record { frames = in_flight w.chunks; held = w.held }; pieces = pieces w.chunks; room = room w.chunks } };
 
-    ghost invariant = { λ w. AreChunks w.chunks × IsHeld (in_flight w.chunks) w.held × IsFirstLen (in_flight w.chunks) w.first_len };
+    ghost invariant = { λ w. AreChunks w.chunks × HeldFits (in_flight w.chunks) w.held × IsFirstLen (in_flight w.chunks) w.first_len };
 }
 
 impl Wire {
@@ -111,7 +113,7 @@ impl Wire {
     /// and returns no frame.
     pub fn held(&self) -> u64
         ensures count { result ≡ self.now.wire.held }
-        ensures short { IsHeld self.now.wire.frames self.now.wire.held }
+        ensures short { HeldFits self.now.wire.frames self.now.wire.held }
         ensures decoded { Decodes (take self.now.wire.held (bytes_of self.now)) [] (take self.now.wire.held (bytes_of self.now)) }
     {
         self.held

@@ -5,7 +5,8 @@ use Rattle.frame_decoder.specs.Streams.{IsTextOf}
 use Rattle.frame_decoder.specs.declared.version.Version.TheVariants as versions
 use Rattle.wires.specs.Chunks.{in_flight}
 use Rattle.wires.proofs.WireLemmas.{completes, completes_first, has_front, held_below, held_there, known_there, moves, none_is_not, read_is}
-use Rattle.wires.specs.Lanes.{IsFirstLen, IsHeld, bytes_of}
+use Rattle.mig_model.specs.Invariant.{HeldFits}
+use Rattle.wires.specs.Lanes.{IsFirstLen, bytes_of}
 use Rattle.wires.proofs.ByteLemmas.{same_bytes}
 use Rattle.wires.proofs.wire.Wire.arrive.Goals as goal
 
@@ -75,9 +76,9 @@ returns-clause-bytes c = same_bytes c.self.inside.chunks c.turn.new.self c.self.
 pub invariant_of-self-in_err-epoch : goal.invariant_of-self-in_err-epoch
 invariant_of-self-in_err-epoch c =
     let front = has_front c.turn.new.self c.left-left.result.now c.self.inside.first_len c.first_len-len.result c.turn.ensures.chunks c.left-left.ensures (λ none. eqb-false _ _ (sym c.is_empty.ensures ∙ c.if-is_empty.false) (ap length none)) (subst (λ frames. IsFirstLen frames c.self.inside.first_len) (sym c.turn.ensures.stays) c.self.invariant.2) c.first_len-len.ensures.known c.first_len-len.ensures.read in
-    (c.turn.ensures.chunks, subst (λ frames. IsHeld frames c.self.inside.held) (sym c.turn.ensures.stays) c.self.invariant.1, known_there (in_flight c.turn.new.self) front.sent front.rest _ front.flight front.len_is)
+    (c.turn.ensures.chunks, subst (λ frames. HeldFits frames c.self.inside.held) (sym c.turn.ensures.stays) c.self.invariant.1, known_there (in_flight c.turn.new.self) front.sent front.rest _ front.flight front.len_is)
 
 pub invariant_of-self-2 : goal.invariant_of-self-2
 invariant_of-self-2 c =
     let front = has_front c.turn.new.self c.left-left.result.now c.self.inside.first_len c.first_len-len.result c.turn.ensures.chunks c.left-left.ensures (λ none. eqb-false _ _ (sym c.is_empty.ensures ∙ c.if-is_empty.false) (ap length none)) (subst (λ frames. IsFirstLen frames c.self.inside.first_len) (sym c.turn.ensures.stays) c.self.invariant.2) c.first_len-len.ensures.known c.first_len-len.ensures.read in
-    (c.turn.ensures.chunks, subst (λ frames. IsHeld frames c.self.inside.held) (sym c.turn.ensures.stays) c.self.invariant.1, known_there (in_flight c.turn.new.self) front.sent front.rest _ front.flight front.len_is)
+    (c.turn.ensures.chunks, subst (λ frames. HeldFits frames c.self.inside.held) (sym c.turn.ensures.stays) c.self.invariant.1, known_there (in_flight c.turn.new.self) front.sent front.rest _ front.flight front.len_is)

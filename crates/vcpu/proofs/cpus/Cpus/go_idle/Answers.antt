@@ -1,0 +1,6 @@
+use Rattle.std.proofs.Common.{◌∙◌, ap, set}
+use Rattle.mig_base.specs.declared.cpu_state.CpuState.{CpuState}
+use Rattle.vcpu.proofs.cpus.Cpus.go_idle.Goals as goal
+
+pub returns : goal.returns
+returns c = c.put.ensures ∙ ap (λ k. set c.args.self.now k CpuState.Idle) c.from.ensures

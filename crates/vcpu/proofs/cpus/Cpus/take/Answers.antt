@@ -1,6 +1,0 @@
-use Rattle.std.proofs.Common.{◌∙◌, ap, set}
-use Rattle.mig_base.specs.declared.cpu_state.CpuState.{CpuState}
-use Rattle.vcpu.proofs.cpus.Cpus.take.Goals as goal
-
-pub returns-clause-ok : goal.returns-clause-ok
-returns-clause-ok c = c.put.ensures ∙ ap (λ k. set c.args.self.now k CpuState.Idle) c.from.ensures
