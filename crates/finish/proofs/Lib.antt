@@ -3,3 +3,4 @@ pub mod StoppedSteps
 pub mod Strategy
 pub mod LeadLemmas
 pub mod PushedLemmas
+pub mod OwnSteps

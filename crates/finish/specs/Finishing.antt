@@ -3,7 +3,7 @@
 -- While the link is down both sides notice it, and the source resumes. A source that waits for the destination's report gets it; one that makes
 -- rounds reads its events and switches; one that has stopped pushes what remains, the least page first, sends End, and has what is
 -- in flight delivered, read and installed, until Done comes.
-use Rattle.std.specs.Prelude.{◌≡◌, false, List, IsOk, ℕ, ◌<◌, ◌≤◌, ◌+◌, ◌*◌, ◌-◌, ◌^◌, ◌==◌, ◌&&◌, ◌||◌, not, Bool, if◌then◌else◌, Option, None, Some, length}
+use Rattle.std.specs.Prelude.{◌≡◌, false, List, [], ◌∷◌, IsOk, ℕ, ◌<◌, ◌≤◌, ◌+◌, ◌*◌, ◌-◌, ◌^◌, ◌==◌, ◌&&◌, ◌||◌, not, Bool, if◌then◌else◌, Option, None, Some, length}
 use Rattle.std.specs.FinSet.{FinSet, contains, len}
 use Rattle.std.specs.Ordering.{nat_cmp}
 use Rattle.mig_base.specs.Tests.{is_empty}
@@ -78,6 +78,21 @@ up_step SourcePhase.Released world = None
 -- the next step towards the completion
 abbrev pub finishing_step : World → Option Step
 finishing_step world = if world.up then up_step world.source.phase world else down_step world
+
+-- the strategy makes no command of a processor and tries none again, begins no round of pre-copy and sends no page in one, and breaks no
+-- channel. It resolves no fault, serves no request and pushes no page on the urgent wire either
+abbrev pub IsOfStrategy : Step → Type 0
+IsOfStrategy (Step.Issue cpu command) = ⊥
+IsOfStrategy (Step.Retry cpu) = ⊥
+IsOfStrategy Step.Round = ⊥
+IsOfStrategy Step.Send = ⊥
+IsOfStrategy (Step.SendRun count) = ⊥
+IsOfStrategy Step.SourceAct = ⊥
+IsOfStrategy Step.DestAct = ⊥
+IsOfStrategy (Step.PushUrgent ticket) = ⊥
+IsOfStrategy Step.Serve = ⊥
+IsOfStrategy Step.Break = ⊥
+IsOfStrategy step = Unit {0}
 
 -- a Start or a Resume is due, and the epoch is the last
 abbrev pub needs_epoch : World → Bool
@@ -169,3 +184,8 @@ pub record IsDue (world : World) (step : Step) : Type 0 where
 pub record Leads (old : World) (steps : List Step) (new : World) : Type 0 where
   pub accepted : AreAccepted old steps
   pub is : new ≡ after_steps old steps
+
+-- steps made in turn are those of the strategy: each is due in the world that those before it lead to, and none is due after the last
+abbrev pub AreDue : World → List Step → Type 0
+AreDue world [] = finishing_step world ≡ None
+AreDue world (step ∷ steps) = (finishing_step world ≡ Some step) × AreDue (next world step) steps

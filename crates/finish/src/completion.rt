@@ -6,7 +6,7 @@ ghost use Rattle.mig_base.specs.declared.refusal.Refusal.{Refusal};
 ghost use Rattle.mig_base.specs.declared.schedule.Step.{Step};
 ghost use Rattle.mig_model.specs.Promises.{IsComplete};
 ghost use Rattle.world.specs.Headline.{Headline};
-ghost use Rattle.finish.specs.Finishing.{IsPast, Leads, lacks_epoch, steps_left};
+ghost use Rattle.finish.specs.Finishing.{AreDue, IsPast, Leads, lacks_epoch, steps_left};
 
 use crate::next_step::next_from;
 use mig_base::phase::SourcePhase;
@@ -17,18 +17,22 @@ use std::alloc::Global;
 use world::World;
 
 /// Completes the migration of a world, and answers the steps that it made for that: made in turn from the old world none of them is
-/// refused, and they lead to the world that it leaves. There are at most `steps_left` of them, and each takes constant time to choose.
+/// refused, and they lead to the world that it leaves. Each is the step of the strategy for its world, so none of them is a command of a
+/// processor, and the transcript stays as it was, also at an error. There are at most `steps_left` of them, and each takes constant time to
+/// choose.
 ///
 /// `CountUsed` exactly where the migration needs a Start or a Resume and the epoch is the last: nothing is changed then. `NoMemory`
 /// where a step, or the list of steps, found no memory: the world is where the steps made so far have led, and `finish` may be called again.
 pub fn finish(world: &mut World, alloc: Global) -> Result<Vec<Step>, Refusal>
     ensures complete { IfOk result (λ steps. IsComplete world.new) }
     ensures made { IfOk result (λ steps. Leads world.old steps.items world.new) }
+    ensures strategy { IfOk result (λ steps. AreDue world.old steps.items) }
     ensures few { IfOk result (λ steps. length steps.items ≤ steps_left world.old) }
     ensures refused { IfErr result (λ refusal. (refusal ≡ Refusal.CountUsed) ⊎ (refusal ≡ Refusal.NoMemory)) }
     ensures used { (result ≡ Err Refusal.CountUsed) ↔ (lacks_epoch world.old ≡ true) }
     ensures stays { result ≡ Err Refusal.CountUsed → world.new ≡ world.old }
     ensures led { OnErr result ((steps : List Step) × Leads world.old steps world.new) }
+    ensures transcript { world.new.transcript ≡ world.old.transcript }
     ensures headline { Headline world.new }
 {
     world.headline();

@@ -15,7 +15,7 @@ use Rattle.engine.specs.Engine.{Front}
 use Rattle.engine.specs.Script.{Runs}
 use Rattle.engine.specs.Spelled.{HasStep, IsLine}
 use Rattle.engine.specs.WorldState.{WorldState}
-use Rattle.finish.specs.Finishing.{Leads, lacks_epoch}
+use Rattle.finish.specs.Finishing.{AreDue, Leads, lacks_epoch}
 use Rattle.finishing.specs.declared.ending.Ending.{Ending}
 use Rattle.finishing.specs.declared.ending.Ending.TheVariants.{Complete, NoEpoch}
 
@@ -42,11 +42,12 @@ AreBehind steps text = (front : List ℕ) × (lines : List ℕ) × ((front ≡ [
 
 -- Endings
 
--- the text has the lines of steps that complete the migration of a world; none of them is refused
+-- the text has the lines of the strategy's steps, which complete the migration of a world; none of them is refused
 pub record Completes (world : WorldState) (text : List ℕ) : Type 0 where
   pub steps : List Step
   pub end : WorldState
   pub leads : Leads world steps end
+  pub due : AreDue world steps
   pub complete : IsComplete end
   pub lines : AreBehind steps text
 

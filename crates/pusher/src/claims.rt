@@ -1,6 +1,6 @@
 //! The claims of one epoch.
 ghost use Rattle.std.specs.Prelude.{◌≡◌, ◌≢◌, ℕ, ◌+◌, ◌<◌, ◌⊎◌, [], ◌∷◌, ◌++◌, false, length, slice_index, IfSome, IfNone, IfOk, IfErr, OnErr, AllPairs, All, Contains, IsPermutation, IsTrue, ◌↔◌, map};
-ghost use Rattle.pusher.specs.Rule.{IsWhole, kept_share, given_share};
+ghost use Rattle.pusher.specs.Rule.{AreLeft, IsWhole, known, kept_share, given_share};
 ghost use Rattle.pusher.specs.Seats.{IsSeatOf, IsUnclaimed};
 
 use crate::bits::{is_set, mask};
@@ -183,8 +183,8 @@ impl Claims {
         mark_all(&mut seat.held, other_held.as_slice());
     }
 
-    /// The pages that are free, and those that the seat has claimed, each in the order of their indexes. If memory runs out, it
-    /// returns both arguments unchanged.
+    /// The pages that are free, and those that the seat has claimed, each in the order of their indexes. A page that a seat claimed which was
+    /// not joined is in neither list. If memory runs out, it returns both arguments unchanged.
     pub fn close(
         self,
         alloc: Global,
@@ -192,6 +192,8 @@ impl Claims {
     ) -> Result<(Vec<PageNo>, Vec<PageNo>), (Claims, ClaimSeat)>
         requires { IsSeatOf self seat }
         ensures left { IfOk result (λ r. All (IsUnclaimed self seat) r.0.items) }
+        ensures rule { IfOk result (λ r.
+            AreLeft self.pages (known seat.claimed seat.seen seat.share) r.0.items) }
         ensures within { IfOk result (λ _. All (λ i. i < length self.pages) seat.claimed) }
         ensures claimed { IfOk result (λ r. IsPermutation (map (slice_index self.pages) seat.claimed) r.1.items) }
         ensures once { IfOk result (λ r. AllPairs ◌≢◌ (r.0.items ++ r.1.items)) }

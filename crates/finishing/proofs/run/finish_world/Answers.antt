@@ -13,6 +13,7 @@ returns-in_ok-write_out-in-Ok-clause-ok g c = (
     steps = c.in-Ok.steps.items;
     end = c.finish.new.world;
     leads = c.in-Ok.ensures.made;
+    due = c.in-Ok.ensures.strategy;
     complete = c.in-Ok.ensures.complete;
     lines = subst (λ (steps : List Step). AreBehind steps c.in_ok-text-in-Ok.text.items) c.deref.ensures.value c.in_ok-text-in-Ok.ensures.ok;
   },
@@ -28,6 +29,7 @@ returns-in_err-write_out-in-Ok-clause-fault g c =
         steps = c.in-Ok.steps.items;
         end = c.finish.new.world;
         leads = c.in-Ok.ensures.made;
+        due = c.in-Ok.ensures.strategy;
         complete = c.in-Ok.ensures.complete;
         lines = subst (λ (steps : List Step). AreBehind steps c.in_ok-text-in-Ok.text.items) c.deref.ensures.value c.in_ok-text-in-Ok.ensures.ok;
       },
