@@ -1,7 +1,7 @@
 //! Reading frames from the bytes of a stream.
 //!
 //! A [`Decoder`] takes a stream in pieces of any length and returns each frame as soon as it is whole. It reads both versions of the
-//! texts; the first frame fixes the [`Version`], and a header of the other version is then a fault. A [`StreamFault`] is found exactly
+//! texts; the first frame fixes the version, and a header of the other version is then a fault. A [`StreamFault`] is found exactly
 //! where it first stands: in a header as soon as its 12 bytes are there, in a body once it is whole. `page_stream` writes frames.
 //!
 //! The text of a frame is defined in `frame_texts`, `specs/Texts.antt`. Here `specs/Versions.antt` defines the frames of each version and
@@ -24,4 +24,3 @@ mod version;
 pub use crate::decoder::Decoder;
 pub use crate::fault::StreamFault;
 pub use crate::stream::{front_len, read_text};
-pub use crate::version::Version;
