@@ -49,10 +49,14 @@ pub record IsHistory (seats : List Seat) (world : World) : Type 0 where
   pub answers : (k : ℕ) → k < length world.source.guest.cpus → answers_of k world.transcript ≡ list_of k seats
   pub count : length world.transcript ≡ calls_of seats
 
--- the report: a line for each seat, the number of entries of the world, and what was found when the rig was closed
+-- the last lines: the number of entries of the world, and what was found when the rig was closed
+abbrev pub verdict_lines : ℕ → Option CloseFault → List ℕ
+verdict_lines entries None = count_line entries ++ ok_line
+verdict_lines entries (Some fault) = count_line entries ++ fault_line fault
+
+-- the report: a line for each seat, and the last lines
 abbrev pub report_lines : List Seat → ℕ → Option CloseFault → List ℕ
-report_lines seats entries None = seat_lines seats ++ (count_line entries ++ ok_line)
-report_lines seats entries (Some fault) = seat_lines seats ++ (count_line entries ++ fault_line fault)
+report_lines seats entries fault = seat_lines seats ++ verdict_lines entries fault
 
 -- a text is the report of some run with this number of processors, each of which makes this number of calls; the answer is whether nothing
 -- was found wrong

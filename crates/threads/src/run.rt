@@ -1,9 +1,9 @@
 //! One run, from the new world to the report.
 
-ghost use Rattle.std.specs.Prelude.{◌≡◌, ◌≤◌, ◌+◌, ◌*◌, [], None, length, IfOk, IfErr};
+ghost use Rattle.std.specs.Prelude.{◌≡◌, ◌≤◌, ◌+◌, ◌*◌, [], None, length, IfOk, IfErr, string_bytes};
 ghost use Rattle.engine.specs.declared.fault.RunFault.TheVariants.{NoMemory as OutOfMemory};
 ghost use Rattle.mig_base.specs.Flat.{IsFlatRun};
-ghost use Rattle.threads.specs.Report.{AreFrom, IsHistory, Reports, Stops};
+ghost use Rattle.threads.specs.Report.{AreFrom, IsHistory, IsReport, Reports, Stops};
 
 use crate::course::Course;
 use crate::driver::{Cut, Plan, run_all};
@@ -91,10 +91,29 @@ pub fn run_threads<R: Threads + Wait + Sync, W: Write>(
     ensures ok { IfOk result (λ answer. Reports cpus (1 + 2 * calls) answer (W.contents writer.old) (W.contents writer.new)) }
     ensures fault { IfErr result (λ fault. Stops cpus (1 + 2 * calls) fault (W.contents writer.old) (W.contents writer.new)) }
 {
-    let run = run_world(rt, alloc, cpus, calls, cut)?;
     let mut text = String::new(alloc);
-    print_run(&mut text, &run)?;
+    let answer = run_and_print(rt, alloc, cpus, calls, cut, &mut text)?;
     write_out(writer, text.as_bytes())?;
+    Ok(answer)
+}
+
+/// Makes a run, and fills an empty text with its report. Returns whether nothing was found wrong.
+fn run_and_print<R: Threads + Wait + Sync>(
+    rt: &R,
+    alloc: Global,
+    cpus: u8,
+    calls: u16,
+    cut: bool,
+    text: &mut String,
+) -> Result<bool, RunFault>
+    requires low { 1 ≤ cpus }
+    requires high { cpus ≤ 16 }
+    requires empty { string_bytes text.old ≡ [] }
+    ensures ok { IfOk result (λ answer. IsReport cpus (1 + 2 * calls) answer (string_bytes text.new)) }
+    ensures err { IfErr result (λ fault. fault ≡ OutOfMemory) }
+{
+    let run = run_world(rt, alloc, cpus, calls, cut)?;
+    print_run(text, &run)?;
     Ok(run.fault.is_none())
 }
 
