@@ -8,7 +8,9 @@ use Rattle.std.proofs.lemmas.List.Elements.{All-head, All-tail}
 use Rattle.mig_base.specs.declared.TheConstants.{MAX_CPUS}
 use Rattle.mig_base.specs.declared.command.Entry.{Entry}
 use Rattle.rig.specs.declared.seat.Answer.{Answer}
-use Rattle.rig.specs.Seats.{Seat, Handed, picked, seats_of, list_of, answers_of, answer_of, calls_of, IsRight}
+use Rattle.std.specs.Prelude.{Result, Ok, Err, IfOk}
+use Rattle.mig_model.specs.Migration.{World}
+use Rattle.rig.specs.Seats.{Seat, Handed, picked, seats_of, list_of, answers_of, answer_of, calls_of, AreAnswered, IsRight}
 
 same-number : (m n : ℕ) → m ≡ n → (m == n) ≡ true
 same-number m n same = grind (arith, nat_tests)
@@ -166,3 +168,14 @@ same_right {opening} {kept} {handed} {flags} {rig} {seats} {others} {entries} {t
     let four : IsRight rig others entries cpus k = subst (λ (ss : List Seat). IsRight rig ss entries cpus k) seated three in
     let five : IsRight rig others told cpus k = subst (λ (es : List Entry). IsRight rig others es cpus k) like four in
     subst (λ (n : ℕ). IsRight rig others told n k) is five
+
+-- the parts of what a rig that was closed without a fault promises
+pub answered-answers : {E : Type 0} → (rig : Handed) (seats : List Seat) (result : Result World E) → IfOk result (λ world. AreAnswered rig seats world.transcript (length world.source.guest.cpus)) →
+    IfOk result (λ world. (k : ℕ) → k < length world.source.guest.cpus → answers_of k world.transcript ≡ answers_of k rig.opening ++ list_of k seats)
+answered-answers rig seats (Ok world) is = is.answers
+answered-answers rig seats (Err fault) is = tt
+
+pub answered-once : {E : Type 0} → (rig : Handed) (seats : List Seat) (result : Result World E) → IfOk result (λ world. AreAnswered rig seats world.transcript (length world.source.guest.cpus)) →
+    IfOk result (λ world. (k : ℕ) → k < length world.source.guest.cpus → seats_of k seats ≤ 1)
+answered-once rig seats (Ok world) is = is.once
+answered-once rig seats (Err fault) is = tt

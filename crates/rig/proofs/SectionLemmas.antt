@@ -1,6 +1,6 @@
 -- What a command that is tried enters.
 use Rattle.std.proofs.lemmas.Bool.Decides.{nat_tests}
-use Rattle.std.proofs.Common.{◌≡◌, ℕ, Some, List, ◌++◌, refl, sym, ap, ◌∙◌, arith, append-nil, subst}
+use Rattle.std.proofs.Common.{◌≡◌, ◌⊎◌, inl, inr, ℕ, Some, List, ◌++◌, refl, sym, ap, ◌∙◌, arith, append-nil, subst}
 use Rattle.std.specs.Prelude.{Ok, Err}
 use Rattle.std.proofs.lemmas.Option.{same_Some}
 use Rattle.mig_base.specs.Commands.{is_access}
@@ -19,7 +19,9 @@ use Rattle.mig_model.specs.Runs.{Happens, Outcome}
 use Rattle.mig_base.specs.declared.refusal.Refusal.{Refusal}
 use Rattle.mig_model.proofs.StepLemmas.{next-refused}
 use Rattle.mig_model.proofs.StepCases.{made-effect}
-use Rattle.rig.specs.Sections.{IsEntered}
+use Rattle.mig_model.specs.Promises.{IsReached}
+use Rattle.rig.specs.declared.section.Tried.{Tried}
+use Rattle.rig.specs.Sections.{IsEntered, IsOutcome, IsReplyTo, IsToldOf, IsTry, entries_by}
 
 entered_by : (entries : List Entry) (cpu : ℕ) (command : Command) (took : Took) → IsEntered (try_effect cpu took) entries (entries ++ entries_of cpu command took) cpu command
 entered_by entries cpu command (Answer reply) = refl
@@ -60,3 +62,19 @@ retry_enters old new cpu command effect result woken is happens =
 -- a step that is refused changes nothing
 pub refused_stays : (old new : World) (step : Step) (refusal : Refusal) (result : Outcome) → result ≡ Err refusal → Happens old step result new → new ≡ old
 refused_stays old new step refusal result is happens = grind (arith, nat_tests, next-refused)
+
+-- a processor that was woken has one command
+pub same_woken : (world : World) (cpu : ℕ) (one other : Command) → cpu_state world cpu ≡ Ok (CpuState.Woken one) → cpu_state world cpu ≡ Ok (CpuState.Woken other) → one ≡ other
+same_woken world cpu one other is also =
+    same_Some one other (ap outstanding (sym (state_is world cpu (CpuState.Woken one) is) ∙ state_is world cpu (CpuState.Woken other) also))
+
+-- what became of a command whose step was made
+pub told_of : (old new : World) (step : Step) (cpu : ℕ) (command : Command) (tried : Tried) → IsReached old → IsTry old step (Ok tried) new → new.transcript ≡ old.transcript ++ entries_by cpu command tried → IsToldOf cpu command tried
+unfolding IsReplyTo
+told_of old new step cpu command (Tried.Replied reply) reached try entered = (old, new, step, try.0, reached, try.1, entered)
+told_of old new step cpu command Tried.Asleep reached try entered = tt
+
+-- the outcome of a Serve that was made in the right epoch
+pub served : (old new : World) (result : Outcome) → IsReached old → (result ≡ Err Refusal.StaleEpoch) ⊎ Happens old Step.Serve result new → (result ≡ Err Refusal.StaleEpoch) ⊎ IsOutcome Step.Serve result
+served old new result reached (inl stale) = inl stale
+served old new result reached (inr happens) = inr (new, (old, reached, happens))

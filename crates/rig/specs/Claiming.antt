@@ -1,5 +1,5 @@
 -- The pages of claims, and the test of claims at the end.
-use Rattle.std.specs.Prelude.{◌≡◌, ◌≢◌, ◌⊎◌, ◌↔◌, ◌++◌, ℕ, ◌<◌, true, List, Option, Some, None, length, slice_index, AllPairs, Contains}
+use Rattle.std.specs.Prelude.{◌≡◌, ◌≢◌, ◌⊎◌, ◌↔◌, ◌++◌, ℕ, ⊤, ◌<◌, true, List, Option, Some, None, length, slice_index, AllPairs, Contains}
 use Rattle.std.specs.Ordering.{nat_cmp}
 use Rattle.std.specs.FinSet.{FinSet, contains}
 use Rattle.mig_model.specs.Migration.{World}
@@ -12,6 +12,11 @@ Lists set pages = AllPairs ◌≢◌ pages × ((q : ℕ) → (contains set q ≡
 -- each page of the claims remains to be sent, or the seat has claimed it
 abbrev pub AreKept : Starting → Held → FinSet nat_cmp → Type 0
 AreKept claims seat remaining = (i : ℕ) → i < length claims.pages → (contains remaining (slice_index claims.pages i) ≡ true) ⊎ Contains seat.claimed i
+
+-- if there are claims of the world's epoch, each of their pages remains to be sent there, or the seat has claimed it
+abbrev pub AreFound : Option (Starting × Held) → World → Type 0
+AreFound None world = ⊤
+AreFound (Some c) world = c.0.epoch ≡ world.source.epoch → AreKept c.0 c.1 world.source.remaining
 
 -- there are claims, they are of the world's epoch, and some page of them neither remains to be sent nor was claimed by the seat
 abbrev pub IsLost : Option (Starting × Held) → World → Type 0

@@ -1,3 +1,4 @@
 pub mod Claiming
 pub mod Seats
 pub mod Sections
+pub mod Turns

@@ -2,6 +2,8 @@
 use Rattle.std.specs.Prelude.{Bool, ◌≡◌, ℕ, ◌<◌, ◌≤◌, ◌+◌, ◌==◌, true, if◌then◌else◌, List, [], ◌∷◌, ◌++◌, length, Some}
 use Rattle.std.specs.List.{slice_get}
 use Rattle.mig_base.specs.declared.command.Entry.{Entry}
+use Rattle.mig_base.specs.declared.TheConstants.{MAX_CPUS}
+use Rattle.mig_model.specs.Migration.{World}
 use Rattle.rig.specs.declared.seat.Answer.{Answer}
 
 -- a seat: the number of its processor, and the answers to its calls, in order
@@ -53,6 +55,10 @@ pub record IsRight (rig : Handed) (seats : List Seat) (entries : List Entry) (cp
 pub record IsLeastWrong (rig : Handed) (seats : List Seat) (entries : List Entry) (cpus : ℕ) (k : ℕ) : Type 0 where
   pub wrong : IsRight rig seats entries cpus k → ⊥
   pub least : (j : ℕ) → j < k → IsRight rig seats entries cpus j
+
+-- every processor is right
+abbrev pub AreRight : Handed → List Seat → World → Type 0
+AreRight rig seats world = (k : ℕ) → k < MAX_CPUS → IsRight rig seats world.transcript (length world.source.guest.cpus) k
 
 -- each processor's answers are those of the opening and then its seat's, at most one seat of it has come back, and the transcript has no
 -- further entries

@@ -1,5 +1,5 @@
--- A section of the lock: at most one step, and what that step enters in the transcript.
-use Rattle.std.specs.Prelude.{◌≡◌, ℕ, Bool, true, false, List, [], ◌∷◌, ◌++◌, Result, Ok}
+-- Sections of the lock: each makes at most one step, and what that step enters in the transcript.
+use Rattle.std.specs.Prelude.{◌≡◌, ℕ, ⊤, Bool, true, false, List, [], ◌∷◌, ◌++◌, Result, Ok, Err}
 use Rattle.mig_base.specs.declared.command.Command.{Command}
 use Rattle.mig_base.specs.declared.command.Entry.{Entry}
 use Rattle.mig_base.specs.declared.command.Reply.{Reply}
@@ -8,26 +8,65 @@ use Rattle.mig_base.specs.declared.effect.Effect.{Effect}
 use Rattle.mig_base.specs.declared.refusal.Refusal.{Refusal}
 use Rattle.mig_base.specs.declared.schedule.Step.{Step}
 use Rattle.mig_model.specs.Migration.{World}
+use Rattle.mig_model.specs.Promises.{IsReached}
 use Rattle.mig_model.specs.Runs.{Happens, Outcome}
 use Rattle.rig.specs.declared.section.Tried.{Tried}
 
--- one step was made, or refused
-abbrev pub IsStep : World → Step → World → Type 0
-IsStep old step new = (outcome : Outcome) × Happens old step outcome new
+-- the world is that to which this one step led, with this outcome, from some world that steps can reach
+abbrev pub IsMade : Step → Outcome → World → Type 0
+IsMade step outcome new = (old : World) × IsReached old × Happens old step outcome new
+
+-- some world that steps can reach gives this outcome to the step
+abbrev pub IsOutcome : Step → Outcome → Type 0
+IsOutcome step outcome = (new : World) × IsMade step outcome new
+
+-- what became of a command, by the effect of its step: it has a reply, also where a map call still waits for its messages, or it sleeps
+abbrev pub IsTriedAs : Effect → Tried → Type 0
+IsTriedAs (Effect.Answered k reply) tried = tried ≡ Tried.Replied reply
+IsTriedAs (Effect.InCall k messages) tried = (reply : Reply) × (tried ≡ Tried.Replied reply)
+IsTriedAs effect tried = tried ≡ Tried.Asleep
+
+-- one step, made or refused, and what became of its command
+abbrev pub IsTry : World → Step → Result Tried Refusal → World → Type 0
+IsTry old step (Ok tried) new = (effect : Effect) × Happens old step (Ok effect) new × IsTriedAs effect tried
+IsTry old step (Err refusal) new = Happens old step (Err refusal) new
+
+-- the same of a command that is tried again
+abbrev pub IsRetry : World → ℕ → Command → Result (Command × Tried) Refusal → World → Type 0
+IsRetry old cpu command (Ok r) new = (r.0 ≡ command) × IsTry old (Step.Retry cpu) (Ok r.1) new
+IsRetry old cpu command (Err refusal) new = IsTry old (Step.Retry cpu) (Err refusal) new
+
+-- the entry of a command and its reply
+abbrev pub entry_of : ℕ → Command → Reply → Entry
+entry_of cpu command reply = record { cpu = cpu; command = command; reply = reply }
 
 -- the entries of a command that was tried: none if it sleeps
 abbrev pub entries_by : ℕ → Command → Tried → List Entry
-entries_by cpu command (Tried.Answered reply) = record { cpu = cpu; command = command; reply = reply } ∷ []
-entries_by cpu command (Tried.InCall reply) = record { cpu = cpu; command = command; reply = reply } ∷ []
+entries_by cpu command (Tried.Replied reply) = entry_of cpu command reply ∷ []
 entries_by cpu command Tried.Asleep = []
 
 -- the transcript after a try, by its effect: a command with its reply is entered, and so is a map call that waits for its messages
 abbrev pub IsEntered : Effect → List Entry → List Entry → ℕ → Command → Type 0
-IsEntered (Effect.Answered k reply) old new cpu command = new ≡ old ++ record { cpu = cpu; command = command; reply = reply } ∷ []
-IsEntered (Effect.InCall k messages) old new cpu command = (reply : Reply) × (new ≡ old ++ record { cpu = cpu; command = command; reply = reply } ∷ [])
-IsEntered _ old new cpu command = new ≡ old
+IsEntered (Effect.Answered k reply) old new cpu command = new ≡ old ++ entry_of cpu command reply ∷ []
+IsEntered (Effect.InCall k messages) old new cpu command = (reply : Reply) × (new ≡ old ++ entry_of cpu command reply ∷ [])
+IsEntered effect old new cpu command = new ≡ old
+
+-- a step of a world that steps can reach has entered the command with this reply
+unfoldable pub IsReplyTo : ℕ → Command → Reply → Type 0
+IsReplyTo cpu command reply =
+    (old : World) × (new : World) × (step : Step) × (effect : Effect)
+    × IsReached old × Happens old step (Ok effect) new × (new.transcript ≡ old.transcript ++ entry_of cpu command reply ∷ [])
+
+-- the same for some command of the processor
+abbrev pub IsReplyOf : ℕ → Reply → Type 0
+IsReplyOf cpu reply = (command : Command) × IsReplyTo cpu command reply
+
+-- what became of a command, if its step was not refused: where it has a reply, that is the one that a step has entered
+abbrev pub IsToldOf : ℕ → Command → Tried → Type 0
+IsToldOf cpu command (Tried.Replied reply) = IsReplyTo cpu command reply
+IsToldOf cpu command Tried.Asleep = ⊤
 
 -- whether the processor is in a map call
 abbrev pub is_calling : Result CpuState Refusal → Bool
 is_calling (Ok (CpuState.InCall reply left)) = true
-is_calling _ = false
+is_calling state = false

@@ -1,5 +1,7 @@
 //! The gate, which decides the turns of the workers.
 
+ghost use Rattle.std.specs.Prelude.{◌≡◌};
+
 use mig_base::schedule::Step;
 
 /// A thread that makes steps of its own accord.
@@ -59,8 +61,12 @@ pub trait Gate {
 }
 
 impl StepKind {
+    ghost use Rattle.rig.specs.Turns.{kind_of};
+
     /// The kind of a step.
-    pub fn of(step: Step) -> StepKind {
+    pub fn of(step: Step) -> StepKind
+        ensures { result ≡ kind_of step }
+    {
         match step {
             Step::Issue { .. } => StepKind::Issue,
             Step::Retry { .. } => StepKind::Retry,

@@ -9,18 +9,24 @@
 //! world that it returns: each processor's entries are those that it had when the rig was made, and then the answers of its seat.
 //! No contract says that a thread runs, wakes or ends.
 //!
-//! The modules: `gate` (the turns of the workers), `seat` (the answers of a processor), `section` (what is done while the lock is held),
-//! `same` (equal answers), `remaining` (the pages of claims), `check` (the test of the seats), `rig` (the type that callers share).
+//! The modules: `gate` (what decides the turns of the workers), `turns` and `sending` (their loops, over anything that has turns), `seat`
+//! (the answers of a processor), `section` (what is done while the lock is held), `same` (equal answers), `remaining` (the pages of
+//! claims), `check` (the test of the seats), `rig` (the type that callers share), `locked` (the turns under its lock).
 #![tactic(auto)]
 
 mod check;
 mod gate;
+mod locked;
 mod remaining;
 mod rig;
 mod same;
 mod seat;
 mod section;
+mod sending;
+mod turns;
 
 pub use crate::gate::{Gate, Pass, StepKind, Worker};
 pub use crate::rig::{CloseFault, Rig};
 pub use crate::seat::{Answer, CpuSeat};
+pub use crate::sending::{push_turns, serve_turns};
+pub use crate::turns::{Leave, Turns, dest_turns, source_turns};

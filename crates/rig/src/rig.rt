@@ -1,34 +1,33 @@
 //! A world under a lock, with processors and workers in threads of their own.
 
-ghost use Rattle.std.specs.Prelude.{◌≡◌, ◌++◌, ◌∷◌, [], length, ◌<◌, ◌≤◌, ℕ, IfOk, IfErr, IfSome, OnOk, OnErr, true, false, Some, Err, All, ◌+◌, ◌↔◌, set, Bool, List};
+ghost use Rattle.std.specs.Prelude.{◌≡◌, ◌⊎◌, ◌++◌, ◌∷◌, [], length, ◌<◌, ◌≤◌, ℕ, IfOk, IfErr, IfSome, OnOk, OnErr, true, false, Some, Err, All, ◌+◌, ◌↔◌, set, Bool, List};
 ghost use Rattle.std.specs.List.{slice_get};
 ghost use Rattle.mig_base.specs.Flat.{IsFlatRun};
 ghost use Rattle.mig_base.specs.declared.command.Command.{Command};
+ghost use Rattle.mig_base.specs.declared.schedule.Step.{Step};
 ghost use Rattle.pusher.specs.Seats.{IsSeatOf};
-ghost use Rattle.rig.specs.Claiming.{AreKept, IsLost};
-ghost use Rattle.rig.specs.Seats.{answers_of, list_of, seats_of, AreAnswered, IsRight, IsLeastWrong, calls_of};
+ghost use Rattle.rig.specs.Claiming.{AreFound, IsLost};
+ghost use Rattle.rig.specs.Seats.{answers_of, list_of, seats_of, AreAnswered, AreRight, IsLeastWrong, calls_of};
+ghost use Rattle.rig.specs.Sections.{IsMade, IsOutcome, IsReplyOf, IsReplyTo};
+ghost use Rattle.std.specs.Sync.Mutex.{mutex_guard_value};
 
-mod pushing;
+mod commands;
+mod workers;
 
 use crate::check::first_wrong;
-use crate::gate::{Gate, Pass, StepKind, Worker};
 use crate::remaining::are_lost;
 use crate::seat::{Answer, CpuSeat};
-use crate::section::{Tried, is_in_call, issue_in, retry_in};
+use crate::section::{serve_in, step_in};
 use mig_base::effect::Effect;
 use mig_base::refusal::Refusal;
-use mig_base::schedule::{Side, Step};
+use mig_base::schedule::Step;
 use mig_base::{Command, Entry, NoMemory, Reply, WorldPhase};
 use pusher::{ClaimSeat, Claims};
 use std::alloc::Global;
 use std::marker::Model;
-use std::sync::{Condvar, Mutex, Wait};
-use std::thread;
+use std::sync::{Condvar, Mutex, MutexGuard, Wait};
 use thiserror::Error;
 use world::World;
-
-/// The most times that a worker yields between two rounds of its steps, which takes some tens of microseconds.
-const LONGEST_REST: u32 = 64;
 
 /// Why the seats or claims with which a rig was closed do not agree with its world.
 #[derive(Clone, Copy, Debug, PartialEq, Eq, Error)]
@@ -45,7 +44,7 @@ pub enum CloseFault {
 pub struct Rig {
     alloc: Global,
     world: Mutex<World>,
-    /// Notified after each step.
+    /// Notified after each accepted step but a retry that sleeps again.
     changed: Condvar,
     opening: Vec<Entry>,
     handed: Vec<bool>,
@@ -134,12 +133,14 @@ impl Rig {
     ) -> Result<Reply, Refusal>
         ensures cpu { seat.new.cpu ≡ seat.old.cpu }
         ensures ok { IfOk result (λ reply. seat.new.answers ≡ seat.old.answers ++ record { command = command; reply = reply } ∷ []) }
+        ensures entered { IfOk result (λ reply. IsReplyOf seat.old.cpu reply) }
         ensures err { OnErr result (seat.new ≡ seat.old) }
     {
         if seat.answers.try_reserve(1).is_err() {
             return Err(Refusal::NoMemory);
         }
-        match self.issue(rt, seat.cpu, command) {
+        let (_world, outcome) = self.reply_to(rt, seat.cpu, command);
+        match outcome {
             Ok(reply) => match seat.answers.push(Answer { command, reply }) {
                 Ok(()) => Ok(reply),
                 Err(_) => unreachable!(),
@@ -152,13 +153,14 @@ impl Rig {
     /// [`call`](Rig::call).
     pub fn finish<R: Wait>(&self, rt: &R, seat: &mut CpuSeat) -> Result<Reply, Refusal>
         ensures cpu { seat.new.cpu ≡ seat.old.cpu }
-        ensures ok { IfOk result (λ reply. (command : Command) × (seat.new.answers ≡ seat.old.answers ++ record { command = command; reply = reply } ∷ [])) }
+        ensures ok { IfOk result (λ reply. (command : Command) × (seat.new.answers ≡ seat.old.answers ++ record { command = command; reply = reply } ∷ []) × IsReplyTo seat.old.cpu command reply) }
         ensures err { OnErr result (seat.new ≡ seat.old) }
     {
         if seat.answers.try_reserve(1).is_err() {
             return Err(Refusal::NoMemory);
         }
-        match self.retry(rt, seat.cpu) {
+        let (_world, outcome) = self.late_reply(rt, seat.cpu);
+        match outcome {
             Ok(answer) => match seat.answers.push(answer) {
                 Ok(()) => Ok(answer.reply),
                 Err(_) => unreachable!(),
@@ -167,166 +169,76 @@ impl Rig {
         }
     }
 
-    /// Issues a command, once a node runs the processors, and waits for its reply.
-    fn issue<R: Wait>(&self, rt: &R, cpu: u8, command: Command) -> Result<Reply, Refusal> {
-        let mut world = self.world.lock(rt);
-        for _ in rt.forever() {
-            match issue_in(&mut world, cpu, command) {
-                Ok(tried) => {
-                    self.changed.notify_all();
-                    drop(world);
-                    return self.reply(rt, cpu, tried);
-                }
-                Err(Refusal::Phase) => world = self.changed.wait(rt, world),
-                Err(refusal) => return Err(refusal),
-            }
-        }
-        unreachable!()
-    }
-
-    /// Waits for the reply to a command that was tried.
-    fn reply<R: Wait>(&self, rt: &R, cpu: u8, tried: Tried) -> Result<Reply, Refusal> {
-        match tried {
-            Tried::Answered(reply) => Ok(reply),
-            Tried::InCall(reply) => {
-                self.return_from_call(rt, cpu);
-                Ok(reply)
-            }
-            Tried::Asleep => match self.retry(rt, cpu) {
-                Ok(answer) => Ok(answer.reply),
-                Err(refusal) => Err(refusal),
-            },
-        }
-    }
-
-    /// Waits until a retry of the processor's command has a reply.
-    fn retry<R: Wait>(&self, rt: &R, cpu: u8) -> Result<Answer, Refusal> {
-        let mut world = self.world.lock(rt);
-        for _ in rt.forever() {
-            match retry_in(&mut world, cpu) {
-                Ok((_, Tried::Asleep)) | Err(Refusal::Phase) => {
-                    world = self.changed.wait(rt, world)
-                }
-                Ok((command, Tried::Answered(reply) | Tried::InCall(reply))) => {
-                    self.changed.notify_all();
-                    return Ok(Answer { command, reply });
-                }
-                Err(refusal) => return Err(refusal),
-            }
-        }
-        unreachable!()
-    }
-
-    /// Waits until the processor is not in a map call.
-    fn return_from_call<R: Wait>(&self, rt: &R, cpu: u8) {
-        let mut world = self.world.lock(rt);
-        for _ in rt.forever() {
-            if !is_in_call(&world, cpu) {
-                return;
-            }
-            world = self.changed.wait(rt, world);
-        }
-        unreachable!()
-    }
-
     /// Starts the migration, as [`Step::Start`].
-    pub fn start<R: Wait>(&self, rt: &R) -> Result<Effect, Refusal> {
-        self.make(rt, Step::Start)
+    pub fn start<R: Wait>(&self, rt: &R) -> Result<Effect, Refusal>
+        ensures { IsOutcome Step.Start result }
+    {
+        let (_world, outcome) = self.make(rt, Step::Start);
+        outcome
     }
 
     /// Stops the processors at the source and hands them over, as [`Step::Switch`].
-    pub fn switch<R: Wait>(&self, rt: &R) -> Result<Effect, Refusal> {
-        self.make(rt, Step::Switch)
+    pub fn switch<R: Wait>(&self, rt: &R) -> Result<Effect, Refusal>
+        ensures { IsOutcome Step.Switch result }
+    {
+        let (_world, outcome) = self.make(rt, Step::Switch);
+        outcome
     }
 
     /// Breaks the channel, as [`Step::Break`].
-    pub fn cut<R: Wait>(&self, rt: &R) -> Result<Effect, Refusal> {
-        self.make(rt, Step::Break)
+    pub fn cut<R: Wait>(&self, rt: &R) -> Result<Effect, Refusal>
+        ensures { IsOutcome Step.Break result }
+    {
+        let (_world, outcome) = self.make(rt, Step::Break);
+        outcome
     }
 
-    /// Goes on over a new channel, as [`Step::Resume`].
-    pub fn resume<R: Wait>(&self, rt: &R) -> Result<Effect, Refusal> {
-        self.make(rt, Step::Resume)
+    /// Continues over a new channel, as [`Step::Resume`].
+    pub fn resume<R: Wait>(&self, rt: &R) -> Result<Effect, Refusal>
+        ensures { IsOutcome Step.Resume result }
+    {
+        let (_world, outcome) = self.make(rt, Step::Resume);
+        outcome
     }
 
-    /// How far the migration has come now.
+    /// How far the migration has come now. No step is made.
     pub fn phase<R: Wait>(&self, rt: &R) -> WorldPhase {
         self.world.lock(rt).phase()
     }
 
-    /// Makes the source's steps in turn, over and over, until the gate stops it: Round, Send, SourceRead, SourceAct, DeliverBack, End
-    /// and Notice. Ends at the greatest turn.
-    pub fn source_worker<R: Wait, G: Gate>(&self, rt: &R, gate: &G) {
-        self.work(
-            rt,
-            gate,
-            Worker::Source,
-            &[
-                Step::Round,
-                Step::Send,
-                Step::SourceRead,
-                Step::SourceAct,
-                Step::DeliverBack { n: u64::MAX },
-                Step::End,
-                Step::Notice(Side::Source),
-            ],
-        )
-    }
-
-    /// Makes the destination's steps in turn, over and over, until the gate stops it: Deliver, DeliverUrgent, DestRead, DestAct, Install
-    /// and Notice. Ends at the greatest turn.
-    pub fn dest_worker<R: Wait, G: Gate>(&self, rt: &R, gate: &G) {
-        self.work(
-            rt,
-            gate,
-            Worker::Dest,
-            &[
-                Step::Deliver { n: u64::MAX },
-                Step::DeliverUrgent { n: u64::MAX },
-                Step::DestRead,
-                Step::DestAct,
-                Step::Install,
-                Step::Notice(Side::Destination),
-            ],
-        )
-    }
-
-    /// Makes the steps over and over, each turn as the gate says. After a round in which it made none it yields once, after the next
-    /// such round twice, and so on, up to [`LONGEST_REST`] times.
-    fn work<R: Wait, G: Gate>(&self, rt: &R, gate: &G, who: Worker, steps: &[Step])
-        requires { 0 < length steps.now }
+    /// Dequeues a request in one section of the lock. `StaleEpoch`, and no step, if the world's epoch is another.
+    pub(crate) fn serve<R: Wait>(&self, rt: &R, epoch: u32) -> Result<Effect, Refusal>
+        ensures { (result ≡ Err Refusal.StaleEpoch) ⊎ IsOutcome Step.Serve result }
     {
-        let mut at = 0;
-        let mut is_idle = true;
-        let mut rest = 1;
-        for turn in 0..u64::MAX {
-            if at >= steps.len() {
-                at = 0;
-                rest = if is_idle { rest_after(rest) } else { 1 };
-                is_idle = true;
-            }
-            let next = steps[at];
-            at += 1;
-            match gate.pass(who, StepKind::of(next), turn) {
-                Pass::Go => {
-                    if self.make(rt, next).is_ok() {
-                        is_idle = false;
-                    }
-                }
-                Pass::Skip => {}
-                Pass::Stop => return,
-            }
-        }
-    }
-
-    /// One step in one section of the lock.
-    fn make<R: Wait>(&self, rt: &R, step: Step) -> Result<Effect, Refusal> {
         let mut world = self.world.lock(rt);
-        let outcome = world.step(step);
+        world.headline();
+        let outcome = serve_in(&mut world, epoch);
         if outcome.is_ok() {
             self.changed.notify_all();
         }
         outcome
+    }
+
+    /// The epoch now. No step is made.
+    pub(crate) fn epoch<R: Wait>(&self, rt: &R) -> u32 {
+        self.world.lock(rt).epoch()
+    }
+
+    /// One step, in one section of the lock. The world that is still locked is the one that the step has left.
+    pub(crate) fn make<R: Wait>(
+        &self,
+        rt: &R,
+        step: Step,
+    ) -> (MutexGuard<'_, World>, Result<Effect, Refusal>)
+        ensures { IsMade step result.1 (mutex_guard_value result.0) }
+    {
+        let mut world = self.world.lock(rt);
+        world.headline();
+        let outcome = step_in(&mut world, step);
+        if outcome.is_ok() {
+            self.changed.notify_all();
+        }
+        (world, outcome)
     }
 
     /// Returns the world, after two tests; if one fails, the world comes with the fault.
@@ -344,11 +256,30 @@ impl Rig {
     ) -> Result<World, (CloseFault, World)>
         requires { IfSome claims (λ c. IsSeatOf c.0 c.1) }
         ensures flat { IfOk result (λ world. IsFlatRun world.transcript) }
+        ensures right { IfOk result (λ world. AreRight self seats.items world) }
         ensures answers { IfOk result (λ world. (k : ℕ) → k < length world.source.guest.cpus → answers_of k world.transcript ≡ answers_of k self.opening ++ list_of k seats.items) }
         ensures once { IfOk result (λ world. (k : ℕ) → k < length world.source.guest.cpus → seats_of k seats.items ≤ 1) }
         ensures count { IfOk result (λ world. length world.transcript ≡ length self.opening + calls_of seats.items) }
-        ensures kept { IfOk result (λ world. IfSome claims (λ c. c.0.epoch ≡ world.source.epoch → AreKept c.0 c.1 world.source.remaining)) }
+        ensures kept { IfOk result (λ world. AreFound claims world) }
         ensures fault { IfErr result (λ r. (k : ℕ) → r.0 ≡ CloseFault.Answers k → IsLeastWrong self seats.items r.1.transcript (length r.1.source.guest.cpus) k) }
+        ensures lost { IfErr result (λ r. r.0 ≡ CloseFault.Claims → IsLost claims r.1) }
+        ensures flat_still { IfErr result (λ r. IsFlatRun r.1.transcript) }
+    {
+        self.close_with(&seats, claims)
+    }
+
+    /// The same for seats that the caller keeps.
+    pub fn close_with(
+        self,
+        seats: &[CpuSeat],
+        claims: Option<(Claims, ClaimSeat)>,
+    ) -> Result<World, (CloseFault, World)>
+        requires { IfSome claims (λ c. IsSeatOf c.0 c.1) }
+        ensures flat { IfOk result (λ world. IsFlatRun world.transcript) }
+        ensures right { IfOk result (λ world. AreRight self seats.now world) }
+        ensures answered { IfOk result (λ world. AreAnswered self seats.now world.transcript (length world.source.guest.cpus)) }
+        ensures kept { IfOk result (λ world. AreFound claims world) }
+        ensures fault { IfErr result (λ r. (k : ℕ) → r.0 ≡ CloseFault.Answers k → IsLeastWrong self seats.now r.1.transcript (length r.1.source.guest.cpus) k) }
         ensures lost { IfErr result (λ r. r.0 ≡ CloseFault.Claims → IsLost claims r.1) }
         ensures flat_still { IfErr result (λ r. IsFlatRun r.1.transcript) }
     {
@@ -366,10 +297,11 @@ impl Rig {
     }
 
     /// Returns the world, and tests the seats.
-    fn close_seats(self, seats: Vec<CpuSeat>) -> Result<World, (CloseFault, World)>
+    fn close_seats(self, seats: &[CpuSeat]) -> Result<World, (CloseFault, World)>
         ensures flat { IfOk result (λ world. IsFlatRun world.transcript) }
-        ensures answered { IfOk result (λ world. AreAnswered self seats.items world.transcript (length world.source.guest.cpus)) }
-        ensures fault { IfErr result (λ r. (k : ℕ) → r.0 ≡ CloseFault.Answers k → IsLeastWrong self seats.items r.1.transcript (length r.1.source.guest.cpus) k) }
+        ensures right { IfOk result (λ world. AreRight self seats.now world) }
+        ensures answered { IfOk result (λ world. AreAnswered self seats.now world.transcript (length world.source.guest.cpus)) }
+        ensures fault { IfErr result (λ r. (k : ℕ) → r.0 ≡ CloseFault.Answers k → IsLeastWrong self seats.now r.1.transcript (length r.1.source.guest.cpus) k) }
         ensures seats { IfErr result (λ r. r.0 ≡ CloseFault.Claims → ⊥) }
         ensures flat_still { IfErr result (λ r. IsFlatRun r.1.transcript) }
     {
@@ -381,7 +313,7 @@ impl Rig {
             handed,
         } = self;
         let world = world.into_inner();
-        match first_wrong(world.transcript(), &opening, &handed, &seats, world.cpus()) {
+        match first_wrong(world.transcript(), &opening, &handed, seats, world.cpus()) {
             None => Ok(world),
             Some(cpu) => Err((CloseFault::Answers(cpu), world)),
         }
@@ -403,12 +335,4 @@ fn none_handed(alloc: Global, cpus: u8) -> Result<Vec<bool>, NoMemory>
     let mut handed = Vec::new(alloc);
     handed.resize(usize::from(cpus), false)?;
     Ok(handed)
-}
-
-/// Yields `rest` times. Returns how often to yield after the next round without a step: twice as often, up to [`LONGEST_REST`].
-fn rest_after(rest: u32) -> u32 {
-    for _ in 0..rest {
-        thread::yield_now();
-    }
-    rest.saturating_mul(2).min(LONGEST_REST)
 }

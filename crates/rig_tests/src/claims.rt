@@ -195,6 +195,7 @@ fn the_pages_in_turn_are_sent(rt: HostRuntime) -> Result<(), Fail> {
     let (held, closed) = play(&rt, rt.alloc(), rig, Scene::InTurn).ok_or("no claims")?;
     assert!(rt; held && closed.fault.is_none());
     assert!(rt; closed.sent == 2 && closed.remaining == 0);
+    assert!(rt; closed.forward > 0 && closed.urgent == 0);
     Ok(())
 }
 
@@ -204,6 +205,7 @@ fn a_page_that_was_asked_for_is_sent(rt: HostRuntime) -> Result<(), Fail> {
     let (_, closed) = play(&rt, rt.alloc(), rig, Scene::Asked).ok_or("no claims")?;
     assert!(rt; closed.fault.is_none());
     assert!(rt; closed.sent == 1 && closed.remaining == 1);
+    assert!(rt; closed.forward == 0 && closed.urgent > 0);
     Ok(())
 }
 

@@ -118,3 +118,23 @@ impl<C: Clock> Gate for StoreFirst<C> {
         Pass::Skip
     }
 }
+
+/// Rests the worker's thread before its first SourceRead, and stops it when told to.
+#[derive(Drop)]
+pub struct LateReader<C> {
+    pub clock: C,
+    pub rested: AtomicBool,
+    pub done: AtomicBool,
+}
+
+impl<C: Clock> Gate for LateReader<C> {
+    fn pass(&self, _who: Worker, next: StepKind, _turn: u64) -> Pass {
+        if self.done.load(Ordering::SeqCst) {
+            return Pass::Stop;
+        }
+        if next == StepKind::SourceRead && !self.rested.swap(true, Ordering::SeqCst) {
+            thread::sleep(&self.clock, Duration::from_millis(50));
+        }
+        Pass::Go
+    }
+}

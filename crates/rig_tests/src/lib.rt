@@ -15,6 +15,10 @@ mod rigs;
 #[cfg(test)]
 mod seats;
 #[cfg(test)]
+mod steps;
+#[cfg(test)]
 mod threads;
+#[cfg(test)]
+mod turns;
 #[cfg(test)]
 mod workers;

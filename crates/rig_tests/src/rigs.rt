@@ -119,6 +119,9 @@ pub struct Closed {
     pub rounds: u32,
     pub sent: u64,
     pub remaining: u32,
+    /// The bytes in flight on the wire to the destination, and on the urgent one.
+    pub forward: u64,
+    pub urgent: u64,
 }
 
 impl Closed {
@@ -130,6 +133,8 @@ impl Closed {
             rounds: world.counts().rounds,
             sent: world.counts().sent,
             remaining: world.remaining().len(),
+            forward: world.forward_bytes(),
+            urgent: world.urgent_bytes(),
         }
     }
 }

@@ -1,14 +1,14 @@
 //! Two processors and a worker in threads of their own. Where a thread cannot be made, or memory is refused for what comes before, all is
 //! done once more.
 
-use crate::gates::{LOAD, MAP, STORE, STORED, StoreFirst, issue, store};
-use crate::rigs::{Closed, call, close, listed, rig_after, two_seats};
+use crate::gates::{LOAD, LateReader, MAP, STORE, STORED, StoreFirst, issue, store};
+use crate::rigs::{Closed, call, close, close_one, listed, rig_after, two_seats};
 use mig_base::schedule::{Step, Ticket};
 use mig_base::{Command, Reply};
 use rig::{CpuSeat, Rig};
 use std::alloc::Global;
 use std::sync::Wait;
-use std::sync::atomic::Ordering;
+use std::sync::atomic::{AtomicBool, Ordering};
 use std::test::Fail;
 use std::thread;
 use std::thread::Threads;
@@ -158,5 +158,58 @@ fn a_store_is_read_after_a_join(rt: HostRuntime) -> Result<(), Fail> {
     let (was_read, closed) = told.ok_or("no thread")?;
     assert!(rt; was_read && closed.fault.is_none());
     assert!(rt; closed.entries == 3 && closed.last_cpu == Some(1));
+    Ok(())
+}
+
+/// A map call whose message the worker reads late, and then a load.
+fn unmapped_and_loaded<R: Threads + Wait + Sync, C: Clock + Sync>(
+    rt: &R,
+    gate: &LateReader<C>,
+    rig: &Rig,
+    seat: CpuSeat,
+) -> Option<(CpuSeat, bool)> {
+    thread::scope(thread::scope_env(), rt, |scope| {
+        let worker = scope.spawn(move || rig.source_worker(rt, gate)).ok()?;
+        let unmap = Command::Munmap {
+            addr: 0x11000,
+            len: 4096,
+        };
+        let (seat, was_unmapped) = one_call(rt, rig, seat, unmap, Reply::Done);
+        let (seat, was_loaded) = one_call(rt, rig, seat, STORED, Reply::Value(9));
+        gate.done.store(true, Ordering::SeqCst);
+        worker.join(rt);
+        Some((seat, was_unmapped && was_loaded))
+    })
+}
+
+/// The same in a rig whose migration has begun, and what the rig was closed with.
+fn load_after_unmap<R: Threads + Wait + Sync, C: Clock + Sync + Drop>(
+    rt: &R,
+    alloc: Global,
+    clock: C,
+) -> Option<(bool, Closed)> {
+    let gate = LateReader {
+        clock,
+        rested: AtomicBool::new(false),
+        done: AtomicBool::new(false),
+    };
+    let mut rig = rig_after(alloc, 1, &[issue(MAP), store(0x10000, 9), Step::Start])?;
+    let seat = rig.seat(0).ok()?;
+    let (seat, answered) = unmapped_and_loaded(rt, &gate, &rig, seat)?;
+    match close_one(alloc, rig, seat) {
+        Some(closed) => Some((answered, closed)),
+        None => None,
+    }
+}
+
+/// A map call returns once its messages are read: the next call finds the processor idle.
+#[test]
+fn a_map_call_waits_until_its_messages_are_read(rt: HostRuntime) -> Result<(), Fail> {
+    let told = match load_after_unmap(&rt, rt.alloc(), rt) {
+        None => load_after_unmap(&rt, rt.alloc(), rt),
+        told => told,
+    };
+    let (answered, closed) = told.ok_or("no thread")?;
+    assert!(rt; answered && closed.fault.is_none() && closed.entries == 4);
     Ok(())
 }

@@ -1,4 +1,4 @@
-//! Writers that take a byte at a time, none, or fail.
+//! Writers that take a byte at a time, none, or fail. A run that is refused memory is made once more.
 
 use engine::RunFault;
 use std::io;
@@ -39,11 +39,13 @@ fn a_write_that_takes_none_or_fails(rt: HostRuntime) -> Result<(), Fail> {
             most,
             fails,
         };
-        let answer = run_threads(&rt, rt.alloc(), &mut out, 1, 1, false);
-        let wanted = "cpu 0 calls 3\ntranscript 3\nclose ok\n".as_bytes();
+        let mut answer = run_threads(&rt, rt.alloc(), &mut out, 1, 1, false);
         if answer == Err(RunFault::NoMemory) {
             assert!(rt; out.bytes.is_empty());
-        } else if most < wanted.len() {
+            answer = run_threads(&rt, rt.alloc(), &mut out, 1, 1, false);
+        }
+        let wanted = "cpu 0 calls 3\ntranscript 3\nclose ok\n".as_bytes();
+        if most < wanted.len() {
             assert!(rt; answer == Err(RunFault::WriteFault));
             assert!(rt; wanted.starts_with(&out.bytes));
         } else {

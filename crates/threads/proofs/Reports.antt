@@ -1,31 +1,31 @@
 -- A report and its parts.
-use Rattle.std.proofs.Common.{arith, ◌≡◌, ℕ, ◌+◌, ◌<◌, List, [], ◌++◌, length, refl, subst}
-use Rattle.std.specs.Prelude.{Bool, Result, Ok, Err, IfOk}
+use Rattle.std.proofs.Common.{arith, ◌≡◌, ℕ, ◌+◌, ◌<◌, List, [], ◌++◌, length, subst, sym, ap, ◌∙◌, append_assoc, true, false, Bool, not}
+use Rattle.std.specs.Prelude.{Option, Result, Ok, Err, OnOk}
 use Rattle.mig_base.specs.Flat.{IsFlatRun}
 use Rattle.mig_base.specs.declared.command.Entry.{Entry}
 use Rattle.mig_model.specs.Migration.{World}
-use Rattle.rig.specs.Seats.{Seat, answers_of, list_of, calls_of}
-use Rattle.engine.specs.declared.fault.RunFault.{RunFault}
-use Rattle.threads.specs.Report.{seat_lines, AreFrom, IsHistory, IsVerdict, IsReport}
+use Rattle.rig.specs.declared.rig.CloseFault.{CloseFault}
+use Rattle.rig.specs.Seats.{Handed, Seat, AreAnswered, answers_of, list_of}
+use Rattle.threads.specs.Report.{IsHistory, report_lines, seat_lines, verdict_lines}
 
-pub history : (seats : List Seat) (world : World) (opening : List Entry) → opening ≡ [] → IsFlatRun world.transcript
-    → ((k : ℕ) → k < length world.source.guest.cpus → answers_of k world.transcript ≡ answers_of k opening ++ list_of k seats)
-    → length world.transcript ≡ length opening + calls_of seats → IsHistory seats world
-history seats world opening none flat answers count = record {
+-- the answers of seats with which a rig was closed whose opening is empty
+pub history : (rig : Handed) (seats : List Seat) (world : World) → rig.opening ≡ [] → IsFlatRun world.transcript → AreAnswered rig seats world.transcript (length world.source.guest.cpus) → IsHistory seats world
+history rig seats world none flat answered = record {
   flat = flat;
-  answers = λ k is. subst (λ (o : List Entry). answers_of k world.transcript ≡ answers_of k o ++ list_of k seats) none (answers k is);
-  count = grind arith;
+  answers = λ k is. subst (λ (o : List Entry). answers_of k world.transcript ≡ answers_of k o ++ list_of k seats) none (answered.answers k is);
+  count = let count = answered.count in grind arith;
 }
 
-pub reported : (cpus calls : ℕ) (seats : List Seat) (outcome : Result Bool RunFault) (old mid new : List ℕ) → length seats ≡ cpus → AreFrom 0 calls seats
-    → old ≡ [] → mid ≡ old ++ seat_lines seats → IfOk outcome (λ answer. (verdict : List ℕ) × IsVerdict seats answer verdict × (new ≡ mid ++ verdict))
-    → IfOk outcome (λ answer. IsReport cpus calls answer new)
-reported cpus calls seats (Ok answer) old mid new all each none printed closed = record {
-  seats = seats;
-  verdict = closed.0;
-  all = all;
-  each = each;
-  closes = closed.1;
-  lines = rw (closed.2, printed, none) refl;
-}
-reported cpus calls seats (Err fault) old mid new all each none printed closed = tt
+-- what is appended for the seats, and then for the rest
+pub printed : {E : Type 0} → (outcome : Result (Unit {0}) E) (old mid new : List ℕ) (seats all : List Seat) (entries others : List Entry) (fault : Option CloseFault) → seats ≡ all → entries ≡ others → mid ≡ old ++ seat_lines seats
+    → OnOk outcome (new ≡ mid ++ verdict_lines (length entries) fault) → OnOk outcome (new ≡ old ++ report_lines all (length others) fault)
+printed (Ok done) old mid new seats all entries others fault same told first last =
+    let verdict = verdict_lines (length entries) fault in
+    let whole : new ≡ old ++ report_lines seats (length entries) fault = last ∙ ap (λ m. m ++ verdict) first ∙ append_assoc old (seat_lines seats) verdict in
+    subst (λ (es : List Entry). new ≡ old ++ report_lines all (length es) fault) told (subst (λ (ss : List Seat). new ≡ old ++ report_lines ss (length entries) fault) same whole)
+printed (Err fault) old mid new seats all entries others found same told first last = tt
+
+-- the answer of a test of a fault
+pub answer_is : (found answer : Bool) → found ≡ not answer → answer ≡ not found
+answer_is found true is = sym (ap not is)
+answer_is found false is = sym (ap not is)

@@ -1,5 +1,6 @@
 -- The report of a run in threads.
-use Rattle.std.specs.Prelude.{◌≡◌, ℕ, ◌<◌, suc, ⊤, Bool, true, false, List, [], ◌∷◌, ◌++◌, length, codes, Option}
+use Rattle.std.specs.Prelude.{◌≡◌, ℕ, ◌<◌, suc, ⊤, Bool, true, false, List, [], ◌∷◌, ◌++◌, length, codes, Option, Some, None}
+use Rattle.std.specs.Option.{is_none}
 use Rattle.std.specs.Fmt.{decimal}
 use Rattle.std.specs.Io.KnownBytes.{Appends}
 use Rattle.mig_base.specs.Flat.{IsFlatRun}
@@ -48,19 +49,27 @@ pub record IsHistory (seats : List Seat) (world : World) : Type 0 where
   pub answers : (k : ℕ) → k < length world.source.guest.cpus → answers_of k world.transcript ≡ list_of k seats
   pub count : length world.transcript ≡ calls_of seats
 
--- the last lines of the report, for a rig that was closed with these seats
-abbrev pub IsVerdict : List Seat → Bool → List ℕ → Type 0
-IsVerdict seats true text = (world : World) × IsHistory seats world × (text ≡ count_line (length world.transcript) ++ ok_line)
-IsVerdict seats false text = (world : World) × (fault : CloseFault) × IsFlatRun world.transcript × (text ≡ count_line (length world.transcript) ++ fault_line fault)
+-- the last lines: the number of entries of the world, and what was found when the rig was closed
+abbrev pub verdict_lines : ℕ → Option CloseFault → List ℕ
+verdict_lines entries None = count_line entries ++ ok_line
+verdict_lines entries (Some fault) = count_line entries ++ fault_line fault
 
--- the report of a run with this number of processors, each of which makes this number of calls
+-- the report: a line for each seat, and the last lines
+abbrev pub report_lines : List Seat → ℕ → Option CloseFault → List ℕ
+report_lines seats entries fault = seat_lines seats ++ verdict_lines entries fault
+
+-- a text is the report of some run with this number of processors, each of which makes this number of calls; the answer is whether nothing
+-- was found wrong
 pub record IsReport (cpus calls : ℕ) (answer : Bool) (text : List ℕ) : Type 0 where
   pub seats : List Seat
-  pub verdict : List ℕ
+  pub world : World
+  pub fault : Option CloseFault
   pub all : length seats ≡ cpus
   pub each : AreFrom 0 calls seats
-  pub closes : IsVerdict seats answer verdict
-  pub lines : text ≡ seat_lines seats ++ verdict
+  pub flat : IsFlatRun world.transcript
+  pub history : fault ≡ None → IsHistory seats world
+  pub answers : answer ≡ is_none fault
+  pub lines : text ≡ report_lines seats (length world.transcript) fault
 
 -- the report was written
 abbrev pub Reports : ℕ → ℕ → Bool → Option (List ℕ) → Option (List ℕ) → Type 0

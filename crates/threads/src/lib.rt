@@ -1,8 +1,8 @@
 //! Runs a whole migration in threads: one for each processor of the guest, and those of the workers.
 //!
-//! [`run_threads`] makes a world and a rig, and starts the workers and the processors. It switches while the processors make their calls,
-//! and breaks the channel and resumes if asked to. Once all threads have ended, it closes the rig and writes a report, which
-//! `specs/Report.antt` defines.
+//! [`run_world`] makes a world and a rig, and starts the workers and the processors. It switches while the processors make their calls,
+//! and breaks the channel and resumes if asked to. Once all threads have ended, it closes the rig. [`run_threads`] writes a report of such
+//! a run, which `specs/Report.antt` defines.
 //!
 //! The modules: `course` (the state of a run, and the workers' gate), `processor` (the calls of a processor), `sending` (the thread that
 //! sends the owed pages of each epoch), `driver` (starts the threads, switches, cuts and resumes), `summary` (the report), `run` (all of
@@ -16,4 +16,4 @@ mod run;
 mod sending;
 mod summary;
 
-pub use crate::run::run_threads;
+pub use crate::run::{Run, run_threads, run_world};

@@ -1,25 +1,80 @@
 //! One run, from the new world to the report.
 
-ghost use Rattle.std.specs.Prelude.{◌≡◌, ◌≤◌, ◌+◌, ◌*◌, [], length, IfOk, IfErr, string_bytes};
+ghost use Rattle.std.specs.Prelude.{◌≡◌, ◌≤◌, ◌+◌, ◌*◌, [], None, length, IfOk, IfErr, string_bytes};
 ghost use Rattle.engine.specs.declared.fault.RunFault.TheVariants.{NoMemory as OutOfMemory};
-ghost use Rattle.threads.specs.Report.{IsReport, Reports, Stops};
+ghost use Rattle.mig_base.specs.Flat.{IsFlatRun};
+ghost use Rattle.threads.specs.Report.{AreFrom, IsHistory, IsReport, Reports, Stops};
 
 use crate::course::Course;
 use crate::driver::{Cut, Plan, run_all};
 use crate::processor::calls_with;
-use crate::summary::{are_whole, close_and_print, print_seats};
+use crate::summary::{are_whole, claims_in, print_run};
 use engine::RunFault;
 use engine::line_runner::write_out;
-use rig::{CpuSeat, Rig};
+use rig::{CloseFault, CpuSeat, Rig};
 use std::alloc::Global;
 use std::io::Write;
 use std::sync::Wait;
 use std::thread::Threads;
 use world::World;
 
-/// Runs a guest of `cpus` processors, 1 to 16, through a whole migration, each processor and each worker in a thread of its own, and
-/// writes a report when all have ended. Each processor makes a map call, `calls` stores and `calls` loads; with `cut` the channel breaks
-/// once. Returns whether the tests of `Rig::close` passed.
+/// A run that has ended.
+#[derive(Drop)]
+pub struct Run {
+    /// The seats of the processors, in the order of their numbers, with the answers to their calls.
+    pub seats: Vec<CpuSeat>,
+    /// The world that the rig was closed with.
+    pub world: World,
+    /// What `Rig::close` has found wrong, if anything.
+    pub fault: Option<CloseFault>,
+}
+
+/// Runs a guest of `cpus` processors, 1 to 16, through a whole migration, each processor and each worker in a thread of its own. Each
+/// processor makes a map call, `calls` stores and `calls` loads; with `cut` the channel breaks once. Returns when all threads have ended.
+///
+/// The only fault is `NoMemory`: memory was refused, or a thread could not be started.
+pub fn run_world<R: Threads + Wait + Sync>(
+    rt: &R,
+    alloc: Global,
+    cpus: u8,
+    calls: u16,
+    cut: bool,
+) -> Result<Run, RunFault>
+    requires low { 1 ≤ cpus }
+    requires high { cpus ≤ 16 }
+    ensures all { IfOk result (λ run. length run.seats.items ≡ cpus) }
+    ensures each { IfOk result (λ run. AreFrom 0 (1 + 2 * calls) run.seats.items) }
+    ensures flat { IfOk result (λ run. IsFlatRun run.world.transcript) }
+    ensures history { IfOk result (λ run. run.fault ≡ None → IsHistory run.seats.items run.world) }
+    ensures err { IfErr result (λ fault. fault ≡ OutOfMemory) }
+{
+    let (rig, seats) = seated(alloc, cpus)?;
+    let plan = Plan {
+        stores: calls,
+        cut: cut_for(cut, cpus),
+    };
+    let course = Course::new();
+    let Some((seats, sent)) = run_all(rt, alloc, &rig, &course, seats, plan) else {
+        return Err(RunFault::NoMemory);
+    };
+    if !are_whole(&seats, cpus, calls_with(calls) as usize) {
+        return Err(RunFault::NoMemory);
+    }
+    match rig.close_with(&seats, claims_in(sent)) {
+        Ok(world) => Ok(Run {
+            seats,
+            world,
+            fault: None,
+        }),
+        Err((fault, world)) => Ok(Run {
+            seats,
+            world,
+            fault: Some(fault),
+        }),
+    }
+}
+
+/// Makes a run and writes its report. Returns whether the tests of `Rig::close` passed.
 ///
 /// `NoMemory` comes if memory is refused or a thread cannot be started: nothing is written then. `WriteFault` comes if a write fails; the
 /// first part of the report may be written then.
@@ -37,13 +92,13 @@ pub fn run_threads<R: Threads + Wait + Sync, W: Write>(
     ensures fault { IfErr result (λ fault. Stops cpus (1 + 2 * calls) fault (W.contents writer.old) (W.contents writer.new)) }
 {
     let mut text = String::new(alloc);
-    let answer = run(rt, alloc, cpus, calls, cut, &mut text)?;
+    let answer = run_and_print(rt, alloc, cpus, calls, cut, &mut text)?;
     write_out(writer, text.as_bytes())?;
     Ok(answer)
 }
 
-/// Runs to the end of all threads, and replaces a text by the report.
-fn run<R: Threads + Wait + Sync>(
+/// Makes a run, and fills an empty text with its report. Returns whether nothing was found wrong.
+fn run_and_print<R: Threads + Wait + Sync>(
     rt: &R,
     alloc: Global,
     cpus: u8,
@@ -57,20 +112,9 @@ fn run<R: Threads + Wait + Sync>(
     ensures ok { IfOk result (λ answer. IsReport cpus (1 + 2 * calls) answer (string_bytes text.new)) }
     ensures err { IfErr result (λ fault. fault ≡ OutOfMemory) }
 {
-    let (rig, seats) = seated(alloc, cpus)?;
-    let plan = Plan {
-        stores: calls,
-        cut: cut_for(cut, cpus),
-    };
-    let course = Course::new();
-    let Some((seats, sent)) = run_all(rt, alloc, &rig, &course, seats, plan) else {
-        return Err(RunFault::NoMemory);
-    };
-    if !are_whole(&seats, cpus, calls_with(calls) as usize) {
-        return Err(RunFault::NoMemory);
-    }
-    print_seats(text, &seats)?;
-    close_and_print(rig, seats, sent, text)
+    let run = run_world(rt, alloc, cpus, calls, cut)?;
+    print_run(text, &run)?;
+    Ok(run.fault.is_none())
 }
 
 /// When a run with a cut breaks the channel: right after the switch if the number of processors is odd, else once the destination runs.

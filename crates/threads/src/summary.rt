@@ -1,14 +1,15 @@
 //! The report of a run.
 
-ghost use Rattle.std.specs.Prelude.{◌≡◌, ◌++◌, [], List, ℕ, true, OnOk, IfOk, IfErr, IfSome, string_bytes, length};
+ghost use Rattle.std.specs.Prelude.{◌≡◌, ◌++◌, true, OnOk, IfOk, IfErr, IfSome, string_bytes, length};
 ghost use Rattle.engine.specs.declared.fault.RunFault.TheVariants.{NoMemory as OutOfMemory};
 ghost use Rattle.pusher.specs.Seats.{IsSeatOf};
-ghost use Rattle.threads.specs.Report.{seat_line, seat_lines, count_line, ok_line, fault_name, fault_line, AreFrom, IsVerdict};
+ghost use Rattle.threads.specs.Report.{seat_line, seat_lines, count_line, ok_line, fault_name, fault_line, report_lines, AreFrom};
 
+use crate::run::Run;
 use crate::sending::Sent;
 use engine::RunFault;
 use pusher::{ClaimSeat, Claims};
-use rig::{CloseFault, CpuSeat, Rig};
+use rig::{CloseFault, CpuSeat};
 
 /// Whether the seats are those of all `cpus` processors, in order, and each has `calls` answers.
 pub(crate) fn are_whole(seats: &[CpuSeat], cpus: u8, calls: usize) -> bool
@@ -28,7 +29,7 @@ pub(crate) fn are_whole(seats: &[CpuSeat], cpus: u8, calls: usize) -> bool
 }
 
 /// Appends a line for each seat to a text.
-pub(crate) fn print_seats(text: &mut String, seats: &[CpuSeat]) -> Result<(), RunFault>
+fn print_seats(text: &mut String, seats: &[CpuSeat]) -> Result<(), RunFault>
     ensures ok { OnOk result (string_bytes text.new ≡ string_bytes text.old ++ seat_lines seats.now) }
     ensures err { IfErr result (λ fault. fault ≡ OutOfMemory) }
 {
@@ -51,26 +52,16 @@ fn print_seat(text: &mut String, seat: &CpuSeat) -> Result<(), RunFault>
     Ok(())
 }
 
-/// Closes the rig, and appends to a text the number of entries of its world, and whether the tests of `close` passed.
-pub(crate) fn close_and_print(
-    rig: Rig,
-    seats: Vec<CpuSeat>,
-    sent: Option<Sent>,
-    text: &mut String,
-) -> Result<bool, RunFault>
-    requires { rig.opening ≡ [] }
-    ensures ok { IfOk result (λ answer. (verdict : List ℕ) × IsVerdict seats.items answer verdict × (string_bytes text.new ≡ string_bytes text.old ++ verdict)) }
+/// Appends the report of a run to a text.
+pub(crate) fn print_run(text: &mut String, run: &Run) -> Result<(), RunFault>
+    ensures ok { OnOk result (string_bytes text.new ≡ string_bytes text.old ++ report_lines run.now.seats.items (length run.now.world.transcript) run.now.fault) }
     ensures err { IfErr result (λ fault. fault ≡ OutOfMemory) }
 {
-    match rig.close(seats, claims_in(sent)) {
-        Ok(world) => {
-            print_ok(text, world.transcript().len())?;
-            Ok(true)
-        }
-        Err((fault, world)) => {
-            print_fault(text, world.transcript().len(), fault)?;
-            Ok(false)
-        }
+    print_seats(text, &run.seats)?;
+    let entries = run.world.transcript().len();
+    match run.fault {
+        None => print_ok(text, entries),
+        Some(fault) => print_fault(text, entries, fault),
     }
 }
 
@@ -113,7 +104,7 @@ fn print_count(text: &mut String, entries: usize) -> Result<(), RunFault>
 }
 
 /// The claims, and the seat that has every claim.
-fn claims_in(sent: Option<Sent>) -> Option<(Claims, ClaimSeat)>
+pub(crate) fn claims_in(sent: Option<Sent>) -> Option<(Claims, ClaimSeat)>
     ensures { IfSome result (λ c. IsSeatOf c.0 c.1) }
 {
     match sent {

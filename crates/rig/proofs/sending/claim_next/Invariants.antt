@@ -1,7 +1,7 @@
 use Rattle.std.proofs.Common.{◌-◌, length}
 use Rattle.pusher.specs.Seats.{IsSeatOf}
 use Rattle.rig.specs.Claiming.{HasGoneOn}
-use Rattle.rig.proofs.rig.pushing.claim_next.Given as goal
+use Rattle.rig.proofs.sending.claim_next.Given as goal
 
 abbrev pub invariant-loop-index : goal.invariant-loop-index
 invariant-loop-index l = IsSeatOf l.claims l.seat × HasGoneOn l.fn.seat l.seat

@@ -1,0 +1,58 @@
+-- The turns of the workers: the kind of step that each asks for, and the steps that it makes.
+use Rattle.std.specs.Prelude.{◌≡◌, ◌⊎◌, ◌%◌, ℕ, ⊤, List, [], ◌∷◌, length, Option, Some, None, IfSome, Contains}
+use Rattle.std.specs.List.{slice_get}
+use Rattle.mig_base.specs.declared.schedule.Side.{Side}
+use Rattle.mig_base.specs.declared.schedule.Step.{Step}
+use Rattle.rig.specs.declared.gate.StepKind.{StepKind}
+use Rattle.rig.specs.declared.gate.Worker.{Worker}
+
+-- a step without its fields
+abbrev pub kind_of : Step → StepKind
+kind_of (Step.Issue cpu command) = StepKind.Issue
+kind_of (Step.Retry cpu) = StepKind.Retry
+kind_of Step.Start = StepKind.Start
+kind_of Step.Round = StepKind.Round
+kind_of Step.Send = StepKind.Send
+kind_of (Step.SendRun count) = StepKind.SendRun
+kind_of Step.SourceRead = StepKind.SourceRead
+kind_of Step.SourceAct = StepKind.SourceAct
+kind_of Step.Switch = StepKind.Switch
+kind_of (Step.Deliver n) = StepKind.Deliver
+kind_of (Step.DeliverBack n) = StepKind.DeliverBack
+kind_of Step.DestRead = StepKind.DestRead
+kind_of Step.DestAct = StepKind.DestAct
+kind_of Step.Install = StepKind.Install
+kind_of (Step.Push ticket) = StepKind.Push
+kind_of (Step.PushUrgent ticket) = StepKind.PushUrgent
+kind_of (Step.DeliverUrgent n) = StepKind.DeliverUrgent
+kind_of Step.Serve = StepKind.Serve
+kind_of Step.End = StepKind.End
+kind_of Step.Break = StepKind.Break
+kind_of (Step.Notice side) = StepKind.Notice
+kind_of Step.Resume = StepKind.Resume
+
+-- all bytes that have come
+abbrev pub all_bytes : ℕ
+all_bytes = 18446744073709551615
+
+-- the table of a worker that makes its steps in turn, over and over; the other two choose theirs by what is to be sent
+abbrev pub steps_of : Worker → List Step
+steps_of Worker.Source =
+    Step.Round ∷ Step.Send ∷ Step.SourceRead ∷ Step.SourceAct ∷ Step.DeliverBack all_bytes ∷ Step.End ∷ Step.Notice Side.Source ∷ []
+steps_of Worker.Dest =
+    Step.Deliver all_bytes ∷ Step.DeliverUrgent all_bytes ∷ Step.DestRead ∷ Step.DestAct ∷ Step.Install ∷ Step.Notice Side.Destination ∷ []
+steps_of worker = []
+
+-- a worker may ask for a step of this kind in this turn: for that of its table, in order; the one that serves asks for a request or for an
+-- urgent push, and the one that pushes for a push on the other wire
+abbrev pub Asks : Worker → ℕ → StepKind → Type 0
+Asks Worker.Serve turn kind = (kind ≡ StepKind.Serve) ⊎ (kind ≡ StepKind.PushUrgent)
+Asks Worker.Push turn kind = kind ≡ StepKind.Push
+Asks worker turn kind =
+    IfSome (slice_get (steps_of worker) (turn % length (steps_of worker))) (λ step. kind ≡ kind_of step)
+
+-- the worker may make this step
+abbrev pub IsStepOf : Worker → Step → Type 0
+IsStepOf Worker.Serve step = (kind_of step ≡ StepKind.Serve) ⊎ (kind_of step ≡ StepKind.PushUrgent)
+IsStepOf Worker.Push step = kind_of step ≡ StepKind.Push
+IsStepOf worker step = Contains (steps_of worker) step

@@ -1,0 +1,155 @@
+//! The turns of a worker, and the loop of one that makes the steps of a table.
+
+ghost use Rattle.std.specs.Prelude.{◌≡◌, ◌≢◌, ◌⊎◌, ◌<◌, ◌^◌, ◌-◌, ℕ, suc, Some, None, Err, length, Option};
+ghost use Rattle.mig_base.specs.declared.refusal.Refusal.{Refusal};
+ghost use Rattle.mig_base.specs.declared.schedule.Step.{Step};
+ghost use Rattle.rig.specs.declared.gate.Pass.{Pass};
+ghost use Rattle.rig.specs.declared.gate.StepKind.{StepKind};
+ghost use Rattle.rig.specs.declared.gate.Worker.{Worker};
+ghost use Rattle.rig.specs.declared.turns.Leave.{Leave};
+ghost use Rattle.rig.specs.Sections.{IsOutcome};
+ghost use Rattle.rig.specs.Turns.{Asks, IsStepOf, kind_of, steps_of};
+
+use crate::gate::{Pass, StepKind, Worker};
+use mig_base::effect::Effect;
+use mig_base::refusal::Refusal;
+use mig_base::schedule::{Side, Step};
+use std::thread;
+
+/// The most times that a worker yields between two rounds of its steps, which takes some tens of microseconds.
+const LONGEST_REST: u32 = 64;
+
+/// What a worker may do before it asks again.
+#[derive(Clone, Copy, Debug, PartialEq, Eq)]
+pub enum Leave {
+    /// Nothing: it has made its step, or may not make it.
+    Nothing,
+    /// One step of this kind.
+    Step(StepKind),
+    /// Nothing, for good.
+    Over,
+}
+
+/// What the loop of a worker runs over: in each turn it asks whether it may make a step of the next kind, and then makes at most one, of
+/// that kind. Under the lock of a rig the gate decides, and each step is one section. Tests run the same loops over a world and a list of
+/// the kinds that were asked for.
+pub trait Turns {
+    ghost who: { Self → Worker };
+
+    /// The number of turns so far.
+    ghost turn: { Self → ℕ };
+
+    ghost leave: { Self → Leave };
+
+    /// Asks for a step of this kind, which begins the next turn. A worker that was stopped does not ask again.
+    fn pass(&mut self, next: StepKind) -> Pass
+        requires asks { Asks (who self.old) (turn self.old) next }
+        requires goes_on { leave self.old ≢ Leave.Over }
+        requires few { turn self.old < 2 ^ 64 - 1 }
+        ensures who { who self.new ≡ who self.old }
+        ensures turn { turn self.new ≡ suc (turn self.old) }
+        ensures go { result ≡ Pass.Go → leave self.new ≡ Leave.Step next }
+        ensures skip { result ≡ Pass.Skip → leave self.new ≡ Leave.Nothing }
+        ensures stop { result ≡ Pass.Stop → leave self.new ≡ Leave.Over };
+
+    /// Makes the one step that this turn allows.
+    fn make(&mut self, step: Step) -> Result<Effect, Refusal>
+        requires step { IsStepOf (who self.old) step }
+        requires leave { leave self.old ≡ Leave.Step (kind_of step) }
+        ensures who { who self.new ≡ who self.old }
+        ensures turn { turn self.new ≡ turn self.old }
+        ensures leave { leave self.new ≡ Leave.Nothing }
+        ensures outcome { IsOutcome step result };
+
+    /// Makes a Serve, if the world is in this epoch; `StaleEpoch`, and no step, if not.
+    fn serve(&mut self, epoch: u32) -> Result<Effect, Refusal>
+        requires leave { leave self.old ≡ Leave.Step StepKind.Serve }
+        ensures who { who self.new ≡ who self.old }
+        ensures turn { turn self.new ≡ turn self.old }
+        ensures leave { leave self.new ≡ Leave.Nothing }
+        ensures outcome { (result ≡ Err Refusal.StaleEpoch) ⊎ IsOutcome Step.Serve result };
+
+    /// The epoch of the world now. No step is made.
+    fn epoch(&self) -> u32;
+}
+
+/// The loop of the source's worker: Round, Send, SourceRead, SourceAct, DeliverBack, End and Notice in turn, over and over, until it is
+/// stopped, or to the greatest turn.
+pub fn source_turns<T: Turns>(turns: &mut T)
+    requires who { T.who turns.old ≡ Worker.Source }
+    requires first { T.turn turns.old ≡ 0 }
+    requires goes_on { T.leave turns.old ≢ Leave.Over }
+    ensures ended { (T.leave turns.new ≡ Leave.Over) ⊎ (T.turn turns.new ≡ 2 ^ 64 - 1) }
+{
+    take_turns(
+        turns,
+        &[
+            Step::Round,
+            Step::Send,
+            Step::SourceRead,
+            Step::SourceAct,
+            Step::DeliverBack { n: u64::MAX },
+            Step::End,
+            Step::Notice(Side::Source),
+        ],
+    )
+}
+
+/// The loop of the destination's worker: Deliver, DeliverUrgent, DestRead, DestAct, Install and Notice in turn, over and over, until it is
+/// stopped, or to the greatest turn.
+pub fn dest_turns<T: Turns>(turns: &mut T)
+    requires who { T.who turns.old ≡ Worker.Dest }
+    requires first { T.turn turns.old ≡ 0 }
+    requires goes_on { T.leave turns.old ≢ Leave.Over }
+    ensures ended { (T.leave turns.new ≡ Leave.Over) ⊎ (T.turn turns.new ≡ 2 ^ 64 - 1) }
+{
+    take_turns(
+        turns,
+        &[
+            Step::Deliver { n: u64::MAX },
+            Step::DeliverUrgent { n: u64::MAX },
+            Step::DestRead,
+            Step::DestAct,
+            Step::Install,
+            Step::Notice(Side::Destination),
+        ],
+    )
+}
+
+/// Makes the steps of the worker's table over and over. After a round in which it made none it yields once, after the next such round
+/// twice, and so on, up to [`LONGEST_REST`] times.
+fn take_turns<T: Turns>(turns: &mut T, steps: &[Step])
+    requires who { (T.who turns.old ≡ Worker.Source) ⊎ (T.who turns.old ≡ Worker.Dest) }
+    requires table { steps.now ≡ steps_of (T.who turns.old) }
+    requires first { T.turn turns.old ≡ 0 }
+    requires goes_on { T.leave turns.old ≢ Leave.Over }
+    ensures ended { (T.leave turns.new ≡ Leave.Over) ⊎ (T.turn turns.new ≡ 2 ^ 64 - 1) }
+{
+    let count = steps.len() as u64;
+    let mut is_idle = true;
+    let mut rest = 1;
+    for turn in 0..u64::MAX {
+        let step = steps[(turn % count) as usize];
+        match turns.pass(StepKind::of(step)) {
+            Pass::Go => {
+                if turns.make(step).is_ok() {
+                    is_idle = false;
+                }
+            }
+            Pass::Skip => {}
+            Pass::Stop => return,
+        }
+        if turn % count == count - 1 {
+            rest = if is_idle { rest_after(rest) } else { 1 };
+            is_idle = true;
+        }
+    }
+}
+
+/// Yields `rest` times. Returns how often to yield after the next round without a step: twice as often, up to [`LONGEST_REST`].
+fn rest_after(rest: u32) -> u32 {
+    for _ in 0..rest {
+        thread::yield_now();
+    }
+    rest.saturating_mul(2).min(LONGEST_REST)
+}
