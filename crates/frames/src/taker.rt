@@ -36,7 +36,7 @@ fn answer(
     let effect = frame.effect();
     match destination.take(epoch, frame) {
         Ok(_) => print_line(line, &Ok(effect)),
-        Err((fault, _)) => print_refusal(line, fault),
+        Err(fault) => print_refusal(line, fault),
     }
 }
 

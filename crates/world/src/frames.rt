@@ -54,7 +54,7 @@ pub(crate) fn receive(
             send_back(back, true, destination.epoch(), answer);
             Ok(effect)
         }
-        Err((fault, _)) => Err(refusal_of(fault)),
+        Err(fault) => Err(refusal_of(fault)),
     }
 }
 
