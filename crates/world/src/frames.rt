@@ -9,7 +9,7 @@ ghost use Rattle.mig_base.specs.declared.refusal.Refusal as refusals;
 ghost use Rattle.mig_model.specs.Bounds.{IsFrame};
 ghost use Rattle.mig_model.specs.Destination as to;
 ghost use Rattle.mig_model.specs.DestinationSteps as destinations;
-ghost use Rattle.mig_model.specs.Faults.{back_fault, frame_fault, rebuild_fault, refusal_of, urgent_fault};
+ghost use Rattle.mig_model.specs.Faults.{back_fault, frame_fault, rebuild_fault, urgent_fault};
 ghost use Rattle.mig_model.specs.NodeSteps as steps;
 ghost use Rattle.mig_model.specs.Source as from;
 ghost use Rattle.mig_model.specs.SourceSteps as sources;
@@ -54,7 +54,10 @@ pub(crate) fn receive(
             send_back(back, true, destination.epoch(), answer);
             Ok(effect)
         }
-        Err(fault) => Err(refusal_of(fault)),
+        Err(TakeFault::InstallFirst) => Err(Refusal::InstallFirst),
+        Err(TakeFault::UrgentFirst) => Err(Refusal::UrgentFirst),
+        // No frame in flight is out of place, of another epoch or bad.
+        Err(_) => Err(Refusal::NoMemory),
     }
 }
 
@@ -164,18 +167,5 @@ pub(crate) fn send_back(wire: &mut Wire, up: bool, epoch: u32, frame: Option<Fra
     match frame {
         Some(frame) if up => wire.push(epoch, frame),
         _ => {}
-    }
-}
-
-/// The refusal of a delivery whose frame the destination does not take. In a world a frame has no other fault than the two that make it
-/// wait, so any other refusal is for lack of memory.
-fn refusal_of(fault: TakeFault) -> Refusal
-    ensures { result ≡ refusal_of fault }
-{
-    match fault {
-        TakeFault::InstallFirst => Refusal::InstallFirst,
-        TakeFault::UrgentFirst => Refusal::UrgentFirst,
-        TakeFault::NoMemory | TakeFault::OutOfPlace | TakeFault::StaleEpoch | TakeFault::BadFrame =>
-            Refusal::NoMemory,
     }
 }
