@@ -1,7 +1,6 @@
 //! Calls of a destination, and what they answer.
 
 use crate::frames::{Brief, Sending, frame_of};
-use crate::same::same;
 use fault_handler::Destination;
 use guest::Tried;
 use mig_base::cpu_state::CpuState;
@@ -96,14 +95,8 @@ fn brief_of(frame: Option<Frame>) -> Option<Brief> {
     }
 }
 
-/// The answer for a frame that was refused, and handed back as it was.
-fn not_taken(
-    rt: &impl Abort,
-    fault: TakeFault,
-    back: &Frame,
-    sent: Brief,
-) -> Result<Answer, Refusal> {
-    same(rt, &Brief::of(back), &sent, "frame handed back", 0);
+/// The answer for a frame that was refused.
+fn not_taken(fault: TakeFault) -> Result<Answer, Refusal> {
     match fault {
         TakeFault::NoMemory => Err(Refusal::NoMemory),
         _ => Ok(NotTaken(fault)),
@@ -118,10 +111,9 @@ fn take(
     frame: Frame,
 ) -> Result<Answer, Refusal> {
     assert!(rt; frame.is_well_formed());
-    let sent = Brief::of(&frame);
     match destination.take(epoch, frame) {
         Ok(answer) => Ok(Took(brief_of(answer))),
-        Err((fault, back)) => not_taken(rt, fault, &back, sent),
+        Err(fault) => not_taken(fault),
     }
 }
 
@@ -133,10 +125,9 @@ fn take_urgent(
     frame: Frame,
 ) -> Result<Answer, Refusal> {
     assert!(rt; frame.is_well_formed());
-    let sent = Brief::of(&frame);
     match destination.take_urgent(epoch, frame) {
         Ok(()) => Ok(Took(None)),
-        Err((fault, back)) => not_taken(rt, fault, &back, sent),
+        Err(fault) => not_taken(fault),
     }
 }
 

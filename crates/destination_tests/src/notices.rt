@@ -55,7 +55,7 @@ fn play(
 /// What the source does, and what a destination that has not noticed the break is answered then.
 static ROWS: [(Step, Result<Effect, Refusal>); 5] = [
     (
-        (Looks, Ok(Stands(SourcePhase::Idle, NONE, 0, 0))),
+        (Looks, Ok(Stands(SourcePhase::Idle, NONE, None, 0))),
         Err(Refusal::Phase),
     ),
     ((Start, Ok(Done)), NOTICED),

@@ -8,7 +8,7 @@ use crate::same::same;
 use mig_base::fault::RebuildFault;
 use mig_base::phase::{Received, SourcePhase};
 use mig_base::refusal::Refusal;
-use mig_base::{Addr, Command, NoMemory, PAGE_SIZE, PageSet, Place, Prot};
+use mig_base::{Addr, Command, NoMemory, PAGE_SIZE, PageNo, PageSet, Place, Prot};
 use precopy::Source;
 use recovery::{notice_source, rebuild};
 use std::alloc::Global;
@@ -40,7 +40,8 @@ pub enum Answer {
     /// The first of the frames that it sends.
     Sends((Option<Brief>, Option<Brief>, Option<Brief>)),
     NotRebuilt(RebuildFault),
-    Stands(SourcePhase, Range, u32, u32),
+    /// The phase, the pages that remain, the next page of the round, and how many pages the last Package owes.
+    Stands(SourcePhase, Range, Option<PageNo>, u32),
 }
 
 use Answer::{Done, NotRebuilt, Sends, Stands};
@@ -53,7 +54,7 @@ fn looks(source: &Source) -> Answer {
     Stands(
         source.phase(),
         (remaining.next(0, true), remaining.len()),
-        source.log().todo().len(),
+        source.log().next_page(),
         source.packaged(),
     )
 }
@@ -173,18 +174,18 @@ static BEFORE_THE_SWITCH: [Step; 19] = [
     (Start, Ok(Done)),
     (Round, Ok(Done)),
     (Send, Ok(Done)),
-    (Looks, Ok(Stands(SourcePhase::Precopy, NONE, 1, 0))),
+    (Looks, Ok(Stands(SourcePhase::Precopy, NONE, Some(0x12), 0))),
     (Notice, Ok(Done)),
-    (Looks, Ok(Stands(SourcePhase::Paused, NONE, 1, 0))),
+    (Looks, Ok(Stands(SourcePhase::Paused, NONE, Some(0x12), 0))),
     (Notice, Err(Refusal::Phase)),
     (Rebuild(Received::NotRun, (0x10, 1)), BAD_OWED),
     (Rebuild(Received::Running, NONE), BAD_OWED),
     (Rebuild(Received::Ended, NONE), BAD_OWED),
     (Rebuild(Received::NotRun, NONE), NO_FRAMES),
-    (Looks, Ok(Stands(SourcePhase::Precopy, NONE, 0, 0))),
+    (Looks, Ok(Stands(SourcePhase::Precopy, NONE, None, 0))),
     (Send, Err(Refusal::NothingThere)),
     (Round, Ok(Done)),
-    (Looks, Ok(Stands(SourcePhase::Precopy, NONE, 2, 0))),
+    (Looks, Ok(Stands(SourcePhase::Precopy, NONE, Some(0x10), 0))),
 ];
 
 /// After the switch a destination that runs may need pages that the source has, and no others. One that has not run is sent a Discard
@@ -197,15 +198,24 @@ static AFTER_THE_SWITCH: [Step; 24] = [
     (Round, Ok(Done)),
     (Send, Ok(Done)),
     (Switch, Ok(Done)),
-    (Looks, Ok(Stands(SourcePhase::Stopped, (0x11, 1), 1, 1))),
+    (
+        Looks,
+        Ok(Stands(SourcePhase::Stopped, (0x11, 1), Some(0x11), 1)),
+    ),
     (Notice, Ok(Done)),
-    (Looks, Ok(Stands(SourcePhase::Paused, (0x11, 1), 1, 1))),
+    (
+        Looks,
+        Ok(Stands(SourcePhase::Paused, (0x11, 1), Some(0x11), 1)),
+    ),
     (Rebuild(Received::Running, (0x30, 1)), BAD_OWED),
     (Rebuild(Received::Running, (0x11, 2)), BAD_OWED),
     (Rebuild(Received::NotRun, (0x10, 1)), BAD_OWED),
     (Rebuild(Received::Ended, (0x10, 1)), BAD_OWED),
     (Rebuild(Received::Running, (0x10, 1)), NO_FRAMES),
-    (Looks, Ok(Stands(SourcePhase::Stopped, (0x10, 1), 1, 1))),
+    (
+        Looks,
+        Ok(Stands(SourcePhase::Stopped, (0x10, 1), Some(0x11), 1)),
+    ),
     (Notice, Ok(Done)),
     (
         Rebuild(Received::NotRun, NONE),
@@ -215,10 +225,13 @@ static AFTER_THE_SWITCH: [Step; 24] = [
             None,
         ))),
     ),
-    (Looks, Ok(Stands(SourcePhase::Stopped, (0x10, 2), 1, 2))),
+    (
+        Looks,
+        Ok(Stands(SourcePhase::Stopped, (0x10, 2), Some(0x11), 2)),
+    ),
     (Notice, Ok(Done)),
     (Rebuild(Received::Ended, NONE), NO_FRAMES),
-    (Looks, Ok(Stands(SourcePhase::Released, NONE, 0, 2))),
+    (Looks, Ok(Stands(SourcePhase::Released, NONE, None, 2))),
     (Notice, Err(Refusal::Phase)),
     (Store(0x10000), Err(Refusal::Phase)),
 ];

@@ -81,13 +81,6 @@ impl DirtyLog {
         &self.clean
     }
 
-    /// The pages that this round still has to send.
-    pub fn todo(&self) -> &PageSet
-        ensures { result.now ≡ self.now.todo }
-    {
-        &self.todo
-    }
-
     /// The pages that were sent in this epoch.
     pub fn ever_sent(&self) -> &PageSet
         ensures { result.now ≡ self.now.sent }

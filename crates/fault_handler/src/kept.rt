@@ -1,6 +1,6 @@
 //! The kept copies: the newest copy of each page, until the destination runs.
 
-ghost use Rattle.std.specs.Prelude.{◌≡◌, ℕ, ◌+◌, ◌==◌, ◌<◌, ◌≤◌, ◌&&◌, ◌||◌, false, true, not, None, IfOk, OnOk, OnErr, IfErr, length};
+ghost use Rattle.std.specs.Prelude.{◌≡◌, ℕ, ◌+◌, ◌==◌, ◌<◌, ◌≤◌, ◌&&◌, ◌||◌, false, true, not, None, IfOk, OnOk, OnErr, length};
 ghost use Rattle.std.specs.FinMap as map;
 ghost use Rattle.std.specs.FinSet as set;
 ghost use Rattle.mig_base.specs.Bytes.{zero_page};
@@ -73,25 +73,22 @@ impl Kept {
         })
     }
 
-    /// Keeps the copy of a page; it replaces an older one. If memory is refused, which never happens for a page that is kept, the bytes
-    /// are returned and nothing changes.
-    pub fn keep(&mut self, page: PageNo, bytes: PageBytes) -> Result<(), PageBytes>
+    /// Keeps the copy of a page; it replaces an older one. `NoMemory` changes nothing, and never comes for a page that is kept.
+    pub fn keep(&mut self, page: PageNo, bytes: PageBytes) -> Result<(), NoMemory>
         requires { page < HIGH_PAGE }
         ensures ok { OnOk result (self.new ≡ map.insert self.old page bytes) }
-        ensures err { IfErr result (λ back. (back ≡ bytes) × (self.new ≡ self.old)) }
+        ensures err { OnErr result (self.new ≡ self.old) }
     {
         if self.set.contains(page) {
             self.pages.replace(page, bytes);
             return Ok(());
         }
-        let Ok(()) = self.set.insert(page) else {
-            return Err(bytes);
-        };
+        self.set.insert(page)?;
         match self.pages.put(page, bytes) {
             Ok(()) => Ok(()),
-            Err((_, bytes)) => {
+            Err(_) => {
                 self.set.remove(page);
-                Err(bytes)
+                Err(NoMemory)
             }
         }
     }
@@ -103,27 +100,22 @@ impl Kept {
         ensures err { OnErr result (self.new ≡ self.old) }
     {
         let zeros = PageBytes::zeros(self.alloc)?;
-        let Ok(()) = self.keep(page, zeros) else {
-            return Err(NoMemory);
-        };
-        Ok(())
+        self.keep(page, zeros)
     }
 
-    /// Keeps the copies of neighbouring pages; they replace older ones. If memory is refused, none is kept, and they are returned.
-    pub fn keep_run(&mut self, first: PageNo, run: Vec<PageBytes>) -> Result<(), Vec<PageBytes>>
+    /// Keeps the copies of neighbouring pages; they replace older ones. `NoMemory` changes nothing.
+    pub fn keep_run(&mut self, first: PageNo, run: Vec<PageBytes>) -> Result<(), NoMemory>
         requires { first + length run.items ≤ HIGH_PAGE }
         ensures ok { OnOk result (self.new ≡ kept_with self.old (run_copies first run.items)) }
-        ensures err { IfErr result (λ back. (back ≡ run) × (self.new ≡ self.old)) }
+        ensures err { OnErr result (self.new ≡ self.old) }
     {
         let count = run.len() as u32;
-        let Ok(()) = self.set.insert_range(first, count) else {
-            return Err(run);
-        };
+        self.set.insert_range(first, count)?;
         match self.pages.put_run(first, run) {
             Ok(()) => Ok(()),
-            Err(run) => {
+            Err(_run) => {
                 remove_missing(&mut self.set, &self.pages, first, count);
-                Err(run)
+                Err(NoMemory)
             }
         }
     }

@@ -1,47 +1,10 @@
-//! The lines of the answers of a destination.
+//! The line of a frame that a destination refuses.
 
 ghost use Rattle.std.specs.Prelude.{◌≡◌, ◌≢◌, ◌++◌, OnOk, string_bytes};
-ghost use Rattle.mig_model.specs.Bounds.{IsFrame};
-ghost use Rattle.mig_model.specs.Effects.{frame_effect};
-ghost use Rattle.page_stream.specs.Frames.{frame_of};
 ghost use Rattle.frames.specs.Answers.{refusal_line, take_fault_name};
 
-use mig_base::effect::Effect;
+use mig_base::NoMemory;
 use mig_base::fault::TakeFault;
-use mig_base::{NoMemory, page_address};
-use page_stream::Frame;
-
-/// The effect of a destination's taking a frame.
-pub(crate) fn effect_of(frame: &Frame) -> Effect
-    requires { IsFrame (frame_of frame.now) }
-    ensures { result ≡ frame_effect (frame_of frame.now) }
-{
-    match frame {
-        Frame::Advise => Effect::TookAdvise,
-        Frame::Page { page, .. } => Effect::TookPage {
-            addr: page_address(*page),
-        },
-        Frame::Zero { page } => Effect::TookZero {
-            addr: page_address(*page),
-        },
-        Frame::Run { first, pages } => Effect::TookRun {
-            addr: page_address(*first),
-            pages: pages.len() as u32,
-        },
-        Frame::Discard { pages } => Effect::TookDiscard { pages: pages.len() },
-        Frame::Package { owed, .. } => Effect::TookPackage { owed: owed.len() },
-        Frame::End { .. } => Effect::TookEnd,
-        Frame::Resume => Effect::TookResume,
-        Frame::Request { page } => Effect::TookRequest {
-            addr: page_address(*page),
-        },
-        Frame::Recv { state, owed } => Effect::TookRecv {
-            state: *state,
-            pages: owed.len(),
-        },
-        Frame::Done => Effect::TookDone,
-    }
-}
 
 /// The name of a reason for which a frame is refused.
 fn name_of(fault: TakeFault) -> &'static str

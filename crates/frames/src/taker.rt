@@ -12,7 +12,7 @@ ghost use Rattle.frames.specs.Answers.{after, answer_line, answer_lines, behind}
 ghost use Rattle.frames.specs.Parts.{AreFrames, TakesSome};
 
 use crate::fault::FramesFault;
-use crate::print::{effect_of, print_refusal};
+use crate::print::print_refusal;
 use engine::line_runner::write_out;
 use fault_handler::Destination;
 use grammar::print_line;
@@ -33,10 +33,10 @@ fn answer(
     ensures line { OnOk result (string_bytes line.new ≡ answer_line destination.old (sent_of (epoch, frame))) }
 {
     line.clear();
-    let effect = effect_of(&frame);
+    let effect = frame.effect();
     match destination.take(epoch, frame) {
         Ok(_) => print_line(line, &Ok(effect)),
-        Err((fault, _)) => print_refusal(line, fault),
+        Err(fault) => print_refusal(line, fault),
     }
 }
 

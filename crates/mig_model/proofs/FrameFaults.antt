@@ -19,7 +19,7 @@ use Rattle.mig_base.specs.declared.refusal.Refusal.{Refusal}
 use Rattle.mig_base.specs.declared.schedule.Step.{Step}
 use Rattle.mig_model.specs.Space.{Space, IsSoundSpace}
 use Rattle.mig_model.specs.Migration.{World, Made, destination_sends, has_started, is_short, outcome, outcome_by}
-use Rattle.mig_model.specs.DestinationSteps.{take_by}
+use Rattle.mig_model.specs.NodeSteps.{sent, unless}
 use Rattle.mig_model.proofs.StepLemmas.{delivers}
 use Rattle.mig_model.proofs.StepWorlds.{after_deliver, back_sent}
 use Rattle.mig_model.specs.Effects.{frame_effect}
@@ -112,7 +112,9 @@ abbrev fault_by : (install early : Bool) → Option TakeFault
 fault_by install early = first_holding ((install, TakeFault.InstallFirst) ∷ (early, TakeFault.UrgentFirst) ∷ [])
 
 told_by : (install early : Bool) (world : World) (node : Destination) (epoch : ℕ) (frame : Frame) →
-    outcome_by (destination_sends world (take_by (fault_by install early) node epoch frame)) ≡ answer_to (fault_by install early) (record { effect = frame_effect frame; world = back_sent world (destination_took node epoch frame) (destination_answers node frame) })
+    outcome_by (destination_sends world (unless ((install, Refusal.InstallFirst) ∷ (early, Refusal.UrgentFirst) ∷ []) (sent (frame_effect frame) (destination_answers node frame) (destination_took node epoch frame))))
+    ≡ answer_to (fault_by install early) (record { effect = frame_effect frame; world = back_sent world (destination_took node epoch frame) (destination_answers node frame) })
+unfolding unless
 told_by true early world node epoch frame = refl
 told_by false true world node epoch frame = refl
 told_by false false world node epoch frame = refl

@@ -4,14 +4,12 @@ use Rattle.std.specs.Prelude.{ok_or}
 use Rattle.std.specs.FinSet as finset
 use Rattle.std.specs.FinSet.{contains}
 use Rattle.std.proofs.lemmas.Bool.Decides.{nat_tests}
-use Rattle.mig_base.specs.Tests.{first_holding, is_empty}
+use Rattle.mig_base.specs.Tests.{is_empty}
 use Rattle.mig_base.specs.declared.effect.Effect.{Effect}
-use Rattle.mig_base.specs.declared.fault.TakeFault.{TakeFault}
 use Rattle.mig_base.specs.declared.refusal.Refusal.{Refusal}
 use Rattle.mig_base.specs.declared.schedule.Side.{Side}
 use Rattle.mig_base.specs.declared.schedule.Step.{Step}
 use Rattle.mig_model.specs.Destination.{install_by, is_dest_paused}
-use Rattle.mig_model.specs.DestinationSteps.{take_by}
 use Rattle.mig_model.specs.Effects.{frame_effect, install_effect, page_effect, read_effect}
 use Rattle.mig_model.specs.Faults.{is_early, is_end}
 use Rattle.mig_model.specs.Guest.{is_changing, is_present}
@@ -56,15 +54,11 @@ answers-end world stopped up other none =
 
 -- Deliveries of bytes that complete the first frame
 
--- a frame that does not have to wait
-none_waits : (installs early : Bool) → installs ≡ false → early ≡ false → first_holding ((installs, TakeFault.InstallFirst) ∷ (early, TakeFault.UrgentFirst) ∷ []) ≡ None
-none_waits installs early free came = grind (arith, nat_tests)
-
 pub answers-deliver : (world : World) (n : ℕ) (sent : Sent) (rest : List Sent) → world.forward.frames ≡ sent ∷ rest → is_short world.forward sent.frame n ≡ false → is_source_idle world.source.phase ≡ false → world.up ≡ true →
     (is_end sent.frame && not (is_empty world.destination.arrivals)) ≡ false → is_early world.destination sent.frame ≡ false → answer world (Step.Deliver n) ≡ made (frame_effect sent.frame) (after_deliver world sent rest)
 answers-deliver world n sent rest first full started up free came =
     delivers world n sent rest false (ap not started) up first full
-    ∙ ap (λ o. destination_sends (record world { forward = wire_behind rest }) (take_by o world.destination sent.epoch sent.frame)) (none_waits _ _ free came)
+    ∙ ap (destination_sends (record world { forward = wire_behind rest })) (not_refused _ _ (free, (came, tt)))
 
 pub answers-deliver_back : (world : World) (n : ℕ) (sent : Sent) (rest : List Sent) → world.back.frames ≡ sent ∷ rest → is_short world.back sent.frame n ≡ false → is_source_idle world.source.phase ≡ false → world.up ≡ true →
     answer world (Step.DeliverBack n) ≡ made (frame_effect sent.frame) (after_deliver_back world sent rest)

@@ -2,15 +2,14 @@
 use Rattle.std.proofs.Common.{◌≡◌, ℕ, ◌&&◌, Bool, true, false, not, eqb, Some, None, List, ◌∷◌, ◌+◌, ◌*◌, arith}
 use Rattle.std.specs.Prelude.{Ok, IsOk, ok_or}
 use Rattle.mig_base.specs.declared.schedule.Side.{Side}
-use Rattle.mig_model.specs.NodeSteps.{unless, Sends, first_of, is_used, rest_of, while_up}
+use Rattle.mig_model.specs.NodeSteps.{unless, Sends, first_of, is_used, rest_of, sent, while_up}
 use Rattle.mig_model.specs.GuestSteps.{when_quiet}
 use Rattle.mig_model.specs.SourceSteps as source
 use Rattle.mig_model.specs.SourceSteps.{run_bound}
 use Rattle.mig_model.specs.DestinationSteps as destination
-use Rattle.mig_model.specs.DestinationSteps.{take_by}
 use Rattle.mig_model.specs.Cpus.{is_idle, is_woken, outstanding, processor_at}
 use Rattle.mig_model.specs.Source.{bytes_of, is_handling, is_precopy, is_released, is_source_idle, is_source_paused, is_stopped, not_clean, source_act, space_of}
-use Rattle.mig_model.specs.Destination.{Destination, destination_act, is_dest_paused}
+use Rattle.mig_model.specs.Destination.{Destination, destination_act, destination_answers, destination_took, is_dest_paused}
 use Rattle.mig_model.specs.Wire.{Frame, Sent, Copy}
 use Rattle.mig_model.proofs.StepLemmas.{Holds, first_and_rest, holds-and_then, holds-effect, holds-either, holds-in_phase, holds-ok_or, holds-when_quiet, holds-while_up, leaves-next, leaves-ok, outcome-ok}
 use Rattle.std.proofs.lemmas.Bool.Decides.{nat_tests}
@@ -97,7 +96,8 @@ neither a b h = grind (arith, nat_tests)
 
 -- a frame that does not have to wait
 holds-take : (Q : Sends Destination → Type 0) (node : Destination) (epoch : ℕ) (frame : Frame) →
-    ((is_end frame && not (is_empty node.arrivals)) ≡ false → is_early node frame ≡ false → Holds Q (take_by None node epoch frame)) → Holds Q (destination.take node epoch frame)
+    ((is_end frame && not (is_empty node.arrivals)) ≡ false → is_early node frame ≡ false → Holds Q (sent (frame_effect frame) (destination_answers node frame) (destination_took node epoch frame))) → Holds Q (destination.take node epoch frame)
+unfolding unless
 holds-take Q node epoch frame h = grind (arith, nat_tests)
 
 -- Every step

@@ -1,16 +1,16 @@
 -- The steps of the destination. The sentence above a step names its refusals in the order in which they are tested; the first that
 -- applies is given.
-use Rattle.std.specs.Prelude.{ℕ, ◌*◌, not, ok_or, Option, Some, None, Result, Err}
+use Rattle.std.specs.Prelude.{ℕ, ◌*◌, ◌&&◌, not, ok_or, Result, [], ◌∷◌}
+use Rattle.mig_base.specs.Tests.{is_empty}
 use Rattle.mig_base.specs.declared.TheConstants.{PAGE_SIZE}
 use Rattle.mig_base.specs.declared.effect.Effect.{Effect}
-use Rattle.mig_base.specs.declared.fault.TakeFault.{TakeFault}
 use Rattle.mig_base.specs.declared.refusal.Refusal.{Refusal}
 use Rattle.mig_base.specs.declared.schedule.Side.{Side}
 use Rattle.mig_model.specs.Destination.{Destination, act_frames, destination_act, destination_acted, destination_answers, destination_paused, destination_read, destination_took, install_by, is_dest_paused, urgent_took}
 use Rattle.mig_model.specs.Effects.{act_effect, frame_effect, install_effect, read_effect}
-use Rattle.mig_model.specs.Faults.{refusal_of, wait_fault}
+use Rattle.mig_model.specs.Faults.{is_early, is_end}
 use Rattle.mig_model.specs.GuestSteps.{when_quiet}
-use Rattle.mig_model.specs.NodeSteps.{Acted, Sends, acted, and_then, first_of, in_phase, rest_of, sent}
+use Rattle.mig_model.specs.NodeSteps.{Acted, Sends, acted, and_then, first_of, in_phase, rest_of, sent, unless}
 use Rattle.mig_model.specs.Owed.{home}
 use Rattle.mig_base.specs.Userfault.{next_message}
 use Rattle.mig_model.specs.Wire.{Frame}
@@ -45,14 +45,12 @@ install node =
 
 -- Frames
 
--- a frame that was sent in an epoch is taken, and answered, unless it has to wait
-abbrev pub take_by : Option TakeFault → Destination → ℕ → Frame → Result (Sends Destination) Refusal
-take_by None node epoch frame = sent (frame_effect frame) (destination_answers node frame) (destination_took node epoch frame)
-take_by (Some fault) node epoch frame = Err (refusal_of fault)
-
--- a frame of the forward wire: an End is refused as InstallFirst while a copy waits, and as UrgentFirst while urgent frames are to come
+-- a frame of the forward wire, sent in this epoch: an End is refused as InstallFirst while a copy waits, and as UrgentFirst while urgent
+-- frames are to come. Else the frame is taken, and answered
 abbrev pub take : Destination → ℕ → Frame → Result (Sends Destination) Refusal
-take node epoch frame = take_by (wait_fault node frame) node epoch frame
+take node epoch frame =
+    unless ((is_end frame && not (is_empty node.arrivals), Refusal.InstallFirst) ∷ (is_early node frame, Refusal.UrgentFirst) ∷ [])
+    (sent (frame_effect frame) (destination_answers node frame) (destination_took node epoch frame))
 
 -- a frame of the urgent wire is taken; it is not answered
 abbrev pub take_urgent : Destination → Frame → Result (Acted Destination) Refusal

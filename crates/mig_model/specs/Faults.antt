@@ -11,7 +11,6 @@ use Rattle.mig_base.specs.declared.fault.RebuildFault.{RebuildFault}
 use Rattle.mig_base.specs.declared.fault.TakeFault.{TakeFault}
 use Rattle.mig_base.specs.declared.phase.DestPhase.{DestPhase}
 use Rattle.mig_base.specs.declared.phase.Received.{Received}
-use Rattle.mig_base.specs.declared.refusal.Refusal.{Refusal}
 use Rattle.mig_base.specs.Tests.{first_holding, is_empty}
 use Rattle.mig_model.specs.Wire.{Frame, is_copy}
 use Rattle.mig_model.specs.Wire.Frame.{Advise, Page, Zero, Run, Discard, Package, End, Resume, Request, Recv, Done}
@@ -81,13 +80,6 @@ is_early node frame = false
 abbrev pub wait_fault : Destination → Frame → Option TakeFault
 wait_fault node frame =
     first_holding ((is_end frame && not (is_empty node.arrivals), TakeFault.InstallFirst) ∷ (is_early node frame, TakeFault.UrgentFirst) ∷ [])
-
--- the refusal of a delivery whose frame is not taken: the frame has to wait. In a world a frame has no other fault than these two, so a
--- call refuses it else for lack of memory
-abbrev pub refusal_of : TakeFault → Refusal
-refusal_of TakeFault.InstallFirst = Refusal.InstallFirst
-refusal_of TakeFault.UrgentFirst = Refusal.UrgentFirst
-refusal_of fault = Refusal.NoMemory
 
 -- why a destination does not take a frame, if it does not: a wrong frame is refused before one that has to wait
 abbrev pub take_fault : Destination → ℕ → Frame → Option TakeFault

@@ -32,7 +32,7 @@ pub fn take(
         Ok(None) => print!(rt; "took")?,
         Ok(Some(Frame::Done)) => print!(rt; "took, and sends Done")?,
         Ok(Some(_)) => print!(rt; "took, and sends another frame")?,
-        Err((fault, _)) => print!(rt; "refused {fault:?}")?,
+        Err(fault) => print!(rt; "refused {fault:?}")?,
     }
     print_state(rt, destination)
 }
@@ -49,7 +49,7 @@ pub fn take_urgent(
     }
     match destination.take_urgent(epoch, frame) {
         Ok(()) => print!(rt; "took")?,
-        Err((fault, _)) => print!(rt; "refused {fault:?}")?,
+        Err(fault) => print!(rt; "refused {fault:?}")?,
     }
     print_state(rt, destination)
 }

@@ -3,7 +3,8 @@
 //! A [`Frame`] keeps its pages and lists in types that callers see as sets, maps and lists: [`mig_base::PageSet`],
 //! [`area_map::AreaMap`], [`mig_base::PageBytes`], [`Pages`] and [`Waiting`].
 //!
-//! [`Frame::is_well_formed`] says whether a frame may be sent, and [`Frame::text_len`] how long its text is, its bytes on a wire.
+//! [`Frame::is_well_formed`] says whether a frame may be sent, [`Frame::text_len`] how long its text is, its bytes on a wire, and
+//! [`Frame::effect`] what its taking reports.
 //! [`encode_into`] writes the text. [`encode_page_into`] writes a page from where its bytes stand, without copying them first.
 //!
 //! The crate decides nothing about a migration: which node sends a frame and when, and how the other handles it, is for the nodes.
@@ -13,6 +14,7 @@
 //! `frame_texts`, `specs/Texts.antt`.
 #![tactic(auto)]
 
+mod effect;
 pub mod frame;
 pub mod lengths;
 pub mod lists;

@@ -1,6 +1,6 @@
 -- Deliveries: what is refused, what moves bytes alone, and what a node takes.
 use Rattle.std.proofs.Common.{◌≡◌, ℕ, ◌⊎◌, ◌||◌, Bool, true, false, not, ◌&&◌, Option, Some, None, Ok, Err, Result, List, [], ◌∷◌, refl, sym, ap, ◌∙◌, subst, inr, ⊎_elim, arith, if◌then◌else◌}
-use Rattle.std.specs.Prelude.{ok_or}
+use Rattle.std.specs.Prelude.{ok_or, unwrap_or}
 use Rattle.std.proofs.lemmas.Bool.Decides.{nat_tests}
 use Rattle.std.specs.Ordering.{nat_cmp}
 use Rattle.std.specs.FinSet.{FinSet}
@@ -9,12 +9,13 @@ use Rattle.mig_base.specs.declared.fault.TakeFault.{TakeFault}
 use Rattle.mig_base.specs.declared.phase.Received.{Received}
 use Rattle.mig_base.specs.declared.refusal.Refusal.{Refusal}
 use Rattle.mig_base.specs.declared.schedule.Step.{Step}
-use Rattle.mig_model.specs.Destination.{Destination, destination_answers}
-use Rattle.mig_model.specs.DestinationSteps.{take, take_by, take_urgent}
+use Rattle.mig_base.specs.Tests.{first_holding, is_empty}
+use Rattle.mig_model.specs.Destination.{Destination, destination_answers, destination_took}
+use Rattle.mig_model.specs.DestinationSteps.{take, take_urgent}
 use Rattle.mig_model.specs.Effects.{frame_effect}
-use Rattle.mig_model.specs.Faults.{back_fault, frame_fault, rebuild_fault, urgent_fault, wait_fault}
+use Rattle.mig_model.specs.Faults.{back_fault, frame_fault, is_early, is_end, rebuild_fault, take_fault, urgent_fault, wait_fault}
 use Rattle.mig_model.specs.Migration.{World, answer, destination_sends, has_started, is_short, outcome, outcome_by}
-use Rattle.mig_model.specs.NodeSteps.{acted, and_then, checked, first_of, in_phase, is_out_of_phase, rest_of, sent, while_up}
+use Rattle.mig_model.specs.NodeSteps.{Sends, acted, and_then, checked, first_of, in_phase, is_out_of_phase, rest_of, sent, unless, while_up}
 use Rattle.mig_model.specs.Promises.{IsReached}
 use Rattle.mig_model.specs.Runs.{Happens, is_move, may_lack}
 use Rattle.mig_model.specs.Source.{Source, source_answers, space_of}
@@ -76,14 +77,43 @@ phase-if true one other h k = h
 phase-if false one other h k = k
 
 -- a frame that has to wait is not refused for the phase
-take_phase : (world : World) (node : Destination) (epoch : ℕ) (frame : Frame) (fault : Option TakeFault) → is_out_of_phase (destination_sends world (take_by fault node epoch frame)) ≡ false
-take_phase world node epoch frame None = refl
-take_phase world node epoch frame (Some fault) = grind (arith, nat_tests)
+waits_phase : (world : World) (installs early : Bool) (sends : Sends Destination) → is_out_of_phase (destination_sends world (unless ((installs, Refusal.InstallFirst) ∷ (early, Refusal.UrgentFirst) ∷ []) (Ok sends))) ≡ false
+unfolding unless
+waits_phase world true early sends = refl
+waits_phase world false true sends = refl
+waits_phase world false false sends = refl
+
+take_phase : (world : World) (node : Destination) (epoch : ℕ) (frame : Frame) → is_out_of_phase (destination_sends world (take node epoch frame)) ≡ false
+take_phase world node epoch frame =
+    waits_phase world (is_end frame && not (is_empty node.arrivals)) (is_early node frame) (record { effect = frame_effect frame; frames = destination_answers node frame; node = destination_took node epoch frame })
+
+-- what a destination answers to a frame that is not wrong, by its fault
+abbrev taken_by : Option TakeFault → Result (Sends Destination) Refusal → Result (Sends Destination) Refusal
+taken_by None sends = sends
+taken_by (Some TakeFault.InstallFirst) sends = Err Refusal.InstallFirst
+taken_by (Some fault) sends = Err Refusal.UrgentFirst
+
+waits_by : (installs early : Bool) (fault : Option TakeFault) (sends : Result (Sends Destination) Refusal) → first_holding ((installs, TakeFault.InstallFirst) ∷ (early, TakeFault.UrgentFirst) ∷ []) ≡ fault →
+    unless ((installs, Refusal.InstallFirst) ∷ (early, Refusal.UrgentFirst) ∷ []) sends ≡ taken_by fault sends
+unfolding unless
+waits_by true early fault sends h = ap (λ f. taken_by f sends) h
+waits_by false true fault sends h = ap (λ f. taken_by f sends) h
+waits_by false false fault sends h = ap (λ f. taken_by f sends) h
+
+pub takes : (node : Destination) (epoch : ℕ) (frame : Frame) (fault : Option TakeFault) → frame_fault node epoch frame ≡ None → take_fault node epoch frame ≡ fault →
+    take node epoch frame ≡ taken_by fault (sent (frame_effect frame) (destination_answers node frame) (destination_took node epoch frame))
+takes node epoch frame fault right h =
+    waits_by (is_end frame && not (is_empty node.arrivals)) (is_early node frame) fault _ (sym (ap (λ o. elim o [ None ↦ wait_fault node frame | Some other ↦ Some other ]) right) ∙ h)
+
+-- a fault that is not for memory is the frame's
+pub some_fault : (found : Option TakeFault) (fault : TakeFault) → fault ≡ unwrap_or found TakeFault.NoMemory → (fault ≡ TakeFault.NoMemory → ⊥) → found ≡ Some fault
+some_fault None fault is other = absurd (other is)
+some_fault (Some reason) fault is other = ap (λ (f : TakeFault). Some f) (sym is)
 
 pub deliver_refused : (world : World) (n : ℕ) (refusal : Refusal) (may : Bool) → may ≡ has_started world → Err refusal ≡ checked (front world.up may world.forward) → answer world (Step.Deliver n) ≡ Err refusal
 deliver_refused world n refusal may is h =
     not_arrived world.up (has_started world) (first_of world.forward.frames) _ refusal
-    (λ sent. phase-if (is_short world.forward sent.frame n) _ _ refl (take_phase (record world { forward = wire_behind (rest_of world.forward.frames) }) world.destination sent.epoch sent.frame (wait_fault world.destination sent.frame)))
+    (λ sent. phase-if (is_short world.forward sent.frame n) _ _ refl (take_phase (record world { forward = wire_behind (rest_of world.forward.frames) }) world.destination sent.epoch sent.frame))
     (subst (λ b. Err refusal ≡ checked (front world.up b world.forward)) is h)
 
 pub back_refused : (world : World) (n : ℕ) (refusal : Refusal) (may : Bool) → may ≡ has_started world → Err refusal ≡ checked (front world.up may world.back) → answer world (Step.DeliverBack n) ≡ Err refusal
@@ -136,6 +166,7 @@ frame_no_move : (frame : Frame) → is_move (frame_effect frame) ≡ false
 frame_no_move frame = grind (arith, nat_tests)
 
 lacks_taking : (world : World) (n : ℕ) (node : Destination) (epoch : ℕ) (frame : Frame) → may_lack (Step.Deliver n) (outcome_by (destination_sends world (take node epoch frame))) ≡ true
+unfolding unless
 lacks_taking world n node epoch frame = grind (arith, nat_tests, frame_no_move)
 
 pub deliver_moved : (world : World) (n : ℕ) (new : Wire) → CanArrive world.up (has_started world) world.forward → (moved : IsMoved world.forward n new) → Happens world (Step.Deliver n) (Ok (Effect.Moved n)) (record world { forward = new })

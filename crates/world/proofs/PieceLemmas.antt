@@ -1,9 +1,9 @@
 -- The bytes in flight on a wire, piece by piece.
-use Rattle.std.proofs.Common.{min, ◌≡◌, ℕ, ◌+◌, ◌<◌, ◌≤◌, true, false, not, ltb, List, [], ◌∷◌, ◌++◌, length, take, get_or, length-append, append-nil, refl, sym, ap, ◌∙◌, arith}
+use Rattle.std.proofs.Common.{min, ◌≡◌, ℕ, ◌+◌, ◌-◌, ◌<◌, ◌≤◌, List, [], ◌∷◌, ◌++◌, length, take, get_or, length-append, append-nil, refl, sym, ap, ◌∙◌, arith}
 use Rattle.std.specs.Prelude.{drop}
 use Rattle.std.specs.List.{concat, AllByRecursion}
 use Rattle.std.proofs.lemmas.Bool.Decides.{nat_tests}
-use Rattle.std.proofs.lemmas.List.{take-append-drop, take_more}
+use Rattle.std.proofs.lemmas.List.{drop_more, get_or-append_right, get_or_append_left, take_more}
 use Rattle.std.proofs.lemmas.List.Folds.{concat-append}
 use Rattle.mig_model.specs.Guest.{counted}
 use Rattle.mig_model.specs.Wire.{Sent}
@@ -22,32 +22,14 @@ joined_more pieces i below =
     ap (λ (some : List (List ℕ)). length (concat some)) (take_more pieces i [] below) ∙ ap length (concat-append (take i pieces) (get_or pieces i [] ∷ [])) ∙ length-append (concat (take i pieces)) (get_or pieces i [] ++ [])
     ∙ ap (λ (last : List ℕ). length (concat (take i pieces)) + length last) (append-nil (get_or pieces i []))
 
-joined_most : (pieces : List (List ℕ)) (i : ℕ) → length (concat (take i pieces)) ≤ length (concat pieces)
-joined_most pieces i =
-    let all = ap (λ (some : List (List ℕ)). length (concat some)) (sym (take-append-drop i pieces)) ∙ ap length (concat-append (take i pieces) (drop i pieces)) ∙ length-append (concat (take i pieces)) (concat (drop i pieces)) in
-    omega (arith, all)
+-- a place in the bytes from a piece on: it lies in that piece, or in those after it
+pub in_piece : (pieces : List (List ℕ)) (i place : ℕ) → i < length pieces → place < length (get_or pieces i []) → get_or (concat (drop i pieces)) place 0 ≡ get_or (get_or pieces i []) place 0
+in_piece pieces i place below inside =
+    ap (λ (some : List (List ℕ)). get_or (concat some) place 0) (drop_more pieces i [] below) ∙ get_or_append_left (get_or pieces i []) (concat (drop (i + 1) pieces)) 0 place inside
 
--- one piece more
-pub left_more : (pieces : List (List ℕ)) (i left more most len : ℕ) → i < length pieces → len ≡ length (get_or pieces i []) → more + len ≡ left → length (concat (take i pieces)) + left ≡ most → length (concat (take (i + 1) pieces)) + more ≡ most
-left_more pieces i left more most len below is taken count = let longer = joined_more pieces i below in omega (arith, longer, is, taken, count)
-
-above_by : (most bytes : ℕ) → most < bytes → not (ltb most bytes) ≡ false
-above_by most bytes h = grind (arith, nat_tests)
-
-within_by : (most bytes : ℕ) → bytes ≤ most → not (ltb most bytes) ≡ true
-within_by most bytes h = grind (arith, nat_tests)
-
-pub above : (pieces : List (List ℕ)) (frames : List Sent) (i left most len : ℕ) → AllByRecursion (IsSent Two) frames → concat pieces ≡ texts Two frames → i < length pieces → len ≡ length (get_or pieces i []) → left < len → length (concat (take i pieces)) + left ≡ most → false ≡ not (ltb most (in_flight_len frames))
-above pieces frames i left most len each whole below is more count =
-    let longer = joined_more pieces i below in
-    let all = joined_most pieces (i + 1) in
-    let bytes = ap length whole ∙ in_flight frames each in
-    sym (above_by most (in_flight_len frames) (omega (arith, longer, all, bytes, is, more, count)))
-
-pub within : (pieces : List (List ℕ)) (frames : List Sent) (left most : ℕ) → AllByRecursion (IsSent Two) frames → concat pieces ≡ texts Two frames → length (concat pieces) + left ≡ most → true ≡ not (ltb most (in_flight_len frames))
-within pieces frames left most each whole count =
-    let bytes = ap length whole ∙ in_flight frames each in
-    sym (within_by most (in_flight_len frames) (omega (arith, bytes, count)))
+pub past_piece : (pieces : List (List ℕ)) (i place len : ℕ) → i < length pieces → length (get_or pieces i []) ≡ len → len ≤ place → get_or (concat (drop (i + 1) pieces)) (place - len) 0 ≡ get_or (concat (drop i pieces)) place 0
+past_piece pieces i place len below is past =
+    sym (ap (λ (some : List (List ℕ)). get_or (concat some) place 0) (drop_more pieces i [] below) ∙ get_or-append_right (get_or pieces i []) (concat (drop (i + 1) pieces)) len place 0 is past)
 
 more_counted : (joined len : ℕ) → min (counted 0 joined + len) 18446744073709551615 ≡ counted 0 (joined + len)
 more_counted joined len = grind (arith, nat_tests)

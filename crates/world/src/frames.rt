@@ -9,8 +9,7 @@ ghost use Rattle.mig_base.specs.declared.refusal.Refusal as refusals;
 ghost use Rattle.mig_model.specs.Bounds.{IsFrame};
 ghost use Rattle.mig_model.specs.Destination as to;
 ghost use Rattle.mig_model.specs.DestinationSteps as destinations;
-ghost use Rattle.mig_model.specs.Effects.{frame_effect};
-ghost use Rattle.mig_model.specs.Faults.{back_fault, frame_fault, rebuild_fault, refusal_of, urgent_fault};
+ghost use Rattle.mig_model.specs.Faults.{back_fault, frame_fault, rebuild_fault, urgent_fault};
 ghost use Rattle.mig_model.specs.NodeSteps as steps;
 ghost use Rattle.mig_model.specs.Source as from;
 ghost use Rattle.mig_model.specs.SourceSteps as sources;
@@ -20,11 +19,11 @@ ghost use Rattle.page_stream.specs.Frames.{frame_of};
 ghost use Rattle.recovery.specs.Breaks.{AreWellFormed, frames_of};
 
 use fault_handler::Destination;
+use mig_base::NoMemory;
 use mig_base::effect::Effect;
 use mig_base::fault::TakeFault;
 use mig_base::phase::Received;
 use mig_base::refusal::Refusal;
-use mig_base::{NoMemory, page_address};
 use page_stream::Frame;
 use precopy::Source;
 use recovery::{rebuild, report_received, rerequest};
@@ -45,7 +44,7 @@ pub(crate) fn receive(
     ensures refused { IfErr result (λ refusal. (refusal ≡ refusals.Refusal.NoMemory) ⊎ (destinations.take destination.old sent.epoch (frame_of sent.frame) ≡ Err refusal)) }
     ensures err { OnErr result ((destination.new ≡ destination.old) × (back.new.wire ≡ back.old.wire)) }
 {
-    let effect = effect_of(&sent.frame);
+    let effect = sent.frame.effect();
     let Ok(answers) = answers_to(alloc, destination, back, &sent.frame) else {
         return Err(Refusal::NoMemory);
     };
@@ -55,7 +54,10 @@ pub(crate) fn receive(
             send_back(back, true, destination.epoch(), answer);
             Ok(effect)
         }
-        Err((fault, _)) => Err(refusal_of(fault)),
+        Err(TakeFault::InstallFirst) => Err(Refusal::InstallFirst),
+        Err(TakeFault::UrgentFirst) => Err(Refusal::UrgentFirst),
+        // No frame in flight is out of place, of another epoch or bad.
+        Err(_) => Err(Refusal::NoMemory),
     }
 }
 
@@ -73,7 +75,7 @@ pub(crate) fn receive_back(
     ensures answered { OnOk result (forward.new.wire ≡ machine.wire_with forward.old.wire source.new.epoch (from.source_answers source.old (frame_of sent.now.frame))) }
     ensures err { OnErr result ((source.new ≡ source.old) × (forward.new.wire ≡ forward.old.wire)) }
 {
-    let effect = effect_of(&sent.frame);
+    let effect = sent.frame.effect();
     let Ok(()) = source.back(sent.epoch, &sent.frame) else {
         return Err(NoMemory);
     };
@@ -95,7 +97,7 @@ pub(crate) fn receive_urgent(destination: &mut Destination, sent: Sent) -> Resul
     ensures took { IfOk result (λ effect. destinations.take_urgent destination.old (frame_of sent.frame) ≡ steps.acted effect destination.new) }
     ensures err { OnErr result (destination.new ≡ destination.old) }
 {
-    let effect = effect_of(&sent.frame);
+    let effect = sent.frame.effect();
     match destination.take_urgent(sent.epoch, sent.frame) {
         Ok(()) => Ok(effect),
         Err(_) => Err(NoMemory),
@@ -165,50 +167,5 @@ pub(crate) fn send_back(wire: &mut Wire, up: bool, epoch: u32, frame: Option<Fra
     match frame {
         Some(frame) if up => wire.push(epoch, frame),
         _ => {}
-    }
-}
-
-/// The effect of taking a frame.
-fn effect_of(frame: &Frame) -> Effect
-    requires { IsFrame (frame_of frame.now) }
-    ensures { result ≡ frame_effect (frame_of frame.now) }
-{
-    match frame {
-        Frame::Advise => Effect::TookAdvise,
-        Frame::Page { page, .. } => Effect::TookPage {
-            addr: page_address(*page),
-        },
-        Frame::Zero { page } => Effect::TookZero {
-            addr: page_address(*page),
-        },
-        Frame::Run { first, pages } => Effect::TookRun {
-            addr: page_address(*first),
-            pages: pages.len() as u32,
-        },
-        Frame::Discard { pages } => Effect::TookDiscard { pages: pages.len() },
-        Frame::Package { owed, .. } => Effect::TookPackage { owed: owed.len() },
-        Frame::End { .. } => Effect::TookEnd,
-        Frame::Resume => Effect::TookResume,
-        Frame::Request { page } => Effect::TookRequest {
-            addr: page_address(*page),
-        },
-        Frame::Recv { state, owed } => Effect::TookRecv {
-            state: *state,
-            pages: owed.len(),
-        },
-        Frame::Done => Effect::TookDone,
-    }
-}
-
-/// The refusal of a delivery whose frame the destination does not take. In a world a frame has no other fault than the two that make it
-/// wait, so any other refusal is for lack of memory.
-fn refusal_of(fault: TakeFault) -> Refusal
-    ensures { result ≡ refusal_of fault }
-{
-    match fault {
-        TakeFault::InstallFirst => Refusal::InstallFirst,
-        TakeFault::UrgentFirst => Refusal::UrgentFirst,
-        TakeFault::NoMemory | TakeFault::OutOfPlace | TakeFault::StaleEpoch | TakeFault::BadFrame =>
-            Refusal::NoMemory,
     }
 }

@@ -1,7 +1,7 @@
 //! Why a step is refused: the nodes' checks, the link, and what the parts show. Phase comes first, then the link, then all else, and lack of
 //! memory last.
 
-ghost use Rattle.std.specs.Prelude.{◌≡◌, ◌∷◌, List, Ok, not, nat_lt, true};
+ghost use Rattle.std.specs.Prelude.{◌≡◌, ◌∷◌, List, Ok, get_or};
 ghost use Rattle.mig_base.specs.declared.command.Command.{Command};
 ghost use Rattle.mig_base.specs.declared.schedule.Step.{Step};
 ghost use Rattle.mig_model.specs.Faults.{is_end};
@@ -10,6 +10,8 @@ ghost use Rattle.mig_model.specs.Migration.{answer, has_started};
 ghost use Rattle.mig_model.specs.NodeSteps as steps;
 ghost use Rattle.mig_model.specs.NodeSteps.{IsRefusedFor, checked};
 ghost use Rattle.mig_model.specs.Wire.{Sent};
+ghost use Rattle.frame_decoder.specs.Streams.{texts};
+ghost use Rattle.frame_decoder.specs.declared.version.Version.TheVariants.{Two};
 ghost use Rattle.world.specs.Answers.{has_sent_end, in_flight_len};
 ghost use Rattle.world.specs.Worlds.{IsWorld, world_of};
 
@@ -21,6 +23,9 @@ use wires::Wire;
 
 /// The bytes of an End: a header, and a count.
 const END_LEN: u64 = 12 + 4;
+
+/// The tag of an End, the second byte of its text.
+const END_TAG: u8 = 0x06;
 
 impl Parts {
     /// Why a step is not made for which there is no room, or no link: its own refusal, and `NoMemory` where it has none.
@@ -117,7 +122,7 @@ impl Parts {
         ensures { result ≡ checked (answer (world_of self.now) (Step.Deliver n)) }
     {
         self.ensure_in_flight(self.has_started(), &self.forward)?;
-        if !self.is_end_first() {
+        if !is_end_first(&self.forward) {
             return Ok(());
         }
         if n < END_LEN - self.forward.held() {
@@ -130,18 +135,6 @@ impl Parts {
             return Err(Refusal::UrgentFirst);
         }
         Ok(())
-    }
-
-    /// Whether the first frame in flight to the destination is End, which is the last of its epoch and so alone on the wire.
-    fn is_end_first(&self) -> bool
-        requires world { IsWorld (world_of self.now) }
-        requires up { self.now.up ≡ true }
-        ensures { (sent : Sent) (rest : List Sent) → self.now.forward.wire.frames ≡ sent ∷ rest → result ≡ is_end sent.frame }
-    {
-        if !self.has_sent_end() {
-            return false;
-        }
-        has_at_most(&self.forward, END_LEN)
     }
 
     /// Whether the source has stopped, and has sent End in its epoch.
@@ -165,19 +158,26 @@ fn is_out_of_phase(checked: Result<(), Refusal>) -> bool
     }
 }
 
-/// Whether a wire has at most `most` bytes in flight. Looks at no more pieces than it has to.
-fn has_at_most(wire: &Wire, most: u64) -> bool
-    ensures { result ≡ not (nat_lt most (in_flight_len wire.now.wire.frames)) }
+/// Whether the first frame in flight is End.
+fn is_end_first(wire: &Wire) -> bool
+    ensures { (sent : Sent) (rest : List Sent) → wire.now.wire.frames ≡ sent ∷ rest → result ≡ is_end sent.frame }
 {
-    let mut left = most;
+    byte_at(wire, 1) == END_TAG
+}
+
+/// The byte at a place of the bytes in flight, counted from 0, or 0 past their end.
+fn byte_at(wire: &Wire, place: usize) -> u8
+    ensures { result ≡ get_or (texts Two wire.now.wire.frames) place 0 }
+{
+    let mut left = place;
     for index in 0..wire.pieces() {
-        let len = wire.piece(index).len() as u64;
-        if len > left {
-            return false;
+        let piece = wire.piece(index);
+        if left < piece.len() {
+            return piece[left];
         }
-        left -= len;
+        left -= piece.len();
     }
-    true
+    0
 }
 
 /// How many bytes the frames in flight on a wire have. It goes over the pieces in which they lie, and stops at the greatest count.

@@ -1,6 +1,6 @@
-//! How a destination takes each kind of frame. A frame for which memory is refused is handed back, and nothing changes.
+//! How a destination takes each kind of frame. `NoMemory` changes nothing.
 
-ghost use Rattle.std.specs.Prelude.{◌≡◌, ◌+◌, ◌<◌, ◌≤◌, true, false, length, None, IfErr, IfOk, OnOk, OnErr};
+ghost use Rattle.std.specs.Prelude.{◌≡◌, ◌+◌, ◌<◌, ◌≤◌, true, false, length, OnOk, OnErr};
 ghost use Rattle.mig_base.specs.Bytes.{zero_page};
 ghost use Rattle.mig_base.specs.declared.TheConstants.{HIGH_PAGE};
 ghost use Rattle.mig_base.specs.declared.phase.DestPhase.{DestPhase};
@@ -8,7 +8,6 @@ ghost use Rattle.mig_model.specs.Bounds.{AreFewPages, IsMapping};
 ghost use Rattle.mig_model.specs.Destination.{arrived, copy_came, destination_ran, destination_took};
 ghost use Rattle.mig_model.specs.Faults.{is_torn};
 ghost use Rattle.mig_model.specs.Wire as wire;
-ghost use Rattle.page_stream.specs.declared.frame.Frame.{Frame};
 
 use crate::arrival::Arrival;
 use crate::destination::Destination;
@@ -17,10 +16,7 @@ use area_map::AreaMap;
 use mig_base::phase::{DestPhase, Received};
 use mig_base::{NoMemory, PageBytes, PageNo, PageSet};
 use owed_pages::Owed;
-use page_stream::{Frame, Pages, Waiting};
-
-/// The frame to send back at once, if any, or the frame for which memory is refused.
-pub(super) type Taken = Result<Option<Frame>, Frame>;
+use page_stream::{Pages, Waiting};
 
 impl Destination {
     /// A migration begins.
@@ -33,79 +29,56 @@ impl Destination {
     }
 
     /// The copy of a page has come. Before the run it is kept; from then on it waits to be installed.
-    pub(super) fn page_came(&mut self, page: PageNo, bytes: PageBytes) -> Taken
+    pub(super) fn page_came(&mut self, page: PageNo, bytes: PageBytes) -> Result<(), NoMemory>
         requires { page < HIGH_PAGE }
         ensures ok { OnOk result (self.new ≡ copy_came self.old.has_run self.old (record { page = page; bytes = bytes })) }
-        ensures answer { IfOk result (λ answer. answer ≡ None) }
-        ensures err { IfErr result (λ back. (back ≡ Frame.Page page bytes) × (self.new ≡ self.old)) }
+        ensures err { OnErr result (self.new ≡ self.old) }
     {
         if self.has_run {
-            self.page_waits(page, bytes)?;
-            return Ok(None);
-        }
-        match self.kept.keep(page, bytes) {
-            Ok(()) => Ok(None),
-            Err(bytes) => Err(Frame::Page { page, bytes }),
+            self.page_waits(page, bytes)
+        } else {
+            self.kept.keep(page, bytes)
         }
     }
 
     /// A page of zeros has come. Before the run it is kept; from then on it waits to be installed.
-    pub(super) fn zero_came(&mut self, page: PageNo) -> Taken
+    pub(super) fn zero_came(&mut self, page: PageNo) -> Result<(), NoMemory>
         requires { page < HIGH_PAGE }
         ensures ok { OnOk result (self.new ≡ copy_came self.old.has_run self.old (record { page = page; bytes = zero_page })) }
-        ensures answer { IfOk result (λ answer. answer ≡ None) }
-        ensures err { IfErr result (λ back. (back ≡ Frame.Zero page) × (self.new ≡ self.old)) }
+        ensures err { OnErr result (self.new ≡ self.old) }
     {
         if self.has_run {
-            self.zero_waits(page)?;
-            return Ok(None);
-        }
-        match self.kept.keep_zero(page) {
-            Ok(()) => Ok(None),
-            Err(NoMemory) => Err(Frame::Zero { page }),
+            self.zero_waits(page)
+        } else {
+            self.kept.keep_zero(page)
         }
     }
 
     /// The copy of a page waits to be installed.
-    pub(super) fn page_waits(&mut self, page: PageNo, bytes: PageBytes) -> Result<(), Frame>
+    pub(super) fn page_waits(&mut self, page: PageNo, bytes: PageBytes) -> Result<(), NoMemory>
         ensures ok { OnOk result (self.new ≡ arrived self.old (record { page = page; bytes = bytes })) }
-        ensures err { IfErr result (λ back. (back ≡ Frame.Page page bytes) × (self.new ≡ self.old)) }
+        ensures err { OnErr result (self.new ≡ self.old) }
     {
-        let Ok(()) = self.arrivals.reserve(1) else {
-            return Err(Frame::Page { page, bytes });
-        };
-        // The room is reserved, so no copy is lost.
-        match self.arrivals.push_back(Arrival::new(page, Some(bytes))) {
-            Ok(()) => Ok(()),
-            Err(_) => unreachable!(),
-        }
+        self.arrivals.push_back(Arrival::new(page, Some(bytes)))?;
+        Ok(())
     }
 
     /// A page of zeros waits to be installed.
-    pub(super) fn zero_waits(&mut self, page: PageNo) -> Result<(), Frame>
+    pub(super) fn zero_waits(&mut self, page: PageNo) -> Result<(), NoMemory>
         ensures ok { OnOk result (self.new ≡ arrived self.old (record { page = page; bytes = zero_page })) }
-        ensures err { IfErr result (λ back. (back ≡ Frame.Zero page) × (self.new ≡ self.old)) }
+        ensures err { OnErr result (self.new ≡ self.old) }
     {
-        match self.arrivals.push_back(Arrival::new(page, None)) {
-            Ok(()) => Ok(()),
-            Err(_) => Err(Frame::Zero { page }),
-        }
+        self.arrivals.push_back(Arrival::new(page, None))?;
+        Ok(())
     }
 
     /// Copies of neighbouring pages have come and are kept; a Run comes only before the run.
-    pub(super) fn run_came(&mut self, first: PageNo, pages: Pages) -> Taken
+    pub(super) fn run_came(&mut self, first: PageNo, pages: Pages) -> Result<(), NoMemory>
         requires { first + length pages ≤ HIGH_PAGE }
         ensures ok { OnOk result (self.new ≡ record self.old { kept = wire.kept_after self.old.kept (wire.Frame.Run first pages) }) }
-        ensures answer { IfOk result (λ answer. answer ≡ None) }
-        ensures err { IfErr result (λ back. (back ≡ Frame.Run first pages) × (self.new ≡ self.old)) }
+        ensures err { OnErr result (self.new ≡ self.old) }
     {
-        match self.kept.keep_run(first, pages.into_vec()) {
-            Ok(()) => Ok(None),
-            Err(pages) => Err(Frame::Run {
-                first,
-                pages: Pages::new(pages),
-            }),
-        }
+        self.kept.keep_run(first, pages.into_vec())
     }
 
     /// Discards the copies that are out of date.
@@ -116,28 +89,13 @@ impl Destination {
         self.phase = DestPhase::Discarding;
     }
 
-    /// A Package has come: the destination runs.
-    pub(super) fn package_came(&mut self, areas: AreaMap, owed: PageSet, commands: Waiting) -> Taken
-        requires mapping { IsMapping areas }
-        requires few { AreFewPages owed }
-        requires whole { is_torn self.old.kept areas owed ≡ false }
-        requires cpus { length commands ≡ length self.old.guest.cpus }
-        ensures ok { OnOk result (self.new ≡ destination_ran self.old areas owed commands) }
-        ensures answer { IfOk result (λ answer. answer ≡ None) }
-        ensures err { IfErr result (λ back. (back ≡ Frame.Package areas owed commands) × (self.new ≡ self.old)) }
-    {
-        match self.run(&areas, &owed, &commands) {
-            Ok(()) => Ok(None),
-            Err(NoMemory) => Err(Frame::Package {
-                areas,
-                owed,
-                commands,
-            }),
-        }
-    }
-
-    /// The destination runs, in a space of these areas with the kept pages, and is owed these pages. `NoMemory` changes nothing.
-    fn run(&mut self, areas: &AreaMap, owed: &PageSet, commands: &Waiting) -> Result<(), NoMemory>
+    /// A Package has come: the destination runs, in a space of these areas with the kept pages, and is owed these pages.
+    pub(super) fn run(
+        &mut self,
+        areas: &AreaMap,
+        owed: &PageSet,
+        commands: &Waiting,
+    ) -> Result<(), NoMemory>
         requires mapping { IsMapping areas.now }
         requires few { AreFewPages owed.now }
         requires whole { is_torn self.old.kept areas.now owed.now ≡ false }

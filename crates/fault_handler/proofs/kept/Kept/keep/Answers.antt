@@ -6,9 +6,9 @@ pub invariant_of-self : goal.invariant_of-self
 invariant_of-self c =
     kept_replaced c.self.inside.pages c.replace.new.self c.self.inside.set c.args.page c.args.bytes c.self.invariant (sym c.contains.ensures ∙ c.if-contains.true) c.replace.ensures.bytes c.replace.ensures.protected
 
-pub invariant_of-self-in-Ok-put : goal.invariant_of-self-in-Ok-put
-invariant_of-self-in-Ok-put c = kept_put c.self.inside.pages c.put.new.self c.self.inside.set c.insert.new.self c.args.page c.args.bytes c.self.invariant c.in-Ok.ensures.ok c.in-Ok-put.ensures.ok c.in-Ok-put.ensures.protected
+pub invariant_of-self-in-Ok : goal.invariant_of-self-in-Ok
+invariant_of-self-in-Ok c = kept_put c.self.inside.pages c.put.new.self c.self.inside.set c.insert.new.self c.args.page c.args.bytes c.self.invariant c.in_ok-insert.ensures.ok c.in-Ok.ensures.ok c.in-Ok.ensures.protected
 
 pub invariant_of-self-in-Err : goal.invariant_of-self-in-Err
 invariant_of-self-in-Err c =
-    kept_undone c.self.inside.pages c.put.new.self c.self.inside.set c.insert.new.self c.remove.new.self c.args.page c.self.invariant (sym c.contains.ensures ∙ c.if-contains.false) c.in-Ok.ensures.ok c.remove.ensures c.in-Err.ensures.fault.1 c.in-Err.ensures.protected
+    kept_undone c.self.inside.pages c.put.new.self c.self.inside.set c.insert.new.self c.remove.new.self c.args.page c.self.invariant (sym c.contains.ensures ∙ c.if-contains.false) c.in_ok-insert.ensures.ok c.remove.ensures c.in-Err.ensures.fault.1 c.in-Err.ensures.protected
