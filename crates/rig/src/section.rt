@@ -28,7 +28,7 @@ pub(crate) enum Tried {
     Asleep,
 }
 
-/// Makes a step that is no command of a processor.
+/// Makes a step other than a command of a processor.
 pub(crate) fn step_in(world: &mut World, step: Step) -> Result<Effect, Refusal>
     ensures { Happens world.old step result world.new }
 {

@@ -1,4 +1,4 @@
-//! The steps that are no worker's: one that is refused for memory is made again.
+//! The steps that no worker makes. One that is refused for memory is made again.
 
 use crate::gates::{MAP, StopAt, issue, store};
 use crate::rigs::{close, rig_after};
