@@ -1,14 +1,19 @@
 #!/usr/bin/env python3
 """Runs the program on the arguments, files and input of bench/programs, and compares what it writes, and its status.
 
-python3 bench/programs.py [CASE ..]
+python3 bench/programs.py [--program PATH] [CASE ..]
 
 A case is a folder: args has an argument a line, stdin the standard input, data/ the files that lie where the program runs, stdout and
-stderr what it has to write, and status its exit status. What is absent is empty, the status 0, and standard error is not compared. It
-runs the proved builds: crates/postmig/out/postmig, as LLVM makes it, and beside it, where rt ci has left one, that of Rattle's own compiler.
+stderr what it has to write, and status its exit status. What is absent is empty, and the status 0; only where the status is another is
+an absent stderr not compared. In the file output stands a path that standard output goes to in place of a pipe, and in memory the bytes
+of address space that the program may take. It runs the proved builds: crates/postmig/out/postmig, as LLVM makes it, and beside it, where
+rt ci has left one, that of Rattle's own compiler; or with --program that one alone.
 """
 
+import argparse
+import contextlib
 import pathlib
+import resource
 import shutil
 import subprocess
 import sys
@@ -25,29 +30,57 @@ def part(case, name):
     return file.read_bytes() if file.is_file() else b""
 
 
-def faults(case, program):
-    """What differs in a case, in words."""
-    words = [bytes(program), *part(case, "args").splitlines()]
-    with tempfile.TemporaryDirectory() as room:
-        data = pathlib.Path(room) / "data"
+@contextlib.contextmanager
+def room(case):
+    """A folder with the files of a case."""
+    with tempfile.TemporaryDirectory() as folder:
+        data = pathlib.Path(folder) / "data"
         if (case / "data").is_dir():
             shutil.copytree(case / "data", data)
         else:
             data.mkdir()
-        ran = subprocess.run(words, input=part(case, "stdin"), cwd=data, capture_output=True, timeout=60)
-    if ran.returncode != (wanted := int(part(case, "status") or 0)):
-        yield f"status {ran.returncode}, and not {wanted}: {ran.stderr.decode(errors='replace').strip()}"
-    if ran.stdout != part(case, "stdout"):
-        yield f"standard output is {ran.stdout[:400]}"
-    if (case / "stderr").is_file() and ran.stderr != part(case, "stderr"):
-        yield f"standard error is {ran.stderr[:400]}"
+        yield data
+
+
+def ran(case, program):
+    """How the program ends on a case."""
+    words = [bytes(program), *part(case, "args").splitlines()]
+    memory, output = part(case, "memory"), part(case, "output").decode().strip()
+
+    def limit():
+        if memory:
+            resource.setrlimit(resource.RLIMIT_AS, (int(memory), int(memory)))
+
+    with room(case) as data, open(output, "wb") if output else contextlib.nullcontext(subprocess.PIPE) as to:
+        given = part(case, "stdin")
+        return subprocess.run(words, input=given, cwd=data, stdout=to, stderr=subprocess.PIPE, timeout=60, preexec_fn=limit)
+
+
+def faults(case, program):
+    """What differs in a case, in words."""
+    ended = ran(case, program)
+    wanted = int(part(case, "status") or 0)
+    if ended.returncode != wanted:
+        yield f"status {ended.returncode}, and not {wanted}: {ended.stderr.decode(errors='replace').strip()}"
+    if (ended.stdout or b"") != part(case, "stdout"):
+        yield f"standard output is {ended.stdout[:400]}"
+    if ((case / "stderr").is_file() or not wanted) and ended.stderr != part(case, "stderr"):
+        yield f"standard error is {ended.stderr[:400]}"
+
+
+def asked():
+    parser = argparse.ArgumentParser(description="Runs the program on the cases of bench/programs.")
+    parser.add_argument("--program", type=pathlib.Path, metavar="PATH", help="a build of the program, in place of the proved ones")
+    parser.add_argument("cases", nargs="*", metavar="CASE", help="the cases, all where none is named")
+    return parser.parse_args()
 
 
 def main():
-    builds = [it for it in BUILDS if it.is_file()]
+    arguments = asked()
+    builds = [arguments.program.absolute()] if arguments.program else [it for it in BUILDS if it.is_file()]
     if not builds:
         sys.exit("programs: there is no proved build: ./postmig prove or rt ci makes one")
-    cases = [CASES / name for name in sys.argv[1:]] or sorted(it for it in CASES.iterdir() if it.is_dir())
+    cases = [CASES / name for name in arguments.cases] or sorted(it for it in CASES.iterdir() if it.is_dir())
     wrong = 0
     for program in builds:
         for case in cases:

@@ -31,7 +31,9 @@ SHIM = r"""
 #include <unistd.h>
 
 extern void *__libc_malloc(size_t size);
+extern void *__libc_calloc(size_t count, size_t size);
 extern void *__libc_realloc(void *block, size_t size);
+extern void *__libc_memalign(size_t alignment, size_t size);
 
 static unsigned long asked;
 
@@ -49,7 +51,16 @@ static int is_refused(void)
 }
 
 void *malloc(size_t size) { return is_refused() ? 0 : __libc_malloc(size); }
+void *calloc(size_t count, size_t size) { return is_refused() ? 0 : __libc_calloc(count, size); }
 void *realloc(void *block, size_t size) { return is_refused() ? 0 : __libc_realloc(block, size); }
+void *aligned_alloc(size_t alignment, size_t size) { return is_refused() ? 0 : __libc_memalign(alignment, size); }
+int posix_memalign(void **block, size_t alignment, size_t size)
+{
+    if (is_refused())
+        return ENOMEM;
+    *block = __libc_memalign(alignment, size);
+    return *block ? 0 : ENOMEM;
+}
 """
 
 TESTS = ("migration_tests", "space_tests")
@@ -65,7 +76,7 @@ class Refuser:
         self.library = self.folder / "refuse.so"
         source = self.folder / "refuse.c"
         source.write_text(SHIM)
-        subprocess.run(["cc", "-O2", "-shared", "-fPIC", "-o", self.library, source], check=True)
+        subprocess.run(["cc", "-O2", "-Wall", "-Wextra", "-Werror", "-shared", "-fPIC", "-o", self.library, source], check=True)
 
     def run(self, number, words, given=b""):
         """The run, and whether it came to its Nth growth."""

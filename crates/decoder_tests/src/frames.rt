@@ -86,15 +86,16 @@ fn pages_are_read(rt: HostRuntime) -> Result<(), Fail> {
     one_text(&rt, rt.alloc(), &bytes)
 }
 
-/// Feeds the bytes with one of them changed: what is answered is written as the bytes that it took up.
+/// Feeds the bytes of a text with one of them changed: what is answered is written as the bytes that it took up. Behind the front stand as
+/// many bytes of 7 and then of 9.
 fn changes(
     rt: &impl Abort,
     alloc: Global,
     version: u8,
-    vector: &[u8],
+    (front, sevens, nines): (&[u8], usize, usize),
     at: usize,
 ) -> Result<(), Fail> {
-    let mut bytes = text_again(alloc, version, vector, 0, 0)?;
+    let mut bytes = text_again(alloc, version, front, sevens, nines)?;
     let mut decoder = Decoder::new(alloc);
     for value in 0..=255 {
         if let Some(byte) = bytes.get_mut(at) {
@@ -111,9 +112,32 @@ fn changed_texts_are_read_as_they_are_written(rt: HostRuntime) -> Result<(), Fai
     for vector in &BOTH {
         for at in 0..58 {
             if at <= vector.len() {
-                changes(&rt, rt.alloc(), 1, *vector, at)?;
-                changes(&rt, rt.alloc(), 2, *vector, at)?;
+                changes(&rt, rt.alloc(), 1, (*vector, 0, 0), at)?;
+                changes(&rt, rt.alloc(), 2, (*vector, 0, 0), at)?;
             }
+        }
+    }
+    Ok(())
+}
+
+/// Each byte in front of the pages, and the first and the last of each page.
+const OF_A_PAGE: [usize; 18] = [
+    0, 1, 2, 3, 4, 5, 6, 7, 8, 9, 10, 11, 12, 13, 14, 15, 16, 4111,
+];
+
+/// So of two pages.
+const OF_A_RUN: [usize; 24] = [
+    0, 1, 2, 3, 4, 5, 6, 7, 8, 9, 10, 11, 12, 13, 14, 15, 16, 17, 18, 19, 20, 4115, 4116, 8211,
+];
+
+#[test]
+fn changed_pages_are_read_as_they_are_written(rt: HostRuntime) -> Result<(), Fail> {
+    for version in [1, 2] {
+        for at in OF_A_PAGE {
+            changes(&rt, rt.alloc(), version, (PAGE, PAGE_BYTES, 0), at)?;
+        }
+        for at in OF_A_RUN {
+            changes(&rt, rt.alloc(), version, (RUN, PAGE_BYTES, PAGE_BYTES), at)?;
         }
     }
     Ok(())

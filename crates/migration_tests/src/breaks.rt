@@ -78,13 +78,13 @@ static ANOTHER_FRAME: [Row; 6] = [
 ];
 
 /// Between the switch and the run, where all that is present is owed then.
-static SWITCHED: [Row; 3] = [
+pub static SWITCHED: [Row; 3] = [
     (Switch, Switched(0, 0)),
     (Break, Broken),
     (Load(0, 0x10000, 8), Refused(Refusal::Phase)),
 ];
 
-static ALL_IS_OWED: [Row; 8] = [
+pub static ALL_IS_OWED: [Row; 8] = [
     (Back, TookRecv(Received::NotRun, 0)),
     (Remaining, Remain(1, 0x10)),
     (Deliver, TookDiscard(0)),
@@ -143,7 +143,7 @@ static WOKEN: [Row; 20] = [
 ];
 
 /// While all copies are in flight.
-static IN_FLIGHT: [Row; 5] = [
+pub static IN_FLIGHT: [Row; 5] = [
     (Push(0x10), SentPage(0x10000)),
     (Push(0x11), SentPage(0x11000)),
     (Push(0x12), SentPage(0x12000)),
@@ -151,7 +151,7 @@ static IN_FLIGHT: [Row; 5] = [
     (End, Refused(Refusal::Broken)),
 ];
 
-static PUSHED_ANEW: [Row; 14] = [
+pub static PUSHED_ANEW: [Row; 14] = [
     (Back, TookRecv(Received::Running, 3)),
     (PushFor(1, 0x10), Refused(Refusal::StaleEpoch)),
     (Push(0x10), SentPage(0x10000)),

@@ -10,7 +10,7 @@ use mig_base::Reply::{At, BadAccess, Done, Segv, Value};
 use mig_base::refusal::Refusal;
 use mig_base::{Errno, Place, Prot, Reply, WorldPhase};
 
-static ACCESSES: [Row; 11] = [
+pub static ACCESSES: [Row; 11] = [
     (Progress, Stands(WorldPhase::Idle, [0, 0, 0, 0, 0, 0])),
     (Map(0, 8192), Replied(0, At(0x10000))),
     (

@@ -26,6 +26,8 @@ mod play;
 #[cfg(test)]
 mod postcopy;
 #[cfg(test)]
+mod refusals;
+#[cfg(test)]
 mod rounds;
 #[cfg(test)]
 mod runs;

@@ -6,7 +6,7 @@ use crate::copies::play_copied;
 use crate::counts::play_many;
 use crate::everywhere::{Again, break_and_complete};
 use crate::openings::NOTHING;
-use crate::runs::{play_longest, run_all};
+use crate::runs::{play_longest, run_all, run_three};
 use crate::same::same;
 use mig_base::WorldPhase;
 use mig_base::counts::Counts;
@@ -26,7 +26,7 @@ pub type Parts<'a> = (&'a [Row], &'a [Row], &'a [Row], &'a [Row]);
 
 /// What a refused step has to leave.
 #[derive(Clone, Copy, PartialEq, Eq)]
-struct Picture {
+pub struct Picture {
     phase: WorldPhase,
     source: SourcePhase,
     epoch: u32,
@@ -38,7 +38,7 @@ struct Picture {
 }
 
 impl Picture {
-    fn of(world: &World) -> Self {
+    pub fn of(world: &World) -> Self {
         Picture {
             phase: world.phase(),
             source: world.source_phase(),
@@ -81,7 +81,7 @@ fn progress(world: &World) -> Answer {
 }
 
 /// What a look shows.
-fn look(world: &World, call: Call) -> Answer {
+pub fn look(world: &World, call: Call) -> Answer {
     match call {
         Call::Source => Answer::SourceIs(world.source_phase(), world.epoch()),
         Call::Remaining => {
@@ -121,6 +121,8 @@ pub enum Behind {
     Longest,
     /// All steps in one call.
     OneCall,
+    /// Three steps in one call.
+    Three,
     /// The world is copied, and both go on: what both show at first, what happens to the copy, what happens to the world, and what the
     /// copy shows then.
     Copied(Parts<'static>),
@@ -146,6 +148,7 @@ fn tell(
         Behind::Many => play_many(rt, world),
         Behind::Longest => play_longest(rt, world),
         Behind::OneCall => return run_all(rt, alloc, world),
+        Behind::Three => return run_three(rt, alloc, world),
         Behind::Copied(ways) => return play_copied(rt, world, ways),
         Behind::Broken(again) => break_and_complete(rt, alloc, world, again),
     }

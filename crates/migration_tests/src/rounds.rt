@@ -21,7 +21,7 @@ use mig_base::schedule::Side;
 use mig_base::{Command, WorldPhase};
 
 /// A page that is made zeros again after it was sent is discarded, and is zeros at the destination too.
-static DISCARDED: [Row; 30] = [
+pub static DISCARDED: [Row; 30] = [
     (Map(0, 8192), Replied(0, At(0x10000))),
     (Store(0, 0x10000, 8, 1), Replied(0, Done)),
     (Store(0, 0x11000, 8, 2), Replied(0, Done)),

@@ -15,6 +15,7 @@ use crate::openings::{NOTHING, RESUMED};
 use crate::play::{Behind, Row, on_world, play, play_behind};
 use crate::same::same;
 use mig_base::Reply::{At, BadAccess, Done, Value};
+use mig_base::effect::Effect;
 use mig_base::phase::Received;
 use mig_base::refusal::Refusal;
 use mig_base::schedule::Step;
@@ -218,14 +219,36 @@ pub fn run_all(rt: &impl Abort, alloc: Global, world: &mut World) -> bool {
     true
 }
 
-fn is_run(rt: &impl Abort, alloc: Global) -> bool {
-    play_behind(rt, alloc, 2, Behind::OneCall) == Ok(true)
+/// The first round of a guest that has no page, and a second start.
+const THREE: [Step; 3] = [Step::Start, Step::Round, Step::Start];
+
+/// Makes these steps in one call. Whether memory was there for each; if so all is as wanted.
+pub fn run_three(rt: &impl Abort, alloc: Global, world: &mut World) -> bool {
+    let Ok(outcomes) = world.run(alloc, THREE.as_slice()) else {
+        return false;
+    };
+    if outcomes.contains(&Err(Refusal::NoMemory)) {
+        return false;
+    }
+    let wanted = [
+        Ok(Effect::Started { epoch: 1 }),
+        Ok(Effect::RoundMade { round: 1, todo: 0 }),
+        Err(Refusal::Phase),
+    ];
+    assert!(rt; outcomes.as_slice() == wanted.as_slice());
+    true
+}
+
+fn is_run(rt: &impl Abort, alloc: Global, cpus: u8, behind: Behind) -> bool {
+    play_behind(rt, alloc, cpus, behind) == Ok(true)
 }
 
 /// One call for all steps, which goes on after a refusal. Where memory was refused a second world is run.
 #[test]
 fn steps_in_one_call(rt: HostRuntime) {
-    if !is_run(&rt, rt.alloc()) {
-        assert!(rt; is_run(&rt, rt.alloc()));
+    for (cpus, behind) in [(2, Behind::OneCall), (1, Behind::Three)] {
+        if !is_run(&rt, rt.alloc(), cpus, behind) {
+            assert!(rt; is_run(&rt, rt.alloc(), cpus, behind));
+        }
     }
 }

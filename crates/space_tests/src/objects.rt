@@ -217,9 +217,35 @@ const CALLS: [(Call, Answer); 28] = [
     (Call::Wake(0x10001, 4096), EINVAL),
 ];
 
+/// The same with no bit 8 in the handshake, and no look between the calls.
+const CALLS_WITHOUT_THREADS: [(Call, Answer); 21] = [
+    (MAP_TWO, MAPPED),
+    (Read, EINVAL),
+    (Handshake(0xab, 0), EINVAL),
+    (Handshake(0xaa, 2), EINVAL),
+    (Handshake(0xaa, 0x4d), ALL_FEATURES),
+    (Handshake(0xaa, 0x4d), EINVAL),
+    (Register(0x10000, 8192, 0), EINVAL),
+    (Register(0x12000, 4096, 1), EINVAL),
+    (Unregister(0x12000, 4096), EINVAL),
+    (Register(0x10000, 12288, 1), Registered),
+    (WriteProtect(0x10000, 4096, 1), ENOENT),
+    (WriteProtect(0x10000, 4096, 3), EINVAL),
+    (Zeropage(0x11000, 4096, 0), Put(4096, SECOND)),
+    (Copy(0x11000, 1, 0), PUT_EEXIST),
+    (Copy(0x10000, 2, 0), Stopped(4096, Errno::Eagain, FIRST)),
+    (Copy(0x12000, 1, 0), PUT_ENOENT),
+    (Copy(0x11000, 2, 0), PUT_ENOENT),
+    (Copy(0x11000, 1, 2), PUT_EINVAL),
+    (Read, EAGAIN),
+    (Unregister(0x10000, 8192), Woken(BOTH)),
+    (Call::Wake(0x10001, 4096), EINVAL),
+];
+
 #[test]
 fn the_calls_of_the_object(rt: HostRuntime) -> Result<(), Fail> {
-    play(&rt, rt.alloc(), &CALLS)
+    play(&rt, rt.alloc(), &CALLS)?;
+    play(&rt, rt.alloc(), &CALLS_WITHOUT_THREADS)
 }
 
 /// Protection comes and goes on the first page, the second is missing. Bit 0 of a copy wakes nobody.
@@ -289,8 +315,8 @@ const TWO_PRESENT: [(Call, Answer); 3] = [
 ];
 
 /// Copies two pages to a space where they are watched. What was put before memory is refused stays, and the next call puts the
-/// rest.
-fn copy_two(rt: &impl Abort, space: &mut Space) {
+/// rest. How many bytes the first call has put.
+fn copy_two(rt: &impl Abort, space: &mut Space) -> usize {
     let ones = [1; 8192];
     let copied = match put(space.copy(0x10000, ones.as_slice(), 0)) {
         Err(NoMemory) => 0,
@@ -309,13 +335,16 @@ fn copy_two(rt: &impl Abort, space: &mut Space) {
         let rest = put(space.copy(0x11000, &ones[..4096], 0));
         assert!(rt; rest == Ok(Put(4096, SECOND)));
     }
+    copied
 }
 
-/// A copy of two pages that may be refused memory at either.
+/// A copy of two pages that may be refused memory at either. `bench/refused.py` refuses each growth, and looks for each count of bytes.
 #[test]
 fn a_copy_that_wants_memory(rt: HostRuntime) -> Result<(), Fail> {
     let mut space = Space::new(rt.alloc());
     play_on(&rt, &mut space, &TWO_WATCHED)?;
-    copy_two(&rt, &mut space);
-    play_on(&rt, &mut space, &TWO_PRESENT)
+    let copied = copy_two(&rt, &mut space);
+    play_on(&rt, &mut space, &TWO_PRESENT)?;
+    println!(rt; "copied {copied}")?;
+    Ok(())
 }
