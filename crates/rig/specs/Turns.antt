@@ -1,5 +1,5 @@
 -- The turns of the workers: the kind of step that each asks for, and the steps that it makes.
-use Rattle.std.specs.Prelude.{◌≡◌, ◌⊎◌, ◌%◌, ℕ, ⊤, List, [], ◌∷◌, length, Option, Some, None, IfSome, Contains}
+use Rattle.std.specs.Prelude.{◌≡◌, ◌⊎◌, ◌%◌, ℕ, List, [], ◌∷◌, length, IfSome, Contains}
 use Rattle.std.specs.List.{slice_get}
 use Rattle.mig_base.specs.declared.schedule.Side.{Side}
 use Rattle.mig_base.specs.declared.schedule.Step.{Step}

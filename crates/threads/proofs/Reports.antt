@@ -1,5 +1,5 @@
 -- A report and its parts.
-use Rattle.std.proofs.Common.{arith, ◌≡◌, ℕ, ◌+◌, ◌<◌, List, [], ◌++◌, length, subst, sym, ap, ◌∙◌, append_assoc, true, false, Bool, not}
+use Rattle.std.proofs.Common.{arith, ◌≡◌, ℕ, List, [], ◌++◌, length, subst, sym, ap, ◌∙◌, append_assoc, true, false, Bool, not}
 use Rattle.std.specs.Prelude.{Option, Result, Ok, Err, OnOk}
 use Rattle.mig_base.specs.Flat.{IsFlatRun}
 use Rattle.mig_base.specs.declared.command.Entry.{Entry}

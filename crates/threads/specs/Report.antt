@@ -1,5 +1,5 @@
 -- The report of a run in threads.
-use Rattle.std.specs.Prelude.{◌≡◌, ℕ, ◌<◌, suc, ⊤, Bool, true, false, List, [], ◌∷◌, ◌++◌, length, codes, Option, Some, None}
+use Rattle.std.specs.Prelude.{◌≡◌, ℕ, ◌<◌, suc, ⊤, Bool, List, [], ◌∷◌, ◌++◌, length, codes, Option, Some, None}
 use Rattle.std.specs.Option.{is_none}
 use Rattle.std.specs.Fmt.{decimal}
 use Rattle.std.specs.Io.KnownBytes.{Appends}
