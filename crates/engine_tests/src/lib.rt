@@ -1,5 +1,5 @@
-//! Tests of `engine` and `frames` with readers and writers that take pieces, fail or stop, and with lines at the limit of their length, and with a
-//! hundred thousand reads.
+//! Tests of `engine` and `frames` with readers and writers that take pieces, fail or stop, with lines at the limit of their length, and with
+//! a hundred thousand reads.
 //!
 //! What a script or a transcript prints that is read and written whole is a story of the crate `stories`.
 #![tactic(auto)]

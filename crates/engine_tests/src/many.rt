@@ -43,7 +43,7 @@ impl Read for Repeated {
     }
 }
 
-fn repeated(text: &'static [u8]) -> Repeated {
+fn over_and_over(text: &'static [u8]) -> Repeated {
     Repeated {
         text,
         at: 0,
@@ -67,7 +67,7 @@ fn writer(alloc: Global, most: usize) -> Result<OneByte, AllocError> {
 
 /// How a run of a script of comments ends, or a check if there is no mode, and what it has written.
 fn run(alloc: Global, mode: Option<Mode>) -> Result<(Option<RunFault>, Vec<u8>), AllocError> {
-    let mut reader = repeated(COMMENT);
+    let mut reader = over_and_over(COMMENT);
     let mut writer = writer(alloc, 100)?;
     let fault = match mode {
         Some(mode) => run_script(alloc, &mut reader, &mut writer, 2, mode).err(),
@@ -105,7 +105,7 @@ fn a_transcript_in_many_reads(rt: HostRuntime) -> Result<(), Fail> {
 
 /// How the stream of frames ends, and what was written.
 fn take_frames(alloc: Global) -> Result<(Option<FramesFault>, Vec<u8>), AllocError> {
-    let mut reader = repeated(ZERO);
+    let mut reader = over_and_over(ZERO);
     let mut writer = writer(alloc, FRAMES * REFUSED.len())?;
     let fault = run_frames(alloc, &mut reader, &mut writer, 2).err();
     Ok((fault, writer.bytes))
