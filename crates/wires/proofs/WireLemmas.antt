@@ -9,7 +9,6 @@ use Rattle.mig_model.specs.Wire as machine
 use Rattle.frame_texts.specs.Texts.{text}
 use Rattle.frame_decoder.specs.Streams.{IsSent, IsTextOf, sent_of as decoded}
 use Rattle.frame_decoder.specs.Versions.{version_of}
-use Rattle.frame_decoder.specs.declared.version.Version.{Version}
 use Rattle.frame_decoder.specs.declared.version.Version.TheVariants as versions
 use Rattle.page_stream.specs.declared.frame.Frame.{Frame}
 use Rattle.wires.specs.Chunks.{AreChunks, IsFrontLen, frames_in, in_flight, in_full, left}

@@ -1,5 +1,5 @@
 -- A wire of the code: the machine's wire, its bytes, and the room for more frames.
-use Rattle.std.specs.Prelude.{◌≡◌, ℕ, ◌<◌, ◌⊎◌, true, false, List, [], ◌∷◌, Option, Some, None, Result, Ok, Err}
+use Rattle.std.specs.Prelude.{◌≡◌, ℕ, ◌⊎◌, true, false, List, [], ◌∷◌, Option, Some, None, Result, Ok, Err}
 use Rattle.std.specs.List.{concat}
 use Rattle.mig_base.specs.declared.NoMemory.{NoMemory}
 use Rattle.mig_model.specs.Lengths.{text_len}
