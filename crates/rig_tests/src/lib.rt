@@ -13,6 +13,8 @@ mod memory;
 #[cfg(test)]
 mod rigs;
 #[cfg(test)]
+mod scenes;
+#[cfg(test)]
 mod seats;
 #[cfg(test)]
 mod steps;
