@@ -75,8 +75,10 @@ full_by : (n length held : ℕ) → length ≡ 16 → 16 - held ≤ n → ltb n 
 full_by n length held is h = grind (arith, nat_tests)
 
 -- no copy waits
-none_waits : (end empty : Bool) → empty ≡ true → (end && not empty) ≡ false
-none_waits end empty none = grind (arith, nat_tests)
+none_waits : (end : Bool) (copies : List Copy) → length copies ≤ 0 → (end && not (is_empty copies)) ≡ false
+none_waits true [] none = refl
+none_waits false [] none = refl
+none_waits end (copy ∷ copies) none = absurd (omega (arith, none))
 
 checked_by : (world : World) (installs late early : Bool) (sends : Sends Destination) → installs ≡ false → late ≡ early → checked (destination_sends world (unless ((installs, Refusal.InstallFirst) ∷ (late, Refusal.UrgentFirst) ∷ []) (Ok sends))) ≡ (if early then Err Refusal.UrgentFirst else Ok tt)
 unfolding unless
@@ -96,10 +98,6 @@ full_checked : (world : World) (n : ℕ) (can : CanArrive world.up (has_started 
 full_checked world n can early full free is =
     sym (checked_by (record world { forward = wire_behind can.rest }) (is_end can.sent.frame && not (is_empty world.destination.arrivals)) (is_early world.destination can.sent.frame) early _ free is)
     ∙ ap checked (sym (delivers world n can.sent can.rest false can.allowed can.up can.first full))
-
-no_copies : (copies : List Copy) → length copies ≤ 0 → is_empty copies ≡ true
-no_copies [] h = refl
-no_copies (copy ∷ copies) h = absurd (grind (arith, nat_tests))
 
 -- an End of which the last byte comes
 end_full : (world : World) (n : ℕ) (can : CanArrive world.up (has_started world) world.forward) → true ≡ is_end can.sent.frame → 16 - world.forward.held ≤ n → is_short world.forward can.sent.frame n ≡ false
@@ -131,12 +129,12 @@ none_fly (sent ∷ rest) h = absurd (false≢true h)
 pub end_waits : (world : World) (n : ℕ) (can : CanArrive world.up (has_started world) world.forward) → IsReached world → true ≡ is_end can.sent.frame → 16 - world.forward.held ≤ n → length world.destination.arrivals ≤ 0 → is_empty world.urgent.frames ≡ false →
     Err Refusal.UrgentFirst ≡ checked (answer world (Step.Deliver n))
 end_waits world n can reached end enough none some =
-    full_checked world n can true (end_full world n can end enough) (none_waits _ _ (no_copies world.destination.arrivals none)) (end_early world can reached (sym end) ∙ some_fly world.urgent.frames some)
+    full_checked world n can true (end_full world n can end enough) (none_waits _ world.destination.arrivals none) (end_early world can reached (sym end) ∙ some_fly world.urgent.frames some)
 
 pub end_fits : (world : World) (n : ℕ) (can : CanArrive world.up (has_started world) world.forward) → IsReached world → true ≡ is_end can.sent.frame → 16 - world.forward.held ≤ n → length world.destination.arrivals ≤ 0 → is_empty world.urgent.frames ≡ true →
     Ok tt ≡ checked (answer world (Step.Deliver n))
 end_fits world n can reached end enough none free =
-    full_checked world n can false (end_full world n can end enough) (none_waits _ _ (no_copies world.destination.arrivals none)) (end_early world can reached (sym end) ∙ none_fly world.urgent.frames free)
+    full_checked world n can false (end_full world n can end enough) (none_waits _ world.destination.arrivals none) (end_early world can reached (sym end) ∙ none_fly world.urgent.frames free)
 
 some_waits : (end : Bool) (copies : List Copy) → true ≡ end → 0 < length copies → (end && not (is_empty copies)) ≡ true
 some_waits end [] is some = absurd (omega (arith, some))
