@@ -1,8 +1,9 @@
 /*
  * Makes steps of the model from C, one line for one event, and compares each answer with what a monitor did.
  *
- *     cc -o client docs/client.c && ./client crates/postmig/out/postmig
+ *     cc -o client docs/client.c && ./client ./postmig
  */
+#include <signal.h>
 #include <stdio.h>
 #include <stdlib.h>
 #include <string.h>
@@ -28,6 +29,7 @@ static struct model start_model(const char *program)
         close(in[1]);
         close(out[0]);
         execl(program, program, "run", (char *)NULL);
+        perror(program);
         _exit(127);
     }
     close(in[0]);
@@ -42,8 +44,11 @@ static void same(struct model *model, const char *line, const char *done)
 
     fprintf(model->in, "%s\n", line);
     fflush(model->in);
-    if (fgets(answer, sizeof answer, model->out))
-        answer[strcspn(answer, "\n")] = '\0';
+    if (!fgets(answer, sizeof answer, model->out)) {
+        fprintf(stderr, "%s: the model has ended\n", line);
+        exit(2);
+    }
+    answer[strcspn(answer, "\n")] = '\0';
     if (strcmp(answer, done)) {
         fprintf(stderr, "%s: the model: %s; the monitor: %s\n", line, answer, done);
         exit(1);
@@ -52,7 +57,10 @@ static void same(struct model *model, const char *line, const char *done)
 
 int main(int argc, char **argv)
 {
-    struct model model = start_model(argc > 1 ? argv[1] : "crates/postmig/out/postmig");
+    struct model model;
+
+    signal(SIGPIPE, SIG_IGN); /* a model that has ended is named by `same` */
+    model = start_model(argc > 1 ? argv[1] : "./postmig");
 
     /* In a test the last arguments are what the monitor reports. Here they are written down. */
     same(&model, "cpu 0 mmap 8192 rw", "cpu 0 at 0x10000");

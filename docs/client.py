@@ -1,17 +1,20 @@
 """Tests a fault handler against the model: one step for one event, and both have to do the same.
 
-python3 docs/client.py [PROGRAM]     PROGRAM is the proved postmig, which ./postmig prove builds
+python3 docs/client.py [PROGRAM]     PROGRAM is postmig (the launcher of this repository)
 """
 import pathlib, subprocess, sys
 
-BUILT = pathlib.Path(__file__).resolve().parent.parent / "crates/postmig/out/postmig"
+LAUNCHER = pathlib.Path(__file__).resolve().parent.parent / "postmig"
 
 
 class Model:
     """A world of the model, in a process of its own."""
 
     def __init__(self, program):
-        self.process = subprocess.Popen([program, "run", "--cpus", "2"], stdin=subprocess.PIPE, stdout=subprocess.PIPE, text=True)
+        try:
+            self.process = subprocess.Popen([program, "run", "--cpus", "2"], stdin=subprocess.PIPE, stdout=subprocess.PIPE, text=True)
+        except OSError as fault:
+            sys.exit(f"{program}: {fault.strerror}")
 
     def step(self, line):
         """Makes one step and returns its answer. The line is not a comment: that would have no answer."""
@@ -55,5 +58,5 @@ def test(model, handler):
     model.same(("dact", handler.resolve(0x11000)), ("retry 0", "cpu 0 value 0x0"))
 
 
-test(Model(sys.argv[1] if len(sys.argv) > 1 else BUILT), Handler(owed=[0x10000]))
+test(Model(sys.argv[1] if len(sys.argv) > 1 else LAUNCHER), Handler(owed=[0x10000]))
 print("the handler does what the model says")

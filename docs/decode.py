@@ -28,7 +28,13 @@ class Body:
         return [tuple(self.number(size) for size in sizes) for _ in range(self.number())]
 
     def command(self):
-        return tuple(self.number(size) for size in COMMANDS[self.number(1)])
+        return tuple(self.number(size) for size in self.one_of(COMMANDS))
+
+    def one_of(self, values):
+        number = self.number(1)
+        if number >= len(values):
+            raise ValueError(f"there is no number {number} of {len(values)}")
+        return values[number]
 
 
 def fields(name, body):
@@ -46,7 +52,7 @@ def fields(name, body):
         return {"areas": areas, "owed": owed, "commands": [body.command() for _ in range(body.number(1))]}
     if name == "end":
         return {"urgent": body.number()}
-    return {"state": STATES[body.number(1)], "owed": body.list(4, 4)} if name == "recv" else {}
+    return {"state": body.one_of(STATES), "owed": body.list(4, 4)} if name == "recv" else {}
 
 
 def frames(data):
@@ -62,6 +68,19 @@ def frames(data):
         at += 12 + body.at
 
 
+def main():
+    if len(sys.argv) != 2:
+        sys.exit("usage: docs/decode.py FILE")
+    try:
+        with open(sys.argv[1], "rb") as file:
+            data = file.read()
+        for epoch, name, found in frames(data):
+            print(f"epoch {epoch} {name}", *(f"{key} {value}" for key, value in found.items() if key != "bytes"))
+    except OSError as fault:
+        sys.exit(f"{sys.argv[1]}: {fault.strerror}")
+    except ValueError as fault:
+        sys.exit(f"{sys.argv[1]}: {fault}")
+
+
 if __name__ == "__main__":
-    for epoch, name, found in frames(open(sys.argv[1], "rb").read()):
-        print(f"epoch {epoch} {name}", *(f"{key} {value}" for key, value in found.items() if key != "bytes"))
+    main()

@@ -7,6 +7,7 @@ import os
 import pathlib
 import platform
 import shlex
+import subprocess
 import sys
 import time
 
@@ -18,7 +19,6 @@ from .settings import FOLDER, HOST, Settings
 
 TOP = FOLDER.parent
 LAUNCHER = TOP / "postmig"
-PROVED = TOP / "crates" / "postmig" / "out" / "postmig"
 STORED = FOLDER / "scripts"
 # Of the stored scripts a quick run takes each third.
 QUICK = 3
@@ -48,11 +48,18 @@ def comparing_options(description):
     return parser
 
 
+@functools.cache
+def has_proved():
+    """Whether the launcher has a proved program of the sources as they are: it would build one without proof at each call."""
+    said = subprocess.run([LAUNCHER, "--version"], capture_output=True, text=True).stdout
+    return said.rstrip().endswith(", proved)")
+
+
 def program_of(arguments):
-    """The words that start the postmig that answers, or None: the launcher would build one without proof at each call."""
+    """The words that start the postmig that answers, or None."""
     if arguments.program:
         return shlex.split(arguments.program)
-    return [str(LAUNCHER)] if PROVED.exists() else None
+    return [str(LAUNCHER)] if has_proved() else None
 
 
 def require_program(arguments):
@@ -95,7 +102,10 @@ def job_of(arguments, path):
     if not beside.exists() and not program:
         require_program(arguments)
     answers = beside.read_text().splitlines() if beside.exists() else None
-    data = path.read_bytes()
+    try:
+        data = path.read_bytes()
+    except OSError as fault:
+        sys.exit(f"{path}: {fault.strerror}")
     return Job(str(path), data, settings, answers, None, program, implementation_of(arguments), is_stored=beside.exists())
 
 
@@ -126,7 +136,7 @@ def show(result, kinds):
 
 
 def compare_all(arguments, jobs):
-    """Compares, and prints the table. The status: 3 where something was unexpected."""
+    """Compares, and prints the table. The status: 3 where something was unexpected, 1 where no line was replayed."""
     begun, total, differing = time.time(), Result("all"), []
     for result in in_processes(arguments.jobs, compare_written, jobs):
         add(total, result)
@@ -138,6 +148,9 @@ def compare_all(arguments, jobs):
     print(f"{total.totals['lines']:,} lines in {time.time() - begun:.0f} s, {len(differing)} scripts with something unexpected")
     if getattr(arguments, "write", False):
         write_page(total)
+    if not total.totals["lines"]:
+        print("conformance: no line was replayed")
+        return 1, differing
     return 3 if differing else 0, differing
 
 
