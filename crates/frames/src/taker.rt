@@ -34,10 +34,10 @@ fn answer(
 {
     line.clear();
     let effect = frame.effect();
-    match destination.take(epoch, frame) {
-        Ok(_) => print_line(line, &Ok(effect)),
-        Err(fault) => print_refusal(line, fault),
+    if let Err(fault) = destination.take(epoch, frame) {
+        return print_refusal(line, fault);
     }
+    print_line(line, &Ok(effect))
 }
 
 /// A destination that is handed frames, and gathers the lines of its answers.
