@@ -165,9 +165,17 @@ fn asked(log: &mut DirtyLog, space: &Space, cpus: &Cpus, call: Call) -> Result<A
         }
         Call::Cpu(cpu) => cpus.state(cpu).map(Answer::Is),
         _ => Ok(Answer::Counted(
-            [log.clean().len(), log.todo().len(), log.ever_sent().len()],
+            [log.clean().len(), next_run(log), log.ever_sent().len()],
             log.held(),
         )),
+    }
+}
+
+/// The number of pages in the run that the round sends next.
+fn next_run(log: &DirtyLog) -> u32 {
+    match log.next_page() {
+        Some(first) => log.run_length(first, 64),
+        None => 0,
     }
 }
 
@@ -337,7 +345,7 @@ const ROUNDS: [(Call, Result<Answer, Refusal>); 36] = [
     (Call::Send(0x11), Err(Refusal::PageNotSendable)),
     (Call::Read, Err(Refusal::NothingThere)),
     (Call::Plan, Ok(Answer::Done)),
-    (Call::Counts, Ok(Answer::Counted([1, 2, 3], 0))),
+    (Call::Counts, Ok(Answer::Counted([1, 1, 3], 0))),
     (Call::SendNext, Ok(Answer::Sent(0x10, Some(1)))),
     (Call::SendNext, Ok(Answer::Sent(0x13, None))),
     (Call::Forget, Ok(Answer::Done)),

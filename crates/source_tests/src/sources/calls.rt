@@ -4,7 +4,7 @@ ghost use Rattle.std.specs.Prelude.{◌≡◌, false};
 ghost use Rattle.mig_model.specs.Source.{is_released};
 
 use crate::ranges::inside;
-use dirty_log::Sent;
+use dirty_log::{DirtyLog, Sent};
 use guest::Tried;
 use mig_base::cpu_state::CpuState;
 use mig_base::effect::Effect;
@@ -109,7 +109,7 @@ pub(super) enum Answer {
     NotTaken(BackFault),
     /// The phase, whether the source has switched, and its epoch.
     Stands(SourcePhase, bool, u32),
-    /// How many pages are present, remaining, clean, to be sent and ever sent, how many were owed, and how many faults
+    /// How many pages are present, remaining, clean, in the run that is sent next and ever sent, how many were owed, and how many faults
     /// are held.
     Counted([u32; 6], usize),
     Is(CpuState),
@@ -265,6 +265,14 @@ fn package(
     Ok(Gives(Brief::of(&frame)))
 }
 
+/// The number of pages in the run that the round sends next.
+pub(super) fn next_run(log: &DirtyLog) -> u32 {
+    match log.next_page() {
+        Some(first) => log.run_length(first, 64),
+        None => 0,
+    }
+}
+
 fn counts(source: &Source) -> Result<Answer, NoMemory> {
     let present = source.present()?.len();
     let log = source.log();
@@ -273,7 +281,7 @@ fn counts(source: &Source) -> Result<Answer, NoMemory> {
             present,
             source.remaining().len(),
             log.clean().len(),
-            log.todo().len(),
+            next_run(log),
             log.ever_sent().len(),
             source.packaged(),
         ],

@@ -1,6 +1,6 @@
 //! How a table of calls is played on a source.
 
-use super::calls::{Answer, Brief, Call, Two, make};
+use super::calls::{Answer, Brief, Call, Two, make, next_run};
 use crate::same::same;
 use mig_base::cpu_state::CpuState;
 use mig_base::effect::Effect;
@@ -43,7 +43,7 @@ impl Picture {
             pages: [
                 source.remaining().len(),
                 log.clean().len(),
-                log.todo().len(),
+                next_run(log),
                 log.ever_sent().len(),
             ],
             held: log.held(),
