@@ -1,5 +1,5 @@
 -- Where nothing refuses a step, what it answers: an equation for each step that leads to the completion of a migration.
-use Rattle.std.proofs.Common.{◌≡◌, ℕ, ◌+◌, ◌&&◌, ◌||◌, Bool, true, false, not, eqb, Some, None, is_some, List, ◌∷◌, [], ap, ◌∙◌, arith}
+use Rattle.std.proofs.Common.{◌≡◌, ℕ, ◌+◌, ◌&&◌, ◌||◌, Bool, true, false, not, eqb, Some, None, is_some, List, ◌∷◌, ap, ◌∙◌, arith}
 use Rattle.std.specs.Prelude.{ok_or}
 use Rattle.std.specs.FinSet as finset
 use Rattle.std.specs.FinSet.{contains}

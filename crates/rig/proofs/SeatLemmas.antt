@@ -143,9 +143,9 @@ behind_of : List Answer → List Answer
 behind_of [] = []
 behind_of (x ∷ xs) = xs
 
-pub goes_on-more : (here wanted behind rest : List Answer) (x y : Answer) (P : Type 0) → here ≡ x ∷ behind → wanted ≡ y ∷ rest → x ≡ y → (here ≡ wanted → P) × (P → here ≡ wanted) → (behind ≡ rest → P) × (P → behind ≡ rest)
+pub continues-more : (here wanted behind rest : List Answer) (x y : Answer) (P : Type 0) → here ≡ x ∷ behind → wanted ≡ y ∷ rest → x ≡ y → (here ≡ wanted → P) × (P → here ≡ wanted) → (behind ≡ rest → P) × (P → behind ≡ rest)
 unfolding behind_of
-goes_on-more here wanted behind rest x y P h w same kept =
+continues-more here wanted behind rest x y P h w same kept =
     (λ e. kept.0 (h ∙ ap (λ xs. x ∷ xs) e ∙ ap (λ z. z ∷ rest) same ∙ sym w), λ p. ap behind_of (sym h ∙ kept.1 p ∙ w))
 
 -- what a rig keeps of the world that it is given

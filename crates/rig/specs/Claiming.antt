@@ -27,8 +27,8 @@ IsLost (Some c) world = (c.0.epoch ≡ world.source.epoch) × (AreKept c.0 c.1 w
 abbrev pub BeginsWith : List ℕ → List ℕ → Type 0
 BeginsWith xs front = (behind : List ℕ) × (xs ≡ front ++ behind)
 
--- a seat that went on: it has claimed and seen what it had before, in that order, and then perhaps more; its share is the same
-pub record HasGoneOn (old new : Held) : Type 0 where
+-- a seat after more claims: it has claimed and seen what it had before, in that order, and then perhaps more; its share is the same
+pub record Continues (old new : Held) : Type 0 where
   pub claimed : BeginsWith new.claimed old.claimed
   pub seen : BeginsWith new.seen old.seen
   pub share : new.share ≡ old.share

@@ -48,7 +48,7 @@ fn next_wanted<'a>(
 }
 
 /// Whether the processor's answers in `entries` are those in `opening` and then `list`.
-pub(crate) fn goes_on(entries: &[Entry], opening: &[Entry], list: &[Answer], cpu: u8) -> bool
+pub(crate) fn continues(entries: &[Entry], opening: &[Entry], list: &[Answer], cpu: u8) -> bool
     ensures yes { result ≡ true → answers_of cpu entries.now ≡ answers_of cpu opening.now ++ list.now }
     ensures no { result ≡ false → answers_of cpu entries.now ≡ answers_of cpu opening.now ++ list.now → ⊥ }
 {
@@ -108,7 +108,7 @@ fn is_right(
     if count > 1 || (was_handed && count != 1) || (cpu >= cpus && count != 0) {
         return false;
     }
-    goes_on(entries, opening, list_in(seats, cpu), cpu)
+    continues(entries, opening, list_in(seats, cpu), cpu)
 }
 
 /// The number of seats of a processor.

@@ -3,7 +3,7 @@
 ghost use Rattle.std.specs.Prelude.{◌≡◌, ◌≢◌, IfSome, IfNone};
 ghost use Rattle.mig_base.specs.declared.schedule.Step.{Step};
 ghost use Rattle.pusher.specs.Seats.{IsSeatOf};
-ghost use Rattle.rig.specs.Claiming.{BeginsWith, HasGoneOn};
+ghost use Rattle.rig.specs.Claiming.{BeginsWith, Continues};
 ghost use Rattle.rig.specs.declared.gate.StepKind.{StepKind};
 ghost use Rattle.rig.specs.declared.gate.Worker.{Worker};
 ghost use Rattle.rig.specs.declared.turns.Leave.{Leave};
@@ -32,7 +32,7 @@ pub fn serve_turns<T: Turns>(turns: &mut T, claims: &Claims, mut seat: ClaimSeat
     requires seat { IsSeatOf claims.now seat }
     requires who { T.who turns.old ≡ Worker.Serve }
     requires first { T.turn turns.old ≡ 0 }
-    requires goes_on { T.leave turns.old ≢ Leave.Over }
+    requires runs { T.leave turns.old ≢ Leave.Over }
     ensures seat { IsSeatOf claims.now result }
     ensures share { result.share ≡ seat.share }
     ensures claimed { BeginsWith result.claimed seat.claimed }
@@ -62,7 +62,7 @@ pub fn push_turns<T: Turns>(turns: &mut T, claims: &Claims, mut seat: ClaimSeat)
     requires seat { IsSeatOf claims.now seat }
     requires who { T.who turns.old ≡ Worker.Push }
     requires first { T.turn turns.old ≡ 0 }
-    requires goes_on { T.leave turns.old ≢ Leave.Over }
+    requires runs { T.leave turns.old ≢ Leave.Over }
     ensures seat { IsSeatOf claims.now result }
     ensures share { result.share ≡ seat.share }
     ensures claimed { BeginsWith result.claimed seat.claimed }
@@ -100,7 +100,7 @@ fn serve<T: Turns>(
     requires urgent { IfSome ticket (λ t. T.leave turns.old ≡ Leave.Step StepKind.PushUrgent) }
     requires serves { IfNone ticket (T.leave turns.old ≡ Leave.Step StepKind.Serve) }
     ensures seat { IsSeatOf claims.now seat.new }
-    ensures gone_on { HasGoneOn seat.old seat.new }
+    ensures continued { Continues seat.old seat.new }
     ensures who { T.who turns.new ≡ T.who turns.old }
     ensures turn { T.turn turns.new ≡ T.turn turns.old }
     ensures leave { T.leave turns.new ≡ Leave.Nothing }
@@ -160,7 +160,7 @@ fn send<T: Turns>(turns: &mut T, step: Step, ticket: Ticket) -> Held
 fn claim_next(claims: &Claims, seat: &mut ClaimSeat, index: &mut usize) -> Option<Ticket>
     requires { IsSeatOf claims.now seat.old }
     ensures seat { IsSeatOf claims.now seat.new }
-    ensures gone_on { HasGoneOn seat.old seat.new }
+    ensures continued { Continues seat.old seat.new }
 {
     while *index < claims.len() {
         let here = *index;
@@ -176,7 +176,7 @@ fn claim_next(claims: &Claims, seat: &mut ClaimSeat, index: &mut usize) -> Optio
 fn claim_at(claims: &Claims, seat: &mut ClaimSeat, addr: Addr) -> Option<Ticket>
     requires { IsSeatOf claims.now seat.old }
     ensures seat { IsSeatOf claims.now seat.new }
-    ensures gone_on { HasGoneOn seat.old seat.new }
+    ensures continued { Continues seat.old seat.new }
 {
     let page = PageNo::try_from(addr / PAGE_SIZE).ok()?;
     let index = claims.index_of(page)?;

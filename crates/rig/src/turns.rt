@@ -44,7 +44,7 @@ pub trait Turns {
     /// Asks for a step of this kind, which begins the next turn. A worker that was stopped does not ask again.
     fn pass(&mut self, next: StepKind) -> Pass
         requires asks { Asks (who self.old) (turn self.old) next }
-        requires goes_on { leave self.old ≢ Leave.Over }
+        requires runs { leave self.old ≢ Leave.Over }
         requires few { turn self.old < 2 ^ 64 - 1 }
         ensures who { who self.new ≡ who self.old }
         ensures turn { turn self.new ≡ suc (turn self.old) }
@@ -78,7 +78,7 @@ pub trait Turns {
 pub fn source_turns<T: Turns>(turns: &mut T)
     requires who { T.who turns.old ≡ Worker.Source }
     requires first { T.turn turns.old ≡ 0 }
-    requires goes_on { T.leave turns.old ≢ Leave.Over }
+    requires runs { T.leave turns.old ≢ Leave.Over }
     ensures ended { (T.leave turns.new ≡ Leave.Over) ⊎ (T.turn turns.new ≡ 2 ^ 64 - 1) }
 {
     take_turns(
@@ -100,7 +100,7 @@ pub fn source_turns<T: Turns>(turns: &mut T)
 pub fn dest_turns<T: Turns>(turns: &mut T)
     requires who { T.who turns.old ≡ Worker.Dest }
     requires first { T.turn turns.old ≡ 0 }
-    requires goes_on { T.leave turns.old ≢ Leave.Over }
+    requires runs { T.leave turns.old ≢ Leave.Over }
     ensures ended { (T.leave turns.new ≡ Leave.Over) ⊎ (T.turn turns.new ≡ 2 ^ 64 - 1) }
 {
     take_turns(
@@ -122,7 +122,7 @@ fn take_turns<T: Turns>(turns: &mut T, steps: &[Step])
     requires who { (T.who turns.old ≡ Worker.Source) ⊎ (T.who turns.old ≡ Worker.Dest) }
     requires table { steps.now ≡ steps_of (T.who turns.old) }
     requires first { T.turn turns.old ≡ 0 }
-    requires goes_on { T.leave turns.old ≢ Leave.Over }
+    requires runs { T.leave turns.old ≢ Leave.Over }
     ensures ended { (T.leave turns.new ≡ Leave.Over) ⊎ (T.turn turns.new ≡ 2 ^ 64 - 1) }
 {
     let count = steps.len() as u64;

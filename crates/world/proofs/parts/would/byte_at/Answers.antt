@@ -1,4 +1,4 @@
-use Rattle.std.proofs.Common.{◌≡◌, ◌∙◌, ℕ, List, [], ap, arith, drop, get_or, length, sym}
+use Rattle.std.proofs.Common.{◌∙◌, ℕ, List, ap, arith, get_or, length, sym}
 use Rattle.std.specs.List.{concat}
 use Rattle.std.proofs.lemmas.List.{drop_all}
 use Rattle.world.proofs.PieceLemmas.{in_piece, past_piece}
