@@ -48,12 +48,13 @@ def imports(text):
 
 
 def contracts(text):
-    """The contracts of public functions and of iterators, and the types that callers see."""
-    inside = False
+    """The contracts of public functions, of public traits and of iterators, and the types that callers see."""
+    inside = in_trait = False
     for line in text.splitlines():
+        in_trait = line.startswith("pub trait ") or in_trait and not line.startswith("}")
         if re.match(r'\s*pub (const )?(extern "C" )?fn ', line):
             inside = True
-        if inside or "ghost Value" in line or "ghost next_gives" in line:
+        if inside or in_trait and not line.lstrip().startswith("//") or "ghost Value" in line or "ghost next_gives" in line:
             # (a clause may have a name of its own, which is no definition)
             yield re.sub(r"\b(requires|ensures) \w+ \{", "{", line)
         if re.match(r"\s*\{\}?\s*$", line) or line.endswith(" {}"):
