@@ -94,6 +94,14 @@ def stored_scripts(quick=False):
     return sorted((TOP / "examples").glob("*.script")) + (found[::QUICK] if quick else found)
 
 
+def script_at(path):
+    """The bytes of a script; one that cannot be read ends the program with status 1."""
+    try:
+        return path.read_bytes()
+    except OSError as fault:
+        sys.exit(f"{path}: {fault.strerror}")
+
+
 def job_of(arguments, path):
     """A script with its answers: those beside it, else the program's."""
     beside = path.with_suffix(".out")
@@ -102,11 +110,7 @@ def job_of(arguments, path):
     if not beside.exists() and not program:
         require_program(arguments)
     answers = beside.read_text().splitlines() if beside.exists() else None
-    try:
-        data = path.read_bytes()
-    except OSError as fault:
-        sys.exit(f"{path}: {fault.strerror}")
-    return Job(str(path), data, settings, answers, None, program, implementation_of(arguments), is_stored=beside.exists())
+    return Job(str(path), script_at(path), settings, answers, None, program, implementation_of(arguments), is_stored=beside.exists())
 
 
 def implementation_of(arguments):
@@ -223,7 +227,7 @@ def named_jobs(arguments):
     program = require_program(arguments)
     for path in arguments.scripts:
         settings = settings_of(arguments, cpus_of(path))
-        yield Job(str(path), path.read_bytes(), settings, None, None, program, implementation_of(arguments))
+        yield Job(str(path), script_at(path), settings, None, None, program, implementation_of(arguments))
 
 
 def written(job):
