@@ -25,8 +25,9 @@ FILE = re.compile(r"`([\w.-]+)`:$")
 LEFT_OUT = {
     "rt ci": "it is the gate",
     "conformance/": "they need userfaultfd(2); .ci/run has one of them",
-    "postmig library": "it proves the library, which takes minutes",
-    "embed/": "they need the library; bench/embed.py runs them",
+    "library --build": "it proves the library, which takes minutes",
+    "tar -x": "it compares what the line before it builds",
+    "rustc": "a machine of the gate may have none; bench/embed.py runs it",
     "postmig prove": "it proves the program, which takes an hour",
     "crates/driver": "it proves and builds the driver",
     "parallel": "it is a sketch for other machines",
@@ -91,7 +92,7 @@ def faults_of(lines, folder, path):
 
 def room(folder):
     """Makes a folder look like the top of the repository, with the launcher as 'postmig'. Returns the PATH for it."""
-    for name in ("examples", "docs", "conformance", "release", "crates", "bench"):
+    for name in ("examples", "docs", "conformance", "release", "crates", "bench", "dist"):
         (folder / name).symlink_to(page.TOP / name)
     launcher = folder / "postmig"
     launcher.write_text(f'#!/bin/sh\nexec "{page.TOP}/postmig" "$@"\n')

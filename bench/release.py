@@ -1,80 +1,123 @@
 #!/usr/bin/env python3
-"""Makes the release of the program in release/ from its proved build, or compares both.
+"""Makes the release of the program and of the library for C in release/, from their proved builds, or compares both.
 
-python3 bench/release.py --write       makes it of crates/postmig/out/postmig, which rt ci and ./postmig prove leave
+python3 bench/release.py --write       makes it: of crates/postmig/out/postmig, which rt ci and ./postmig prove leave, and of dist/, where
+                                       ./postmig library --build makes the library, which it runs where that is not of these sources
 python3 bench/release.py --sources     whether it is of these sources, and unpacks to what its checksums say
-python3 bench/release.py --check       the same, and whether the proved build is the program of the release, byte by byte
+python3 bench/release.py --check       the same, and whether the proved build is the program of the release, byte by byte; so with the
+                                       library, if dist/ has one that was built here
 
-release/ has the program, packed, the checksum of its sources (./postmig sources) and the checksums of the packed and of the unpacked file.
+release/ has the program and the library, packed, the checksums of their sources (./postmig sources) and those of all files.
 """
 
 import argparse
 import gzip
 import hashlib
+import io
 import subprocess
 import sys
+import tarfile
 
 import page
 
 FOLDER = page.TOP / "release"
-PACKED = FOLDER / "postmig-x86_64-linux.gz"
+PROGRAM = FOLDER / "postmig-x86_64-linux.gz"
+LIBRARY = FOLDER / "libpostmig-x86_64-linux.tar.gz"
+SOURCES = {"postmig": FOLDER / "sources", "postmig_c": FOLDER / "library-sources"}
+SUMS = FOLDER / "SHA256SUMS"
 BUILT = page.TOP / "crates" / "postmig" / "out" / "postmig"
+DIST = page.TOP / "dist"
+PARTS = ("libpostmig.a", "libpostmig.so", "postmig.h")
 RENEW = "./dev release makes it anew, after rt ci or ./postmig prove"
 
 
-def sources():
-    """The checksum of the sources of the program, and whether there is a proved build of them."""
-    ran = subprocess.run([page.TOP / "postmig", "sources"], check=True, capture_output=True, text=True)
+def sources(crate):
+    """The checksum of the sources of the program or of the library, and whether there is a proved build of them."""
+    ran = subprocess.run([page.TOP / "postmig", "sources", crate], check=True, capture_output=True, text=True)
     checksum, _, state = ran.stdout.strip().partition(" ")
     return checksum, state == "proved"
 
 
-def sums(program, packed):
+def archive(parts):
+    """The text of a tar file with these files, which is the same for the same files."""
+    text = io.BytesIO()
+    with tarfile.open(fileobj=text, mode="w", format=tarfile.USTAR_FORMAT) as tar:
+        for name, content in parts.items():
+            it = tarfile.TarInfo(name)
+            it.size, it.mode = len(content), 0o644
+            tar.addfile(it, io.BytesIO(content))
+    return text.getvalue()
+
+
+def sums(files):
     """The text of the file with the checksums, as sha256sum reads it."""
-    return "".join(f"{hashlib.sha256(it).hexdigest()}  {name}\n" for name, it in (("postmig", program), (PACKED.name, packed)))
+    return "".join(f"{hashlib.sha256(content).hexdigest()}  {name}\n" for name, content in files.items())
+
+
+def packed(text):
+    return gzip.compress(text, 9, mtime=0)
+
+
+def built_library():
+    """The files of the library in dist/, which is built if it is not of these sources."""
+    if not sources("postmig_c")[1]:
+        subprocess.run([page.TOP / "postmig", "library", "--build"], check=True)
+    return {name: (DIST / name).read_bytes() for name in PARTS}
 
 
 def write():
-    checksum, is_proved = sources()
-    if not is_proved:
+    if not sources("postmig")[1]:
         sys.exit("release: there is no proved build of these sources: rt ci or ./postmig prove makes one")
-    program = BUILT.read_bytes()
-    packed = gzip.compress(program, 9, mtime=0)
+    program, parts = BUILT.read_bytes(), built_library()
     FOLDER.mkdir(exist_ok=True)
-    PACKED.write_bytes(packed)
-    (FOLDER / "SHA256SUMS").write_text(sums(program, packed))
-    (FOLDER / "sources").write_text(checksum + "\n")
-    print(f"release: {len(program):,} bytes, {len(packed):,} packed")
+    files = {PROGRAM: packed(program), LIBRARY: packed(archive(parts))}
+    for file, content in files.items():
+        file.write_bytes(content)
+        print(f"release: {file.name}, {len(content):,} bytes")
+    SUMS.write_text(sums({"postmig": program, **parts, **{file.name: content for file, content in files.items()}}))
+    for crate, file in SOURCES.items():
+        file.write_text(sources(crate)[0] + "\n")
+
+
+def unpacked():
+    """The files that the release unpacks to."""
+    with tarfile.open(LIBRARY) as tar:
+        parts = {it.name: tar.extractfile(it).read() for it in tar}
+    return {"postmig": gzip.decompress(PROGRAM.read_bytes()), **parts}
 
 
 def look_at_sources():
-    """The program of the release, once it is known to be of these sources and to have its checksums."""
-    for file in (FOLDER / "sources", FOLDER / "SHA256SUMS", PACKED):
+    """The files of the release, once they are known to be of these sources and to have their checksums."""
+    for file in (*SOURCES.values(), SUMS, PROGRAM, LIBRARY):
         if not file.is_file():
             sys.exit(f"release: there is no {file.name}: {RENEW}")
-    if (FOLDER / "sources").read_text().strip() != sources()[0]:
-        sys.exit(f"release: it is of other sources: {RENEW}")
-    packed = PACKED.read_bytes()
+    for crate, file in SOURCES.items():
+        if file.read_text().strip() != sources(crate)[0]:
+            sys.exit(f"release: {file.name} is of other sources: {RENEW}")
     try:
-        program = gzip.decompress(packed)
-    except (OSError, EOFError) as fault:
-        sys.exit(f"release: {PACKED.name} does not unpack: {fault}")
-    if (FOLDER / "SHA256SUMS").read_text() != sums(program, packed):
+        files = unpacked()
+    except (OSError, EOFError, tarfile.TarError) as fault:
+        sys.exit(f"release: it does not unpack: {fault}")
+    if SUMS.read_text() != sums({**files, **{file.name: file.read_bytes() for file in (PROGRAM, LIBRARY)}}):
         sys.exit(f"release: its checksums are of other files: {RENEW}")
-    return program
+    return files
 
 
 def check():
-    program = look_at_sources()
-    if not sources()[1]:
+    files = look_at_sources()
+    if not sources("postmig")[1]:
         sys.exit("release: there is no proved build to compare it with: rt ci or ./postmig prove makes one")
-    if BUILT.read_bytes() != program:
+    if BUILT.read_bytes() != files["postmig"]:
         sys.exit(f"release: the proved build has other bytes: {RENEW}")
-    print(f"release: {len(program):,} bytes, as built")
+    print(f"release: {len(files['postmig']):,} bytes, as built")
+    if sources("postmig_c")[1]:
+        if different := [name for name in PARTS if (DIST / name).read_bytes() != files[name]]:
+            sys.exit(f"release: {', '.join(different)} of dist/ has other bytes: {RENEW}")
+        print("release: the library is that of dist/")
 
 
 def main():
-    parser = argparse.ArgumentParser(description="Makes the release of the program, or compares it.")
+    parser = argparse.ArgumentParser(description="Makes the release of the program and of the library, or compares it.")
     asked = parser.add_mutually_exclusive_group(required=True)
     for word in ("--write", "--sources", "--check"):
         asked.add_argument(word, action="store_true")
