@@ -12,6 +12,7 @@ words a command takes, and is not run; nor are those with a word of LEFT_OUT. 'p
 import os
 import pathlib
 import re
+import signal
 import subprocess
 import sys
 import tempfile
@@ -33,6 +34,8 @@ LEFT_OUT = {
     "parallel": "it is a sketch for other machines",
     "your-handler": "it is a sketch for a batch system",
 }
+# The most that a block may take.
+SECONDS = 60
 # What is made smaller, so that all blocks take seconds.
 SMALLER = {"seq 1 10000": "seq 1 20"}
 
@@ -55,13 +58,18 @@ def blocks(text):
 
 
 def ran(command, folder, path):
-    """The status of a command of the shell, and what it has written."""
-    words = ["bash", "-euo", "pipefail", "-c", command]
-    done = subprocess.run(
-        words, cwd=folder, env={**os.environ, "PATH": path, "HOME": str(folder), "POSTMIG_PROVED_ONLY": "1"}, stdin=subprocess.DEVNULL,
-        stdout=subprocess.PIPE, stderr=subprocess.STDOUT, text=True, errors="replace", timeout=100,
+    """The status of a command of the shell, and what it has written. One that takes too long is ended, with all that it has started."""
+    environment = {**os.environ, "PATH": path, "HOME": str(folder), "POSTMIG_PROVED_ONLY": "1"}
+    child = subprocess.Popen(
+        ["bash", "-euo", "pipefail", "-c", command], cwd=folder, env=environment, start_new_session=True, text=True, errors="replace",
+        stdin=subprocess.DEVNULL, stdout=subprocess.PIPE, stderr=subprocess.STDOUT,
     )
-    return done.returncode, done.stdout
+    try:
+        said, _ = child.communicate(timeout=SECONDS)
+    except subprocess.TimeoutExpired:
+        os.killpg(child.pid, signal.SIGKILL)
+        return 1, f"(ended after {SECONDS} s)"
+    return child.returncode, said
 
 
 def session(lines):
