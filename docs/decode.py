@@ -1,6 +1,7 @@
 #!/usr/bin/env python3
 """Decodes the frames of a wire, of either version, and writes a line for each: docs/decode.py FILE
 
+It reads the form alone: `postmig frames` also refuses a page that no guest may map, say, and a frame out of its turn.
 `frames` yields (epoch, name, fields), and raises ValueError where the bytes are not frames. docs/FORMATS.md has the format."""
 
 import sys
@@ -68,6 +69,15 @@ def frames(data):
         at += 12 + body.at
 
 
+def shown(key, value):
+    """A field as text: pages as the addresses at which they begin and end, in place of their numbers."""
+    if key == "page":
+        return f"page {4096 * value:#x}"
+    if key in ("pages", "owed", "areas"):
+        return " ".join([key, *(f"{4096 * first:#x}-{4096 * (first + count):#x}" + "".join(f":{it}" for it in rest) for first, count, *rest in value)])
+    return f"{key} {value}"
+
+
 def main():
     if len(sys.argv) != 2:
         sys.exit("usage: docs/decode.py FILE")
@@ -75,7 +85,7 @@ def main():
         with open(sys.argv[1], "rb") as file:
             data = file.read()
         for epoch, name, found in frames(data):
-            print(f"epoch {epoch} {name}", *(f"{key} {value}" for key, value in found.items() if key != "bytes"))
+            print(f"epoch {epoch} {name}", *(shown(key, value) for key, value in found.items() if key != "bytes"))
     except OSError as fault:
         sys.exit(f"{sys.argv[1]}: {fault.strerror}")
     except ValueError as fault:
