@@ -73,9 +73,10 @@ def shown(key, value):
     """A field as text: pages as the addresses at which they begin and end, in place of their numbers."""
     if key == "page":
         return f"page {4096 * value:#x}"
-    if key in ("pages", "owed", "areas"):
-        return " ".join([key, *(f"{4096 * first:#x}-{4096 * (first + count):#x}" + "".join(f":{it}" for it in rest) for first, count, *rest in value)])
-    return f"{key} {value}"
+    if key not in ("pages", "owed", "areas"):
+        return f"{key} {value}"
+    runs = (":".join([f"{4096 * first:#x}-{4096 * (first + count):#x}", *map(str, rest)]) for first, count, *rest in value)
+    return " ".join([key, *runs])
 
 
 def main():
