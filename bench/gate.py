@@ -1,11 +1,13 @@
 #!/usr/bin/env python3
-"""Runs the gate, and prints what it cost by crate: lines, and the processor seconds of its proof, its tests and its edits that must fail.
+"""Runs the gate, and writes what it cost by crate: lines, and the processor seconds of its proof, its tests and its edits that must fail.
 
 python3 bench/gate.py [--write] [COMMAND ..]
+python3 bench/gate.py --page
 
-Run it in a clean clone on an otherwise idle machine. The command is 'rt ci' where none is given. With --write the tables go to
-docs/PERFORMANCE.md. The sums are exact, as the kernel has them at the end (user time of all processes); what belongs to which crate
-is seen by looking at the running processes five times a second, so that the end of each process is missing.
+Run it in a clean clone on an otherwise idle machine. The command is 'rt ci' where none is given. With --write the ledger goes to
+bench/gate.tsv and its summary to docs/PERFORMANCE.md; --page runs nothing, and writes that summary from the ledger again. The sums are exact,
+as the kernel has them at the end (user time of all processes); what belongs to which crate is seen by looking at the running processes five
+times a second, so that the end of each process is missing.
 """
 
 import collections
@@ -18,7 +20,10 @@ import threading
 import time
 
 import page
+import tower
 
+LEDGER = page.TOP / "bench" / "gate.tsv"
+COLUMNS = ("proof", "tests", "first edit", "other edits", "slowest", "sum", "code", "definitions", "lemmas", "answers", "edits")
 TICKS = os.sysconf("SC_CLK_TCK")
 KINDS = ("proof", "tests", "edits")
 
@@ -98,62 +103,87 @@ def count(folder, pattern, wanted=lambda file: True):
     return sum(file.read_text().count("\n") for file in folder.glob(pattern) if file.is_file() and wanted(file))
 
 
-def lines():
-    """The table of lines by crate, as wc -l counts them."""
-    yield "| Crate | Code | Definitions | Lemmas | Answers | Edits that must fail |"
-    yield "|---|---|---|---|---|---|"
+def lines(crate):
+    """The lines of a crate, as wc -l counts them: code, definitions, lemmas and answers; and the number of its edits that must fail."""
+    folder = page.TOP / "crates" / crate
     own = ("Answers.antt", "Invariants.antt", "Proof.antt")
-    for crate in crates():
-        folder = page.TOP / "crates" / crate
-        row = (
-            count(folder, "src/**/*.rt"),
-            count(folder, "specs/**/*.antt"),
-            count(folder, "proofs/**/*.antt", lambda it: it.name not in own),
-            count(folder, "proofs/**/*.antt", lambda it: it.name in own),
-            len([*folder.glob("must-fail/*.edit")]),
-        )
-        yield f"| `{crate}` | " + " | ".join(f"{it:,}" for it in row) + " |"
+    return (
+        count(folder, "src/**/*.rt"),
+        count(folder, "specs/**/*.antt"),
+        count(folder, "proofs/**/*.antt", lambda it: it.name not in own),
+        count(folder, "proofs/**/*.antt", lambda it: it.name in own),
+        len([*folder.glob("must-fail/*.edit")]),
+    )
 
 
-def crates():
-    for line in (page.TOP / "crates.txt").read_text().splitlines():
-        words = line.partition("#")[0].partition(":")[0].split()
-        if words:
-            yield words[0]
+def costs(crate, seen):
+    """The processor seconds of a crate: proof, tests, first edit, other edits, the slowest of these, and all of it."""
+    proof, tests, edits = ([it for (_, task), it in seen.items() if task == (crate, kind)] for kind in KINDS)
+    # (in the order in which they were seen: the first edit is checked from nothing)
+    first, others = edits[:1], edits[1:]
+    return sum(proof), sum(tests), sum(first), sum(others), max(others, default=0), sum(proof + tests + edits)
 
 
-def costs(seen):
-    """The table of processor seconds by crate."""
-    yield "| Crate | Proof | Tests | First edit | Other edits | of these the slowest | Sum |"
-    yield "|---|---|---|---|---|---|---|"
-    sums = collections.Counter()
-    for crate in crates():
-        times = {kind: [it for (_, task), it in seen.items() if task == (crate, kind)] for kind in KINDS}
-        proof, tests, edits = (times[it] for it in KINDS)
-        # (in the order in which they were seen: the first edit is checked from nothing)
-        first, others = edits[:1], edits[1:]
-        row = (sum(proof), sum(tests), sum(first), sum(others), max(others, default=0), sum(proof + tests + edits))
-        sums.update(dict(enumerate(row)))
-        yield f"| `{crate}` | " + " | ".join(f"{it:,.0f}" for it in row) + " |"
-    yield "| all | " + " | ".join(f"{sums[it]:,.0f}" if it != 4 else "" for it in range(6)) + " |"
+def ledger(command, clock, user, seen):
+    """The text of the ledger: what was measured where, and a row for each crate."""
+    yield f"# command: {command}"
+    yield f"# clock minutes: {clock / 60:.0f}"
+    yield f"# processor minutes: {user / 60:.0f}"
+    yield f"# machine: {page.machine()}"
+    yield "\t".join(("crate", *COLUMNS))
+    for crate in tower.crates():
+        yield "\t".join((crate, *(f"{it:.0f}" for it in (*costs(crate, seen), *lines(crate)))))
+
+
+def read_ledger():
+    """What the ledger says of the measurement, and of each crate its numbers by column."""
+    said, rows = {}, {}
+    for line in LEDGER.read_text().splitlines():
+        key, _, text = line.partition(": ")
+        if line.startswith("# "):
+            said[key[2:]] = text
+        else:
+            crate, *numbers = line.split("\t")
+            rows[crate] = numbers
+    columns = rows.pop("crate")
+    return said, {crate: dict(zip(columns, map(int, numbers))) for crate, numbers in rows.items()}
+
+
+def summary():
+    """The part of docs/PERFORMANCE.md: the whole, the dearest crates, and the proof of the program."""
+    said, rows = read_ledger()
+    dearest = sorted(rows, key=lambda it: -rows[it]["sum"])[:10]
+    program = [rows[it]["proof"] for it in tower.below("postmig") if it in rows]
+    yield (
+        f"`{said['command']}` took {said['clock minutes']} minutes of the clock and {said['processor minutes']} processor minutes (user time), "
+        f"on {said['machine']}. Seconds of user time, of all crates and of the ten dearest:"
+    )
+    yield ""
+    yield "| Crate | Proof | Tests | First edit | Other edits | Sum |"
+    yield "|---|---|---|---|---|---|"
+    shown = ("proof", "tests", "first edit", "other edits", "sum")
+    for name, among in (("all", [*rows]), *((f"`{it}`", [it]) for it in dearest)):
+        yield f"| {name} | " + " | ".join(f"{sum(rows[it][column] for it in among):,}" for column in shown) + " |"
+    yield ""
+    yield (
+        f"The proofs of the {len(program)} crates of the program, which `./postmig prove` makes, are {sum(program):,} s of it, "
+        f"{sum(program) / 60:.0f} processor minutes."
+    )
 
 
 def main():
     words = sys.argv[1:]
+    if words == ["--page"]:
+        page.put("the gate", "\n".join(summary()))
+        return
     writes = words[:1] == ["--write"]
-    status, clock, user, seen = watched(words[writes:] or ["rt", "ci"])
-    said = [
-        f"`{' '.join(words[writes:]) or 'rt ci'}` took {clock / 60:.0f} minutes of the clock and {user / 60:.0f} processor minutes (user time), on {page.machine()}. Seconds of user time, by crate:",
-        "",
-        *costs(seen),
-        "",
-        "Lines:",
-        "",
-        *lines(),
-    ]
-    print(*said, sep="\n")
+    command = words[writes:] or ["rt", "ci"]
+    status, clock, user, seen = watched(command)
+    text = "\n".join(ledger(" ".join(command), clock, user, seen)) + "\n"
+    print(text, end="")
     if writes and not status:
-        page.put("the gate", "\n".join(said))
+        LEDGER.write_text(text)
+        page.put("the gate", "\n".join(summary()))
     sys.exit(status)
 
 
