@@ -3,8 +3,8 @@
 
 python3 bench/links.py
 
-Of each *.md at the top and in docs/: a relative link names a file that is there, and behind # a heading of it. A link whose text is the name
-of a function and which leads to a source file finds that function there. The status is 1 where one does not.
+Of each *.md at the top and in docs/, and of conformance/README.md: a relative link names a file that is there, and after # a heading of it. A
+link whose text is the name of a function and which leads to a source file finds that function there. The status is 1 where one does not.
 """
 
 import functools
@@ -18,7 +18,7 @@ LINK = re.compile(r"\[([^\]]*)\]\(([^)\s]+)\)")
 
 
 def pages():
-    return sorted(page.TOP.glob("*.md")) + sorted((page.TOP / "docs").glob("*.md"))
+    return [*sorted(page.TOP.glob("*.md")), *sorted((page.TOP / "docs").glob("*.md")), page.TOP / "conformance" / "README.md"]
 
 
 @functools.lru_cache(maxsize=None)

@@ -3,8 +3,8 @@
 
 python3 bench/words.py [CRATE ..]
 
-It reads each *.md at the top and in docs/, without code and without the parts that scripts write, and the comments of every *.rt and *.antt
-file of crates/. With crates it reads the comments of these alone. The status is 1 where one is found.
+It reads the pages that links.py reads, without code and without the parts that scripts write, and the comments of every *.rt and *.antt
+file of crates/. With crates it reads the comments of these alone. TURNS are of the PLAIN pages only. The status is 1 where one is found.
 """
 
 import re
@@ -26,7 +26,28 @@ WORDS = {
     r"(what|that|which) (is|are) no(?! longer| more)": "is not a",
     r"it pays": "is worthwhile",
 }
-FOUND = re.compile("|".join(rf"\b(?:{word})\b" for word in WORDS), re.IGNORECASE)
+
+# Turns that are right elsewhere: each pattern leaves out the idioms. (Code in a line is `` when a pattern meets it.)
+TURNS = {
+    r"(?<!network )(?<!lags )(?<!lag )(?<!falls )(?<!fall )behind": "after, following",
+    r"st(ands?|ood)(?! (for|out|up|still)\b)": "is, appears; of a crate: depends on",
+    r"answer(s|ed|ing)? (``|(?-i:E[A-Z]{3,}|Ok|Err|NoMemory)|0x\w+|no error)": "returns, writes",
+    r"(go|goes|went|going) on(?! (the|an?|its)\b)": "continues, resumes",
+    r"(?<!would )(?<!could )(?<!may )(?<!might )(?<!will )(?<!not )(?<!still )ha(s|ve) to(?! be believed)": "must, needs",
+    r"(those|that) of\b[^.;:|]{0,80}\b(those|that) of": "the noun again",
+    r"`` comes?(?! (from|after|before|first|last)\b)|comes? (unless|only if)": "is returned",
+    r"ha(s|ve) come": "has arrived, was delivered",
+    r"spell(s|ed)?(?! out)": "is, is written as",
+    r"from anywhere": "from any state",
+    r"for who(ever)?|whoever|who writes": "for authors of, if you, the caller that",
+    r"gets? far": "as far as it can",
+}
+PLAIN = {
+    *(f"docs/{name}.md" for name in ("CLIENT", "DECISIONS", "DESIGN", "DRAW", "EMBED", "FORMATS", "LIBRARY", "LIMITS", "LINUX", "PERFORMANCE")),
+    *(f"docs/{name}.md" for name in ("PROTOCOL", "STEPS", "THREADS", "USERFAULT")),
+    "CONTRIBUTING.md",
+    "conformance/README.md",
+}
 CODE = re.compile(r"`[^`]*`")
 
 
@@ -62,17 +83,23 @@ def texts(crates):
                     yield file, comments(file.read_text(), mark)
 
 
-def instead(found):
-    return next(better for word, better in WORDS.items() if re.fullmatch(word, found, re.IGNORECASE))
+def found_in(line, words):
+    """What a line has of some words, each with what to write instead."""
+    for word, better in words.items():
+        # (a turn may begin with code, which no word's edge precedes)
+        for found in re.finditer(rf"(?<!\w)(?:{word})(?!\w)", line, re.IGNORECASE):
+            yield found[0], better
 
 
 def main():
     faults = 0
     for file, lines in texts(sys.argv[1:]):
+        name = str(file.relative_to(page.TOP))
+        words = {**WORDS, **TURNS} if name in PLAIN else WORDS
         for number, line in lines:
-            for found in FOUND.finditer(line):
+            for found, better in found_in(line, words):
                 faults += 1
-                print(f"{file.relative_to(page.TOP)}:{number}: '{found[0]}': {instead(found[0])}")
+                print(f"{name}:{number}: '{found}': {better}")
     print(f"words: {faults} found")
     sys.exit(1 if faults else 0)
 
