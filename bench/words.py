@@ -27,7 +27,7 @@ WORDS = {
     r"it pays": "is worthwhile",
 }
 
-# Turns that are right elsewhere: each pattern leaves out the idioms. (Code in a line is `` when a pattern meets it.)
+# Turns that are right in other senses: each pattern leaves out the idioms. (Code in a line is `` when a pattern meets it.)
 TURNS = {
     r"(?<!network )(?<!lags )(?<!lag )(?<!falls )(?<!fall )behind": "after, following",
     r"st(ands?|ood)(?! (for|out|up|still)\b)": "is, appears; of a crate: depends on",
@@ -42,12 +42,8 @@ TURNS = {
     r"for who(ever)?|whoever|who writes": "for authors of, if you, the caller that",
     r"gets? far": "as far as it can",
 }
-PLAIN = {
-    *(f"docs/{name}.md" for name in ("CLIENT", "DECISIONS", "DESIGN", "DRAW", "EMBED", "FORMATS", "LIBRARY", "LIMITS", "LINUX", "PERFORMANCE")),
-    *(f"docs/{name}.md" for name in ("PROTOCOL", "STEPS", "THREADS", "USERFAULT")),
-    "CONTRIBUTING.md",
-    "conformance/README.md",
-}
+NAMES = "CLIENT DECISIONS DESIGN DRAW EMBED FORMATS LIBRARY LIMITS LINUX PERFORMANCE PROTOCOL STEPS THREADS USERFAULT"
+PLAIN = {f"docs/{name}.md" for name in NAMES.split()} | {"CONTRIBUTING.md", "conformance/README.md"}
 CODE = re.compile(r"`[^`]*`")
 
 
