@@ -5,9 +5,9 @@ python3 bench/gate.py [--write] [COMMAND ..]
 python3 bench/gate.py --page
 
 Run it in a clean clone on an otherwise idle machine. The command is 'rt ci' where none is given. With --write the ledger goes to
-bench/gate.tsv and its summary to docs/PERFORMANCE.md; --page runs nothing, and writes that summary from the ledger again. The sums are exact,
-as the kernel has them at the end (user time of all processes); what belongs to which crate is seen by looking at the running processes five
-times a second, so that the end of each process is missing.
+bench/gate.tsv and its summary to docs/PERFORMANCE.md; --page runs nothing, and writes that summary from the ledger again. The sums are
+exact, as the kernel has them at the end (user time of all processes); what belongs to which crate is seen by looking at the running
+processes five times a second, so that the end of each process is missing.
 """
 
 import collections
@@ -155,8 +155,8 @@ def summary():
     dearest = sorted(rows, key=lambda it: -rows[it]["sum"])[:10]
     program = [rows[it]["proof"] for it in tower.below("postmig") if it in rows]
     yield (
-        f"`{said['command']}` took {said['clock minutes']} minutes of the clock and {said['processor minutes']} processor minutes (user time), "
-        f"on {said['machine']}. Seconds of user time, of all crates and of the ten dearest:"
+        f"`{said['command']}` took {said['clock minutes']} minutes of the clock and {said['processor minutes']} processor minutes "
+        f"(user time), on {said['machine']}. Seconds of user time, of all crates and of the ten dearest:"
     )
     yield ""
     yield "| Crate | Proof | Tests | First edit | Other edits | Sum |"

@@ -3,8 +3,9 @@
 
 python3 bench/links.py
 
-Of each *.md at the top and in docs/, and of conformance/README.md: a relative link names a file that is there, and after # a heading of it. A
-link whose text is the name of a function and which leads to a source file finds that function there. The status is 1 where one does not.
+Of each *.md at the top and in docs/, and of conformance/README.md: a relative link names a file that is there, and after # a heading of
+it. A link whose text is the name of a function and which leads to a source file finds that function there. The status is 1 where one
+does not.
 """
 
 import functools

@@ -27,11 +27,13 @@ WORDS = {
     r"it pays": "is worthwhile",
 }
 
+# What a call returns: code, an error number, a word of the code.
+RESULT = r"(``|(?-i:E[A-Z]{3,}|Ok|Err|NoMemory)|0x\w+|no error)"
 # Turns that are right in other senses: each pattern leaves out the idioms. (Code in a line is `` when a pattern meets it.)
 TURNS = {
     r"(?<!network )(?<!lags )(?<!lag )(?<!falls )(?<!fall )behind": "after, following",
     r"st(ands?|ood)(?! (alone|for|out|still|up)\b)": "is, appears; of a crate: depends on",
-    r"((?<!the )(?<!its )answer(s|ed|ing)|(can|may|must|not|to|will|would) answer) (``|(?-i:E[A-Z]{3,}|Ok|Err|NoMemory)|0x\w+|no error)": "returns, writes",
+    rf"(?<!the )(?<!its )answer(s|ed|ing) {RESULT}|(can|may|must|not|to|will|would) answer {RESULT}": "returns, writes",
     r"(go|goes|went|going) on(?! (the|an?|its)\b)": "continues, resumes",
     r"(?<!would )(?<!could )(?<!may )(?<!might )(?<!will )(?<!not )(?<!still )ha(s|ve) to(?! be believed)": "must, needs",
     r"(those|that) of\b[^.;:|]{0,80}\b(those|that) of": "the noun again",
