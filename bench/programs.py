@@ -3,9 +3,9 @@
 
 python3 bench/programs.py [--program PATH] [CASE ..]
 
-A case is a folder: args has an argument a line, stdin the standard input, data/ the files that lie where the program runs, stdout and
-stderr what it has to write, and status its exit status. What is absent is empty, and the status 0; only where the status is another is
-an absent stderr not compared. In the file output stands a path that standard output goes to in place of a pipe, and in memory the bytes
+A case is a folder: args has an argument a line, stdin the standard input, data/ the files that lie where the program runs, after/ those
+that have to lie there then, stdout and stderr what it has to write, and status its exit status. What is absent is empty, and the status 0;
+only where the status is another is an absent stderr not compared. In the file output stands a path that standard output goes to in place of a pipe, and in memory the bytes
 of address space that the program may take. It runs the proved builds: crates/postmig/out/postmig, as LLVM makes it, and beside it, where
 rt ci has left one, that of Rattle's own compiler; or with --program that one alone.
 """
@@ -43,7 +43,7 @@ def room(case):
 
 
 def ran(case, program):
-    """How the program ends on a case."""
+    """How the program ends on a case, and the names of the files that are then not as they have to be."""
     words = [bytes(program), *part(case, "args").splitlines()]
     memory, output = part(case, "memory"), part(case, "output").decode().strip()
 
@@ -53,12 +53,14 @@ def ran(case, program):
 
     with room(case) as data, open(output, "wb") if output else contextlib.nullcontext(subprocess.PIPE) as to:
         given = part(case, "stdin")
-        return subprocess.run(words, input=given, cwd=data, stdout=to, stderr=subprocess.PIPE, timeout=60, preexec_fn=limit)
+        ended = subprocess.run(words, input=given, cwd=data, stdout=to, stderr=subprocess.PIPE, timeout=60, preexec_fn=limit)
+        wanted = sorted((case / "after").iterdir()) if (case / "after").is_dir() else []
+        return ended, [file.name for file in wanted if part(data, file.name) != file.read_bytes()]
 
 
 def faults(case, program):
     """What differs in a case, in words."""
-    ended = ran(case, program)
+    ended, others = ran(case, program)
     wanted = int(part(case, "status") or 0)
     if ended.returncode != wanted:
         yield f"status {ended.returncode}, and not {wanted}: {ended.stderr.decode(errors='replace').strip()}"
@@ -66,6 +68,8 @@ def faults(case, program):
         yield f"standard output is {ended.stdout[:400]}"
     if ((case / "stderr").is_file() or not wanted) and ended.stderr != part(case, "stderr"):
         yield f"standard error is {ended.stderr[:400]}"
+    for name in others:
+        yield f"{name} is another file then"
 
 
 def asked():

@@ -1,3 +1,4 @@
+pub mod Counting
 pub mod Cuts
 pub mod Lines
 pub mod Pieces

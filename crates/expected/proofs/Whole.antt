@@ -31,15 +31,16 @@ from_then cpus chunk r0 r1 r2 a b so_far more each = record {
   ran = each so_far.consumed so_far.ran;
 }
 
-unmet_in : (name : List ℕ) (cpus : ℕ) (bytes report : List ℕ) (r0 r2 : Option (List ℕ)) → Consumes r0 r2 bytes → ((more : List ℕ) → Unmet name cpus (bytes ++ more) report) → IfSome r0 (λ input. Unmet name cpus input report)
-unmet_in name cpus bytes report None r2 read f = tt
-unmet_in name cpus bytes report (Some x) None read f = absurd read
-unmet_in name cpus bytes report (Some x) (Some y) read f = subst (λ (t : List ℕ). Unmet name cpus t report) (sym read) (f y)
+unmet_in : (name : List ℕ) (cpus : ℕ) (bytes : List ℕ) (answers : ℕ) (report : List ℕ) (r0 r2 : Option (List ℕ)) → Consumes r0 r2 bytes → ((more : List ℕ) → Unmet name cpus (bytes ++ more) answers report)
+    → IfSome r0 (λ input. Unmet name cpus input answers report)
+unmet_in name cpus bytes answers report None r2 read f = tt
+unmet_in name cpus bytes answers report (Some x) None read f = absurd read
+unmet_in name cpus bytes answers report (Some x) (Some y) read f = subst (λ (t : List ℕ). Unmet name cpus t answers report) (sym read) (f y)
 
-pub from_unmet : (name : List ℕ) (cpus : ℕ) (chunk report : List ℕ) (r0 r1 r2 : Option (List ℕ)) (a : Tester) → RanFrom cpus r0 r1 a → Consumes r1 r2 chunk
-    → ((front : List ℕ) → Ran cpus front a → (more : List ℕ) → Unmet name cpus ((front ++ chunk) ++ more) report) → IfSome r0 (λ input. Unmet name cpus input report)
-from_unmet name cpus chunk report r0 r1 r2 a so_far more each =
-    unmet_in name cpus (so_far.consumed ++ chunk) report r0 r2 (Consumes-trans r0 r1 r2 so_far.consumed chunk so_far.consumes more) (each so_far.consumed so_far.ran)
+pub from_unmet : (name : List ℕ) (cpus : ℕ) (chunk : List ℕ) (answers : ℕ) (report : List ℕ) (r0 r1 r2 : Option (List ℕ)) (a : Tester) → RanFrom cpus r0 r1 a → Consumes r1 r2 chunk
+    → ((front : List ℕ) → Ran cpus front a → (more : List ℕ) → Unmet name cpus ((front ++ chunk) ++ more) answers report) → IfSome r0 (λ input. Unmet name cpus input answers report)
+from_unmet name cpus chunk answers report r0 r1 r2 a so_far more each =
+    unmet_in name cpus (so_far.consumed ++ chunk) answers report r0 r2 (Consumes-trans r0 r1 r2 so_far.consumed chunk so_far.consumes more) (each so_far.consumed so_far.ran)
 
 halts_in : (cpus : ℕ) (bytes : List ℕ) (fault : RunFault) (r0 r2 : Option (List ℕ)) → Consumes r0 r2 bytes → FaultIn cpus bytes fault → IfSome r0 (λ input. Halts cpus input r2 fault)
 halts_in cpus bytes fault None r2 read f = tt
@@ -65,17 +66,17 @@ from_read_fault cpus (Some x) r1 (Some y) a so_far kept =
 
 -- ---- the end of the input
 
-comes_in : (name : List ℕ) (cpus : ℕ) (report : List ℕ) (outcome : Outcome) (r0 r1 r2 : Option (List ℕ)) (a : Tester) → RanFrom cpus r0 r1 a → Consumes r1 r2 [] → IsAtEnd r2
-    → ((input : List ℕ) → Ran cpus input a → Comes name cpus input outcome report) → IfSome r0 (λ input. Comes name cpus input outcome report)
-comes_in name cpus report outcome None r1 r2 a so_far last e f = tt
-comes_in name cpus report outcome (Some x) r1 r2 a so_far last e f =
-    subst (λ (t : List ℕ). Comes name cpus t outcome report) (sym (input_is x so_far.consumed r1 r2 so_far.consumes last e).0) (f so_far.consumed so_far.ran)
+comes_in : (name : List ℕ) (cpus answers : ℕ) (report : List ℕ) (outcome : Outcome) (r0 r1 r2 : Option (List ℕ)) (a : Tester) → RanFrom cpus r0 r1 a → Consumes r1 r2 [] → IsAtEnd r2
+    → ((input : List ℕ) → Ran cpus input a → Comes name cpus input outcome answers report) → IfSome r0 (λ input. Comes name cpus input outcome answers report)
+comes_in name cpus answers report outcome None r1 r2 a so_far last e f = tt
+comes_in name cpus answers report outcome (Some x) r1 r2 a so_far last e f =
+    subst (λ (t : List ℕ). Comes name cpus t outcome answers report) (sym (input_is x so_far.consumed r1 r2 so_far.consumes last e).0) (f so_far.consumed so_far.ran)
 
-pub finished : (result : Result Outcome RunFault) (name report : List ℕ) (r0 r1 r2 : Option (List ℕ)) (a b : Tester) → ((cpus : ℕ) → Ran cpus [] a → RanFrom cpus r0 r1 b) → Consumes r1 r2 [] × IsAtEnd r2
-    → IfOk result (λ outcome. (cpus : ℕ) (input : List ℕ) → Ran cpus input b → Comes name cpus input outcome report)
-    → IfOk result (λ outcome. (cpus : ℕ) → Ran cpus [] a → IfSome r0 (λ input. Comes name cpus input outcome report))
-finished (Err x) name report r0 r1 r2 a b so_far end f = tt
-finished (Ok outcome) name report r0 r1 r2 a b so_far end f = λ cpus ran. comes_in name cpus report outcome r0 r1 r2 b (so_far cpus ran) end.0 end.1 (f cpus)
+pub finished : (result : Result Outcome RunFault) (name : List ℕ) (answers : ℕ) (report : List ℕ) (r0 r1 r2 : Option (List ℕ)) (a b : Tester) → ((cpus : ℕ) → Ran cpus [] a → RanFrom cpus r0 r1 b) → Consumes r1 r2 [] × IsAtEnd r2
+    → IfOk result (λ outcome. (cpus : ℕ) (input : List ℕ) → Ran cpus input b → Comes name cpus input outcome answers report)
+    → IfOk result (λ outcome. (cpus : ℕ) → Ran cpus [] a → IfSome r0 (λ input. Comes name cpus input outcome answers report))
+finished (Err x) name answers report r0 r1 r2 a b so_far end f = tt
+finished (Ok outcome) name answers report r0 r1 r2 a b so_far end f = λ cpus ran. comes_in name cpus answers report outcome r0 r1 r2 b (so_far cpus ran) end.0 end.1 (f cpus)
 
 at_end_halts : (cpus : ℕ) (fault : RunFault) (x : List ℕ) (u : Option (List ℕ)) → FaultAtEnd cpus x fault → Halts cpus x u fault
 at_end_halts cpus (faults.Line n) x u f = f
@@ -96,17 +97,19 @@ finish_halts (Err fault) r0 r1 r2 a b so_far end f = λ cpus ran. halts_at_end c
 
 -- ---- what is written
 
-pub all_written : (name : List ℕ) (cpus : ℕ) (report : List ℕ) (r w : Option (List ℕ)) → IfSome r (λ input. Comes name cpus input Same report) → IfSome r (λ input. Tests name cpus input Same w w)
-all_written name cpus report None w f = tt
-all_written name cpus report (Some x) w f = (f, Appends-nil w)
+pub all_written : (name : List ℕ) (cpus answers : ℕ) (report : List ℕ) (r w : Option (List ℕ)) → IfSome r (λ input. Comes name cpus input Same answers report) → IfSome r (λ input. Tests name cpus input Same answers w w)
+all_written name cpus answers report None w f = tt
+all_written name cpus answers report (Some x) w f = (f, Appends-nil w)
 
-pub unmet_written : (name : List ℕ) (cpus : ℕ) (report : List ℕ) (r v w : Option (List ℕ)) → IfSome r (λ input. Comes name cpus input Differs report) → Appends v w report → IfSome r (λ input. Tests name cpus input Differs v w)
-unmet_written name cpus report None v w f appends = tt
-unmet_written name cpus report (Some x) v w f appends = (report, f, appends)
+pub unmet_written : (name : List ℕ) (cpus answers : ℕ) (report : List ℕ) (r v w : Option (List ℕ)) → IfSome r (λ input. Comes name cpus input Differs answers report) → Appends v w report
+    → IfSome r (λ input. Tests name cpus input Differs answers v w)
+unmet_written name cpus answers report None v w f appends = tt
+unmet_written name cpus answers report (Some x) v w f appends = (report, f, appends)
 
-pub unmet_unwritten : (name : List ℕ) (cpus : ℕ) (report : List ℕ) (r u v w : Option (List ℕ)) → IfSome r (λ input. Comes name cpus input Differs report) → Front report v w → IfSome r (λ input. Stops name cpus input u faults.WriteFault v w)
-unmet_unwritten name cpus report None u v w f front = tt
-unmet_unwritten name cpus report (Some x) u v w f front = (report, f, front)
+pub unmet_unwritten : (name : List ℕ) (cpus answers : ℕ) (report : List ℕ) (r u v w : Option (List ℕ)) → IfSome r (λ input. Comes name cpus input Differs answers report) → Front report v w
+    → IfSome r (λ input. Stops name cpus input u faults.WriteFault v w)
+unmet_unwritten name cpus answers report None u v w f front = tt
+unmet_unwritten name cpus answers report (Some x) u v w f front = (answers, report, f, front)
 
 halts_stops : (name : List ℕ) (cpus : ℕ) (fault : RunFault) (x : List ℕ) (u w : Option (List ℕ)) → Halts cpus x u fault → Stops name cpus x u fault w w
 halts_stops name cpus (faults.Line n) x u w f = (f, Appends-nil w)

@@ -1,5 +1,5 @@
 -- The lines of a test: a script's, some with the answer that they must have.
-use Rattle.std.specs.Prelude.{◌≡◌, ℕ, ◌+◌, ◌<◌, ◌≤◌, ◌⊎◌, List, [], ◌∷◌, ◌++◌, length, take, drop, codes, Option, Some, None, ⊤}
+use Rattle.std.specs.Prelude.{◌≡◌, ℕ, ◌+◌, ◌<◌, ◌≤◌, ◌⊎◌, List, [], ◌∷◌, ◌++◌, length, take, drop, sum_by, codes, Option, Some, None, ⊤}
 use Rattle.std.specs.Str.Lines.{strip_carriage_return}
 use Rattle.memchr.specs.Find.{OccursAt, Nowhere}
 use Rattle.grammar.specs.declared.line.Language.TheVariants.{Script}
@@ -112,3 +112,14 @@ Meets (Asks order (Some answer)) out = out ≡ answer ++ 10 ∷ []
 abbrev pub Agrees : WorldState → List Case → WorldState → Type 0
 Agrees old [] new = new ≡ old
 Agrees old (case ∷ cases) new = (mid : WorldState) × (out : List ℕ) × Does old case mid out × Meets case out × Agrees mid cases new
+
+-- how many answers a line has
+abbrev pub answers_of : Case → ℕ
+answers_of Nothing = 0
+answers_of (Cpus count) = 0
+answers_of (Asks order None) = 0
+answers_of (Asks order (Some answer)) = 1
+
+-- how many answers lines have
+abbrev pub answers_in : List Case → ℕ
+answers_in cases = sum_by answers_of cases

@@ -1,5 +1,5 @@
 -- What the parts of a test do with one line, and with the bytes that are read.
-use Rattle.std.specs.Prelude.{◌≡◌, ◌≢◌, ℕ, ◌≤◌, List, [], ◌∷◌, ◌++◌, length, Some, ⊤}
+use Rattle.std.specs.Prelude.{◌≡◌, ◌≢◌, ℕ, ◌+◌, ◌<◌, ◌≤◌, ◌^◌, List, [], ◌∷◌, ◌++◌, length, string_bytes, Some, ⊤}
 use Rattle.grammar.specs.declared.order.Order.{Order}
 use Rattle.grammar.specs.Lines.{HasNoFeed}
 use Rattle.engine.specs.declared.line_runner.Mode.TheVariants.{Lines}
@@ -11,8 +11,9 @@ use Rattle.expected.specs.declared.outcome.Outcome.{Outcome}
 use Rattle.expected.specs.declared.outcome.Outcome.TheVariants.{Same, Differs}
 use Rattle.expected.specs.declared.cpus.Setting.{Setting}
 use Rattle.expected.specs.declared.cpus.Setting.TheVariants.{Absent, Count, Wrong}
+use Rattle.expected.specs.declared.player.Player.{Player}
 use Rattle.expected.specs.declared.tester.Tester.{Tester}
-use Rattle.expected.specs.Cases.{Case, Asks, CpusLine, SaysCpus, IsCase, ReadsCases, Does, Meets, Agrees}
+use Rattle.expected.specs.Cases.{Case, Asks, CpusLine, SaysCpus, IsCase, ReadsCases, Does, Meets, Agrees, answers_of, answers_in}
 use Rattle.expected.specs.Tests.{difference_line, Unmet, WrongAt, SomeMet}
 
 -- what the text of a first line says of the number of processors
@@ -23,28 +24,32 @@ IsSetting text Wrong = (words : List (List ℕ)) × CpusLine text words × ((cou
 
 -- One line
 
--- the line was done, and its output meets its answer
-pub record Passed (number : ℕ) (old : WorldState) (text : List ℕ) (new : WorldState) (out : List ℕ) : Type 0 where
+-- a count of answers, once those of a line are added. (It stops at its greatest value, which no test reaches.)
+abbrev pub Counts : ℕ → Case → ℕ → Type 0
+Counts old case new = old + 1 < 2 ^ 64 → new ≡ old + answers_of case
+
+-- the line was done, and its output meets its answer; `before` counts the answers of the lines before it
+pub record Passed (number : ℕ) (old : WorldState) (before : ℕ) (text : List ℕ) (new : Player) : Type 0 where
   pub case : Case
   pub says : IsCase number text case
-  pub does : Does old case new out
-  pub meets : Meets case out
+  pub does : Does old case new.world (string_bytes new.printed)
+  pub meets : Meets case (string_bytes new.printed)
+  pub counts : Counts before case new.answers
 
 -- the line was done, and its output is not its answer; the report says so
-pub record Failed (name : List ℕ) (number : ℕ) (old : WorldState) (text report : List ℕ) : Type 0 where
+pub record Failed (name : List ℕ) (number : ℕ) (old : WorldState) (before : ℕ) (text : List ℕ) (new : Player) : Type 0 where
   pub order : Order
   pub answer : List ℕ
-  pub new : WorldState
-  pub out : List ℕ
   pub says : IsCase number text (Asks order (Some answer))
-  pub obeys : Obeys Lines old order new out
-  pub differs : out ≢ answer ++ 10 ∷ []
-  pub reports : report ≡ difference_line name number answer out
+  pub obeys : Obeys Lines old order new.world (string_bytes new.printed)
+  pub differs : string_bytes new.printed ≢ answer ++ 10 ∷ []
+  pub reports : new.report.items ≡ difference_line name number answer (string_bytes new.printed)
+  pub counts : Counts before (Asks order (Some answer)) new.answers
 
 -- the outcome of one line
-abbrev pub Leads : List ℕ → ℕ → WorldState → List ℕ → Outcome → WorldState → List ℕ → List ℕ → Type 0
-Leads name number old text Same new out report = Passed number old text new out
-Leads name number old text Differs new out report = Failed name number old text report
+abbrev pub Leads : List ℕ → ℕ → WorldState → ℕ → List ℕ → Outcome → Player → Type 0
+Leads name number old before text Same new = Passed number old before text new
+Leads name number old before text Differs new = Failed name number old before text new
 
 -- a fault at one line: it is wrong, or memory ran out
 abbrev pub LineFault : ℕ → List ℕ → RunFault → Type 0
@@ -61,13 +66,14 @@ pub record Ran (cpus : ℕ) (bytes : List ℕ) (state : Tester) : Type 0 where
   pub reads : (more : List ℕ) → ReadsCases 1 (bytes ++ more) cases (state.line.items ++ more)
   pub agrees : Agrees (first_state cpus) cases state.player.world
   pub number : state.number ≡ length cases
+  pub answers : state.player.answers ≡ answers_in cases
   pub one : HasNoFeed state.line.items
   pub short : length state.line.items ≤ 256
 
 -- the outcome of the bytes, whatever comes after them
 abbrev pub After : List ℕ → ℕ → List ℕ → Outcome → Tester → Type 0
 After name cpus bytes Same state = Ran cpus bytes state
-After name cpus bytes Differs state = (more : List ℕ) → Unmet name cpus (bytes ++ more) state.player.report.items
+After name cpus bytes Differs state = (more : List ℕ) → Unmet name cpus (bytes ++ more) state.player.answers state.player.report.items
 
 -- a fault among the bytes, whatever comes after them
 abbrev pub FaultIn : ℕ → List ℕ → RunFault → Type 0

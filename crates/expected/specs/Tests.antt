@@ -12,7 +12,7 @@ use Rattle.engine.specs.Script.{Obeys}
 use Rattle.engine.specs.WorldState.{WorldState, first_state, Promised}
 use Rattle.expected.specs.declared.outcome.Outcome.{Outcome}
 use Rattle.expected.specs.declared.outcome.Outcome.TheVariants.{Same, Differs}
-use Rattle.expected.specs.Cases.{Case, Asks, ReadsCase, ReadsCases, BeginsWrong, Agrees}
+use Rattle.expected.specs.Cases.{Case, Asks, ReadsCase, ReadsCases, BeginsWrong, Agrees, answers_in}
 
 -- the first lines of the input lead to this world and meet their answers, and rest comes after them; the promises hold for the world
 pub record Met (cpus : ℕ) (input : List ℕ) (cases : List Case) (world : WorldState) (rest : List ℕ) : Type 0 where
@@ -20,9 +20,9 @@ pub record Met (cpus : ℕ) (input : List ℕ) (cases : List Case) (world : Worl
   pub agrees : Agrees (first_state cpus) cases world
   pub promised : Promised world
 
--- all lines of the input meet their answers
-abbrev pub AllMet : ℕ → List ℕ → Type 0
-AllMet cpus input = (cases : List Case) × (world : WorldState) × Met cpus input cases world []
+-- all lines of the input meet their answers, which are counted
+abbrev pub AllMet : ℕ → List ℕ → ℕ → Type 0
+AllMet cpus input answers = (cases : List Case) × (world : WorldState) × Met cpus input cases world [] × (answers ≡ answers_in cases)
 
 -- some lines from the first on meet their answers
 abbrev pub SomeMet : ℕ → List ℕ → Type 0
@@ -32,8 +32,8 @@ SomeMet cpus input = (cases : List Case) × (world : WorldState) × (rest : List
 abbrev pub difference_line : List ℕ → ℕ → List ℕ → List ℕ → List ℕ
 difference_line name number answer out = name ++ codes ":" ++ decimal number ++ codes ": expected " ++ answer ++ codes ", got " ++ out
 
--- the lines before one meet their answers, and this one does not; the report says so
-pub record Unmet (name : List ℕ) (cpus : ℕ) (input report : List ℕ) : Type 0 where
+-- the lines before one meet their answers, and this one does not; the report says so. Its own answer counts too
+pub record Unmet (name : List ℕ) (cpus : ℕ) (input : List ℕ) (answers : ℕ) (report : List ℕ) : Type 0 where
   pub cases : List Case
   pub old : WorldState
   pub rest : List ℕ
@@ -48,6 +48,7 @@ pub record Unmet (name : List ℕ) (cpus : ℕ) (input report : List ℕ) : Type
   pub promised : Promised new
   pub differs : out ≢ answer ++ 10 ∷ []
   pub says : report ≡ difference_line name (length cases + 1) answer out
+  pub counts : answers ≡ answers_in cases + 1
 
 -- the lines before line n meet their answers, and line n is wrong
 pub record WrongAt (cpus : ℕ) (input : List ℕ) (n : ℕ) : Type 0 where
@@ -68,10 +69,10 @@ pub record ReadTo (cpus : ℕ) (input : List ℕ) (unread : Option (List ℕ)) :
   pub one : HasNoFeed held
   pub read : IfSome unread (λ bytes. rest ≡ held ++ bytes)
 
--- the outcome of a test of a whole input, and its report, if it has one
-abbrev pub Comes : List ℕ → ℕ → List ℕ → Outcome → List ℕ → Type 0
-Comes name cpus input Same report = AllMet cpus input
-Comes name cpus input Differs report = Unmet name cpus input report
+-- the outcome of a test of a whole input, how many answers were compared, and its report, if it has one
+abbrev pub Comes : List ℕ → ℕ → List ℕ → Outcome → ℕ → List ℕ → Type 0
+Comes name cpus input Same answers report = AllMet cpus input answers
+Comes name cpus input Differs answers report = Unmet name cpus input answers report
 
 -- a test ends with a fault before anything is written
 abbrev pub Halts : ℕ → List ℕ → Option (List ℕ) → RunFault → Type 0
@@ -80,14 +81,14 @@ Halts cpus input unread faults.ReadFault = ReadTo cpus input unread
 Halts cpus input unread faults.WriteFault = ⊥
 Halts cpus input unread faults.NoMemory = SomeMet cpus input
 
--- the outcome of a test, and what it wrote: nothing, or the report
-abbrev pub Tests : List ℕ → ℕ → List ℕ → Outcome → Option (List ℕ) → Option (List ℕ) → Type 0
-Tests name cpus input Same before after = AllMet cpus input × Appends before after []
-Tests name cpus input Differs before after = (report : List ℕ) × Unmet name cpus input report × Appends before after report
+-- the outcome of a test, how many answers were compared, and what it wrote: nothing, or the report
+abbrev pub Tests : List ℕ → ℕ → List ℕ → Outcome → ℕ → Option (List ℕ) → Option (List ℕ) → Type 0
+Tests name cpus input Same answers before after = AllMet cpus input answers × Appends before after []
+Tests name cpus input Differs answers before after = (report : List ℕ) × Unmet name cpus input answers report × Appends before after report
 
 -- how a test ends with a fault. Only a write fault comes after a part of the report was written
 abbrev pub Stops : List ℕ → ℕ → List ℕ → Option (List ℕ) → RunFault → Option (List ℕ) → Option (List ℕ) → Type 0
 Stops name cpus input unread (faults.Line n) before after = WrongAt cpus input n × Appends before after []
 Stops name cpus input unread faults.ReadFault before after = ReadTo cpus input unread × Appends before after []
-Stops name cpus input unread faults.WriteFault before after = (report : List ℕ) × Unmet name cpus input report × Front report before after
+Stops name cpus input unread faults.WriteFault before after = (answers : ℕ) × (report : List ℕ) × Unmet name cpus input answers report × Front report before after
 Stops name cpus input unread faults.NoMemory before after = SomeMet cpus input × Appends before after []

@@ -1,4 +1,4 @@
-//! Making a test of a script: each order is written with the answer that it has now.
+//! Writing the answers that the lines of a script have now.
 
 ghost use Rattle.std.specs.Prelude.{◌≤◌, ◌<◌, ◌+◌, ◌^◌, length};
 
@@ -28,19 +28,41 @@ pub fn answer_script<R: Read, W: Write>(
     requires low { 1 ≤ cpus }
     requires high { cpus ≤ 16 }
 {
-    let mut input = Vec::new(alloc);
-    read_whole(reader, &mut input)?;
-    let mut answerer = Answerer {
-        player: Player::new(alloc, cpus)?,
-        tokens: Vec::new(alloc),
-        output: Vec::new(alloc),
-    };
-    let answered = answerer.answer_lines(&input);
-    if let Err(RunFault::NoMemory) = answered {
-        return answered;
+    let mut answerer = Answerer::new(alloc, cpus, Places::Every)?;
+    let answered = answerer.answer_input(reader);
+    match answered {
+        Ok(()) | Err(RunFault::Line(_)) => write_out(writer, &answerer.output)?,
+        Err(_) => {}
     }
-    write_out(writer, &answerer.output)?;
     answered
+}
+
+/// A test with the answers that its lines have now.
+#[derive(Drop)]
+pub struct Renewed {
+    pub text: Vec<u8>,
+    /// How many answers it has.
+    pub answers: u64,
+    /// How many of them are not those that it had.
+    pub changed: u64,
+}
+
+/// Reads a test on a new world, and returns it with each of its answers replaced by the output of the line. All other bytes stay as they
+/// are. An order that would be longer than 256 bytes with its output loses its answer. The world has as many processors as the first line
+/// says, and otherwise `cpus`, 1 to 16.
+///
+/// A line is wrong where [`test_script`](crate::test_script) finds it wrong. The whole input is kept until the end.
+pub fn renew_answers<R: Read>(alloc: Global, reader: &mut R, cpus: u8) -> Result<Renewed, RunFault>
+    requires low { 1 ≤ cpus }
+    requires high { cpus ≤ 16 }
+{
+    let mut answerer = Answerer::new(alloc, cpus, Places::Given)?;
+    answerer.answer_input(reader)?;
+    Ok(Renewed {
+        text: answerer.output,
+        answers: answerer.answers,
+        changed: answerer.changed,
+    })
 }
 
 /// Appends all that a reader has to the bytes.
@@ -52,49 +74,111 @@ fn read_whole<R: Read>(reader: &mut R, bytes: &mut Vec<u8>) -> Result<(), RunFau
     }
 }
 
-/// The text of a line without its answer, and whether it has one. The tokens are replaced.
+/// The text of a line without its answer, and its answer, if it has one. The tokens are replaced.
 fn without_answer<'a>(
     tokens: &mut Vec<Token>,
     text: &'a [u8],
-) -> Result<(&'a [u8], bool), NoMemory> {
+) -> Result<(&'a [u8], Option<&'a [u8]>), NoMemory> {
     if parse(Language::Script, tokens, text)?.is_some() {
-        return Ok((text, false));
+        return Ok((text, None));
     }
     match split_answer(text) {
-        Some((front, _)) => Ok((front, true)),
-        None => Ok((text, false)),
+        Some((front, answer)) => Ok((front, Some(answer))),
+        None => Ok((text, None)),
     }
 }
 
-/// Does the lines of a script, and gathers each with its answer behind it.
+/// Which lines get an answer.
+#[derive(Clone, Copy, PartialEq, Eq)]
+enum Places {
+    /// Each order.
+    Every,
+    /// Those that have one.
+    Given,
+}
+
+impl Places {
+    /// What is written behind a line that ends so.
+    fn ending(self, end: &'static [u8]) -> &'static [u8] {
+        match self {
+            Places::Every => b"\n".as_slice(),
+            Places::Given => end,
+        }
+    }
+}
+
+/// Does the lines of a script, and gathers them with their answers.
 #[derive(Drop)]
 struct Answerer {
+    alloc: Global,
     player: Player,
+    places: Places,
     /// The tokens of the last line, kept for their room.
     tokens: Vec<Token>,
     output: Vec<u8>,
+    answers: u64,
+    /// How many answers are not those that stood there.
+    changed: u64,
 }
 
 impl Answerer {
-    /// Does the line with this number and text, and gathers it.
+    /// An answerer with a new world of `cpus` processors. `NoMemory` comes if the world cannot be made.
+    fn new(alloc: Global, cpus: u8, places: Places) -> Result<Answerer, RunFault>
+        requires low { 1 ≤ cpus }
+        requires high { cpus ≤ 16 }
+    {
+        Ok(Answerer {
+            alloc,
+            player: Player::new(alloc, cpus)?,
+            places,
+            tokens: Vec::new(alloc),
+            output: Vec::new(alloc),
+            answers: 0,
+            changed: 0,
+        })
+    }
+
+    /// Does the line with this number and text, and gathers it without its end.
     fn answer_line(&mut self, number: u64, text: &[u8]) -> Result<(), RunFault> {
-        let (line, answered) = without_answer(&mut self.tokens, text)?;
+        let (line, given) = without_answer(&mut self.tokens, text)?;
         let out = self.player.output_of(number, line)?;
-        if answered && out.is_empty() {
+        if given.is_some() && out.is_empty() {
             return Err(RunFault::Line(number));
         }
         self.output.extend_from_slice(line)?;
         let room = MAX_LINE
             .saturating_sub(line.len())
             .saturating_sub(ARROW.len());
+        let is_place = given.is_some() || self.places == Places::Every;
         match out {
-            [answer @ .., b'\n'] if answer.len() <= room => {
+            [answer @ .., b'\n'] if is_place && answer.len() <= room => {
                 self.output.extend_from_slice(ARROW)?;
                 self.output.extend_from_slice(answer)?;
+                self.answers = self.answers.saturating_add(1);
+                let is_kept = match given {
+                    Some(old) => old == answer,
+                    None => false,
+                };
+                if !is_kept {
+                    self.changed = self.changed.saturating_add(1);
+                }
             }
             _ => {}
         }
-        self.output.push(b'\n')?;
+        Ok(())
+    }
+
+    /// Does the line with this number that ends in a line feed, and gathers it.
+    fn end_line(&mut self, number: u64, raw: &[u8]) -> Result<(), RunFault> {
+        let text = without_return(raw);
+        self.answer_line(number, text)?;
+        let end = if text.len() < raw.len() {
+            b"\r\n".as_slice()
+        } else {
+            b"\n".as_slice()
+        };
+        let end = self.places.ending(end);
+        self.output.extend_from_slice(end)?;
         Ok(())
     }
 
@@ -107,7 +191,7 @@ impl Answerer {
             if raw.len() > MAX_LINE {
                 return Err(RunFault::Line(number));
             }
-            self.answer_line(number, without_return(raw))?;
+            self.end_line(number, raw)?;
             rest = behind;
         }
         if rest.len() > MAX_LINE {
@@ -116,6 +200,16 @@ impl Answerer {
         if rest.is_empty() {
             return Ok(());
         }
-        self.answer_line(number + 1, rest)
+        self.answer_line(number + 1, rest)?;
+        let end = self.places.ending(b"".as_slice());
+        self.output.extend_from_slice(end)?;
+        Ok(())
+    }
+
+    /// Reads a script, does all its lines, and gathers them.
+    fn answer_input<R: Read>(&mut self, reader: &mut R) -> Result<(), RunFault> {
+        let mut input = Vec::new(self.alloc);
+        read_whole(reader, &mut input)?;
+        self.answer_lines(&input)
     }
 }

@@ -1,6 +1,6 @@
 //! Where the answer of a line begins.
 
-ghost use Rattle.std.specs.Prelude.{ℕ, List, IfSome, IfNone};
+ghost use Rattle.std.specs.Prelude.{◌≡◌, ℕ, List, IfSome, IfNone};
 ghost use Rattle.expected.specs.Cases.{Cut};
 
 use memchr::memmem;
@@ -15,4 +15,15 @@ pub(crate) fn split_answer(text: &[u8]) -> Option<(&[u8], &[u8])>
 {
     let at = memmem::find(text, ARROW)?;
     Some((&text[..at], &text[at + ARROW.len()..]))
+}
+
+/// The part of a line of a test that is to be an order, if the line has an answer: what stands before its first ` => `, or else all of it.
+pub fn order_part(text: &[u8]) -> &[u8]
+    ensures cut { (front answer : List ℕ) → Cut text.now front answer → result.now ≡ front }
+    ensures whole { ((front answer : List ℕ) → Cut text.now front answer → ⊥) → result.now ≡ text.now }
+{
+    match split_answer(text) {
+        Some((front, _)) => front,
+        None => text,
+    }
 }

@@ -89,6 +89,8 @@ pub(crate) struct Player {
     printed: String,
     /// The line of the report, once an answer differed.
     pub(crate) report: Vec<u8>,
+    /// How many answers were compared.
+    pub(crate) answers: u64,
 }
 
 impl Player {
@@ -97,6 +99,7 @@ impl Player {
         requires low { 1 ≤ cpus }
         requires high { cpus ≤ 16 }
         ensures ok { IfOk result (λ player. player.world ≡ first_state cpus) }
+        ensures answers { IfOk result (λ player. player.answers ≡ 0) }
         ensures err { IfErr result (λ fault. fault ≡ OutOfMemory) }
     {
         Ok(Player {
@@ -105,6 +108,7 @@ impl Player {
             tokens: Vec::new(alloc),
             printed: String::new(alloc),
             report: Vec::new(alloc),
+            answers: 0,
         })
     }
 
@@ -115,7 +119,7 @@ impl Player {
         number: u64,
         text: &[u8],
     ) -> Result<Outcome, RunFault>
-        ensures ok { IfOk result (λ outcome. Leads name.now number self.old.world text.now outcome self.new.world (string_bytes self.new.printed) self.new.report.items) }
+        ensures ok { IfOk result (λ outcome. Leads name.now number self.old.world self.old.answers text.now outcome self.new) }
         ensures fault { IfErr result (λ fault. LineFault number text.now fault) }
     {
         self.printed.clear();
@@ -142,7 +146,7 @@ impl Player {
     fn run_order(&mut self, name: &str, number: u64, text: &[u8]) -> Result<Outcome, RunFault>
         requires cpus { NoCpus number text.now }
         requires clear { string_bytes self.old.printed ≡ [] }
-        ensures ok { IfOk result (λ outcome. Leads name.now number self.old.world text.now outcome self.new.world (string_bytes self.new.printed) self.new.report.items) }
+        ensures ok { IfOk result (λ outcome. Leads name.now number self.old.world self.old.answers text.now outcome self.new) }
         ensures fault { IfErr result (λ fault. LineFault number text.now fault) }
     {
         match parse(Language::Script, &mut self.tokens, text)? {
@@ -160,7 +164,7 @@ impl Player {
     fn run_answered(&mut self, name: &str, number: u64, text: &[u8]) -> Result<Outcome, RunFault>
         requires cpus { NoCpus number text.now }
         requires other { (line : LineOf) → Spells AScript text.now line → ⊥ }
-        ensures ok { IfOk result (λ outcome. Leads name.now number self.old.world text.now outcome self.new.world (string_bytes self.new.printed) self.new.report.items) }
+        ensures ok { IfOk result (λ outcome. Leads name.now number self.old.world self.old.answers text.now outcome self.new) }
         ensures fault { IfErr result (λ fault. LineFault number text.now fault) }
     {
         let Some((front, answer)) = split_answer(text) else {
@@ -170,6 +174,7 @@ impl Player {
             return Err(RunFault::Line(number));
         };
         carry_out(&mut self.world, Mode::Lines, order, &mut self.printed)?;
+        self.answers = self.answers.saturating_add(1);
         if is_answer(self.printed.as_bytes(), answer) {
             return Ok(Outcome::Same);
         }

@@ -4,7 +4,7 @@ ghost use Rattle.std.specs.Prelude.{◌≡◌, ◌≤◌, ℕ, [], IfOk, IfErr, 
 ghost use Rattle.expected.specs.Tests.{Comes, Halts, Tests, Stops};
 ghost use Rattle.expected.specs.Parts.{Ran};
 
-use crate::outcome::Outcome;
+use crate::outcome::{Outcome, Tested};
 use crate::tester::Tester;
 use engine::RunFault;
 use engine::line_runner::write_out;
@@ -19,6 +19,7 @@ const PIECE: usize = 16_384;
 ///
 /// At the first answer that differs it writes `NAME:LINE: expected ANSWER, got OUTPUT` and a line feed, and stops: LINE is counted from 1.
 /// Nothing else is written. A wrong line before that is the fault [`RunFault::Line`]. The promises of `world` hold for each world of a test.
+/// [`Tested`] has the outcome, and how many answers were compared.
 ///
 /// At most 4,294,967,295 reads are made; a test that needs more ends with a read fault. This bounds the loop: no clause counts reads. An
 /// interrupted read or write is a fault.
@@ -28,20 +29,26 @@ pub fn test_script<R: Read, W: Write>(
     writer: &mut W,
     name: &str,
     cpus: u8,
-) -> Result<Outcome, RunFault>
+) -> Result<Tested, RunFault>
     requires low { 1 ≤ cpus }
     requires high { cpus ≤ 16 }
-    ensures ok { IfOk result (λ outcome. IfSome (R.remaining reader.old) (λ input.
-        Tests name.now cpus input outcome (W.contents writer.old) (W.contents writer.new))) }
+    ensures ok { IfOk result (λ tested. IfSome (R.remaining reader.old) (λ input.
+        Tests name.now cpus input tested.outcome tested.answers (W.contents writer.old) (W.contents writer.new))) }
     ensures fault { IfErr result (λ fault. IfSome (R.remaining reader.old) (λ input.
         Stops name.now cpus input (R.remaining reader.new) fault (W.contents writer.old) (W.contents writer.new))) }
 {
     let mut tester = Tester::new(alloc, cpus)?;
     match test_lines(reader, name, &mut tester)? {
-        Outcome::Same => Ok(Outcome::Same),
+        Outcome::Same => Ok(Tested {
+            outcome: Outcome::Same,
+            answers: tester.player.answers,
+        }),
         Outcome::Differs => {
             write_out(writer, &tester.player.report)?;
-            Ok(Outcome::Differs)
+            Ok(Tested {
+                outcome: Outcome::Differs,
+                answers: tester.player.answers,
+            })
         }
     }
 }
@@ -50,7 +57,7 @@ pub fn test_script<R: Read, W: Write>(
 fn test_lines<R: Read>(reader: &mut R, name: &str, tester: &mut Tester) -> Result<Outcome, RunFault>
     requires { tester.old.number ≡ 0 }
     ensures ok { IfOk result (λ outcome. (cpus : ℕ) → Ran cpus [] tester.old → IfSome (R.remaining reader.old) (λ input.
-        Comes name.now cpus input outcome tester.new.player.report.items)) }
+        Comes name.now cpus input outcome tester.new.player.answers tester.new.player.report.items)) }
     ensures fault { IfErr result (λ fault. (cpus : ℕ) → Ran cpus [] tester.old → IfSome (R.remaining reader.old) (λ input.
         Halts cpus input (R.remaining reader.new) fault)) }
 {

@@ -41,13 +41,14 @@ explain_memory asks (Some input) end u v w a = check_memory (Some input) end u v
 
 -- ---- the report
 
-pub explain_done : (asks : Asks) (r : Option (List ℕ)) (end : Work) (u v w x : Option (List ℕ)) (answer : Bool) (text : List ℕ) → IfSome r (λ input. ReadsAll nothing_kept input end u v w)
-    → IsReport asks (kept_entries end) answer text → Appends w x text → IfSome r (λ input. Explains asks input answer v x)
-explain_done asks None end u v w x answer text a report appends = tt
-explain_done asks (Some input) end u v w x answer text a report appends = record {
+pub explain_done : (asks : Asks) (r : Option (List ℕ)) (end : Work) (u v w x : Option (List ℕ)) (answer : Bool) (count : ℕ) (text : List ℕ) → IfSome r (λ input. ReadsAll nothing_kept input end u v w)
+    → count ≡ length (kept_entries end) → IsReport asks (kept_entries end) answer text → Appends w x text → IfSome r (λ input. Explains asks input answer count v x)
+explain_done asks None end u v w x answer count text a counts report appends = tt
+explain_done asks (Some input) end u v w x answer count text a counts report appends = record {
   entries = kept_entries end;
   text = text;
   transcript = kept_all input end u v w a;
+  counts = counts;
   report = report;
   appends = Appends-trans v w x [] text (read_silently input end u v w a) appends;
 }

@@ -47,11 +47,12 @@ Answers asks count (wrong ∷ wrongs) answer text = (answer ≡ false) × Lists 
 abbrev pub IsReport : Asks → List Entry → Bool → List ℕ → Type 0
 IsReport asks entries answer text = (wrongs : List Wrong) × AreWrong no_memory 0 entries wrongs × Answers asks (length entries) wrongs answer text
 
--- the input is a transcript, and its report was written
-pub record Explains (asks : Asks) (input : List ℕ) (answer : Bool) (before after : Option (List ℕ)) : Type 0 where
+-- the input is a transcript of `count` entries, and its report was written
+pub record Explains (asks : Asks) (input : List ℕ) (answer : Bool) (count : ℕ) (before after : Option (List ℕ)) : Type 0 where
   pub entries : List Entry
   pub text : List ℕ
   pub transcript : IsTranscript input entries
+  pub counts : count ≡ length entries
   pub report : IsReport asks entries answer text
   pub appends : Appends before after text
 

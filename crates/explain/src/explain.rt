@@ -26,9 +26,18 @@ pub struct Asks {
     pub reasons: bool,
 }
 
+/// What is said of a transcript.
+#[derive(Clone, Copy)]
+pub struct Verdict {
+    /// Whether each entry has the reply of one flat memory.
+    pub is_flat: bool,
+    /// How many entries there are.
+    pub entries: usize,
+}
+
 /// Reads a whole transcript, and writes what is wrong with it: `ok N`, where it has N entries and each has the reply of one flat
-/// memory, and true; or else `wrong I expected REPLY` for the first that has another, or for all, and false. I counts from 0. The
-/// flat memory goes on from its own reply. The lines of a reason stand behind that of its entry, with two spaces or more in front.
+/// memory; or else `wrong I expected REPLY` for the first that has another, or for all. I counts from 0. The flat memory goes on
+/// from its own reply. The lines of a reason stand behind that of its entry, with two spaces or more in front.
 ///
 /// Nothing is written before the whole input was read. At most 4,294,967,295 reads are made; a transcript that needs more ends
 /// with a read fault. An interrupted read or write is a fault.
@@ -37,9 +46,9 @@ pub fn explain_script<R: Read, W: Write>(
     reader: &mut Noting<R>,
     writer: &mut W,
     asks: Asks,
-) -> Result<bool, RunFault>
-    ensures ok { IfOk result (λ answer. IfSome (unread R.remaining reader.old) (λ input.
-        Explains asks input answer (W.contents writer.old) (W.contents writer.new))) }
+) -> Result<Verdict, RunFault>
+    ensures ok { IfOk result (λ verdict. IfSome (unread R.remaining reader.old) (λ input.
+        Explains asks input verdict.is_flat verdict.entries (W.contents writer.old) (W.contents writer.new))) }
     ensures fault { IfErr result (λ fault. IfSome (unread R.remaining reader.old) (λ input.
         ExplainStops asks input (unread R.remaining reader.new) fault (W.contents writer.old) (W.contents writer.new))) }
 {
@@ -56,19 +65,23 @@ fn answer_of<R: Read, W: Write>(
     script: &mut ScriptReader,
     text: &mut String,
     asks: Asks,
-) -> Result<bool, RunFault>
+) -> Result<Verdict, RunFault>
     requires start { script.old ≡ start_of nothing_kept }
     requires empty { string_bytes text.old ≡ [] }
-    ensures ok { IfOk result (λ answer. IfSome (unread R.remaining reader.old) (λ input.
-        Explains asks input answer (W.contents writer.old) (W.contents writer.new))) }
+    ensures ok { IfOk result (λ verdict. IfSome (unread R.remaining reader.old) (λ input.
+        Explains asks input verdict.is_flat verdict.entries (W.contents writer.old) (W.contents writer.new))) }
     ensures fault { IfErr result (λ fault. IfSome (unread R.remaining reader.old) (λ input.
         ExplainStops asks input (unread R.remaining reader.new) fault (W.contents writer.old) (W.contents writer.new))) }
 {
     read_lines(reader, writer, script)?;
     let lines = reader.lines()?;
-    let answer = write_report(alloc, text, script.entries(), lines, asks)?;
+    let entries = script.entries();
+    let answer = write_report(alloc, text, entries, lines, asks)?;
     write_out(writer, text.as_bytes())?;
-    Ok(answer)
+    Ok(Verdict {
+        is_flat: answer,
+        entries: entries.len(),
+    })
 }
 
 /// Puts the report on entries, which stand in these lines, behind a text without bytes, and says whether all is well.

@@ -18,6 +18,6 @@ mod stretches;
 mod touch;
 mod wrong;
 
-pub use crate::explain::{Asks, explain_script};
+pub use crate::explain::{Asks, Verdict, explain_script};
 pub use crate::noting::Noting;
 pub use crate::wrong::{Wrong, wrong_entries};

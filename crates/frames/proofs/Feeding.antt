@@ -10,7 +10,7 @@ use Rattle.frame_decoder.specs.Streams.{Held, Splits}
 use Rattle.frames.specs.declared.fault.FramesFault.{FramesFault}
 use Rattle.frames.specs.declared.fault.FramesFault.TheVariants as faults
 use Rattle.frames.specs.declared.reader.FrameReader.{FrameReader}
-use Rattle.frames.specs.Answers.{answer_lines}
+use Rattle.frames.specs.Answers.{answer_lines, refusals, Adds}
 use Rattle.frames.specs.Parts.{BeginsWith, FedUntil, Gathers, GathersSome, Halts, Passes, TakesSome, WritesSome}
 use Rattle.frames.proofs.Splitting.{splits_front}
 
@@ -33,13 +33,14 @@ fed_some old piece frames new output fed some =
 -- Writing
 
 pub piece_passes : {T E : Type 0} (result : Result T E) (old mid new : FrameReader) (piece : List ℕ) (w0 w1 : Option (List ℕ)) → old.taker.output.items ≡ [] → OnOk result (Gathers old piece mid) → new.decoder ≡ mid.decoder → new.taker.destination ≡ mid.taker.destination
-    → Appends w0 w1 mid.taker.output.items → OnOk result (Passes old piece new w0 w1)
-piece_passes (Err e) old mid new piece w0 w1 clean gathered decoder node appends = tt
-piece_passes (Ok x) old mid new piece w0 w1 clean gathered decoder node appends = record {
+    → new.taker.refused ≡ mid.taker.refused → Appends w0 w1 mid.taker.output.items → OnOk result (Passes old piece new w0 w1)
+piece_passes (Err e) old mid new piece w0 w1 clean gathered decoder node refused appends = tt
+piece_passes (Ok x) old mid new piece w0 w1 clean gathered decoder node refused appends = record {
   frames = gathered.frames;
   passed = record {
     fed = subst (λ (h : Held). Fed old.decoder piece (Ok gathered.frames) h) (sym decoder) gathered.passed.fed;
     node = node ∙ gathered.passed.node;
+    count = subst (λ (n : ℕ). Adds old.taker.refused (refusals old.taker.destination gathered.frames) n) (sym refused) gathered.passed.count;
   };
   appends = subst (Appends w0 w1) (gathered.gathers ∙ ap (λ (l : List ℕ). l ++ answer_lines old.taker.destination gathered.frames) clean) appends;
 }

@@ -1,5 +1,5 @@
 -- The machine that reads a stream: what its decoder holds, the destination, and the frames that came.
-use Rattle.std.proofs.Common.{◌≡◌, ℕ, List, [], ◌++◌, Option, Some, None, Ok, refl, sym, ap, subst, ◌∙◌, append_assoc, append-nil, arith, inl, inr}
+use Rattle.std.proofs.Common.{◌≡◌, ℕ, ◌+◌, List, [], ◌++◌, Option, Some, None, Ok, refl, sym, ap, subst, ◌∙◌, append_assoc, append-nil, arith, inl, inr}
 use Rattle.mig_model.specs.Destination.{Destination}
 use Rattle.mig_model.specs.Wire.{Sent}
 use Rattle.frame_decoder.specs.declared.fault.StreamFault.{StreamFault}
@@ -8,9 +8,9 @@ use Rattle.frame_decoder.specs.Feeding.{Fed, FedFault, fresh}
 use Rattle.frame_decoder.specs.Streams.{Held, Splits}
 use Rattle.frame_decoder.proofs.Unique.{one_split}
 use Rattle.frame_decoder.proofs.Whole.{spells_none, spells_join}
-use Rattle.frames.specs.Answers.{answer_lines, behind}
+use Rattle.frames.specs.Answers.{answer_lines, behind, refusals}
 use Rattle.frames.specs.Parts.{BeginsWith}
-use Rattle.frames.proofs.Answering.{behind-append, answer_lines-append}
+use Rattle.frames.proofs.Answering.{behind-append, answer_lines-append, refusals-append}
 use Rattle.frames.proofs.Splitting.{IsFront, splits_then, splits_behind}
 
 -- the bytes that came are these frames, and what is held; the destination was handed them
@@ -36,6 +36,10 @@ taken_then start stream piece frames more a b m n t fed is = record {
 pub lines_then : (start : Destination) (stream : List ℕ) (frames more : List Sent) (a : Held) (m : Destination) → Taken start stream frames a m → answer_lines start frames ++ answer_lines m more ≡ answer_lines start (frames ++ more)
 lines_then start stream frames more a m t =
     ap (λ (d : Destination). answer_lines start frames ++ answer_lines d more) t.handed ∙ sym (answer_lines-append start frames more)
+
+pub refusals_then : (start : Destination) (stream : List ℕ) (frames more : List Sent) (a : Held) (m : Destination) → Taken start stream frames a m → refusals start frames + refusals m more ≡ refusals start (frames ++ more)
+refusals_then start stream frames more a m t =
+    ap (λ (d : Destination). refusals start frames + refusals d more) t.handed ∙ sym (refusals-append start frames more)
 
 -- the decoder answers a fault
 

@@ -1,6 +1,6 @@
 -- A whole stream, from the first read on.
 use Rattle.std.proofs.Common.{◌≡◌, ℕ, List, [], ◌++◌, Option, None, Some, Ok, Err, refl, sym, ap, subst, ◌∙◌, append_assoc, append-nil}
-use Rattle.std.specs.Prelude.{IfSome, IfErr, OnOk, Result}
+use Rattle.std.specs.Prelude.{IfSome, IfOk, IfErr, OnOk, Result}
 use Rattle.std.specs.Io.KnownBytes.{Appends, Consumes, IsAtEnd}
 use Rattle.std.proofs.KnownBytes.{Appends-nil, Appends-trans, Consumes-trans}
 use Rattle.mig_model.specs.Destination.{Destination}
@@ -11,19 +11,28 @@ use Rattle.frame_decoder.proofs.Whole.{spells_none}
 use Rattle.frames.specs.declared.fault.FramesFault.{FramesFault}
 use Rattle.frames.specs.declared.fault.FramesFault.TheVariants as faults
 use Rattle.frames.specs.declared.reader.FrameReader.{FrameReader}
-use Rattle.frames.specs.Answers.{answer_lines}
-use Rattle.frames.specs.Endings.{IsAnswered, IsAnsweredInPart, Stops}
+use Rattle.frames.specs.Answers.{answer_lines, refusals, Adds}
+use Rattle.frames.specs.Endings.{IsAnswered, IsWhole, IsAnsweredInPart, Stops}
 use Rattle.frames.specs.Parts.{EndsBy, EndsWhole, Halts, Passes, WritesSome}
-use Rattle.frames.proofs.Pieces.{Taken, taken_then, lines_then, taken_fault, taken_some, taken_nothing}
+use Rattle.frames.proofs.Answering.{adds_then}
+use Rattle.frames.proofs.Pieces.{Taken, taken_then, lines_then, refusals_then, taken_fault, taken_some, taken_nothing}
 use Rattle.engine.proofs.Whole.{input_is}
 
--- the run so far: what was read, the frames that it has, and their lines, which were written
+-- the run so far: what was read, the frames that it has, their lines, which were written, and how many were refused
 pub record Ran (start : Destination) (r0 r1 : Option (List ℕ)) (reader : FrameReader) (w0 w1 : Option (List ℕ)) : Type 0 where
   pub consumed : List ℕ
   pub frames : List Sent
   pub consumes : Consumes r0 r1 consumed
   pub taken : Taken start consumed frames reader.decoder reader.taker.destination
   pub appends : Appends w0 w1 (answer_lines start frames)
+  pub counts : Adds 0 (refusals start frames) reader.taker.refused
+
+-- the frames of one piece more
+refused_then : (start : Destination) (p q : FrameReader) (stream chunk : List ℕ) (frames : List Sent) (w1 w2 : Option (List ℕ)) → Taken start stream frames p.decoder p.taker.destination → Adds 0 (refusals start frames) p.taker.refused
+    → (passed : Passes p chunk q w1 w2) → Adds 0 (refusals start (frames ++ passed.frames)) q.taker.refused
+refused_then start p q stream chunk frames w1 w2 taken counts passed =
+    subst (λ (n : ℕ). Adds 0 n q.taker.refused) (refusals_then start stream frames passed.frames p.decoder p.taker.destination taken)
+    (adds_then 0 (refusals start frames) p.taker.refused (refusals p.taker.destination passed.frames) q.taker.refused counts passed.passed.count)
 
 pub ran_then : (start : Destination) (p q : FrameReader) (chunk : List ℕ) (r0 r1 r2 w0 w1 w2 : Option (List ℕ)) → Ran start r0 r1 p w0 w1 → Consumes r1 r2 chunk → Passes p chunk q w1 w2 → Ran start r0 r2 q w0 w2
 ran_then start p q chunk r0 r1 r2 w0 w1 w2 ran more passed = record {
@@ -33,6 +42,7 @@ ran_then start p q chunk r0 r1 r2 w0 w1 w2 ran more passed = record {
   taken = taken_then start ran.consumed chunk ran.frames passed.frames p.decoder q.decoder p.taker.destination q.taker.destination ran.taken passed.passed.fed passed.passed.node;
   appends = subst (Appends w0 w2) (lines_then start ran.consumed ran.frames passed.frames p.decoder p.taker.destination ran.taken)
       (Appends-trans w0 w1 w2 (answer_lines start ran.frames) (answer_lines p.taker.destination passed.frames) ran.appends passed.appends);
+  counts = refused_then start p q ran.consumed chunk ran.frames w1 w2 ran.taken ran.counts passed;
 }
 
 -- ---- faults in what was read
@@ -87,7 +97,7 @@ ran_halts start p chunk fault r0 r1 r2 w0 w1 w2 ran more q = by_input r0 r2 (Con
 -- ---- the end of the input
 
 -- the last piece, which is empty, was answered, and these bytes are held then
-answered : (start : Destination) (p q : FrameReader) (input consumed held : List ℕ) (frames : List Sent) (w0 w1 w2 : Option (List ℕ)) → input ≡ consumed → Taken start consumed frames p.decoder p.taker.destination
+abbrev answered : (start : Destination) (p q : FrameReader) (input consumed held : List ℕ) (frames : List Sent) (w0 w1 w2 : Option (List ℕ)) → input ≡ consumed → Taken start consumed frames p.decoder p.taker.destination
     → Appends w0 w1 (answer_lines start frames) → (passed : Passes p [] q w1 w2) → q.decoder.fault ≡ None → q.decoder.bytes ≡ held → IsAnswered start input held None w0 w2
 answered start p q input consumed held frames w0 w1 w2 whole taken appends passed none is =
     let now = taken_then start consumed [] frames passed.frames p.decoder q.decoder p.taker.destination q.taker.destination taken passed.passed.fed passed.passed.node in
@@ -108,16 +118,20 @@ no_fault start p q consumed frames w1 w2 taken passed =
     (taken_nothing start consumed frames passed.frames p.decoder q.decoder p.taker.destination q.taker.destination passed.passed.fed.0 taken
     (taken_then start consumed [] frames passed.frames p.decoder q.decoder p.taker.destination q.taker.destination taken passed.passed.fed passed.passed.node)).fault
 
-ends_whole : (start : Destination) (p q : FrameReader) (r0 r1 r2 w0 w1 w2 : Option (List ℕ)) → Ran start r0 r1 p w0 w1 → Consumes r1 r2 [] → IsAtEnd r2 → EndsWhole p q w1 w2 → IfSome r0 (λ input. IsAnswered start input [] None w0 w2)
+ends_whole : (start : Destination) (p q : FrameReader) (r0 r1 r2 w0 w1 w2 : Option (List ℕ)) → Ran start r0 r1 p w0 w1 → Consumes r1 r2 [] → IsAtEnd r2 → EndsWhole p q w1 w2 → IfSome r0 (λ input. IsWhole start input q.taker.refused w0 w2)
 ends_whole start p q None r1 r2 w0 w1 w2 ran last e c = tt
 ends_whole start p q (Some x) r1 r2 w0 w1 w2 ran last e c =
     let none = no_fault start p q ran.consumed ran.frames w1 w2 ran.taken c.0 in
-    answered start p q x ran.consumed [] ran.frames w0 w1 w2 (input_is x ran.consumed r1 r2 ran.consumes last e).0 ran.taken ran.appends c.0 none (c.1 none)
+    record {
+      answered = answered start p q x ran.consumed [] ran.frames w0 w1 w2 (input_is x ran.consumed r1 r2 ran.consumes last e).0 ran.taken ran.appends c.0 none (c.1 none);
+      counts = refused_then start p q ran.consumed [] ran.frames w1 w2 ran.taken ran.counts c.0;
+    }
 
-pub ran_finished : {T E : Type 0} (result : Result T E) (start : Destination) (p q : FrameReader) (r0 r1 r2 w0 w1 w2 : Option (List ℕ)) → Ran start r0 r1 p w0 w1 → Consumes r1 r2 [] → IsAtEnd r2
-    → OnOk result (EndsWhole p q w1 w2) → OnOk result (IfSome r0 (λ input. IsAnswered start input [] None w0 w2))
-ran_finished (Err x) start p q r0 r1 r2 w0 w1 w2 ran last e c = tt
-ran_finished (Ok x) start p q r0 r1 r2 w0 w1 w2 ran last e c = ends_whole start p q r0 r1 r2 w0 w1 w2 ran last e c
+pub ran_finished : {E : Type 0} (result : Result ℕ E) (start : Destination) (p q : FrameReader) (r0 r1 r2 w0 w1 w2 : Option (List ℕ)) → Ran start r0 r1 p w0 w1 → Consumes r1 r2 [] → IsAtEnd r2
+    → OnOk result (EndsWhole p q w1 w2) → IfOk result (λ refused. refused ≡ q.taker.refused) → IfOk result (λ refused. IfSome r0 (λ input. IsWhole start input refused w0 w2))
+ran_finished (Err x) start p q r0 r1 r2 w0 w1 w2 ran last e c same = tt
+ran_finished (Ok refused) start p q r0 r1 r2 w0 w1 w2 ran last e c same =
+    subst (λ (n : ℕ). IfSome r0 (λ input. IsWhole start input n w0 w2)) (sym same) (ends_whole start p q r0 r1 r2 w0 w1 w2 ran last e c)
 
 ends_by : (start : Destination) (p q : FrameReader) (fault : FramesFault) (r0 r1 r2 w0 w1 w2 : Option (List ℕ)) → Ran start r0 r1 p w0 w1 → Consumes r1 r2 [] → IsAtEnd r2 → EndsBy p fault q w1 w2
     → IfSome r0 (λ input. Stops start input r2 fault w0 w2)

@@ -1,5 +1,5 @@
 -- The answers of a destination to frames that are handed to it in turn.
-use Rattle.std.specs.Prelude.{ℕ, List, [], ◌∷◌, ◌++◌, codes, Some, None, Ok}
+use Rattle.std.specs.Prelude.{◌≡◌, ℕ, ◌+◌, ◌<◌, ◌^◌, List, [], ◌∷◌, ◌++◌, codes, Some, None, Ok}
 use Rattle.mig_base.specs.declared.fault.TakeFault.{TakeFault}
 use Rattle.mig_base.specs.declared.fault.TakeFault.TheVariants as fault
 use Rattle.mig_model.specs.Destination.{Destination, destination_took}
@@ -38,3 +38,16 @@ behind node (sent ∷ frames) = behind (after node sent) frames
 abbrev pub answer_lines : Destination → List Sent → List ℕ
 answer_lines node [] = []
 answer_lines node (sent ∷ frames) = answer_line node sent ++ answer_lines (after node sent) frames
+
+-- how many frames it refuses of one: 1 or 0
+abbrev pub refusals_of : Destination → Sent → ℕ
+refusals_of node sent = elim (take_fault node sent.epoch sent.frame) [ None ↦ 0 | Some reason ↦ 1 ]
+
+-- how many it refuses of frames that it is handed in turn
+abbrev pub refusals : Destination → List Sent → ℕ
+refusals node [] = 0
+refusals node (sent ∷ frames) = refusals_of node sent + refusals (after node sent) frames
+
+-- a count once `more` is added, where it has 64 bits for the sum
+abbrev pub Adds : ℕ → ℕ → ℕ → Type 0
+Adds old more new = old + more < 2 ^ 64 → new ≡ old + more

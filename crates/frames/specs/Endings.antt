@@ -8,7 +8,7 @@ use Rattle.frame_decoder.specs.declared.version.Version.{Version}
 use Rattle.frame_decoder.specs.Streams.{Spells, Splits}
 use Rattle.frames.specs.declared.fault.FramesFault.{FramesFault}
 use Rattle.frames.specs.declared.fault.FramesFault.TheVariants as faults
-use Rattle.frames.specs.Answers.{answer_lines}
+use Rattle.frames.specs.Answers.{answer_lines, refusals, Adds}
 
 -- the stream is frames, and behind them `held`, the bytes of one that is not whole, or a fault; the answers to all frames were written
 pub record IsAnswered (start : Destination) (stream held : List ℕ) (fault : Option StreamFault) (before after : Option (List ℕ)) : Type 0 where
@@ -16,6 +16,11 @@ pub record IsAnswered (start : Destination) (stream held : List ℕ) (fault : Op
   pub version : Option Version
   pub splits : Splits None stream frames held fault version
   pub appends : Appends before after (answer_lines start frames)
+
+-- the stream is frames and nothing more, and the answers to all were written. `refused` is how many of them were refused
+pub record IsWhole (start : Destination) (stream : List ℕ) (refused : ℕ) (before after : Option (List ℕ)) : Type 0 where
+  pub answered : IsAnswered start stream [] None before after
+  pub counts : Adds 0 (refusals start answered.frames) refused
 
 -- the stream begins with frames, and the lines of the answers to them were written but for `more`
 pub record IsAnsweredInPart (start : Destination) (stream more : List ℕ) (before after : Option (List ℕ)) : Type 0 where

@@ -13,7 +13,7 @@ use Rattle.frame_decoder.specs.Streams.{Held, Spells}
 use Rattle.frames.specs.declared.fault.FramesFault.{FramesFault}
 use Rattle.frames.specs.declared.fault.FramesFault.TheVariants as faults
 use Rattle.frames.specs.declared.reader.FrameReader.{FrameReader}
-use Rattle.frames.specs.Answers.{answer_lines, behind}
+use Rattle.frames.specs.Answers.{answer_lines, behind, refusals, Adds}
 
 -- each frame is well formed, so it may be handed to a destination
 abbrev pub AreFrames : List Sent → Type 0
@@ -34,10 +34,11 @@ pub record TakesSome (node : Destination) (frames : List Sent) (old new : List �
 abbrev pub IsCounted : Held → ℕ → Type 0
 IsCounted decoder held = decoder.fault ≡ None → (held ≡ length decoder.bytes) × (length decoder.bytes < 2 ^ 32)
 
--- the decoder returned these frames for the piece, and they were handed to the destination
+-- the decoder returned these frames for the piece, they were handed to the destination, and those that it refused were counted
 pub record Passed (old : FrameReader) (piece : List ℕ) (frames : List Sent) (new : FrameReader) : Type 0 where
   pub fed : Fed old.decoder piece (Ok frames) new.decoder
   pub node : new.taker.destination ≡ behind old.taker.destination frames
+  pub count : Adds old.taker.refused (refusals old.taker.destination frames) new.taker.refused
 
 -- the same, and the lines were gathered
 pub record Gathers (old : FrameReader) (piece : List ℕ) (new : FrameReader) : Type 0 where

@@ -44,6 +44,7 @@ impl FrameReader {
         ensures counted { IfOk result (λ reader. IsCounted reader.decoder reader.held) }
         ensures destination { IfOk result (λ reader. reader.taker.destination ≡ first_destination cpus) }
         ensures clean { IfOk result (λ reader. reader.taker.output.items ≡ []) }
+        ensures refused { IfOk result (λ reader. reader.taker.refused ≡ 0) }
         ensures err { IfErr result (λ fault. fault ≡ OutOfMemory) }
     {
         let taker = FrameTaker::new(alloc, cpus)?;
@@ -87,11 +88,13 @@ impl FrameReader {
         fed
     }
 
-    /// Ends the stream. Returns the fault that stands behind its last frame, or `Truncated` if less than a frame does.
-    pub(crate) fn finish<W: Write>(&mut self, writer: &mut W) -> Result<(), FramesFault>
+    /// Ends the stream. Returns how many of its frames were refused, or the fault that stands behind its last frame, or `Truncated` if
+    /// less than a frame does.
+    pub(crate) fn finish<W: Write>(&mut self, writer: &mut W) -> Result<u64, FramesFault>
         requires counted { IsCounted self.old.decoder self.old.held }
         requires clean { self.old.taker.output.items ≡ [] }
         ensures ok { OnOk result (EndsWhole self.old self.new (W.contents writer.old) (W.contents writer.new)) }
+        ensures refused { IfOk result (λ refused. refused ≡ self.new.taker.refused) }
         ensures fault { IfErr result (λ fault. EndsBy self.old fault self.new (W.contents writer.old) (W.contents writer.new)) }
     {
         // A feed that returns frames keeps the fault behind them for the next.
@@ -99,6 +102,6 @@ impl FrameReader {
         if self.held > 0 {
             return Err(FramesFault::Truncated);
         }
-        Ok(())
+        Ok(self.taker.refused)
     }
 }

@@ -1,9 +1,9 @@
 //! Reading a stream of frames from a reader, and writing a line for each frame to a writer.
 
-ghost use Rattle.std.specs.Prelude.{◌≡◌, ◌≤◌, [], OnOk, IfErr, IfSome, None};
+ghost use Rattle.std.specs.Prelude.{◌≡◌, ◌≤◌, [], IfOk, IfErr, IfSome};
 ghost use Rattle.mig_model.specs.Destination.{first_destination};
 ghost use Rattle.frame_decoder.specs.Feeding.{fresh};
-ghost use Rattle.frames.specs.Endings.{IsAnswered, Stops};
+ghost use Rattle.frames.specs.Endings.{IsWhole, Stops};
 ghost use Rattle.frames.specs.Parts.{IsCounted};
 
 use crate::fault::FramesFault;
@@ -16,7 +16,7 @@ const PIECE: usize = 16_384;
 
 /// Hands each frame of a stream to a new destination of `cpus` processors, 1 to 16, and writes a line for each: what the destination
 /// took, or `refused` and why. A frame that is refused changes nothing, and reading goes on behind it. Frames that the destination sends
-/// back are dropped.
+/// back are dropped. Returns how many frames were refused.
 ///
 /// At most 4,294,967,295 reads are made; a stream that needs more ends with a read fault. This bounds the loop: no clause counts reads.
 /// The lines of the frames that one read completes are gathered, and written before the next read and before any fault is returned. An
@@ -26,11 +26,11 @@ pub fn run_frames<R: Read, W: Write>(
     reader: &mut R,
     writer: &mut W,
     cpus: u8,
-) -> Result<(), FramesFault>
+) -> Result<u64, FramesFault>
     requires low { 1 ≤ cpus }
     requires high { cpus ≤ 16 }
-    ensures ok { OnOk result (IfSome (R.remaining reader.old) (λ input.
-        IsAnswered (first_destination cpus) input [] None (W.contents writer.old) (W.contents writer.new))) }
+    ensures ok { IfOk result (λ refused. IfSome (R.remaining reader.old) (λ input.
+        IsWhole (first_destination cpus) input refused (W.contents writer.old) (W.contents writer.new))) }
     ensures fault { IfErr result (λ fault. IfSome (R.remaining reader.old) (λ input.
         Stops (first_destination cpus) input (R.remaining reader.new) fault (W.contents writer.old) (W.contents writer.new))) }
 {
@@ -43,12 +43,13 @@ fn read_frames<R: Read, W: Write>(
     reader: &mut R,
     writer: &mut W,
     frames: &mut FrameReader,
-) -> Result<(), FramesFault>
+) -> Result<u64, FramesFault>
     requires start { frames.old.decoder ≡ fresh }
     requires counted { IsCounted frames.old.decoder frames.old.held }
     requires clean { frames.old.taker.output.items ≡ [] }
-    ensures ok { OnOk result (IfSome (R.remaining reader.old) (λ input.
-        IsAnswered frames.old.taker.destination input [] None (W.contents writer.old) (W.contents writer.new))) }
+    requires none { frames.old.taker.refused ≡ 0 }
+    ensures ok { IfOk result (λ refused. IfSome (R.remaining reader.old) (λ input.
+        IsWhole frames.old.taker.destination input refused (W.contents writer.old) (W.contents writer.new))) }
     ensures fault { IfErr result (λ fault. IfSome (R.remaining reader.old) (λ input.
         Stops frames.old.taker.destination input (R.remaining reader.new) fault (W.contents writer.old) (W.contents writer.new))) }
 {

@@ -1,6 +1,6 @@
 //! The destination to which frames are handed, and the lines of its answers.
 
-ghost use Rattle.std.specs.Prelude.{◌≡◌, ◌≤◌, ◌++◌, [], OnOk, OnErr, IfErr, IfOk, string_bytes};
+ghost use Rattle.std.specs.Prelude.{◌≡◌, ◌≤◌, ◌++◌, [], cond, OnOk, OnErr, IfErr, IfOk, string_bytes};
 ghost use Rattle.std.specs.Io.KnownBytes.{Appends};
 ghost use Rattle.mig_model.specs.Bounds.{IsFrame};
 ghost use Rattle.mig_model.specs.Destination.{first_destination};
@@ -8,7 +8,7 @@ ghost use Rattle.page_stream.specs.Frames.{frame_of};
 ghost use Rattle.frame_decoder.specs.Streams.{sent_of, sents};
 ghost use Rattle.engine.specs.Engine.{Front};
 ghost use Rattle.frames.specs.declared.fault.FramesFault.TheVariants.{WriteFault, NoMemory as OutOfMemory};
-ghost use Rattle.frames.specs.Answers.{after, answer_line, answer_lines, behind};
+ghost use Rattle.frames.specs.Answers.{after, answer_line, answer_lines, behind, refusals, refusals_of, Adds};
 ghost use Rattle.frames.specs.Parts.{AreFrames, TakesSome};
 
 use crate::fault::FramesFault;
@@ -21,23 +21,36 @@ use page_stream::Frame;
 use std::alloc::Global;
 use std::io::Write;
 
-/// Hands a frame to a destination, and replaces a text by the line of the answer.
+/// Hands a frame to a destination, and replaces a text by the line of the answer. Whether the frame was taken.
 fn answer(
     destination: &mut Destination,
     epoch: u32,
     frame: Frame,
     line: &mut String,
-) -> Result<(), NoMemory>
+) -> Result<bool, NoMemory>
     requires { IsFrame (frame_of frame) }
+    ensures taken { IfOk result (λ taken. refusals_of destination.old (sent_of (epoch, frame)) ≡ cond taken 0 1) }
     ensures destination { OnOk result (destination.new ≡ after destination.old (sent_of (epoch, frame))) }
     ensures line { OnOk result (string_bytes line.new ≡ answer_line destination.old (sent_of (epoch, frame))) }
 {
     line.clear();
     let effect = frame.effect();
     if let Err(fault) = destination.take(epoch, frame) {
-        return print_refusal(line, fault);
+        print_refusal(line, fault)?;
+        return Ok(false);
     }
-    print_line(line, &Ok(effect))
+    print_line(line, &Ok(effect))?;
+    Ok(true)
+}
+
+/// How many frames were refused, once one more was taken or refused. The count stops at its greatest value.
+fn counted(refused: u64, taken: bool) -> u64
+    ensures { Adds refused (cond taken 0 1) result }
+{
+    if taken {
+        return refused;
+    }
+    refused.saturating_add(1)
 }
 
 /// A destination that is handed frames, and gathers the lines of its answers.
@@ -48,6 +61,8 @@ pub(crate) struct FrameTaker {
     line: String,
     /// The lines that are not written yet.
     output: Vec<u8>,
+    /// How many frames the destination has refused.
+    pub(crate) refused: u64,
 }
 
 impl FrameTaker {
@@ -57,6 +72,7 @@ impl FrameTaker {
         requires high { cpus ≤ 16 }
         ensures destination { IfOk result (λ taker. taker.destination ≡ first_destination cpus) }
         ensures output { IfOk result (λ taker. taker.output.items ≡ []) }
+        ensures refused { IfOk result (λ taker. taker.refused ≡ 0) }
         ensures err { IfErr result (λ fault. fault ≡ OutOfMemory) }
     {
         let Ok(destination) = Destination::new(alloc, cpus) else {
@@ -66,6 +82,7 @@ impl FrameTaker {
             destination,
             line: String::new(alloc),
             output: Vec::new(alloc),
+            refused: 0,
         })
     }
 
@@ -74,9 +91,11 @@ impl FrameTaker {
         requires { IsFrame (frame_of frame) }
         ensures destination { OnOk result (self.new.destination ≡ after self.old.destination (sent_of (epoch, frame))) }
         ensures line { OnOk result (self.new.output.items ≡ self.old.output.items ++ answer_line self.old.destination (sent_of (epoch, frame))) }
+        ensures count { OnOk result (Adds self.old.refused (refusals_of self.old.destination (sent_of (epoch, frame))) self.new.refused) }
         ensures err { OnErr result (self.new.output.items ≡ self.old.output.items) }
     {
-        answer(&mut self.destination, epoch, frame, &mut self.line)?;
+        let taken = answer(&mut self.destination, epoch, frame, &mut self.line)?;
+        self.refused = counted(self.refused, taken);
         self.output.extend_from_slice(self.line.as_bytes())?;
         Ok(())
     }
@@ -86,6 +105,7 @@ impl FrameTaker {
         requires { AreFrames (sents frames.items) }
         ensures destination { OnOk result (self.new.destination ≡ behind self.old.destination (sents frames.items)) }
         ensures lines { OnOk result (self.new.output.items ≡ self.old.output.items ++ answer_lines self.old.destination (sents frames.items)) }
+        ensures count { OnOk result (Adds self.old.refused (refusals self.old.destination (sents frames.items)) self.new.refused) }
         ensures err { OnErr result (TakesSome self.old.destination (sents frames.items) self.old.output.items self.new.output.items) }
     {
         for (epoch, frame) in frames {
@@ -99,6 +119,7 @@ impl FrameTaker {
         ensures ok { OnOk result (Appends (W.contents writer.old) (W.contents writer.new) self.old.output.items) }
         ensures clean { OnOk result (self.new.output.items ≡ []) }
         ensures same { self.new.destination ≡ self.old.destination }
+        ensures refused { self.new.refused ≡ self.old.refused }
         ensures fault { IfErr result (λ fault. fault ≡ WriteFault) }
         ensures front { OnErr result (Front self.old.output.items (W.contents writer.old) (W.contents writer.new)) }
     {

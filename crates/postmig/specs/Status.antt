@@ -24,9 +24,14 @@ fault_status ReadFault = 2
 fault_status WriteFault = 2
 fault_status NoMemory = 4
 
--- the status of tests, by the number of files that differ, and by the status of the first fault, or 0
-abbrev pub tally_status : ℕ → ℕ → ℕ
-tally_status differ fault = if nat_lt 0 differ then 3 else fault
+-- the status of tests, by the number of files that differ, by that of files in which no answer was compared although one had to be, and
+-- by the status of the first fault, or 0
+abbrev pub tally_status : ℕ → ℕ → ℕ → ℕ
+tally_status differ unchecked fault = if nat_lt 0 differ then 3 else if nat_lt 0 unchecked then 3 else fault
+
+-- the status of a strict command, by whether it has checked what it had to, and by the status that it has otherwise
+abbrev pub strict_status : Bool → ℕ → ℕ
+strict_status is_met status = if is_met then status else if nat_lt 0 status then status else 3
 
 -- the status of a stream of frames that ended with a fault
 abbrev pub frames_fault_status : FramesFault → ℕ

@@ -9,7 +9,7 @@ const VERSION: &str = "0.1.0";
 const WHY_IT_FAILED: &str = "Says on standard error why a read or a write failed";
 
 const WHY_IT_ENDED: &str =
-    "Says on standard error what is wrong with a line of FILE, and why a read or a write failed";
+    "Says on standard error what is wrong with each line of FILE, and why a read or a write failed";
 
 const WHY_IT_IS_WRONG: &str =
     "Says which entries decide the reply of a wrong one, and why a read or a write failed";
@@ -19,7 +19,8 @@ const STATUSES: &str = "Exit status:
   0  all was done, or a check wrote ok
   1  a line, a frame or the command line is wrong
   2  a read or a write failed
-  3  a check wrote wrong, a test differs, finish has no epoch left, or threads ended with a fault
+  3  a check wrote wrong, a test differs, finish has no epoch left, or threads ended with a fault;
+     with --strict also: no entry was checked, a frame was refused, or a test compared no answer
   4  memory ran out, or a thread could not be started
 
 docs/SCRIPT.md has the lines of scripts and transcripts.";
@@ -39,6 +40,14 @@ fn file_argument<'a>(alloc: Global) -> Arg<'a> {
     Arg::new(alloc, "file")
         .value_name("FILE")
         .help("Is read in place of standard input")
+}
+
+/// `--strict`.
+fn strict_argument<'a>(alloc: Global, help: &'a str) -> Arg<'a> {
+    Arg::new(alloc, "strict")
+        .long("strict")
+        .help(help)
+        .action(ArgAction::SetTrue)
 }
 
 /// `--explain`, which also says why reading or writing fails.
@@ -69,7 +78,20 @@ fn calls_argument<'a>(alloc: Global) -> Result<Arg<'a>, AllocError> {
         .conflicts_with("urgent")
 }
 
-/// `postmig run [--cpus N] [--transcript] [--steps] [--wire FILE] [--back FILE] [--urgent FILE] [--explain] [FILE]`.
+/// `--answers`, for which a run has to write the lines of its steps alone.
+fn answers_argument<'a>(alloc: Global) -> Result<Arg<'a>, AllocError> {
+    Arg::new(alloc, "answers")
+        .long("answers")
+        .help("Writes the script with the answer of each line behind it")
+        .action(ArgAction::SetTrue)
+        .conflicts_with("transcript")?
+        .conflicts_with("steps")?
+        .conflicts_with("wire")?
+        .conflicts_with("back")?
+        .conflicts_with("urgent")
+}
+
+/// `postmig run [--cpus N] [--transcript] [--steps] [--answers] [--wire FILE] [--back FILE] [--urgent FILE] [--explain] [FILE]`.
 fn run_command<'a>(alloc: Global) -> Result<Command<'a>, AllocError> {
     let transcript = Arg::new(alloc, "transcript")
         .long("transcript")
@@ -80,6 +102,7 @@ fn run_command<'a>(alloc: Global) -> Result<Command<'a>, AllocError> {
         .arg(cpus_argument(alloc))?
         .arg(transcript)?
         .arg(calls_argument(alloc)?)?
+        .arg(answers_argument(alloc)?)?
         .arg(wire_argument(
             alloc,
             "wire",
@@ -108,7 +131,7 @@ fn finish_command<'a>(alloc: Global) -> Result<Command<'a>, AllocError> {
         .arg(file_argument(alloc))
 }
 
-/// `postmig check [--all] [--explain] [FILE]`.
+/// `postmig check [--all] [--strict] [--explain] [FILE]`.
 fn check_command<'a>(alloc: Global) -> Result<Command<'a>, AllocError> {
     let all = Arg::new(alloc, "all")
         .long("all")
@@ -117,6 +140,7 @@ fn check_command<'a>(alloc: Global) -> Result<Command<'a>, AllocError> {
     Command::new(alloc, "check")
         .about("Says whether a transcript is that of one flat memory")
         .arg(all)?
+        .arg(strict_argument(alloc, "Has status 3 if no entry was checked"))?
         .arg(explain_argument(alloc, WHY_IT_IS_WRONG))?
         .arg(file_argument(alloc))
 }
@@ -134,11 +158,12 @@ fn lint_command<'a>(alloc: Global) -> Result<Command<'a>, AllocError> {
         .arg(file_argument(alloc))
 }
 
-/// `postmig frames [--cpus N] [--explain] [FILE]`.
+/// `postmig frames [--cpus N] [--strict] [--explain] [FILE]`.
 fn frames_command<'a>(alloc: Global) -> Result<Command<'a>, AllocError> {
     Command::new(alloc, "frames")
         .about("Hands frames to a destination")
         .arg(cpus_argument(alloc))?
+        .arg(strict_argument(alloc, "Has status 3 if a frame was refused"))?
         .arg(explain_argument(alloc, WHY_IT_FAILED))?
         .arg(file_argument(alloc))
 }
@@ -239,8 +264,14 @@ fn explore_command<'a>(alloc: Global) -> Result<Command<'a>, AllocError> {
         .arg(explain_argument(alloc, WHY_IT_FAILED))
 }
 
-/// `postmig test [--cpus N] [FILE ..]`.
+/// `postmig test [--cpus N] [--strict] [--write] [FILE ..]`.
 fn test_command<'a>(alloc: Global) -> Result<Command<'a>, AllocError> {
+    let write = Arg::new(alloc, "write")
+        .long("write")
+        .help("Replaces the answers of each FILE by the output of its lines")
+        .action(ArgAction::SetTrue)
+        .conflicts_with("strict")?
+        .requires_arg("file")?;
     let files = Arg::new(alloc, "file")
         .value_name("FILE")
         .help("Scripts with answers; standard input where none is given")
@@ -248,6 +279,8 @@ fn test_command<'a>(alloc: Global) -> Result<Command<'a>, AllocError> {
     Command::new(alloc, "test")
         .about("Runs scripts whose lines have answers, and names what differs")
         .arg(cpus_argument(alloc))?
+        .arg(strict_argument(alloc, "Has status 3 if no answer of a file was compared"))?
+        .arg(write)?
         .arg(files)
 }
 

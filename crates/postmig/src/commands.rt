@@ -4,10 +4,11 @@ ghost use Rattle.std.specs.Prelude.{◌≤◌};
 
 use crate::arguments::command_line;
 use crate::input::Input;
-use crate::status::{ALL_DONE, BAD_COMMAND_OR_SCRIPT, NO_MEMORY, READ_OR_WRITE_FAULT};
-use crate::streams::{
-    end, end_frames, end_lint, end_tapped, open_input, open_output, say_wrong_lines,
+use crate::reasons::{say_wrong_line, say_wrong_lines};
+use crate::status::{
+    ALL_DONE, BAD_COMMAND_OR_SCRIPT, NO_MEMORY, READ_OR_WRITE_FAULT, strict_status_of,
 };
+use crate::streams::{end, end_frames, end_lint, end_tapped, open_input, open_output};
 use crate::tally::test;
 use crate::tap::{has_taps, make_taps};
 use crate::watched::Watched;
@@ -15,6 +16,7 @@ use clap::ArgMatches;
 use clap::error::ErrorKind;
 use draw::run_draw;
 use engine::{Mode, RunFault, check_script, run_script};
+use expected::answer_script;
 use explain::{Asks, Noting, explain_script};
 use explore::{Plan, Profile, run_explore};
 use finishing::{Ending, finish_script};
@@ -51,6 +53,9 @@ fn run(rt: &HostRuntime, matches: &ArgMatches) -> u8 {
     if has_taps(matches) {
         return run_with_taps(rt, matches, &mut input, &mut output, cpus, mode);
     }
+    if matches.get_flag("answers") {
+        return run_with_answers(rt, matches, &mut input, &mut output, cpus);
+    }
     let ran = if matches.get_flag("steps") {
         run_steps(rt.alloc(), &mut input, &mut output, cpus)
     } else {
@@ -59,6 +64,27 @@ fn run(rt: &HostRuntime, matches: &ArgMatches) -> u8 {
     let outcome = ran.map(|()| true);
     let status = end(rt, matches, &input, &output, outcome);
     say_wrong_lines(rt, matches, Language::Script, &outcome);
+    status
+}
+
+/// Runs a script, and writes it with the answer of each line.
+fn run_with_answers(
+    rt: &HostRuntime,
+    matches: &ArgMatches,
+    input: &mut Watched<'_, Input>,
+    output: &mut Watched<'_, Stdout>,
+    cpus: u8,
+) -> u8
+    requires low { 1 ≤ cpus }
+    requires high { cpus ≤ 16 }
+{
+    let outcome = answer_script(rt.alloc(), input, output, cpus).map(|()| true);
+    let status = end(rt, matches, input, output, outcome);
+    if let Err(RunFault::Line(number)) = outcome
+        && let Some(name) = matches.get_str("file")
+    {
+        say_wrong_line(rt, name, number);
+    }
     status
 }
 
@@ -97,7 +123,7 @@ fn finish(rt: &HostRuntime, matches: &ArgMatches) -> u8 {
     status
 }
 
-/// Checks a transcript: for its verdict, or for what is asked for beyond that.
+/// Checks a transcript: for its verdict, or for what is asked for beyond that. A strict check of no entry differs.
 fn check_input(rt: &HostRuntime, matches: &ArgMatches) -> u8 {
     let asks = Asks {
         all: matches.get_flag("all"),
@@ -107,15 +133,23 @@ fn check_input(rt: &HostRuntime, matches: &ArgMatches) -> u8 {
         return READ_OR_WRITE_FAULT;
     };
     let mut output = open_output(rt);
-    let outcome = if asks.all || asks.reasons {
+    let is_strict = matches.get_flag("strict");
+    let (outcome, is_empty) = if asks.all || asks.reasons || is_strict {
         let mut reader = Noting::new(rt.alloc(), &mut input);
-        explain_script(rt.alloc(), &mut reader, &mut output, asks)
+        match explain_script(rt.alloc(), &mut reader, &mut output, asks) {
+            Ok(verdict) => (Ok(verdict.is_flat), verdict.entries == 0),
+            Err(fault) => (Err(fault), false),
+        }
     } else {
-        check_script(rt.alloc(), &mut input, &mut output)
+        (check_script(rt.alloc(), &mut input, &mut output), false)
     };
     let status = end(rt, matches, &input, &output, outcome);
     say_wrong_lines(rt, matches, Language::Transcript, &outcome);
-    status
+    let checks_nothing = is_strict && is_empty;
+    if checks_nothing {
+        let _ = eprintln!(rt; "{}: no entry was checked", input.name());
+    }
+    strict_status_of(status, !checks_nothing)
 }
 
 /// Lists the wrong lines of a script or a transcript, by the name of their file, or `-`.
@@ -134,7 +168,7 @@ fn lint(rt: &HostRuntime, matches: &ArgMatches) -> u8 {
     end_lint(rt, matches, &input, &output, outcome)
 }
 
-/// Hands frames to a destination.
+/// Hands frames to a destination. A strict command differs where one was refused.
 fn take_frames(rt: &HostRuntime, matches: &ArgMatches) -> u8 {
     let Some(cpus @ 1..=16) = matches.get_one::<u8>("cpus") else {
         return BAD_COMMAND_OR_SCRIPT;
@@ -144,7 +178,14 @@ fn take_frames(rt: &HostRuntime, matches: &ArgMatches) -> u8 {
     };
     let mut output = open_output(rt);
     let outcome = run_frames(rt.alloc(), &mut input, &mut output, cpus);
-    end_frames(rt, matches, &input, &output, outcome)
+    let status = end_frames(rt, matches, &input, &output, outcome);
+    match outcome {
+        Ok(refused @ 1..) if matches.get_flag("strict") => {
+            let _ = eprintln!(rt; "{}: refused frames: {refused}", input.name());
+            strict_status_of(status, false)
+        }
+        _ => status,
+    }
 }
 
 /// Draws the run of a script, by the name of its file, or `-`.

@@ -1,7 +1,8 @@
 //! `postmig` runs, checks, draws and explores scripts of steps on a model of post-copy live migration.
 //!
 //! - `postmig run` reads a script and writes one line for each step, or with `--transcript` one for each command that took effect. With
-//!   `--wire`, `--back` and `--urgent` files get what is put on the wires.
+//!   `--answers` it writes the script with these lines behind its own. With `--wire`, `--back` and `--urgent` files get what is put on
+//!   the wires.
 //! - `postmig finish` reads a script, and writes the lines that complete its migration.
 //! - `postmig check` reads such a transcript, and says whether it is that of one flat memory, or with `--explain` or `--all` what is
 //!   wrong with it.
@@ -9,7 +10,7 @@
 //! - `postmig frames` reads frames, and writes a destination's answer to each.
 //! - `postmig draw` runs a script, and writes a picture of the run.
 //! - `postmig explore` writes a random script.
-//! - `postmig test` runs scripts whose lines have answers, and names the answers that differ.
+//! - `postmig test` runs scripts whose lines have answers, and names the answers that differ, or with `--write` replaces them.
 //! - `postmig threads` reads nothing, runs a migration in threads, and writes a report.
 //!
 //! `docs/SCRIPT.md` defines scripts and transcripts, `docs/FORMATS.md` frames, `docs/EXPLORE.md` random scripts, and `docs/THREADS.md` a
@@ -22,6 +23,8 @@
 mod arguments;
 mod commands;
 mod input;
+mod reasons;
+mod renewal;
 mod status;
 mod streams;
 mod tally;

@@ -1,7 +1,7 @@
 //! The exit statuses of the program.
 
 ghost use Rattle.std.specs.Prelude.{◌≡◌, IfOk, IfErr, OnOk};
-ghost use Rattle.postmig.specs.Status.{answer_status, fault_status, frames_fault_status};
+ghost use Rattle.postmig.specs.Status.{answer_status, fault_status, frames_fault_status, strict_status};
 
 use engine::RunFault;
 use frames::FramesFault;
@@ -31,14 +31,27 @@ pub(crate) fn status_of(outcome: Result<bool, RunFault>) -> u8
 }
 
 /// The exit status of frames that were handed to a destination.
-pub(crate) fn frames_status_of(outcome: Result<(), FramesFault>) -> u8
+pub(crate) fn frames_status_of(outcome: Result<u64, FramesFault>) -> u8
     ensures ok { OnOk outcome (result ≡ 0) }
     ensures fault { IfErr outcome (λ fault. result ≡ frames_fault_status fault) }
 {
     match outcome {
-        Ok(()) => ALL_DONE,
+        Ok(_) => ALL_DONE,
         Err(FramesFault::Stream(_) | FramesFault::Truncated) => BAD_COMMAND_OR_SCRIPT,
         Err(FramesFault::ReadFault | FramesFault::WriteFault) => READ_OR_WRITE_FAULT,
         Err(FramesFault::NoMemory) => NO_MEMORY,
     }
+}
+
+/// The exit status of a strict command: its own, or if that is 0 and it has not checked what it had to, that of one that found a difference.
+pub(crate) fn strict_status_of(status: u8, is_met: bool) -> u8
+    ensures { result ≡ strict_status is_met status }
+{
+    if is_met {
+        return status;
+    }
+    if status > ALL_DONE {
+        return status;
+    }
+    NO_FLAT_RUN
 }

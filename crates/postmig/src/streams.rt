@@ -4,6 +4,7 @@ ghost use Rattle.std.specs.Prelude.{◌≡◌, IfOk, IfErr, OnOk};
 ghost use Rattle.postmig.specs.Status.{answer_status, fault_status, frames_fault_status, lint_status, tap_fault_status};
 
 use crate::input::Input;
+use crate::reasons::{gives_reasons, say_wrong_line, say_wrong_lines};
 use crate::status::{BAD_COMMAND_OR_SCRIPT, READ_OR_WRITE_FAULT, frames_status_of, status_of};
 use crate::tap::Tap;
 use crate::watched::{Watched, say_reason};
@@ -11,9 +12,8 @@ use clap::ArgMatches;
 use engine::RunFault;
 use frames::FramesFault;
 use grammar::Language;
-use lint::lint_lines;
 use std::fs::File;
-use std::io::{IsTerminal, Stdout};
+use std::io::Stdout;
 use wiretap::{Channel, TapFault, Taps};
 
 /// Opens the FILE of a command, or standard input. Says on standard error why a file cannot be opened.
@@ -49,38 +49,12 @@ pub(crate) fn open_output(rt: &HostRuntime) -> Watched<'static, Stdout> {
     Watched::new("standard output", rt.stdout())
 }
 
-/// Whether the reasons of faults are said: with `--explain`, or at a terminal. Programs compare all of standard error.
-fn gives_reasons(rt: &HostRuntime, matches: &ArgMatches) -> bool {
-    matches.get_flag("explain") || rt.stderr().is_terminal()
-}
-
-/// Says on standard error what is wrong with the lines of FILE, where a run or a check ended at one. Standard input cannot be read again.
-pub(crate) fn say_wrong_lines(
-    rt: &HostRuntime,
-    matches: &ArgMatches,
-    language: Language,
-    outcome: &Result<bool, RunFault>,
-) {
-    let Err(RunFault::Line(_)) = outcome else {
-        return;
-    };
-    let Some(name) = matches.get_str("file") else {
-        return;
-    };
-    if !gives_reasons(rt, matches) {
-        return;
-    }
-    if let Ok(mut file) = File::open(rt, name) {
-        let _ = lint_lines(rt.alloc(), &mut file, &mut rt.stderr(), name, language);
-    }
-}
-
 /// Why reading ended where no read failed.
 pub(crate) const TOO_MANY_READS: &str = "more than 4294967295 reads";
 
-/// Says on standard error why no more could be read.
+/// Says on standard error why no more could be read, always of a FILE.
 fn say_input(rt: &HostRuntime, matches: &ArgMatches, input: &Watched<'_, Input>) {
-    if gives_reasons(rt, matches) {
+    if matches.get_str("file").is_some() || gives_reasons(rt, matches) {
         let _ = input.say_why(rt, TOO_MANY_READS);
     }
 }
@@ -137,7 +111,7 @@ pub(crate) fn end_frames(
     matches: &ArgMatches,
     input: &Watched<'_, Input>,
     output: &Watched<'_, Stdout>,
-    outcome: Result<(), FramesFault>,
+    outcome: Result<u64, FramesFault>,
 ) -> u8
     ensures ok { OnOk outcome (result ≡ 0) }
     ensures fault { IfErr outcome (λ fault. result ≡ frames_fault_status fault) }
@@ -182,5 +156,27 @@ pub(crate) fn end_tapped(
             let _ = tap.say_why(rt, "no byte was taken");
             READ_OR_WRITE_FAULT
         }
+    }
+}
+
+/// Says on standard error why a test could not be run to its end, and returns its status. A fault that ends all tests is returned.
+pub(crate) fn end_test(
+    rt: &HostRuntime,
+    name: &str,
+    input: &Watched<'_, Input>,
+    fault: RunFault,
+) -> Result<u8, RunFault> {
+    match fault {
+        RunFault::Line(line) => {
+            let _ = eprintln!(rt; "{name}:{line}: not a line of a test");
+            say_wrong_line(rt, name, line);
+            Ok(BAD_COMMAND_OR_SCRIPT)
+        }
+        RunFault::ReadFault => {
+            let _ = eprintln!(rt; "{}", RunFault::ReadFault);
+            let _ = input.say_why(rt, TOO_MANY_READS);
+            Ok(READ_OR_WRITE_FAULT)
+        }
+        RunFault::WriteFault | RunFault::NoMemory => Err(fault),
     }
 }

@@ -4,12 +4,13 @@ ghost use Rattle.std.specs.Prelude.{◌≡◌, ◌≤◌, OnOk, IfErr};
 ghost use Rattle.postmig.specs.Status.{tally_status, fault_status};
 
 use crate::input::Input;
+use crate::renewal::renew_files;
 use crate::status::{ALL_DONE, BAD_COMMAND_OR_SCRIPT, NO_FLAT_RUN, READ_OR_WRITE_FAULT, status_of};
-use crate::streams::{TOO_MANY_READS, open_file, open_output, standard_input};
+use crate::streams::{end_test, open_file, open_output, standard_input};
 use crate::watched::Watched;
 use clap::ArgMatches;
 use engine::RunFault;
-use expected::{Outcome, test_script};
+use expected::{Outcome, Tested, test_script};
 use std::io::{Stdout, Write};
 
 /// What messages call standard input.
@@ -18,9 +19,15 @@ const STANDARD: &str = "-";
 /// The files that were tested.
 #[derive(Drop)]
 struct Tally {
+    /// Whether an answer has to be compared in each.
+    is_strict: bool,
     files: u32,
-    /// Those with an answer that differs.
+    /// The answers that were compared in them. A file with a fault has none.
+    answers: u64,
+    /// The files with an answer that differs.
     differ: u32,
+    /// The files in which no answer was compared although one had to be.
+    unchecked: u32,
     /// The status of the first file that could not be tested to its end, or 0.
     fault: u8,
 }
@@ -33,29 +40,16 @@ impl Tally {
         }
     }
 
-    /// Counts the outcome of a file of this name. A file with a fault is named on standard error; one that ends all tests is returned.
-    fn count(
-        &mut self,
-        rt: &HostRuntime,
-        name: &str,
-        input: &Watched<'_, Input>,
-        outcome: Result<Outcome, RunFault>,
-    ) -> Result<(), RunFault> {
-        match outcome {
-            Ok(Outcome::Same) => {}
-            Ok(Outcome::Differs) => self.differ = self.differ.saturating_add(1),
-            Err(RunFault::Line(line)) => {
-                let _ = eprintln!(rt; "{name}:{line}: not a line of a test");
-                self.note(BAD_COMMAND_OR_SCRIPT);
-            }
-            Err(RunFault::ReadFault) => {
-                let _ = eprintln!(rt; "{}", RunFault::ReadFault);
-                let _ = input.say_why(rt, TOO_MANY_READS);
-                self.note(READ_OR_WRITE_FAULT);
-            }
-            Err(fault) => return Err(fault),
+    /// Counts a file of this name that was tested. It is named on standard error where no answer was compared although one had to be.
+    fn count(&mut self, rt: &HostRuntime, name: &str, tested: Tested) {
+        self.answers = self.answers.saturating_add(tested.answers);
+        if let Outcome::Differs = tested.outcome {
+            self.differ = self.differ.saturating_add(1);
         }
-        Ok(())
+        if self.is_strict && tested.answers == 0 {
+            let _ = eprintln!(rt; "{name}: no answer was compared");
+            self.unchecked = self.unchecked.saturating_add(1);
+        }
     }
 
     /// Tests a file that is open.
@@ -71,8 +65,14 @@ impl Tally {
         requires high { cpus ≤ 16 }
     {
         self.files = self.files.saturating_add(1);
-        let outcome = test_script(rt.alloc(), &mut input, output, name, cpus);
-        self.count(rt, name, &input, outcome)
+        match test_script(rt.alloc(), &mut input, output, name, cpus) {
+            Ok(tested) => self.count(rt, name, tested),
+            Err(fault) => {
+                let status = end_test(rt, name, &input, fault)?;
+                self.note(status);
+            }
+        }
+        Ok(())
     }
 
     /// Tests each of the files, one after the other.
@@ -98,36 +98,47 @@ impl Tally {
         Ok(())
     }
 
-    /// Writes how many files were tested, and how many differ.
+    /// Writes how many files were tested, how many answers were compared, and how many files differ.
     fn write_counts(&self, output: &mut Watched<'_, Stdout>) -> Result<(), RunFault> {
         let files = self.files;
+        let answers = self.answers;
         let differ = self.differ;
-        match write!(output, "{files} files, {differ} differ\n") {
+        match write!(
+            output,
+            "{files} files, {answers} answers, {differ} differ\n"
+        ) {
             Ok(()) => Ok(()),
             Err(_) => Err(RunFault::WriteFault),
         }
     }
 
-    /// The exit status: whether any file differs, or the fault of the first that has one.
+    /// The exit status: whether any file differs or was to be compared and was not, or the fault of the first that has one.
     fn status(&self) -> u8
-        ensures { result ≡ tally_status self.now.differ self.now.fault }
+        ensures { result ≡ tally_status self.now.differ self.now.unchecked self.now.fault }
     {
-        if self.differ > 0 {
+        if self.differ > 0 || self.unchecked > 0 {
             return NO_FLAT_RUN;
         }
         self.fault
     }
 }
 
-/// Tests each FILE of a command, or standard input. Names each that differs or has a fault, and says how many differ.
+/// Tests each FILE of a command, or standard input. Names each that differs or has a fault, and says how many differ. With `--write` it
+/// replaces the answers of each FILE instead.
 pub(crate) fn test(rt: &HostRuntime, matches: &ArgMatches) -> u8 {
     let Some(cpus @ 1..=16) = matches.get_one::<u8>("cpus") else {
         return BAD_COMMAND_OR_SCRIPT;
     };
     let mut output = open_output(rt);
+    if matches.get_flag("write") {
+        return renew_files(rt, matches, &mut output, cpus);
+    }
     let mut tally = Tally {
+        is_strict: matches.get_flag("strict"),
         files: 0,
+        answers: 0,
         differ: 0,
+        unchecked: 0,
         fault: ALL_DONE,
     };
     let tested = match matches.get_strs("file") {

@@ -3,9 +3,10 @@
 use crate::watched::{Watched, say_reason};
 use clap::ArgMatches;
 use engine::RunFault;
-use std::fs::File;
-use std::io;
+use std::fs::{File, Metadata};
 use std::io::Write;
+use std::os::unix::fs::MetadataExt;
+use std::{fs, io};
 use wiretap::Taps;
 
 /// A file that was made, or none, which takes every byte and keeps none.
@@ -31,11 +32,35 @@ impl Write for Tap {
     }
 }
 
+/// The options that name these files.
+const OPTIONS: &[&str] = &["wire", "back", "urgent"];
+
 /// Whether a run has a file for one of its wires.
 pub(crate) fn has_taps(matches: &ArgMatches) -> bool {
-    ["wire", "back", "urgent"]
-        .iter()
-        .any(|name| matches.get_str(name).is_some())
+    OPTIONS.iter().any(|name| matches.get_str(name).is_some())
+}
+
+/// Whether both are one regular file.
+fn is_one_file(one: &Metadata, other: &Metadata) -> bool {
+    one.is_file() && other.is_file() && one.dev() == other.dev() && one.ino() == other.ino()
+}
+
+/// The name of a file for a wire that is the file from which the script is read.
+fn tap_on_input<'a>(rt: &HostRuntime, matches: &ArgMatches<'a>) -> Option<&'a str> {
+    let input = matches.get_str("file").unwrap_or("/dev/stdin");
+    let Ok(input) = fs::metadata(rt, input) else {
+        return None;
+    };
+    for option in OPTIONS {
+        let Some(name) = matches.get_str(option) else {
+            continue;
+        };
+        match fs::metadata(rt, name) {
+            Ok(found) if is_one_file(&input, &found) => return Some(name),
+            _ => {}
+        }
+    }
+    None
 }
 
 /// Makes the file of one of these options. Says on standard error why it cannot be made.
@@ -57,11 +82,16 @@ fn make_tap<'a>(
     }
 }
 
-/// Makes the files of all three wires.
+/// Makes the files of all three wires. Makes none, and says so, if one of them is the file from which the script is read.
 pub(crate) fn make_taps<'a>(
     rt: &HostRuntime,
     matches: &ArgMatches<'a>,
 ) -> Option<Taps<Watched<'a, Tap>>> {
+    if let Some(name) = tap_on_input(rt, matches) {
+        let _ = eprintln!(rt; "{}", RunFault::WriteFault);
+        let _ = eprintln!(rt; "{name}: the script is read from this file");
+        return None;
+    }
     Some(Taps {
         forward: make_tap(rt, matches, "wire")?,
         back: make_tap(rt, matches, "back")?,

@@ -22,6 +22,11 @@ impl<'a, S> Watched<'a, S> {
         }
     }
 
+    /// What messages call it.
+    pub(crate) fn name(&self) -> &'a str {
+        self.name
+    }
+
     fn note(&mut self, answer: &io::Result<usize>) {
         if let Err(error) = answer {
             self.error = Some(*error);

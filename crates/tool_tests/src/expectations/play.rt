@@ -1,7 +1,7 @@
 //! Playing a test in pieces: how it ends, and what it wrote.
 
 use engine::RunFault;
-use expected::{Outcome, answer_script, test_script};
+use expected::{Outcome, Renewed, answer_script, renew_answers, test_script};
 use std::alloc::{AllocError, Global};
 use std::process::Abort;
 use std::test::Fail;
@@ -35,12 +35,16 @@ pub fn room(alloc: Global) -> Result<Vec<u8>, AllocError> {
     }
 }
 
-/// How a test named `t` of two processors ends, and what it wrote.
-fn tested_once(
-    alloc: Global,
-    script: &[u8],
-    how: How,
-) -> Result<(Result<Outcome, RunFault>, Vec<u8>), AllocError> {
+/// How a test ends, how many answers it says were compared, and what it wrote. A test that ends with a fault says no number.
+#[derive(Drop)]
+pub struct Ended {
+    pub outcome: Result<Outcome, RunFault>,
+    pub answers: u64,
+    pub written: Vec<u8>,
+}
+
+/// How a test named `t` of two processors ends.
+fn tested_once(alloc: Global, script: &[u8], how: How) -> Result<Ended, AllocError> {
     let mut reader = Pieces {
         bytes: script,
         size: how.size,
@@ -53,8 +57,15 @@ fn tested_once(
         writes: 0,
         most: MOST,
     };
-    let outcome = test_script(alloc, &mut reader, &mut writer, "t", 2);
-    Ok((outcome, writer.bytes))
+    let (outcome, answers) = match test_script(alloc, &mut reader, &mut writer, "t", 2) {
+        Ok(tested) => (Ok(tested.outcome), tested.answers),
+        Err(fault) => (Err(fault), 0),
+    };
+    Ok(Ended {
+        outcome,
+        answers,
+        written: writer.bytes,
+    })
 }
 
 /// The same. It is played again if memory is refused; nothing was written then.
@@ -63,13 +74,13 @@ pub fn tested(
     alloc: Global,
     script: &[u8],
     how: How,
-) -> Result<(Result<Outcome, RunFault>, Vec<u8>), Fail> {
-    let (outcome, written) = tested_once(alloc, script, how)?;
-    if outcome == Err(RunFault::NoMemory) {
-        assert!(rt; written.is_empty());
+) -> Result<Ended, Fail> {
+    let ended = tested_once(alloc, script, how)?;
+    if ended.outcome == Err(RunFault::NoMemory) {
+        assert!(rt; ended.written.is_empty());
         return Ok(tested_once(alloc, script, how)?);
     }
-    Ok((outcome, written))
+    Ok(ended)
 }
 
 /// How the making of a test ends, and what it wrote. It is made again if memory is refused.
@@ -99,19 +110,38 @@ pub fn answered(
     Ok((outcome, writer.bytes))
 }
 
-/// Plays a test in one read, and a byte at a time: it ends so, and writes this.
+/// A test with new answers, or why there is none. It is made again if memory is refused.
+pub fn renewed(alloc: Global, script: &[u8]) -> Result<Renewed, RunFault> {
+    let mut reader = Pieces {
+        bytes: script,
+        size: MOST,
+        fails_at: 0,
+        reads: 0,
+    };
+    match renew_answers(alloc, &mut reader, 2) {
+        Err(RunFault::NoMemory) => {
+            reader.bytes = script;
+            renew_answers(alloc, &mut reader, 2)
+        }
+        made => made,
+    }
+}
+
+/// Plays a test in one read, and a byte at a time: it ends so, compares this number of answers, and writes this.
 pub fn look(
     rt: &impl Abort,
     alloc: Global,
     script: &[u8],
     wanted: Result<Outcome, RunFault>,
+    answers: u64,
     written: &[u8],
 ) -> Result<(), Fail> {
     for size in [MOST, 1] {
         let how = How { size, ..WHOLE };
-        let (outcome, text) = tested(rt, alloc, script, how)?;
-        assert_eq!(rt; outcome, wanted);
-        assert_eq!(rt; text.as_slice(), written);
+        let ended = tested(rt, alloc, script, how)?;
+        assert_eq!(rt; ended.outcome, wanted);
+        assert_eq!(rt; ended.answers, answers);
+        assert_eq!(rt; ended.written.as_slice(), written);
     }
     Ok(())
 }

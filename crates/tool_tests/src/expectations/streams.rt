@@ -18,9 +18,9 @@ fn failing_reads(rt: HostRuntime) -> Result<(), Fail> {
             read_fails_at,
             ..WHOLE
         };
-        let (outcome, written) = tested(&rt, rt.alloc(), TEST, how)?;
-        assert_eq!(rt; outcome, Err(RunFault::ReadFault));
-        assert!(rt; written.is_empty());
+        let ended = tested(&rt, rt.alloc(), TEST, how)?;
+        assert_eq!(rt; ended.outcome, Err(RunFault::ReadFault));
+        assert!(rt; ended.written.is_empty());
         let (made, text) = answered(rt.alloc(), TEST, how)?;
         assert_eq!(rt; made, Err(RunFault::ReadFault));
         assert!(rt; text.is_empty());
@@ -30,9 +30,9 @@ fn failing_reads(rt: HostRuntime) -> Result<(), Fail> {
         read_fails_at: 55,
         ..WHOLE
     };
-    let (outcome, written) = tested(&rt, rt.alloc(), TEST, how)?;
-    assert_eq!(rt; outcome, Ok(Outcome::Differs));
-    assert_eq!(rt; written.as_slice(), REPORT);
+    let ended = tested(&rt, rt.alloc(), TEST, how)?;
+    assert_eq!(rt; ended.outcome, Ok(Outcome::Differs));
+    assert_eq!(rt; ended.written.as_slice(), REPORT);
     Ok(())
 }
 
@@ -45,11 +45,11 @@ fn failing_writes(rt: HostRuntime) -> Result<(), Fail> {
             write_fails_at,
             ..WHOLE
         };
-        let (outcome, written) = tested(&rt, rt.alloc(), TEST, how)?;
-        assert_eq!(rt; outcome, Err(RunFault::WriteFault));
-        assert_eq!(rt; written.len(), front);
-        assert!(rt; REPORT.starts_with(&written));
-        front = written.len().saturating_add(1);
+        let ended = tested(&rt, rt.alloc(), TEST, how)?;
+        assert_eq!(rt; ended.outcome, Err(RunFault::WriteFault));
+        assert_eq!(rt; ended.written.len(), front);
+        assert!(rt; REPORT.starts_with(&ended.written));
+        front = ended.written.len().saturating_add(1);
     }
     Ok(())
 }

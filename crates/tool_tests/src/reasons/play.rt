@@ -70,7 +70,10 @@ fn played(
         Call::Lint(language) => lint_lines(alloc, &mut reader, &mut writer, "s", language),
         Call::Explain(asks) => {
             let mut reader = Noting::new(alloc, reader_of(case));
-            explain_script(alloc, &mut reader, &mut writer, asks)
+            match explain_script(alloc, &mut reader, &mut writer, asks) {
+                Ok(verdict) => Ok(verdict.is_flat),
+                Err(fault) => Err(fault),
+            }
         }
     };
     Ok((answer, writer, reader.reads))

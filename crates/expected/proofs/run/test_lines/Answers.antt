@@ -7,7 +7,7 @@ use Rattle.expected.proofs.run.test_lines.Goals as goal
 
 pub returns-in-Ok-eq0-clause-ok : goal.returns-in-Ok-eq0-clause-ok
 returns-in-Ok-eq0-clause-ok g c =
-    finished c.finish.result c.args.name.now _ _ _ _ c.args.tester.now c.loop.tester c.loop.invariant.ran (at_end _ _ _ c.read.new.buf c.in-Ok-eq0.field-0-test (search rules) c.in-Ok-eq0.ensures.bytes) c.finish.ensures.ok
+    finished c.finish.result c.args.name.now _ _ _ _ _ c.args.tester.now c.loop.tester c.loop.invariant.ran (at_end _ _ _ c.read.new.buf c.in-Ok-eq0.field-0-test (search rules) c.in-Ok-eq0.ensures.bytes) c.finish.ensures.ok
 
 pub returns-in-Ok-eq0-clause-fault : goal.returns-in-Ok-eq0-clause-fault
 returns-in-Ok-eq0-clause-fault g c =
@@ -20,7 +20,7 @@ returns-in_err-feed-in-Ok-clause-fault g c =
 
 pub returns-in-Differs-clause-ok : goal.returns-in-Differs-clause-ok
 returns-in-Differs-clause-ok g c = λ cpus ran.
-    from_unmet c.args.name.now cpus _ _ _ _ _ c.loop.tester (c.loop.invariant.ran cpus ran) c.in-Ok.ensures.bytes.0 ((rw c.in-Differs.is at c.in_ok-feed-in-Ok.ensures.ok) cpus)
+    from_unmet c.args.name.now cpus _ _ _ _ _ _ c.loop.tester (c.loop.invariant.ran cpus ran) c.in-Ok.ensures.bytes.0 ((rw c.in-Differs.is at c.in_ok-feed-in-Ok.ensures.ok) cpus)
 
 pub returns-in-Err-clause-fault : goal.returns-in-Err-clause-fault
 returns-in-Err-clause-fault g c = λ cpus ran. from_read_fault cpus _ _ _ c.loop.tester (c.loop.invariant.ran cpus ran) c.in-Err.ensures.bytes

@@ -1,4 +1,4 @@
-use Rattle.std.proofs.Common.{ℕ, List, ap, sym, subst}
+use Rattle.std.proofs.Common.{ℕ, List, length, ap, sym, subst}
 use Rattle.std.specs.Prelude.{string_bytes}
 use Rattle.std.proofs.lemmas.Result.{err_from_is_err_and}
 use Rattle.mig_base.specs.declared.command.Entry.{Entry}
@@ -33,7 +33,7 @@ returns-in_err-write_out-clause-fault g c =
     let end = c.read_lines.new.script.work in
     let answer = c.in_ok-answer.answer in
     let kept : IsReport c.args.asks (kept_entries end) answer (string_bytes c.write_report.new.text) =
-    subst (λ (es : List Entry). IsReport c.args.asks es answer (string_bytes c.write_report.new.text)) c.entries.ensures c.in_ok-answer.ensures in
+    subst (λ (es : List Entry). IsReport c.args.asks es answer (string_bytes c.write_report.new.text)) c.entries-entries.ensures c.in_ok-answer.ensures in
     let report : IsReport c.args.asks (kept_entries end) answer c.as_bytes.result.now = subst (λ (t : List ℕ). IsReport c.args.asks (kept_entries end) answer t) (sym c.as_bytes.ensures.value) kept in
     rw (p.1, p.2, c.in_err-write_out.ensures.fault)
     (explain_unwritten c.args.asks _ end _ _ _ _ answer c.as_bytes.result.now (reads_from c.args.script.now.work nothing_kept _ _ _ _ _ is c.in_ok-read_lines.ensures.ok) report c.in_err-write_out.ensures.front)
@@ -44,6 +44,7 @@ returns-clause-ok g c =
     let end = c.read_lines.new.script.work in
     let answer = c.in_ok-answer.answer in
     let kept : IsReport c.args.asks (kept_entries end) answer (string_bytes c.write_report.new.text) =
-    subst (λ (es : List Entry). IsReport c.args.asks es answer (string_bytes c.write_report.new.text)) c.entries.ensures c.in_ok-answer.ensures in
+    subst (λ (es : List Entry). IsReport c.args.asks es answer (string_bytes c.write_report.new.text)) c.entries-entries.ensures c.in_ok-answer.ensures in
     let report : IsReport c.args.asks (kept_entries end) answer c.as_bytes.result.now = subst (λ (t : List ℕ). IsReport c.args.asks (kept_entries end) answer t) (sym c.as_bytes.ensures.value) kept in
-    explain_done c.args.asks _ end _ _ _ _ answer c.as_bytes.result.now (reads_from c.args.script.now.work nothing_kept _ _ _ _ _ is c.in_ok-read_lines.ensures.ok) report c.in_ok-write_out.ensures.ok
+    explain_done c.args.asks _ end _ _ _ _ answer _ c.as_bytes.result.now (reads_from c.args.script.now.work nothing_kept _ _ _ _ _ is c.in_ok-read_lines.ensures.ok) (ap length c.entries-entries.ensures) report
+    c.in_ok-write_out.ensures.ok

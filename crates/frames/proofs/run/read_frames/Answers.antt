@@ -7,7 +7,7 @@ use Rattle.frames.proofs.run.read_frames.Goals as goal
 pub returns-in-Ok-eq0-clause-ok : goal.returns-in-Ok-eq0-clause-ok
 returns-in-Ok-eq0-clause-ok g c =
     let end = at_end _ _ _ c.read.new.buf c.in-Ok-eq0.field-0-test (search rules) c.in-Ok-eq0.ensures.bytes in
-    ran_finished c.finish.result c.args.frames.now.taker.destination c.loop.frames c.finish.new.self _ _ _ _ _ _ c.loop.invariant.ran end.0 end.1 c.finish.ensures.ok
+    ran_finished c.finish.result c.args.frames.now.taker.destination c.loop.frames c.finish.new.self _ _ _ _ _ _ c.loop.invariant.ran end.0 end.1 c.finish.ensures.ok c.finish.ensures.refused
 
 pub returns-in-Ok-eq0-clause-fault : goal.returns-in-Ok-eq0-clause-fault
 returns-in-Ok-eq0-clause-fault g c =

@@ -1,4 +1,4 @@
-use Rattle.std.proofs.Common.{refl}
+use Rattle.std.proofs.Common.{refl, arith}
 use Rattle.expected.specs.Cases.{Cpus}
 use Rattle.expected.proofs.Settings.{wrong_cpus}
 use Rattle.expected.proofs.player.Player.run_line.Goals as goal
@@ -12,4 +12,5 @@ returns-in_ok-self-in-Count-clause-ok c = record {
   says = (c.if-number-ne1.false, rw c.in-Count.is at c.in_ok-setting_of.ensures);
   does = (c.in_ok-self-in-Count.ensures.ok, c.clear.ensures.bytes);
   meets = tt;
+  counts = λ few. omega arith;
 }

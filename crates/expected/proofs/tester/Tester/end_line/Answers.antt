@@ -1,4 +1,4 @@
-use Rattle.std.proofs.Common.{◌++◌, ◌∷◌, [], refl, ap, ◌∙◌, append_assoc}
+use Rattle.std.proofs.Common.{◌+◌, ◌<◌, ◌^◌, ◌++◌, ◌∷◌, [], refl, ap, ◌∙◌, append_assoc, arith}
 use Rattle.std.specs.Str.Lines.{strip_carriage_return}
 use Rattle.std.proofs.lemmas.Result.{err_from_is_err_and}
 use Rattle.expected.proofs.Pieces.{line_after, line_fault, after_at, fault_more, fault_at}
@@ -21,5 +21,6 @@ returns-in_err-outcome-clause-fault c =
 pub returns-clause-ok : goal.returns-clause-ok
 returns-clause-ok c = λ cpus front ran.
     let text = c.without_return-text.ensures ∙ ap strip_carriage_return c.deref.ensures.value in
+    let few : c.hold.new.self.number + 1 < 2 ^ 64 = omega arith in
     after_at c.args.name.now cpus ((front ++ c.args.bytes.now) ++ 10 ∷ []) (front ++ (c.args.bytes.now ++ 10 ∷ [])) _ _ (append_assoc front c.args.bytes.now (10 ∷ []))
-    (line_after c.args.name.now cpus (front ++ c.args.bytes.now) c.hold.new.self _ _ _ c.clear.ensures.items refl (c.in_ok-hold.ensures.ok cpus front ran) (rw text at c.in_ok-outcome.ensures.ok))
+    (line_after c.args.name.now cpus (front ++ c.args.bytes.now) c.hold.new.self _ _ c.clear.ensures.items refl few (c.in_ok-hold.ensures.ok cpus front ran) (rw text at c.in_ok-outcome.ensures.ok))

@@ -14,7 +14,7 @@ returns-in_err-end_line-clause-fault c =
 pub returns-in-Differs-clause-ok : goal.returns-in-Differs-clause-ok
 returns-in-Differs-clause-ok c = λ cpus front ran.
     let fed = c.loop-front.invariant.fed cpus front ran in
-    fed_unmet c.args.name.now cpus front c.args.bytes.now c.loop-front.rest.now c.in-Some.front.now c.in-Some.behind.now _ c.loop-front.self fed c.in-Some.ensures.whole
+    fed_unmet c.args.name.now cpus front c.args.bytes.now c.loop-front.rest.now c.in-Some.front.now c.in-Some.behind.now _ _ c.loop-front.self fed c.in-Some.ensures.whole
     ((rw c.in-Differs.is at c.in_ok-end_line.ensures.ok) cpus _ fed.ran)
 
 pub loop-front-preserved : goal.loop-front-preserved

@@ -11,7 +11,7 @@ returns-then-is_empty-clause-ok c = λ cpus input ran.
 pub returns-clause-ok : goal.returns-clause-ok
 returns-clause-ok c =
     let some : 0 < length c.args.self.now.line.items = grind arith in
-    last_ok c.run_line.result c.args.name.now c.args.self.now _ _ _ some (rw c.deref.ensures.value at c.run_line.ensures.ok)
+    last_ok c.run_line.result c.args.name.now c.args.self.now _ some c.requires (rw c.deref.ensures.value at c.run_line.ensures.ok)
 
 pub returns-clause-fault : goal.returns-clause-fault
 returns-clause-fault c =

@@ -11,7 +11,7 @@ returns-in_err-write_output-clause-fault g c =
 
 pub returns-clause-ok : goal.returns-clause-ok
 returns-clause-ok g c =
-    piece_passes c.feed-fed.result c.args.self.now c.feed-fed.new.self _ c.args.piece.now _ _ c.requires.clean c.feed-fed.ensures.ok refl c.in_ok-write_output.ensures.same c.in_ok-write_output.ensures.ok
+    piece_passes c.feed-fed.result c.args.self.now c.feed-fed.new.self _ c.args.piece.now _ _ c.requires.clean c.feed-fed.ensures.ok refl c.in_ok-write_output.ensures.same c.in_ok-write_output.ensures.refused c.in_ok-write_output.ensures.ok
 
 pub returns-clause-fault : goal.returns-clause-fault
 returns-clause-fault g c =

@@ -13,13 +13,13 @@ take-requires c =
 
 pub loop-epoch-preserved : goal.loop-epoch-preserved
 loop-epoch-preserved c =
-    handed_one c.args.self.now.destination c.args.self.now.output.items c.loop-epoch.yielded c.loop-epoch.self.destination c.take.new.self.destination _ _ (c.in-Some.epoch, c.in-Some.frame) c.loop-epoch.invariant
-    c.in_ok-take.ensures.destination c.in_ok-take.ensures.line
+    handed_one c.args.self.now.destination c.args.self.now.output.items c.args.self.now.refused c.loop-epoch.yielded c.loop-epoch.self.destination c.take.new.self.destination _ _ _ _ (c.in-Some.epoch, c.in-Some.frame)
+    c.loop-epoch.invariant c.in_ok-take.ensures.destination c.in_ok-take.ensures.line c.in_ok-take.ensures.count
 
 pub returns-in_err-take-clause-err : goal.returns-in_err-take-clause-err
 returns-in_err-take-clause-err c =
     let p = err_from_is_err_and c.from_residual.result c.from_residual.ensures.1 in
     rw p.1
-    (handed_some c.args.self.now.destination c.args.self.now.output.items c.args.frames.items c.loop-epoch.yielded c.loop-epoch.self.destination _ _
+    (handed_some c.args.self.now.destination c.args.self.now.output.items c.args.self.now.refused c.args.frames.items c.loop-epoch.yielded c.loop-epoch.self.destination _ _ _
     (YieldsList-so_far (YieldsList-from_vec {s = c.into_iter-epoch-iterator.result} c.args.frames.items (search rules) (search rules)) c.loop-epoch.yielded c.loop-epoch.epoch-iterator c.loop-epoch.yielded_by)
     c.loop-epoch.invariant c.in_err-take.ensures.err)

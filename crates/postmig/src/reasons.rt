@@ -1,0 +1,128 @@
+//! What is wrong with the line at which a command ended.
+
+use clap::ArgMatches;
+use engine::RunFault;
+use engine::script_reader::{MAX_LINE, split_line, without_return};
+use expected::order_part;
+use grammar::Language;
+use grammar::parse::parse;
+use lint::{lint_lines, reason_of};
+use std::fs::File;
+use std::io::{IsTerminal, Read, Stderr, Write};
+use std::{fs, io};
+
+/// What is wrong with a line of a test where a comment or nothing stands in place of its order.
+const NO_ORDER: &str = "no order stands before the answer, or N of `# cpus N` is not 1 to 16";
+
+/// A writer of one line on standard error. It takes no byte behind that line.
+#[derive(Drop)]
+struct OneLine {
+    stderr: Stderr,
+    has_ended: bool,
+}
+
+impl Write for OneLine {
+    fn write(&mut self, buf: &[u8]) -> io::Result<usize> {
+        if self.has_ended {
+            return Ok(0);
+        }
+        let Some((line, _)) = split_line(buf) else {
+            return self.stderr.write(buf);
+        };
+        let end = line.len().saturating_add(1).min(buf.len());
+        let count = self.stderr.write(&buf[..end])?;
+        self.has_ended = count == end;
+        Ok(count)
+    }
+
+    fn flush(&mut self) -> io::Result<()> {
+        self.stderr.flush()
+    }
+}
+
+/// Whether the reasons of all faults are said: with `--explain`, or at a terminal. Otherwise they are said of a FILE alone, so that a
+/// program that names none can compare all of standard error.
+pub(crate) fn gives_reasons(rt: &HostRuntime, matches: &ArgMatches) -> bool {
+    matches.get_flag("explain") || rt.stderr().is_terminal()
+}
+
+/// Opens a FILE once more. None if it is not a regular file: what a pipe had is gone.
+fn open_again(rt: &HostRuntime, name: &str) -> Option<File> {
+    match fs::metadata(rt, name) {
+        Ok(found) if found.is_file() => File::open(rt, name).ok(),
+        _ => None,
+    }
+}
+
+/// Says on standard error what is wrong with the first wrong line of FILE, where a run or a check ended at one; with `--explain` and at a
+/// terminal it says so of all of them.
+pub(crate) fn say_wrong_lines(
+    rt: &HostRuntime,
+    matches: &ArgMatches,
+    language: Language,
+    outcome: &Result<bool, RunFault>,
+) {
+    let Err(RunFault::Line(_)) = outcome else {
+        return;
+    };
+    let Some(name) = matches.get_str("file") else {
+        return;
+    };
+    let Some(mut file) = open_again(rt, name) else {
+        return;
+    };
+    if gives_reasons(rt, matches) {
+        let _ = lint_lines(rt.alloc(), &mut file, &mut rt.stderr(), name, language);
+        return;
+    }
+    let mut one = OneLine {
+        stderr: rt.stderr(),
+        has_ended: false,
+    };
+    let _ = lint_lines(rt.alloc(), &mut file, &mut one, name, language);
+}
+
+/// The text of the line with this number, counted from 1.
+fn line_at(text: &[u8], number: u64) -> Option<&[u8]> {
+    let mut rest = text;
+    for _ in 1..number {
+        let (_, behind) = split_line(rest)?;
+        rest = behind;
+    }
+    match split_line(rest) {
+        Some((raw, _)) => Some(without_return(raw)),
+        None => Some(rest),
+    }
+}
+
+/// Says on standard error what is wrong with a line of a test.
+fn say_reason(rt: &HostRuntime, name: &str, number: u64, line: &[u8]) -> io::Result<()> {
+    let order = if line.len() > MAX_LINE {
+        line
+    } else {
+        order_part(line)
+    };
+    let mut tokens = Vec::new(rt.alloc());
+    match parse(Language::Script, &mut tokens, order) {
+        Ok(Some(_)) => eprintln!(rt; "{name}:{number}:1: {NO_ORDER}"),
+        _ => {
+            let reason = reason_of(order, Language::Script);
+            let column = reason.column;
+            eprintln!(rt; "{name}:{number}:{column}: {reason}")
+        }
+    }
+}
+
+/// Says on standard error what is wrong with the line of a FILE at which a test ended.
+pub(crate) fn say_wrong_line(rt: &HostRuntime, name: &str, number: u64) {
+    let Some(mut file) = open_again(rt, name) else {
+        return;
+    };
+    let mut text = Vec::new(rt.alloc());
+    if file.read_to_end(&mut text).is_err() {
+        return;
+    }
+    if let Some(line) = line_at(&text, number) {
+        let _ = say_reason(rt, name, number, line);
+    }
+}
