@@ -1,13 +1,17 @@
 #!/usr/bin/env python3
 """Explores with many seeds, judges each script by the other commands, and counts what happened in them.
 
-python3 bench/explore.py [SEEDS] [--first SEED] [--steps N] [--cpus C] [--pages M] [--finish] [--program PATH] [--scripts FILE] [--write]
+python3 bench/explore.py [SEEDS] [--first SEED] [--steps N] [--cpus C] [--pages M] [--finish] [--least N] [--program PATH] [--scripts FILE]
+        [--write]
 
 For each seed from SEED on (1), SEEDS of them (20), and for each profile: `postmig explore` writes a script with its answers. The same
 without answers has the same lines; `postmig run` prints the answers; `postmig check` accepts the transcript of the run. Its status is 1
 where one of these does not hold. Then it prints tables of what happened. Run it once ./postmig prove has built the program. With --finish
 each script ends with the lines that finish it, and its migration has to be complete. With --scripts it judges scripts with answers that
-stand in a file, one behind the other, and runs no `postmig explore`. With --write the tables go to docs/EXPLORE.md.
+stand in a file, one after the other, and runs no `postmig explore`. With --write the tables go to docs/EXPLORE.md.
+
+A script shows a destination that installs zeros for every page if one of its loads returns other bytes than 0 that were installed: there
+it would return 0 for them. With --least the status is also 1 where fewer than N of 100 scripts of a profile with post-copy show it.
 """
 
 import argparse
@@ -18,11 +22,13 @@ import re
 import subprocess
 import sys
 
+import guest
 import page
 from bench import PROGRAM
 
 FILE = page.TOP / "docs" / "EXPLORE.md"
 PROFILES = ("commands", "precopy", "postcopy", "moves", "breaks", "urgent", "bytes", "runs", "all")
+POSTCOPY = PROFILES[2:]
 PHASES = ("precopy", "switching", "postcopy")
 GIVES = " => "
 NUMBER = re.compile(r"0x[0-9a-f]+|\b\d+\b")
@@ -90,6 +96,7 @@ class Course:
         words = line.split()
         step = f"{words[0]} {words[2]}" if words[0] == "cpu" else words[0]
         self.events["lines"] += 1
+        self.events[BETWEEN] += self.phase == "postcopy"
         if answer.startswith("refused "):
             self.refusals[step, answer.split()[1]] += 1
             return
@@ -161,7 +168,7 @@ class Course:
             self.resuming.discard("source")
             if answer.startswith("took recv notrun") and self.phase == "switching":
                 self.send(self.forward, 2)
-        if answer == "took done":
+        if answer == "took done" or answer.startswith("took recv ended"):
             self.phase = "complete"
             self.events["migrations that completed"] += 1
 
@@ -183,11 +190,16 @@ class Course:
 
 def counted(text):
     """What happened in a script."""
-    course = Course()
+    course, memory = Course(), guest.Guest()
     _, lines, answers = split(text)
-    for line, answer in zip(lines, answers):
+    replies = guest.replies(lines, answers)
+    for index, (line, answer) in enumerate(zip(lines, answers)):
         course.take(line, answer)
+        memory.take(line, answer, replies.get(index, answer))
+    course.events.update(memory.counts)
     course.events["scripts"] += 1
+    for marks, name in SHOWS.items():
+        course.events[name] += memory.counts[guest.MARKED[marks]] > 0
     return course
 
 
@@ -203,11 +215,29 @@ def rows(head, body):
         yield f"| {' | '.join(map(str, row))} |"
 
 
+BETWEEN = "lines from the package to the completion"
+# What a script shows where one of its loads has bytes with these marks.
+SHOWN = "scripts that show a destination which installs zeros"
+SHOWS = {guest.INSTALLED: SHOWN, guest.INSTALLED | guest.MOVED: "scripts that show one which loses the bytes of moved pages"}
+DATA = (guest.LOADS, guest.NOT_ZERO, *guest.MARKED.values(), *SHOWS.values())
 EVENTS = (
-    "scripts", "lines", "made", "migrations that completed", *(f"breaks in {phase}" for phase in PHASES), "breaks while resuming", "resumptions",
+    "scripts", "lines", "made", BETWEEN, "migrations that completed", *(f"breaks in {phase}" for phase in PHASES), "breaks while resuming", "resumptions",
     "deliveries of a part", "faults at owed pages", "urgent frames that overtook", "copies installed where their page had moved",
-    "copies dropped: their page was unmapped or cleared", "requests of pages that were pushed meanwhile",
+    "copies dropped: their page was unmapped or cleared", "requests of pages that were pushed meanwhile", *DATA,
 )
+
+
+def events(totals, wanted):
+    """The table of what happened by profile."""
+    names = [name for name in PROFILES if name in totals]
+    yield from rows(("", *names), ((event, *(totals[name].events[event] for name in names)) for event in wanted))
+
+
+def too_few(totals, least):
+    """The profiles with post-copy of which fewer than `least` of 100 scripts show a destination that installs zeros."""
+    for name in POSTCOPY:
+        if name in totals and 100 * totals[name].events[SHOWN] < least * totals[name].events["scripts"]:
+            yield name
 
 
 def tables(totals):
@@ -215,8 +245,7 @@ def tables(totals):
     whole = Course()
     for total in totals.values():
         add(whole, total)
-    names = [name for name in PROFILES if name in totals]
-    yield from rows(("", *names), ((event, *(totals[name].events[event] for name in names)) for event in EVENTS))
+    yield from events(totals, EVENTS)
     yield ""
     steps = sorted({step for step, _ in whole.refusals})
     refusals = collections.defaultdict(list)
@@ -245,6 +274,7 @@ def main():
     asked.add_argument("--finish", action="store_true")
     asked.add_argument("--scripts")
     asked.add_argument("--write", action="store_true")
+    asked.add_argument("--least", type=int, default=0)
     for name in ("steps", "cpus", "pages"):
         asked.add_argument(f"--{name}", type=int)
     given = asked.parse_args()
@@ -269,8 +299,14 @@ def main():
                 print(error, file=sys.stderr)
     text = "\n".join(tables(totals))
     print(text)
+    for name in too_few(totals, given.least):
+        wrong += 1
+        print(f"{name}: too few scripts show a destination that installs zeros", file=sys.stderr)
     if given.write and wrong == 0:
-        page.put("explored", text, FILE)
+        if given.finish:
+            page.put("finished", "\n".join(events(totals, ("scripts", *DATA))), FILE)
+        else:
+            page.put("explored", text, FILE)
     return 1 if wrong else 0
 
 

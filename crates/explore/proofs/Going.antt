@@ -1,5 +1,5 @@
 -- An exploration that goes on: its text grows at its end, and fronts of it are written.
-use Rattle.std.proofs.Common.{◌≡◌, ℕ, ◌+◌, ◌<◌, ◌≤◌, List, [], ◌∷◌, ◌++◌, length, Bool, true, false, Option, ◌⊎◌, refl, sym, ap, subst, ◌∙◌, append_assoc, append-nil, length-append, arith, inl, inr}
+use Rattle.std.proofs.Common.{◌≡◌, ℕ, ◌+◌, ◌<◌, ◌≤◌, List, [], ◌∷◌, ◌++◌, length, Bool, true, false, ◌||◌, Option, ◌⊎◌, refl, sym, ap, subst, ◌∙◌, append_assoc, append-nil, length-append, arith, inl, inr}
 use Rattle.std.specs.Prelude.{Result, Ok, Err, OnOk, OnErr}
 use Rattle.std.specs.Io.KnownBytes.{Appends}
 use Rattle.std.proofs.KnownBytes.{Appends-nil, Appends-trans}
@@ -78,8 +78,8 @@ going_gone a s n m w0 w1 w2 b c p q = record {
   explored = subst (λ (z : List ℕ). Explored a s n m z) (ap (λ (z : List ℕ). p.written ++ z) q.whole ∙ sym (append_assoc p.written q.written c)) p.explored;
 }
 
-pub going_done : (a f : Bool) (s : WorldState) (steps n : ℕ) (m : WorldState) (w0 w1 w2 : Option (List ℕ)) (b : List ℕ) → Going a s n m w0 w1 b → IsCount f steps n m → Appends w1 w2 b → Writes a f s steps w0 w2
-going_done a f s steps n m w0 w1 w2 b p is q = record {
+pub going_done : (a f g : Bool) (s : WorldState) (steps n : ℕ) (m : WorldState) (w0 w1 w2 : Option (List ℕ)) (b : List ℕ) → Going a s n m w0 w1 b → IsCount f g steps n m → Appends w1 w2 b → Writes a f g s steps w0 w2
+going_done a f g s steps n m w0 w1 w2 b p is q = record {
   end = m;
   count = n;
   text = p.written ++ b;
@@ -129,7 +129,7 @@ stops_first a f s most w = record {
   appends = Appends-nil w;
 }
 
--- ---- the lines that complete a migration
+-- ---- the lines that follow the steps
 
 pub goes_first : (a : Bool) (m : WorldState) (w : Option (List ℕ)) (b : List ℕ) → GoesOn a m w b m w b
 goes_first a m w b = λ start count before p. (count, omega arith, p)
@@ -149,29 +149,56 @@ goes_cut a o m e w0 w1 w2 b0 b c on added front = λ start count before p.
     let so_far = on start count before p in
     going_cut a true start (so_far.0 + 1) count e before w1 w2 c (going_added a start so_far.0 m e before w1 b c so_far.2 added) tt front
 
--- ---- what comes behind the steps
+pub goes_then : (a : Bool) (o m e : WorldState) (w0 w1 w2 : Option (List ℕ)) (b0 b c : List ℕ) → GoesOn a o w0 b0 m w1 b → GoesOn a m w1 b e w2 c → GoesOn a o w0 b0 e w2 c
+goes_then a o m e w0 w1 w2 b0 b c on further = λ start count before p.
+    let so_far = on start count before p in
+    let all = further start so_far.0 before so_far.2 in
+    (all.0, omega (arith, so_far.1, all.1), all.2)
 
-abbrev pub DoneOn : Bool → Bool → ℕ → WorldState → Option (List ℕ) → List ℕ → Option (List ℕ) → Type 0
-DoneOn a f steps m w0 b w1 = (start : WorldState) (before : Option (List ℕ)) → Going a start steps m before w0 b → Writes a f start steps before w1
+pub stops_then : (a : Bool) (o m : WorldState) (w0 w1 w2 : Option (List ℕ)) (b0 b : List ℕ) → GoesOn a o w0 b0 m w1 b → StopsOn a m w1 b w2 → StopsOn a o w0 b0 w2
+stops_then a o m w0 w1 w2 b0 b on stops = λ start count before p.
+    let so_far = on start count before p in
+    let cut = stops start so_far.0 before so_far.2 in
+    record { end = cut.end; count = cut.count; written = cut.written; more = cut.more; few = tt; explored = cut.explored; appends = cut.appends }
+
+-- ---- what a script ends with
+
+abbrev pub DoneOn : Bool → Bool → Bool → ℕ → WorldState → Option (List ℕ) → List ℕ → Option (List ℕ) → Type 0
+DoneOn a f g steps m w0 b w1 = (start : WorldState) (before : Option (List ℕ)) → Going a start steps m before w0 b → Writes a f g start steps before w1
 
 abbrev pub CutOn : Bool → Bool → ℕ → WorldState → Option (List ℕ) → List ℕ → Option (List ℕ) → Type 0
-CutOn a f steps m w0 b w1 = (start : WorldState) (before : Option (List ℕ)) → Going a start steps m before w0 b → Stops a f start steps before w1
+CutOn a h steps m w0 b w1 = (start : WorldState) (before : Option (List ℕ)) → Going a start steps m before w0 b → Stops a h start steps before w1
 
-pub end_done : (a : Bool) (steps : ℕ) (m : WorldState) (w0 w1 : Option (List ℕ)) (b : List ℕ) → Appends w0 w1 b → DoneOn a false steps m w0 b w1
-end_done a steps m w0 w1 b appends = λ start before p. going_done a false start steps steps m before w0 w1 b p refl appends
+end_done : (a : Bool) (steps : ℕ) (m : WorldState) (w0 w1 : Option (List ℕ)) (b : List ℕ) → Appends w0 w1 b → DoneOn a false false steps m w0 b w1
+end_done a steps m w0 w1 b appends = λ start before p. going_done a false false start steps steps m before w0 w1 b p refl appends
 
-pub end_cut : (a : Bool) (steps : ℕ) (m : WorldState) (w0 w1 : Option (List ℕ)) (b : List ℕ) → Front b w0 w1 → CutOn a false steps m w0 b w1
+end_cut : (a : Bool) (steps : ℕ) (m : WorldState) (w0 w1 : Option (List ℕ)) (b : List ℕ) → Front b w0 w1 → CutOn a false steps m w0 b w1
 end_cut a steps m w0 w1 b front = λ start before p. going_cut a false start steps steps m before w0 w1 b p (omega arith) front
 
-pub finish_done : (a : Bool) (steps : ℕ) (m e : WorldState) (w0 w1 w2 : Option (List ℕ)) (b c : List ℕ) → GoesOn a m w0 b e w1 c → IsComplete e ⊎ (needs_epoch e ≡ true) → Appends w1 w2 c → DoneOn a true steps m w0 b w2
-finish_done a steps m e w0 w1 w2 b c on ended appends = λ start before p.
+finish_done : (a g : Bool) (steps : ℕ) (m e : WorldState) (w0 w1 w2 : Option (List ℕ)) (b c : List ℕ) → GoesOn a m w0 b e w1 c → IsComplete e ⊎ (needs_epoch e ≡ true) → Appends w1 w2 c → DoneOn a true g steps m w0 b w2
+finish_done a g steps m e w0 w1 w2 b c on ended appends = λ start before p.
     let gone = on start steps before p in
-    going_done a true start steps gone.0 e before w1 w2 c gone.2 (gone.1, ended) appends
+    going_done a true g start steps gone.0 e before w1 w2 c gone.2 (gone.1, ended) appends
 
-pub finish_cut : (a : Bool) (steps : ℕ) (m e : WorldState) (w0 w1 w2 : Option (List ℕ)) (b c : List ℕ) → GoesOn a m w0 b e w1 c → Front c w1 w2 → CutOn a true steps m w0 b w2
-finish_cut a steps m e w0 w1 w2 b c on front = λ start before p.
+sweep_done : (a : Bool) (steps : ℕ) (m e : WorldState) (w0 w1 w2 : Option (List ℕ)) (b c : List ℕ) → GoesOn a m w0 b e w1 c → Appends w1 w2 c → DoneOn a false true steps m w0 b w2
+sweep_done a steps m e w0 w1 w2 b c on appends = λ start before p.
+    let gone = on start steps before p in
+    going_done a false true start steps gone.0 e before w1 w2 c gone.2 gone.1 appends
+
+more_cut : (a : Bool) (steps : ℕ) (m e : WorldState) (w0 w1 w2 : Option (List ℕ)) (b c : List ℕ) → GoesOn a m w0 b e w1 c → Front c w1 w2 → CutOn a true steps m w0 b w2
+more_cut a steps m e w0 w1 w2 b c on front = λ start before p.
     let gone = on start steps before p in
     going_cut a true start gone.0 steps e before w1 w2 c gone.2 tt front
+
+-- one of two tests holds
+or_left : (f g : Bool) → f ≡ true → (f || g) ≡ true
+or_left f g is = ap (λ (x : Bool). x || g) is
+
+or_right : (f g : Bool) → f ≡ false → g ≡ true → (f || g) ≡ true
+or_right f g isnt is = ap (λ (x : Bool). x || g) isnt ∙ is
+
+or_none : (f g : Bool) → f ≡ false → g ≡ false → (f || g) ≡ false
+or_none f g isnt is = ap (λ (x : Bool). x || g) isnt ∙ is
 
 -- ---- without answers, the text is a script
 
@@ -208,35 +235,79 @@ on_err (Err fault) P p = p
 
 -- ---- how a script ends, by the outcome of its last call
 
-pub ended_ok : (r : Result (Unit {0}) RunFault) (a f : Bool) (steps : ℕ) (start m : WorldState) (before w0 w1 : Option (List ℕ)) (b : List ℕ)
-    → Going a start steps m before w0 b → OnOk r (DoneOn a f steps m w0 b w1) → OnOk r (Writes a f start steps before w1)
-ended_ok (Ok done) a f steps start m before w0 w1 b going p = p start before going
-ended_ok (Err fault) a f steps start m before w0 w1 b going p = tt
+pub ended_ok : (r : Result (Unit {0}) RunFault) (a f g : Bool) (steps : ℕ) (start m : WorldState) (before w0 w1 : Option (List ℕ)) (b : List ℕ)
+    → Going a start steps m before w0 b → OnOk r (DoneOn a f g steps m w0 b w1) → OnOk r (Writes a f g start steps before w1)
+ended_ok (Ok done) a f g steps start m before w0 w1 b going p = p start before going
+ended_ok (Err fault) a f g steps start m before w0 w1 b going p = tt
 
-pub ended_fault : (r : Result (Unit {0}) RunFault) (a f : Bool) (steps : ℕ) (start m : WorldState) (before w0 w1 : Option (List ℕ)) (b : List ℕ)
-    → Going a start steps m before w0 b → OnErr r (CutOn a f steps m w0 b w1) → OnErr r (Stops a f start steps before w1)
-ended_fault (Ok done) a f steps start m before w0 w1 b going p = tt
-ended_fault (Err fault) a f steps start m before w0 w1 b going p = p start before going
+pub ended_fault : (r : Result (Unit {0}) RunFault) (a h : Bool) (steps : ℕ) (start m : WorldState) (before w0 w1 : Option (List ℕ)) (b : List ℕ)
+    → Going a start steps m before w0 b → OnErr r (CutOn a h steps m w0 b w1) → OnErr r (Stops a h start steps before w1)
+ended_fault (Ok done) a h steps start m before w0 w1 b going p = tt
+ended_fault (Err fault) a h steps start m before w0 w1 b going p = p start before going
 
-pub end_ok : (r : Result (Unit {0}) RunFault) (a f : Bool) (steps : ℕ) (m : WorldState) (w0 w1 : Option (List ℕ)) (b : List ℕ)
-    → f ≡ false → OnOk r (Appends w0 w1 b) → OnOk r (DoneOn a f steps m w0 b w1)
-end_ok (Ok done) a f steps m w0 w1 b is p = subst (λ (g : Bool). DoneOn a g steps m w0 b w1) (sym is) (end_done a steps m w0 w1 b p)
-end_ok (Err fault) a f steps m w0 w1 b is p = tt
+pub end_ok : (r : Result (Unit {0}) RunFault) (a f g : Bool) (steps : ℕ) (m : WorldState) (w0 w1 : Option (List ℕ)) (b : List ℕ)
+    → f ≡ false → g ≡ false → OnOk r (Appends w0 w1 b) → OnOk r (DoneOn a f g steps m w0 b w1)
+end_ok (Ok done) a f g steps m w0 w1 b no_finish no_sweep p =
+    subst (λ (x : Bool). DoneOn a x g steps m w0 b w1) (sym no_finish)
+    (subst (λ (y : Bool). DoneOn a false y steps m w0 b w1) (sym no_sweep) (end_done a steps m w0 w1 b p))
+end_ok (Err fault) a f g steps m w0 w1 b no_finish no_sweep p = tt
 
-pub end_fault : (r : Result (Unit {0}) RunFault) (a f : Bool) (steps : ℕ) (m : WorldState) (w0 w1 : Option (List ℕ)) (b : List ℕ)
-    → f ≡ false → OnErr r (Front b w0 w1) → OnErr r (CutOn a f steps m w0 b w1)
-end_fault (Ok done) a f steps m w0 w1 b is p = tt
-end_fault (Err fault) a f steps m w0 w1 b is p = subst (λ (g : Bool). CutOn a g steps m w0 b w1) (sym is) (end_cut a steps m w0 w1 b p)
+pub end_fault : (r : Result (Unit {0}) RunFault) (a f g : Bool) (steps : ℕ) (m : WorldState) (w0 w1 : Option (List ℕ)) (b : List ℕ)
+    → f ≡ false → g ≡ false → OnErr r (Front b w0 w1) → OnErr r (CutOn a (f || g) steps m w0 b w1)
+end_fault (Ok done) a f g steps m w0 w1 b no_finish no_sweep p = tt
+end_fault (Err fault) a f g steps m w0 w1 b no_finish no_sweep p =
+    subst (λ (h : Bool). CutOn a h steps m w0 b w1) (sym (or_none f g no_finish no_sweep)) (end_cut a steps m w0 w1 b p)
 
-pub finish_ok : (r : Result (Unit {0}) RunFault) (a f : Bool) (steps : ℕ) (m e : WorldState) (w0 w1 w2 : Option (List ℕ)) (b c : List ℕ)
-    → f ≡ true → GoesOn a m w0 b e w1 c → IsComplete e ⊎ (needs_epoch e ≡ true) → OnOk r (Appends w1 w2 c) → OnOk r (DoneOn a f steps m w0 b w2)
-finish_ok (Ok done) a f steps m e w0 w1 w2 b c is on ended p = subst (λ (g : Bool). DoneOn a g steps m w0 b w2) (sym is) (finish_done a steps m e w0 w1 w2 b c on ended p)
-finish_ok (Err fault) a f steps m e w0 w1 w2 b c is on ended p = tt
+pub finish_ok : (r : Result (Unit {0}) RunFault) (a f g : Bool) (steps : ℕ) (m e : WorldState) (w0 w1 w2 : Option (List ℕ)) (b c : List ℕ)
+    → f ≡ true → GoesOn a m w0 b e w1 c → IsComplete e ⊎ (needs_epoch e ≡ true) → OnOk r (Appends w1 w2 c) → OnOk r (DoneOn a f g steps m w0 b w2)
+finish_ok (Ok done) a f g steps m e w0 w1 w2 b c is on ended p =
+    subst (λ (x : Bool). DoneOn a x g steps m w0 b w2) (sym is) (finish_done a g steps m e w0 w1 w2 b c on ended p)
+finish_ok (Err fault) a f g steps m e w0 w1 w2 b c is on ended p = tt
 
-pub finish_fault : (r : Result (Unit {0}) RunFault) (a f : Bool) (steps : ℕ) (m e : WorldState) (w0 w1 w2 : Option (List ℕ)) (b c : List ℕ)
-    → f ≡ true → GoesOn a m w0 b e w1 c → OnErr r (Front c w1 w2) → OnErr r (CutOn a f steps m w0 b w2)
-finish_fault (Ok done) a f steps m e w0 w1 w2 b c is on p = tt
-finish_fault (Err fault) a f steps m e w0 w1 w2 b c is on p = subst (λ (g : Bool). CutOn a g steps m w0 b w2) (sym is) (finish_cut a steps m e w0 w1 w2 b c on p)
+pub sweep_ok : (r : Result (Unit {0}) RunFault) (a f g : Bool) (steps : ℕ) (m e : WorldState) (w0 w1 w2 : Option (List ℕ)) (b c : List ℕ)
+    → f ≡ false → g ≡ true → GoesOn a m w0 b e w1 c → OnOk r (Appends w1 w2 c) → OnOk r (DoneOn a f g steps m w0 b w2)
+sweep_ok (Ok done) a f g steps m e w0 w1 w2 b c no_finish is on p =
+    subst (λ (x : Bool). DoneOn a x g steps m w0 b w2) (sym no_finish)
+    (subst (λ (y : Bool). DoneOn a false y steps m w0 b w2) (sym is) (sweep_done a steps m e w0 w1 w2 b c on p))
+sweep_ok (Err fault) a f g steps m e w0 w1 w2 b c no_finish is on p = tt
+
+more_fault : (r : Result (Unit {0}) RunFault) (a h : Bool) (steps : ℕ) (m e : WorldState) (w0 w1 w2 : Option (List ℕ)) (b c : List ℕ)
+    → h ≡ true → GoesOn a m w0 b e w1 c → OnErr r (Front c w1 w2) → OnErr r (CutOn a h steps m w0 b w2)
+more_fault (Ok done) a h steps m e w0 w1 w2 b c is on p = tt
+more_fault (Err fault) a h steps m e w0 w1 w2 b c is on p = subst (λ (x : Bool). CutOn a x steps m w0 b w2) (sym is) (more_cut a steps m e w0 w1 w2 b c on p)
+
+pub finish_fault : (r : Result (Unit {0}) RunFault) (a f g : Bool) (steps : ℕ) (m e : WorldState) (w0 w1 w2 : Option (List ℕ)) (b c : List ℕ)
+    → f ≡ true → GoesOn a m w0 b e w1 c → OnErr r (Front c w1 w2) → OnErr r (CutOn a (f || g) steps m w0 b w2)
+finish_fault r a f g steps m e w0 w1 w2 b c is on p = more_fault r a (f || g) steps m e w0 w1 w2 b c (or_left f g is) on p
+
+pub sweep_fault : (r : Result (Unit {0}) RunFault) (a f g : Bool) (steps : ℕ) (m e : WorldState) (w0 w1 w2 : Option (List ℕ)) (b c : List ℕ)
+    → f ≡ false → g ≡ true → GoesOn a m w0 b e w1 c → OnErr r (Front c w1 w2) → OnErr r (CutOn a (f || g) steps m w0 b w2)
+sweep_fault r a f g steps m e w0 w1 w2 b c no_finish is on p = more_fault r a (f || g) steps m e w0 w1 w2 b c (or_right f g no_finish is) on p
+
+-- ---- it stops among the lines that follow the steps
+
+stopped : (a h : Bool) (steps : ℕ) (m : WorldState) (w0 w1 : Option (List ℕ)) (b : List ℕ) → h ≡ true → StopsOn a m w0 b w1 → CutOn a h steps m w0 b w1
+stopped a h steps m w0 w1 b is stops = subst (λ (x : Bool). CutOn a x steps m w0 b w1) (sym is) (λ start before going. stops start steps before going)
+
+pub finish_stopped : (a f g : Bool) (steps : ℕ) (m : WorldState) (w0 w1 : Option (List ℕ)) (b : List ℕ)
+    → f ≡ true → StopsOn a m w0 b w1 → CutOn a (f || g) steps m w0 b w1
+finish_stopped a f g steps m w0 w1 b is stops = stopped a (f || g) steps m w0 w1 b (or_left f g is) stops
+
+pub sweep_stopped : (a f g : Bool) (steps : ℕ) (m : WorldState) (w0 w1 : Option (List ℕ)) (b : List ℕ)
+    → f ≡ false → g ≡ true → StopsOn a m w0 b w1 → CutOn a (f || g) steps m w0 b w1
+sweep_stopped a f g steps m w0 w1 b no_finish is stops = stopped a (f || g) steps m w0 w1 b (or_right f g no_finish is) stops
+
+-- ---- the completion, the sweep, and the completion again
+
+pub then_ok : (r : Result (Unit {0}) RunFault) (a : Bool) (o m e : WorldState) (w0 w1 w2 : Option (List ℕ)) (b0 b c : List ℕ)
+    → GoesOn a o w0 b0 m w1 b → OnOk r (GoesOn a m w1 b e w2 c) → OnOk r (GoesOn a o w0 b0 e w2 c)
+then_ok (Ok done) a o m e w0 w1 w2 b0 b c on p = goes_then a o m e w0 w1 w2 b0 b c on p
+then_ok (Err fault) a o m e w0 w1 w2 b0 b c on p = tt
+
+pub then_fault : (r : Result (Unit {0}) RunFault) (a : Bool) (o m : WorldState) (w0 w1 w2 : Option (List ℕ)) (b0 b : List ℕ)
+    → GoesOn a o w0 b0 m w1 b → OnErr r (StopsOn a m w1 b w2) → OnErr r (StopsOn a o w0 b0 w2)
+then_fault (Ok done) a o m w0 w1 w2 b0 b on p = tt
+then_fault (Err fault) a o m w0 w1 w2 b0 b on p = stops_then a o m w0 w1 w2 b0 b on p
 
 -- ---- a step that was made
 

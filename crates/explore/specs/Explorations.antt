@@ -71,12 +71,17 @@ MakesIt old step new = new ≡ next old step
 abbrev pub IsFinished : ℕ → ℕ → WorldState → Type 0
 IsFinished steps count end = (steps ≤ count) × (IsComplete end ⊎ (needs_epoch end ≡ true))
 
--- the number of lines behind the comment: that of the steps, and with `finish` the lines that complete the migration
-abbrev pub IsCount : Bool → ℕ → ℕ → WorldState → Type 0
-IsCount false steps count end = count ≡ steps
-IsCount true steps count end = IsFinished steps count end
+-- the number of lines after the comment: that of the steps, or with a sweep that or more
+abbrev pub IsSwept : Bool → ℕ → ℕ → Type 0
+IsSwept false steps count = count ≡ steps
+IsSwept true steps count = steps ≤ count
 
--- no more lines than these, or with `finish` any number
+-- the same; with `finish` lines that complete the migration follow the steps, and a sweep follows these in any case
+abbrev pub IsCount : Bool → Bool → ℕ → ℕ → WorldState → Type 0
+IsCount false sweep steps count end = IsSwept sweep steps count
+IsCount true sweep steps count end = IsFinished steps count end
+
+-- no more lines than these, or where others follow the steps any number
 abbrev pub AreFew : Bool → ℕ → ℕ → Type 0
 AreFew false most count = count ≤ most
 AreFew true most count = ⊤
@@ -87,25 +92,25 @@ GoesOn answers old gone output new now rest = (start : WorldState) (count : ℕ)
     → (more : ℕ) × (count ≤ more) × Going answers start more new before now rest
 
 -- a whole text was written
-pub record Writes (answers finish : Bool) (start : WorldState) (steps : ℕ) (before after : Option (List ℕ)) : Type 0 where
+pub record Writes (answers finish sweep : Bool) (start : WorldState) (steps : ℕ) (before after : Option (List ℕ)) : Type 0 where
   pub end : WorldState
   pub count : ℕ
   pub text : List ℕ
-  pub number : IsCount finish steps count end
+  pub number : IsCount finish sweep steps count end
   pub explored : Explored answers start count end text
   pub appends : Appends before after text
 
--- a front of a text was written
-pub record Stops (answers finish : Bool) (start : WorldState) (most : ℕ) (before after : Option (List ℕ)) : Type 0 where
+-- a front of a text was written; `longer` says whether other lines follow the steps
+pub record Stops (answers longer : Bool) (start : WorldState) (most : ℕ) (before after : Option (List ℕ)) : Type 0 where
   pub end : WorldState
   pub count : ℕ
   pub written : List ℕ
   pub more : List ℕ
-  pub few : AreFew finish most count
+  pub few : AreFew longer most count
   pub explored : Explored answers start count end (written ++ more)
   pub appends : Appends before after written
 
--- whatever lines led here, they end on the way to the completion
+-- whatever lines led here, they end among those that follow the steps
 abbrev pub StopsOn : Bool → WorldState → Option (List ℕ) → List ℕ → Option (List ℕ) → Type 0
 StopsOn answers old gone output now = (start : WorldState) (count : ℕ) (before : Option (List ℕ)) → Going answers start count old before gone output
     → Stops answers true start count before now

@@ -6,6 +6,13 @@ use crate::course::{Course, Memo};
 use crate::random::{below, in_share};
 use mig_base::{Addr, Command, HIGH_PAGE, LOW_PAGE, PAGE_SIZE, PageNo, PageSet, Place, Prot};
 use rand_core::Rng;
+use world::World;
+
+/// Where the slots of a page begin, each of 8 bytes. Loads and stores are drawn at these places alone, so that they meet.
+pub(crate) const SLOTS: [u64; 4] = [0, 0x558, 0xaa8, 0xff8];
+
+/// Of 16 accesses, those that load.
+const LOADS: u8 = 8;
 
 /// A page of those from which commands draw.
 pub(crate) fn draw_page<R: Rng>(rng: &mut R, course: &Course) -> PageNo
@@ -27,16 +34,29 @@ pub(crate) fn draw_of<R: Rng>(rng: &mut R, course: &Course, pages: &PageSet) -> 
     if first < HIGH_PAGE { first } else { from }
 }
 
-/// The first address of a page that a command names: often one that is owed, or that is in flight.
-fn draw_address<R: Rng>(rng: &mut R, course: &Course, memo: &Memo, owed: &PageSet) -> Addr
-    ensures { result < 0x1_0000_0000 }
-{
+/// Where a page of the source is owed now, or the page itself if it is not owed.
+fn home_of(world: &World, page: PageNo) -> PageNo {
+    world.owed().home(page).unwrap_or(page)
+}
+
+/// The first address of a page that a command names: often one that is owed or in flight, wherever it was moved, or the one that was
+/// installed last.
+fn draw_address<R: Rng>(rng: &mut R, course: &Course, memo: &Memo, world: &World) -> Addr {
     let page = match below(rng, 8) {
-        0..=1 => memo.sent,
-        2..=4 => draw_of(rng, course, owed),
+        0..=1 => home_of(world, memo.sent),
+        2..=3 => home_of(world, draw_of(rng, course, world.remaining())),
+        4 => memo.installed.unwrap_or(draw_page(rng, course)),
         _ => draw_page(rng, course),
     };
     u64::from(page) * PAGE_SIZE
+}
+
+/// Where a range is moved: mostly to one of as many pages behind those from which commands draw, so that it replaces little.
+fn draw_target<R: Rng>(rng: &mut R, course: &Course, memo: &Memo, world: &World) -> Addr {
+    match below(rng, 4) {
+        0 => draw_address(rng, course, memo, world),
+        _ => u64::from(draw_page(rng, course) + u32::from(course.pages)) * PAGE_SIZE,
+    }
 }
 
 /// The bytes of a few pages.
@@ -63,35 +83,77 @@ fn draw_prot<R: Rng>(rng: &mut R) -> Prot {
     }
 }
 
-/// A load or a store.
-fn draw_access<R: Rng>(rng: &mut R, page: Addr) -> Command
-    requires { page < 0x1_0000_0000 }
-{
-    let width = match below(rng, 8) {
+/// A slot of a page.
+fn draw_slot<R: Rng>(rng: &mut R, page: Addr) -> Addr {
+    let slot = below(rng, 4);
+    page.saturating_add(SLOTS[slot as usize])
+}
+
+/// The bytes that a load or a store touches.
+fn draw_width<R: Rng>(rng: &mut R) -> u8 {
+    match below(rng, 8) {
         0 => 1,
         1 => 2,
         2..=3 => 4,
         _ => 8,
-    };
-    let within = u64::from(below(rng, 4096) & !7);
-    let addr = page + within;
-    if in_share(rng, 6) {
-        return Command::Load { addr, width };
     }
-    let value = match below(rng, 4) {
-        0 => 0,
-        _ => u64::from(below(rng, 256)),
+}
+
+/// A load: mostly of a slot that was stored to lately, or of one of the page that was installed last.
+fn draw_load<R: Rng>(rng: &mut R, memo: &Memo, page: Addr) -> Command {
+    let addr = match (below(rng, 8), memo.installed) {
+        (0..=2, _) => memo.stored[below(rng, 8) as usize],
+        (3..=6, Some(installed)) => draw_slot(rng, u64::from(installed) * PAGE_SIZE),
+        _ => draw_slot(rng, page),
     };
-    Command::Store { addr, width, value }
+    Command::Load {
+        addr,
+        width: draw_width(rng),
+    }
+}
+
+/// The value of a store: the number of its page above that of its line, each cut to half of the width. A value of one byte has the line
+/// alone.
+fn value_of(page: Addr, line: u64, width: u8) -> u64 {
+    let page = page / PAGE_SIZE;
+    match width {
+        1 => line % 0x100,
+        2 => page % 0x100 * 0x100 + line % 0x100,
+        4 => page % 0x1_0000 * 0x1_0000 + line % 0x1_0000,
+        _ => page % 0x1_0000_0000 * 0x1_0000_0000 + line % 0x1_0000_0000,
+    }
+}
+
+/// A store whose value names its page and its line.
+fn draw_store<R: Rng>(rng: &mut R, page: Addr, line: u64) -> Command {
+    let width = draw_width(rng);
+    Command::Store {
+        addr: draw_slot(rng, page),
+        width,
+        value: value_of(page, line, width),
+    }
+}
+
+/// Whether accesses of a page only load, so that some pages are present with zeros: of eight pages one.
+fn is_loaded_only(page: Addr) -> bool {
+    page / PAGE_SIZE % 8 == 7
+}
+
+/// A load or a store. No byte at the beginning of a slot that was stored to is 0, so a load of any width shows it: the lines whose numbers
+/// end in a byte of 0 have no store.
+fn draw_access<R: Rng>(rng: &mut R, memo: &Memo, page: Addr, loads: u8) -> Command {
+    let line = memo.number();
+    if line % 0x100 == 0 || is_loaded_only(page) || in_share(rng, loads) {
+        return draw_load(rng, memo, page);
+    }
+    draw_store(rng, page, line)
 }
 
 /// A load or store whose form is wrong, or that goes outside of the address space.
-fn draw_bad_access<R: Rng>(rng: &mut R, page: Addr) -> Command
-    requires { page < 0x1_0000_0000 }
-{
+fn draw_bad_access<R: Rng>(rng: &mut R, page: Addr) -> Command {
     match below(rng, 4) {
         0 => Command::Load {
-            addr: page + 1,
+            addr: page.saturating_add(1),
             width: 2,
         },
         1 => Command::Load {
@@ -111,7 +173,7 @@ fn draw_bad_access<R: Rng>(rng: &mut R, page: Addr) -> Command
 fn draw_place<R: Rng>(rng: &mut R, page: Addr) -> Place {
     match below(rng, 8) {
         0 => Place::Anywhere,
-        1 => Place::NoReplace(page),
+        1..=4 => Place::NoReplace(page),
         _ => Place::Fixed(page),
     }
 }
@@ -144,12 +206,12 @@ fn draw_move<R: Rng>(rng: &mut R, page: Addr, other: Addr) -> Command {
 /// A call that changes mappings, or clears pages.
 fn draw_map_call<R: Rng>(rng: &mut R, page: Addr, other: Addr) -> Command {
     match below(rng, 16) {
-        0..=5 => draw_move(rng, page, other),
-        6 => Command::Munmap {
+        0..=7 => draw_move(rng, page, other),
+        8 => Command::Munmap {
             addr: page,
             len: draw_len(rng),
         },
-        7..=8 => Command::DontNeed {
+        9 => Command::DontNeed {
             addr: page,
             len: draw_len(rng),
         },
@@ -161,13 +223,13 @@ fn draw_map_call<R: Rng>(rng: &mut R, page: Addr, other: Addr) -> Command {
     }
 }
 
-/// What a processor does: in `maps` of 16 draws a map call. The first line of a script maps its pages.
+/// What a processor does: in `maps` of 16 draws a map call. The first line of a script maps its pages, and those behind it fill them.
 pub(crate) fn draw_command<R: Rng>(
     rng: &mut R,
     course: &Course,
     memo: &Memo,
     maps: u8,
-    owed: &PageSet,
+    world: &World,
 ) -> Command {
     if memo.line == 0 {
         return Command::Mmap {
@@ -176,13 +238,17 @@ pub(crate) fn draw_command<R: Rng>(
             place: Place::Anywhere,
         };
     }
-    let page = draw_address(rng, course, memo, owed);
+    if memo.line <= course.fill {
+        let page = LOW_PAGE + (memo.line % u64::from(course.pages)) as PageNo;
+        return draw_access(rng, memo, u64::from(page) * PAGE_SIZE, 0);
+    }
+    let page = draw_address(rng, course, memo, world);
     if in_share(rng, maps) {
-        let other = draw_address(rng, course, memo, owed);
+        let other = draw_target(rng, course, memo, world);
         return draw_map_call(rng, page, other);
     }
     match below(rng, 64) {
         0 => draw_bad_access(rng, page),
-        _ => draw_access(rng, page),
+        _ => draw_access(rng, memo, page, LOADS),
     }
 }

@@ -6,7 +6,7 @@
 //! `docs/EXPLORE.md` explains it, `specs/Explorations.antt` defines what is written, and [`laws`] says that it is a script.
 //!
 //! The modules: `plan` (what the caller chooses), `weights` (what a profile means), `course` (what is fixed for one script), `commands` and
-//! `steps` (the draws), `lines` (one line after the other), `run` (the whole script).
+//! `steps` (the draws), `sweep` (the loads at the end), `lines` (one line after the other), `run` (the whole script).
 #![tactic(auto)]
 
 mod commands;
@@ -17,6 +17,7 @@ mod plan;
 mod random;
 mod run;
 mod steps;
+mod sweep;
 mod weights;
 
 pub use crate::plan::{Plan, Profile, VERSION};

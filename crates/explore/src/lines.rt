@@ -12,7 +12,7 @@ use grammar::{Line, Order, Token, print_line, print_progress};
 use mig_base::effect::Effect;
 use mig_base::refusal::Refusal;
 use mig_base::schedule::Step;
-use mig_base::{HIGH_PAGE, LOW_PAGE, PAGE_SIZE, PageNo};
+use mig_base::{Command, HIGH_PAGE, LOW_PAGE, PAGE_SIZE, PageNo, Reply};
 use std::alloc::Global;
 use world::World;
 
@@ -84,11 +84,12 @@ impl Sheet {
     ) -> Result<(), RunFault>
         ensures { OnOk result (Adds answers world.old world.new self.old.output.items self.new.output.items) }
     {
-        let number = memo.line.saturating_add(2);
+        let number = memo.number();
         print_order(&mut self.line, order)?;
         match read_back(&mut self.tokens, self.line.as_bytes(), number)? {
             Line::Do(order) => {
                 let effect = obey(world, order, &mut self.answer)?;
+                remember_store(memo, order, effect);
                 remember(memo, effect);
                 gather(&mut self.output, &self.line, answers, &self.answer)
             }
@@ -148,7 +149,7 @@ fn report_progress(world: &World, answer: &mut String) -> Result<(), RunFault>
 }
 
 /// The page at an address, and the lowest for an address above the address space.
-fn page_at(addr: u64) -> PageNo
+pub(crate) fn page_at(addr: u64) -> PageNo
     ensures { result < 0x10_0000 }
 {
     let page = addr / PAGE_SIZE;
@@ -159,7 +160,30 @@ fn page_at(addr: u64) -> PageNo
     }
 }
 
-/// Remembers one line more, and which page was sent or dequeued.
+/// Remembers the slot of a store that was made, or that waits for its page.
+fn remember_store(memo: &mut Memo, order: Order, effect: Option<Effect>) {
+    let Order::Make(
+        Step::Issue {
+            command: Command::Store { addr, .. },
+            ..
+        },
+    ) = order
+    else {
+        return;
+    };
+    if let Some(
+        Effect::Asleep { .. }
+        | Effect::Answered {
+            reply: Reply::Done,
+            ..
+        },
+    ) = effect
+    {
+        memo.stored[(memo.line % 8) as usize] = addr;
+    }
+}
+
+/// Remembers one line more, and which page was sent, dequeued or installed.
 fn remember(memo: &mut Memo, effect: Option<Effect>) {
     memo.line = memo.line.saturating_add(1);
     match effect {
@@ -171,6 +195,7 @@ fn remember(memo: &mut Memo, effect: Option<Effect>) {
         }
         Some(Effect::SentRun { addr, .. }) => memo.sent = page_at(addr),
         Some(Effect::Asked { addr }) => memo.asked = Some(page_at(addr)),
+        Some(Effect::Installed { addr, .. }) => memo.installed = Some(page_at(addr)),
         Some(Effect::Broken) => memo.asked = None,
         _ => {}
     }

@@ -80,8 +80,10 @@ pub struct Plan {
     pub profile: Profile,
     /// The number of pages from which commands draw their addresses, 1 to 4,096. They lie from 0x10000 on.
     pub pages: u16,
-    /// Whether lines that complete the migration stand behind the steps.
+    /// Whether lines that complete the migration stand behind the steps, and a sweep behind these.
     pub finish: bool,
+    /// Whether a sweep stands behind the steps: loads of what was stored, with the steps that these loads need.
+    pub sweep: bool,
     /// Whether ` => ` and the line that `postmig run` would print stand behind each line.
     pub answers: bool,
 }
@@ -94,8 +96,10 @@ impl fmt::Display for Plan {
         let profile = self.profile.name();
         let pages = self.pages;
         let finish = if self.finish { " --finish" } else { "" };
+        let sweep = if self.sweep { " --sweep" } else { "" };
         let answers = if self.answers { " --answers" } else { "" };
         write!(f, "--seed {seed} --steps {steps} --cpus {cpus} ")?;
-        write!(f, "--profile {profile} --pages {pages}{finish}{answers}")
+        write!(f, "--profile {profile} --pages {pages}")?;
+        write!(f, "{finish}{sweep}{answers}")
     }
 }

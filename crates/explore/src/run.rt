@@ -1,6 +1,6 @@
 //! Writing a whole script.
 
-ghost use Rattle.std.specs.Prelude.{◌≡◌, ◌<◌, ◌≤◌, ◌⊎◌, ℕ, List, [], Option, true, OnOk, OnErr};
+ghost use Rattle.std.specs.Prelude.{◌≡◌, ◌<◌, ◌≤◌, ◌⊎◌, ◌||◌, ℕ, List, [], Option, true, OnOk, OnErr};
 ghost use Rattle.std.specs.Io.KnownBytes.{Appends};
 ghost use Rattle.engine.specs.Engine.{Front};
 ghost use Rattle.engine.specs.WorldState.{WorldState, first_state};
@@ -12,9 +12,11 @@ use crate::course::{Course, Memo, draw_course};
 use crate::lines::Sheet;
 use crate::plan::Plan;
 use crate::steps::draw_order;
+use crate::sweep::Sweep;
 use engine::RunFault;
 use engine::line_runner::write_out;
 use finish::next_to_finish;
+use grammar::Order;
 use rand_core::Rng;
 use rand_pcg::Pcg32;
 use std::alloc::Global;
@@ -29,8 +31,8 @@ const PIECE: usize = 16_384;
 
 /// Writes a random script: a comment that says how it was made, and one line for each of the plan's steps. About nine lines of ten are
 /// steps that the world of that script makes, and the others are steps that it refuses. Where the plan says so, lines that complete the
-/// migration stand behind them; they end before that only where a Start or a Resume is needed and the epoch is the last. The same plan
-/// has the same text.
+/// migration stand behind them; they end before that only where a Start or a Resume is needed and the epoch is the last. Behind those, or
+/// where the plan has a sweep, stand loads of what was stored. The same plan has the same text.
 ///
 /// `WriteFault` comes if a write fails or takes no byte; the first part of the text is written then. `NoMemory` comes if an allocation
 /// fails; some lines from the first on are written then, each in full. `Line` would come for a line that `postmig run` does not read,
@@ -40,8 +42,8 @@ pub fn run_explore<W: Write>(alloc: Global, writer: &mut W, plan: &Plan) -> Resu
     requires high { plan.now.cpus ≤ 16 }
     requires some { 1 ≤ plan.now.pages }
     requires few { plan.now.pages ≤ 4096 }
-    ensures ok { OnOk result (Writes plan.now.answers plan.now.finish (first_state plan.now.cpus) plan.now.steps (W.contents writer.old) (W.contents writer.new)) }
-    ensures fault { OnErr result (Stops plan.now.answers plan.now.finish (first_state plan.now.cpus) plan.now.steps (W.contents writer.old) (W.contents writer.new)) }
+    ensures ok { OnOk result (Writes plan.now.answers plan.now.finish plan.now.sweep (first_state plan.now.cpus) plan.now.steps (W.contents writer.old) (W.contents writer.new)) }
+    ensures fault { OnErr result (Stops plan.now.answers (plan.now.finish || plan.now.sweep) (first_state plan.now.cpus) plan.now.steps (W.contents writer.old) (W.contents writer.new)) }
 {
     let Ok(mut world) = World::new(alloc, plan.cpus) else {
         return Err(RunFault::NoMemory);
@@ -62,8 +64,8 @@ fn write_script<W: Write>(
     requires some { 1 ≤ plan.now.pages }
     requires few { plan.now.pages ≤ 4096 }
     requires start { Explored plan.now.answers world.old 0 world.old sheet.old.output.items }
-    ensures ok { OnOk result (Writes plan.now.answers plan.now.finish world.old plan.now.steps (W.contents writer.old) (W.contents writer.new)) }
-    ensures fault { OnErr result (Stops plan.now.answers plan.now.finish world.old plan.now.steps (W.contents writer.old) (W.contents writer.new)) }
+    ensures ok { OnOk result (Writes plan.now.answers plan.now.finish plan.now.sweep world.old plan.now.steps (W.contents writer.old) (W.contents writer.new)) }
+    ensures fault { OnErr result (Stops plan.now.answers (plan.now.finish || plan.now.sweep) world.old plan.now.steps (W.contents writer.old) (W.contents writer.new)) }
 {
     let mut rng = Pcg32::new(plan.seed, STREAM);
     let course = draw_course(&mut rng, plan);
@@ -102,8 +104,8 @@ fn write_lines<W: Write, R: Rng>(
     plan: &Plan,
 ) -> Result<(), RunFault>
     requires { Explored plan.now.answers world.old 0 world.old sheet.old.output.items }
-    ensures ok { OnOk result (Writes plan.now.answers plan.now.finish world.old plan.now.steps (W.contents writer.old) (W.contents writer.new)) }
-    ensures fault { OnErr result (Stops plan.now.answers plan.now.finish world.old plan.now.steps (W.contents writer.old) (W.contents writer.new)) }
+    ensures ok { OnOk result (Writes plan.now.answers plan.now.finish plan.now.sweep world.old plan.now.steps (W.contents writer.old) (W.contents writer.new)) }
+    ensures fault { OnErr result (Stops plan.now.answers (plan.now.finish || plan.now.sweep) world.old plan.now.steps (W.contents writer.old) (W.contents writer.new)) }
 {
     let mut memo = Memo::new();
     for _ in 0..plan.steps {
@@ -111,26 +113,48 @@ fn write_lines<W: Write, R: Rng>(
         sheet.add_order(world, &mut memo, order, plan.answers)?;
         flush_much(writer, sheet)?;
     }
-    write_end(writer, world, sheet, plan)
+    write_end(writer, world, &mut memo, sheet, plan)
 }
 
-/// Writes what comes behind the steps: what was gathered, and the lines that complete the migration, if the plan has them.
+/// Writes what comes behind the steps: what was gathered, and where the plan has them the lines that complete the migration, and a sweep.
 fn write_end<W: Write>(
     writer: &mut W,
     world: &mut World,
+    memo: &mut Memo,
     sheet: &mut Sheet,
     plan: &Plan,
 ) -> Result<(), RunFault>
     ensures ok { OnOk result ((start : WorldState) (before : Option (List ℕ)) → Going plan.now.answers start plan.now.steps world.old before (W.contents writer.old) sheet.old.output.items
-        → Writes plan.now.answers plan.now.finish start plan.now.steps before (W.contents writer.new)) }
+        → Writes plan.now.answers plan.now.finish plan.now.sweep start plan.now.steps before (W.contents writer.new)) }
     ensures fault { OnErr result ((start : WorldState) (before : Option (List ℕ)) → Going plan.now.answers start plan.now.steps world.old before (W.contents writer.old) sheet.old.output.items
-        → Stops plan.now.answers plan.now.finish start plan.now.steps before (W.contents writer.new)) }
+        → Stops plan.now.answers (plan.now.finish || plan.now.sweep) start plan.now.steps before (W.contents writer.new)) }
 {
-    if !plan.finish {
+    if plan.finish {
+        write_whole(writer, world, memo, sheet, plan.answers)?;
         return flush(writer, sheet);
     }
-    write_finish(writer, world, sheet, plan.answers)?;
+    if plan.sweep {
+        write_sweep(writer, world, memo, sheet, plan.answers)?;
+        return flush(writer, sheet);
+    }
     flush(writer, sheet)
+}
+
+/// Writes the lines that complete the migration, and a sweep. A sweep moves no frame, so no step is due after it.
+fn write_whole<W: Write>(
+    writer: &mut W,
+    world: &mut World,
+    memo: &mut Memo,
+    sheet: &mut Sheet,
+    answers: bool,
+) -> Result<(), RunFault>
+    ensures ok { OnOk result (GoesOn answers world.old (W.contents writer.old) sheet.old.output.items world.new (W.contents writer.new) sheet.new.output.items) }
+    ensures ended { OnOk result (IsComplete world.new ⊎ (needs_epoch world.new ≡ true)) }
+    ensures fault { OnErr result (StopsOn answers world.old (W.contents writer.old) sheet.old.output.items (W.contents writer.new)) }
+{
+    write_finish(writer, world, sheet, answers)?;
+    write_sweep(writer, world, memo, sheet, answers)?;
+    write_finish(writer, world, sheet, answers)
 }
 
 /// Writes the lines that complete the migration.
@@ -146,6 +170,28 @@ fn write_finish<W: Write>(
 {
     while let Some(step) = next_to_finish(world) {
         sheet.add_step(world, step, answers)?;
+        flush_much(writer, sheet)?;
+    }
+    Ok(())
+}
+
+/// Writes a sweep, to its end or to the greatest number of steps.
+fn write_sweep<W: Write>(
+    writer: &mut W,
+    world: &mut World,
+    memo: &mut Memo,
+    sheet: &mut Sheet,
+    answers: bool,
+) -> Result<(), RunFault>
+    ensures ok { OnOk result (GoesOn answers world.old (W.contents writer.old) sheet.old.output.items world.new (W.contents writer.new) sheet.new.output.items) }
+    ensures fault { OnErr result (StopsOn answers world.old (W.contents writer.old) sheet.old.output.items (W.contents writer.new)) }
+{
+    let mut sweep = Sweep::new(world)?;
+    for _ in 0..u32::MAX {
+        let Some(step) = sweep.next(world) else {
+            break;
+        };
+        sheet.add_order(world, memo, Order::Make(step), answers)?;
         flush_much(writer, sheet)?;
     }
     Ok(())

@@ -7,7 +7,7 @@ use crate::course::{Course, Memo};
 use crate::random::{below, in_share};
 use crate::weights::REPAIR;
 use grammar::Order;
-use mig_base::MAX_RUN;
+use mig_base::{LOW_PAGE, MAX_RUN};
 use rand_core::Rng;
 use world::prelude::*;
 
@@ -86,7 +86,7 @@ fn draw_issue<R: Rng>(rng: &mut R, course: &Course, memo: &Memo, world: &World, 
     };
     Step::Issue {
         cpu,
-        command: draw_command(rng, course, memo, maps, world.remaining()),
+        command: draw_command(rng, course, memo, maps, world),
     }
 }
 
@@ -99,24 +99,54 @@ fn draw_send<R: Rng>(rng: &mut R, course: &Course) -> Step {
     Step::Send
 }
 
+/// Whether the source would owe some of the pages from which commands draw: they are present, and not clean.
+fn would_owe(course: &Course, world: &World) -> bool {
+    let clean = world.dirty_log().clean();
+    let mut owed = 0u32;
+    for page in LOW_PAGE..LOW_PAGE + PageNo::from(course.pages) {
+        if world.source_space().page(page).is_some() && !clean.contains(page) {
+            owed = owed.saturating_add(1);
+        }
+        if owed >= course.owes {
+            return true;
+        }
+    }
+    false
+}
+
+/// The switch, or what leads to one after which pages are owed: the guest stores on, and no page is sent.
+fn draw_switch<R: Rng>(rng: &mut R, course: &Course, memo: &Memo, world: &World) -> Step {
+    if memo.line < course.switch_by && !would_owe(course, world) {
+        return draw_source_handler(rng);
+    }
+    Step::Switch
+}
+
 /// What the source does before the switch. A migration starts and switches where its course says so.
 fn draw_sender<R: Rng>(rng: &mut R, course: &Course, memo: &Memo, world: &World) -> Step {
     if world.phase() == WorldPhase::Idle && memo.line >= course.start {
         return Step::Start;
     }
-    let is_late = memo.line >= course.switch;
+    if memo.line >= course.switch {
+        return draw_switch(rng, course, memo, world);
+    }
     match below(rng, 8) {
         0 => Step::Round,
-        1 if is_late => Step::Switch,
         _ => draw_send(rng, course),
     }
 }
 
-/// A push of the page that was requested, or of one that is owed. The source serves requests where its profile has it wait for them.
+/// A push of the page that was requested, or of one that is owed. Up to a line of its course the source pushes little that was not
+/// requested. It serves requests where its profile has it wait for them.
 fn draw_push<R: Rng>(rng: &mut R, course: &Course, memo: &Memo, world: &World) -> Order {
+    let background = if memo.line < course.rest {
+        1
+    } else {
+        course.weights.background
+    };
     let page = match memo.asked {
         Some(page) if below(rng, 8) > 0 => page,
-        _ if in_share(rng, course.weights.background) => draw_of(rng, course, world.remaining()),
+        _ if in_share(rng, background) => draw_of(rng, course, world.remaining()),
         _ => return Order::Make(Step::Serve),
     };
     Order::Push {
@@ -129,8 +159,8 @@ fn draw_push<R: Rng>(rng: &mut R, course: &Course, memo: &Memo, world: &World) -
 /// What the source does after the switch.
 fn draw_pusher<R: Rng>(rng: &mut R, course: &Course, memo: &Memo, world: &World) -> Order {
     match below(rng, 8) {
-        0 => Order::Make(Step::End),
-        1..=3 => Order::Make(Step::Serve),
+        0 if memo.line >= course.rest => Order::Make(Step::End),
+        0..=3 => Order::Make(Step::Serve),
         _ => draw_push(rng, course, memo, world),
     }
 }

@@ -27,7 +27,7 @@ pub(crate) struct Weights {
     pub pieces: u8,
     /// Of 16 pushes, those on the urgent wire.
     pub urgent: u8,
-    /// Of 16 draws of a push, those of a page that was not requested.
+    /// Of 16 draws of a push, those of a page that was not requested, once the source pushes what is left.
     pub background: u8,
     /// Of 16 sends, those of several pages.
     pub runs: u8,
@@ -36,6 +36,9 @@ pub(crate) struct Weights {
     /// From which sixteenth on the source switches, at the earliest and at the latest.
     pub switch_from: u8,
     pub switch_to: u8,
+    /// The same of the line from which on the source pushes what is left, and ends.
+    pub rest_from: u8,
+    pub rest_to: u8,
 }
 
 /// The weight of the link while the channel is lost.
@@ -45,20 +48,22 @@ pub(crate) const REPAIR: u8 = 60;
 const BALANCED: Weights = Weights {
     guest: 100,
     source_handler: 40,
-    sender: 50,
+    sender: 40,
     pusher: 60,
     wires: 100,
     dest_handler: 80,
     link: 1,
-    maps: 2,
+    maps: 1,
     moves: 3,
     pieces: 2,
     urgent: 6,
     background: 6,
     runs: 4,
-    start: 3,
-    switch_from: 5,
-    switch_to: 9,
+    start: 2,
+    switch_from: 4,
+    switch_to: 7,
+    rest_from: 11,
+    rest_to: 13,
 };
 
 impl Profile {
@@ -82,20 +87,18 @@ impl Profile {
                 weights.link = 0;
                 weights.sender = 20;
                 weights.background = 3;
-                weights.switch_from = 4;
-                weights.switch_to = 6;
+                weights.switch_to = 5;
             }
             Profile::Moves => {
-                weights.moves = 10;
+                weights.moves = 6;
                 weights.sender = 20;
                 weights.wires = 60;
                 weights.link = 0;
-                weights.switch_from = 4;
-                weights.switch_to = 7;
+                weights.switch_to = 5;
             }
             Profile::Breaks => {
                 weights.link = 5;
-                weights.switch_to = 12;
+                weights.switch_to = 8;
             }
             Profile::Urgent => {
                 weights.guest = 150;
@@ -104,17 +107,16 @@ impl Profile {
                 weights.sender = 20;
                 weights.background = 5;
                 weights.wires = 60;
-                weights.switch_from = 4;
-                weights.switch_to = 7;
+                weights.switch_to = 5;
             }
             Profile::Bytes => {
                 weights.wires = 240;
                 weights.pieces = 13;
+                weights.sender = 25;
             }
             Profile::Runs => {
                 weights.runs = 15;
-                weights.switch_from = 6;
-                weights.switch_to = 12;
+                weights.sender = 25;
             }
             Profile::All => {}
         }

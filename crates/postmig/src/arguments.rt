@@ -203,13 +203,22 @@ const PROFILES: &[&str] = &[
 ];
 
 /// `--seed S`.
-fn seed_argument<'a>(alloc: Global) -> Arg<'a> {
+fn seed_argument<'a>(alloc: Global) -> Result<Arg<'a>, AllocError> {
     Arg::new(alloc, "seed")
         .long("seed")
         .value_name("S")
         .help("The seed of the draws")
         .value_parser(value_parser!(u64))
-        .required(true)
+        .required_unless_present("seeds")
+}
+
+/// `--seeds A:B`.
+fn seeds_argument<'a>(alloc: Global) -> Result<Arg<'a>, AllocError> {
+    Arg::new(alloc, "seeds")
+        .long("seeds")
+        .value_name("A:B")
+        .help("Writes a script for each seed from A to B, one after the other")
+        .conflicts_with("seed")
 }
 
 /// `--steps N`.
@@ -242,11 +251,16 @@ fn pages_argument<'a>(alloc: Global) -> Arg<'a> {
         .default_value("8")
 }
 
-/// `postmig explore --seed S [--steps N] [--cpus N] [--profile P] [--pages M] [--finish] [--answers] [--explain]`.
+/// `postmig explore --seed S [--steps N] [--cpus N] [--profile P] [--pages M] [--finish] [--sweep] [--answers] [--explain]`, or with
+/// `--seeds A:B` in place of `--seed S`.
 fn explore_command<'a>(alloc: Global) -> Result<Command<'a>, AllocError> {
     let finish = Arg::new(alloc, "finish")
         .long("finish")
-        .help("Ends the script with the lines that complete its migration")
+        .help("Ends the script with the lines that complete its migration, and a sweep")
+        .action(ArgAction::SetTrue);
+    let sweep = Arg::new(alloc, "sweep")
+        .long("sweep")
+        .help("Ends the script with loads of all that was stored")
         .action(ArgAction::SetTrue);
     let answers = Arg::new(alloc, "answers")
         .long("answers")
@@ -254,12 +268,14 @@ fn explore_command<'a>(alloc: Global) -> Result<Command<'a>, AllocError> {
         .action(ArgAction::SetTrue);
     Command::new(alloc, "explore")
         .about("Writes a random script of a migration")
-        .arg(seed_argument(alloc))?
+        .arg(seed_argument(alloc)?)?
+        .arg(seeds_argument(alloc)?)?
         .arg(steps_argument(alloc))?
         .arg(cpus_argument(alloc))?
         .arg(profile_argument(alloc))?
         .arg(pages_argument(alloc))?
         .arg(finish)?
+        .arg(sweep)?
         .arg(answers)?
         .arg(explain_argument(alloc, WHY_IT_FAILED))
 }

@@ -204,22 +204,63 @@ fn draw_script(rt: &HostRuntime, matches: &ArgMatches) -> u8 {
     status
 }
 
-/// The exploration that the arguments of `postmig explore` ask for.
-fn plan_of(matches: &ArgMatches) -> Option<Plan> {
+/// The seeds that `postmig explore` is given: the first and the last.
+fn seeds_of(matches: &ArgMatches) -> Option<(u64, u64)> {
+    let Some(seeds) = matches.get_str("seeds") else {
+        let seed = matches.get_one::<u64>("seed")?;
+        return Some((seed, seed));
+    };
+    let (first, last) = seeds.split_once(':')?;
+    let first = first.parse::<u64>().ok()?;
+    let last = last.parse::<u64>().ok()?;
+    if first > last {
+        return None;
+    }
+    Some((first, last))
+}
+
+/// The exploration of a seed that the other arguments of `postmig explore` ask for.
+fn plan_of(matches: &ArgMatches, seed: u64) -> Option<Plan> {
     Some(Plan {
-        seed: matches.get_one::<u64>("seed")?,
+        seed,
         steps: matches.get_one::<u32>("steps")?,
         cpus: matches.get_one::<u8>("cpus")?,
         profile: Profile::named(matches.get_str("profile")?)?,
         pages: matches.get_one::<u16>("pages")?,
         finish: matches.get_flag("finish"),
+        sweep: matches.get_flag("sweep"),
         answers: matches.get_flag("answers"),
     })
 }
 
-/// Writes a random script.
+/// Writes the scripts of the plan's seed and of those after it up to the last.
+fn explore_seeds(
+    rt: &HostRuntime,
+    output: &mut Watched<'_, Stdout>,
+    plan: &Plan,
+    last: u64,
+) -> Result<(), RunFault>
+    requires low { 1 ≤ plan.now.cpus }
+    requires high { plan.now.cpus ≤ 16 }
+    requires some { 1 ≤ plan.now.pages }
+    requires few { plan.now.pages ≤ 4096 }
+{
+    for seed in plan.seed..=last {
+        let plan = Plan { seed, ..*plan };
+        run_explore(rt.alloc(), output, &plan)?;
+    }
+    Ok(())
+}
+
+/// Writes random scripts, one after the other.
 fn explore(rt: &HostRuntime, matches: &ArgMatches) -> u8 {
-    let Some(plan) = plan_of(matches) else {
+    let Some((first, last)) = seeds_of(matches) else {
+        let _ = eprintln!(rt;
+            "error: invalid value for '--seeds <A:B>': not two seeds, of which the second is not below the first"
+        );
+        return BAD_COMMAND_OR_SCRIPT;
+    };
+    let Some(plan) = plan_of(matches, first) else {
         return BAD_COMMAND_OR_SCRIPT;
     };
     if plan.cpus == 0 || plan.cpus > 16 || plan.pages == 0 || plan.pages > 4096 {
@@ -229,7 +270,7 @@ fn explore(rt: &HostRuntime, matches: &ArgMatches) -> u8 {
         return READ_OR_WRITE_FAULT;
     };
     let mut output = open_output(rt);
-    let outcome = run_explore(rt.alloc(), &mut output, &plan);
+    let outcome = explore_seeds(rt, &mut output, &plan, last);
     end(rt, matches, &input, &output, outcome.map(|()| true))
 }
 

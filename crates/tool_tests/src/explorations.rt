@@ -19,6 +19,7 @@ const PLAN: Plan = Plan {
     profile: Profile::All,
     pages: 8,
     finish: false,
+    sweep: false,
     answers: false,
 };
 
@@ -204,15 +205,101 @@ fn each_profile_is_finished(rt: HostRuntime) -> Result<(), Fail> {
     Ok(())
 }
 
-/// With the lines that complete the migration, too, the answers are those of a run.
+/// With the lines that complete the migration, too, and with a sweep, the answers are those of a run.
 #[test]
 fn a_finished_script_has_answers(rt: HostRuntime) -> Result<(), Fail> {
-    let plan = Plan {
-        finish: true,
+    for (finish, sweep) in [(true, false), (false, true), (true, true)] {
+        let plan = Plan {
+            finish,
+            sweep,
+            answers: true,
+            ..PLAN
+        };
+        answers_are_those_of_a_run(&rt, rt.alloc(), &plan)?;
+    }
+    Ok(())
+}
+
+/// Whether an answer is that of a load of other bytes than zeros.
+fn is_shown(answer: &[u8]) -> bool {
+    let is_value = answer.windows(8).any(|word| word == b" value 0".as_slice());
+    is_value && !answer.ends_with(b" value 0x0")
+}
+
+/// How many answers after the completion are those of loads of other bytes than zeros.
+fn shown_when_complete(answers: &[u8]) -> u32 {
+    let mut is_complete = false;
+    let mut shown = 0u32;
+    for answer in answers.split(|byte| *byte == b'\n') {
+        if answer == b"took done".as_slice() || answer.starts_with(b"took recv ended") {
+            is_complete = true;
+        }
+        if is_complete && is_shown(answer) {
+            shown = shown.saturating_add(1);
+        }
+    }
+    shown
+}
+
+/// A sweep shows bytes that were stored, where the guest runs at the destination.
+#[test]
+fn a_sweep_shows_what_was_stored(rt: HostRuntime) -> Result<(), Fail> {
+    for profile in Profile::ALL {
+        let plan = Plan {
+            profile,
+            finish: true,
+            answers: true,
+            ..PLAN
+        };
+        let text = explored(&rt, rt.alloc(), &plan)?;
+        let (_, answers) = split_answers(rt.alloc(), &text)?;
+        assert!(rt; shown_when_complete(&answers) > 0, "nothing is shown");
+    }
+    Ok(())
+}
+
+/// A sweep stands after the lines that there are without it.
+#[test]
+fn a_sweep_changes_no_line(rt: HostRuntime) -> Result<(), Fail> {
+    let short = Plan {
         answers: true,
         ..PLAN
     };
-    answers_are_those_of_a_run(&rt, rt.alloc(), &plan)
+    let swept = Plan {
+        sweep: true,
+        ..short
+    };
+    let text = explored(&rt, rt.alloc(), &short)?;
+    let (lines, _) = split_answers(rt.alloc(), &text)?;
+    let text = explored(&rt, rt.alloc(), &swept)?;
+    assert!(rt;
+        text.starts_with(
+            b"# postmig 0.1.0 explore --seed 7 --steps 100 --cpus 2 --profile all --pages 8 --sweep "
+        )
+    );
+    let (all, _) = split_answers(rt.alloc(), &text)?;
+    assert!(rt; all.starts_with(&lines));
+    assert!(rt; all.len() > lines.len());
+    Ok(())
+}
+
+/// The lowest byte of a value that is stored is not 0, so that a load of any width shows it. A value that does not fit is stored nowhere.
+#[test]
+fn no_zeros_are_stored(rt: HostRuntime) -> Result<(), Fail> {
+    for profile in Profile::ALL {
+        let plan = Plan {
+            profile,
+            steps: 600,
+            ..PLAN
+        };
+        let text = explored(&rt, rt.alloc(), &plan)?;
+        for line in text.split(|byte| *byte == b'\n') {
+            let is_store = line.windows(7).any(|word| word == b" store ".as_slice());
+            let shows = !line.ends_with(b"00") && !line.ends_with(b" 0x0");
+            assert!(rt; !is_store || shows || line.ends_with(b" 1 0x100"), "zeros");
+        }
+    }
+    Ok(())
 }
 
 /// Without answers the lines are the same.

@@ -20,7 +20,7 @@ pub returns-clause-ok : goal.returns-clause-ok
 returns-clause-ok g c =
     let all : c.loop.counter ≡ c.args.plan.now.steps = omega (arith, c.loop.auto.counter-end, c.loop-test.false) in
     let going = subst (λ n. Going c.args.plan.now.answers c.args.world.now n c.loop.world (g.W.Write.contents c.args.writer.now) (g.W.Write.contents c.loop.writer) c.loop.sheet.output.items) all c.loop.invariant in
-    ended_ok _ _ _ _ _ _ _ _ _ _ going c.write_end.ensures.ok
+    ended_ok _ _ _ _ _ _ _ _ _ _ _ going c.write_end.ensures.ok
 
 pub returns-clause-fault : goal.returns-clause-fault
 returns-clause-fault g c =
