@@ -11,7 +11,7 @@ use Rattle.expected.specs.declared.outcome.Outcome.{Outcome}
 use Rattle.expected.specs.declared.outcome.Outcome.TheVariants.{Same, Differs}
 use Rattle.expected.specs.declared.player.Player.{Player}
 use Rattle.expected.specs.declared.tester.Tester.{Tester}
-use Rattle.expected.specs.Cases.{Case, Asks, IsCase, ReadsCase, ReadsCases, BeginsWrong, Agrees, answers_in}
+use Rattle.expected.specs.Cases.{Case, Asks, IsCase, ReadsCase, ReadsCases, BeginsWrong, Agrees}
 use Rattle.expected.specs.Tests.{difference_line, Met, SomeMet, Unmet, WrongAt, Comes}
 use Rattle.expected.specs.Parts.{Passed, Failed, Leads, LineFault, Ran, After, FaultIn, FaultAtEnd}
 use Rattle.expected.proofs.Reached.{agrees_promised, does_promised}

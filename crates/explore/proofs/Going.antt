@@ -11,11 +11,10 @@ use Rattle.engine.specs.Script.{MakesAny, Obeys}
 use Rattle.engine.specs.declared.fault.RunFault.{RunFault}
 use Rattle.engine.specs.WorldState.{WorldState, epoch_in}
 use Rattle.mig_base.specs.declared.schedule.Step.{Step}
-use Rattle.mig_model.specs.Migration.{next}
 use Rattle.mig_model.specs.Promises.{IsComplete}
 use Rattle.finish.specs.Finishing.{needs_epoch, IsDue, steps_left}
 use Rattle.engine.specs.Spelled.{HasStep}
-use Rattle.explore.specs.Explorations.{IsComment, Adds, Explores, Explored, Gone, Going, GoesOn, StopsOn, IsCount, IsFinished, AreFew, IsScript, MakesIt, Writes, Stops, tail}
+use Rattle.explore.specs.Explorations.{IsComment, Adds, Explores, Explored, Gone, Going, GoesOn, StopsOn, IsCount, AreFew, IsScript, MakesIt, Writes, Stops, tail}
 
 -- ---- lines one after the other
 

@@ -82,7 +82,10 @@ fn renewed_answers(rt: HostRuntime) -> Result<(), Fail> {
         }
     }
     for (script, number, _) in WRONG {
-        assert_eq!(rt; renewed(rt.alloc(), script).err(), Some(RunFault::Line(*number)));
+        assert_eq!(rt;
+            renewed(rt.alloc(), script).err(),
+            Some(RunFault::Line(*number))
+        );
     }
     Ok(())
 }

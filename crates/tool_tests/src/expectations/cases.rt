@@ -31,9 +31,18 @@ static SAME: &[(&[u8], u64)] = &[
         b"# cpus 3\ncpu 2 load 0x10000 1 => cpu 2 segv unmapped\ncpu 3 load 0 1 => refused NoCpu\n",
         2,
     ),
-    (b"# cpus 3\r\ncpu 2 load 0x10000 1 => cpu 2 segv unmapped\r\n", 1),
-    (b" #  cpus  0x10 \ncpu 15 load 0x10000 1 => cpu 15 segv unmapped\n", 1),
-    (b"# the number of cpus 3\ncpu 2 load 0 1 => refused NoCpu\n", 1),
+    (
+        b"# cpus 3\r\ncpu 2 load 0x10000 1 => cpu 2 segv unmapped\r\n",
+        1,
+    ),
+    (
+        b" #  cpus  0x10 \ncpu 15 load 0x10000 1 => cpu 15 segv unmapped\n",
+        1,
+    ),
+    (
+        b"# the number of cpus 3\ncpu 2 load 0 1 => refused NoCpu\n",
+        1,
+    ),
     (b"#cpus 3\ncpu 2 load 0 1 => refused NoCpu\n", 1),
     (b"\n# cpus 3\ncpu 2 load 0 1 => refused NoCpu\n", 1),
     (LONGEST, 1),

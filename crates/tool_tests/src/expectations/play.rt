@@ -69,12 +69,7 @@ fn tested_once(alloc: Global, script: &[u8], how: How) -> Result<Ended, AllocErr
 }
 
 /// The same. It is played again if memory is refused; nothing was written then.
-pub fn tested(
-    rt: &impl Abort,
-    alloc: Global,
-    script: &[u8],
-    how: How,
-) -> Result<Ended, Fail> {
+pub fn tested(rt: &impl Abort, alloc: Global, script: &[u8], how: How) -> Result<Ended, Fail> {
     let ended = tested_once(alloc, script, how)?;
     if ended.outcome == Err(RunFault::NoMemory) {
         assert!(rt; ended.written.is_empty());

@@ -1,5 +1,5 @@
 -- The host holds the memory of the entries before the index, so what it answers is expected.
-use Rattle.std.proofs.Common.{◌≡◌, ◌≢◌, ◌+◌, rules, ap, ◌∙◌, sym, subst, refl, get_or, take, arith}
+use Rattle.std.proofs.Common.{◌≡◌, ◌≢◌, ◌+◌, rules, ap, ◌∙◌, sym, subst, get_or, take}
 use Rattle.std.proofs.lemmas.List.{take_all}
 use Rattle.mig_base.specs.declared.command.Entry.{Entry}
 use Rattle.mig_base.specs.Flat.{reply_of, after, no_memory, memory_of}

@@ -1,4 +1,4 @@
-use Rattle.std.proofs.Common.{◌≡◌, [], subst}
+use Rattle.std.proofs.Common.{subst}
 use Rattle.explore.specs.Explorations.{IsComment}
 use Rattle.explore.proofs.Going.{explored_first, stops_first, on_err}
 use Rattle.explore.proofs.run.run_explore.Goals as goal

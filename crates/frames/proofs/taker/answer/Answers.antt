@@ -1,5 +1,5 @@
 use Rattle.frame_decoder.specs.Streams.{sent_of}
-use Rattle.frames.proofs.Answering.{is_refused, refused_node, refused_line, taken_count}
+use Rattle.frames.proofs.Answering.{is_refused, refused_node, refused_line}
 use Rattle.frames.proofs.taker.answer.Goals as goal
 
 pub returns-in-Err-clause-taken : goal.returns-in-Err-clause-taken
