@@ -37,7 +37,7 @@ LEFT_OUT = {
 # The most that a block may take.
 SECONDS = 60
 # What is made smaller, so that all blocks take seconds.
-SMALLER = {"seq 1 10000": "seq 1 20"}
+SMALLER = {"seq 1 10000": "seq 1 20", "--seeds 1:1000": "--seeds 1:20"}
 
 
 def blocks(text):
