@@ -199,6 +199,16 @@ fn the_pages_in_turn_are_sent(rt: HostRuntime) -> Result<(), Fail> {
     Ok(())
 }
 
+/// The request waits on while all pages are pushed in turn.
+#[test]
+fn the_worker_that_pushes_serves_nobody(rt: HostRuntime) -> Result<(), Fail> {
+    let rig = asked_rig(rt.alloc()).ok_or("no rig")?;
+    let (held, closed) = play(&rt, rt.alloc(), rig, Scene::InTurn).ok_or("no claims")?;
+    assert!(rt; held && closed.fault.is_none());
+    assert!(rt; closed.sent == 2 && closed.asked == 1);
+    Ok(())
+}
+
 #[test]
 fn a_page_that_was_asked_for_is_sent(rt: HostRuntime) -> Result<(), Fail> {
     let rig = asked_rig(rt.alloc()).ok_or("no rig")?;

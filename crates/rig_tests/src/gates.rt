@@ -57,6 +57,15 @@ impl Gate for StopAt {
     }
 }
 
+/// Skips each turn before one, and stops at that.
+pub struct SkipTo(pub u64);
+
+impl Gate for SkipTo {
+    fn pass(&self, _who: Worker, _next: StepKind, turn: u64) -> Pass {
+        if turn < self.0 { Pass::Skip } else { Pass::Stop }
+    }
+}
+
 /// Cuts the channel before turn 1, and stops at turn 4. It counts the turns before that in which a page is pushed.
 #[derive(Drop)]
 pub struct CutAfterFirst<'a, R> {

@@ -29,6 +29,18 @@ pub fn world_after(alloc: Global, cpus: u8, steps: &[Step]) -> Option<World> {
     Some(world)
 }
 
+/// A rig of a world whose migration before had this epoch.
+pub fn rig_in_epoch(alloc: Global, epoch: u32) -> Option<Rig> {
+    let world = match World::with_counts(alloc, 1, epoch, 0) {
+        Ok(world) => world,
+        Err(_) => World::with_counts(alloc, 1, epoch, 0).ok()?,
+    };
+    match Rig::new(alloc, world) {
+        Ok(rig) => Some(rig),
+        Err(world) => Rig::new(alloc, world).ok(),
+    }
+}
+
 fn new_world(alloc: Global, cpus: u8) -> Option<World> {
     match World::new(alloc, cpus) {
         Ok(world) => Some(world),
@@ -122,6 +134,8 @@ pub struct Closed {
     /// The bytes in flight on the wire to the destination, and on the urgent one.
     pub forward: u64,
     pub urgent: u64,
+    /// The requests that the source has received and not served.
+    pub asked: usize,
 }
 
 impl Closed {
@@ -135,6 +149,7 @@ impl Closed {
             remaining: world.remaining().len(),
             forward: world.forward_bytes(),
             urgent: world.urgent_bytes(),
+            asked: world.asked(),
         }
     }
 }

@@ -1,7 +1,7 @@
 //! The steps that no worker makes. One that is refused for memory is made again.
 
 use crate::gates::{MAP, StopAt, issue, store};
-use crate::rigs::{close, rig_after};
+use crate::rigs::{close, rig_after, rig_in_epoch};
 use mig_base::WorldPhase;
 use mig_base::effect::Effect;
 use mig_base::refusal::Refusal;
@@ -54,5 +54,13 @@ fn a_migration_is_switched_cut_and_resumed(rt: HostRuntime) -> Result<(), Fail> 
     assert!(rt; resumed(&rt, &rig) == Ok(Effect::Resumed { epoch: 2 }));
     let closed = close(rig, Vec::new(rt.alloc()), None);
     assert!(rt; closed.fault.is_none() && closed.entries == 2);
+    Ok(())
+}
+
+/// A Start begins the epoch after that of the migration before.
+#[test]
+fn a_start_is_that_of_this_world(rt: HostRuntime) -> Result<(), Fail> {
+    let rig = rig_in_epoch(rt.alloc(), 6).ok_or("no rig")?;
+    assert!(rt; started(&rt, &rig) == Ok(Effect::Started { epoch: 7 }));
     Ok(())
 }

@@ -1,6 +1,6 @@
 //! Calls and a worker in the thread of the test.
 
-use crate::gates::{MAP, STORE, StopAt};
+use crate::gates::{MAP, STORE, SkipTo, StopAt};
 use crate::rigs::{call, close_one, rig_after};
 use mig_base::refusal::Refusal;
 use mig_base::{Reply, WorldPhase};
@@ -32,5 +32,19 @@ fn a_gate_stops_a_worker_at_its_turn(rt: HostRuntime) -> Result<(), Fail> {
     let closed = close_one(rt.alloc(), rig, seat).ok_or("no memory")?;
     assert!(rt; closed.fault.is_none() && closed.entries == 2);
     assert!(rt; closed.rounds == 1 && closed.sent == 1);
+    Ok(())
+}
+
+#[test]
+fn a_turn_that_is_skipped_makes_no_step(rt: HostRuntime) -> Result<(), Fail> {
+    let mut rig = rig_after(rt.alloc(), 1, &[]).ok_or("no rig")?;
+    let mut seat = rig.seat(0).ok().ok_or("no seat")?;
+    assert!(rt; stored(&rt, &rig, &mut seat));
+    assert!(rt; started(&rt, &rig));
+    rig.source_worker(&rt, &SkipTo(14));
+    rig.dest_worker(&rt, &SkipTo(12));
+    let closed = close_one(rt.alloc(), rig, seat).ok_or("no memory")?;
+    assert!(rt; closed.fault.is_none() && closed.entries == 2);
+    assert!(rt; closed.rounds == 0 && closed.sent == 0 && closed.forward > 0);
     Ok(())
 }
