@@ -67,3 +67,17 @@ fn pages_that_descend(rt: HostRuntime) -> Result<(), Fail> {
     assert_eq!(rt; claimed.as_slice(), [0x12, 0x10].as_slice());
     Ok(())
 }
+
+/// What a seat has claimed that was dropped is in neither list, and all that is free is left.
+#[test]
+fn a_dropped_seat_keeps_its_claims(rt: HostRuntime) -> Result<(), Fail> {
+    let (claims, mut seat) = open_ascending(rt.alloc(), 0x10, 4)?;
+    assert!(rt; claims.len() == 4);
+    let mut other = split(rt.alloc(), &claims, &mut seat)?;
+    assert!(rt; claims.claim(&mut seat, 0).is_some() && claims.claim(&mut other, 2).is_some());
+    drop(other);
+    let (left, claimed) = close(rt.alloc(), claims, seat)?;
+    assert_eq!(rt; left.as_slice(), [0x11, 0x13].as_slice());
+    assert_eq!(rt; claimed.as_slice(), [0x10].as_slice());
+    Ok(())
+}
