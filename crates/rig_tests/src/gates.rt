@@ -62,7 +62,11 @@ pub struct SkipTo(pub u64);
 
 impl Gate for SkipTo {
     fn pass(&self, _who: Worker, _next: StepKind, turn: u64) -> Pass {
-        if turn < self.0 { Pass::Skip } else { Pass::Stop }
+        if turn < self.0 {
+            Pass::Skip
+        } else {
+            Pass::Stop
+        }
     }
 }
 
