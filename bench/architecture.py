@@ -1,5 +1,5 @@
 #!/usr/bin/env python3
-"""Draws docs/pictures/architecture.svg: the crates of the program and of the library in groups, and which group stands on which.
+"""Draws docs/architecture.svg: the crates of the program and of the library in groups, and which group stands on which.
 
 python3 bench/architecture.py [--write]
 
@@ -12,7 +12,7 @@ import sys
 import page
 import tower
 
-PICTURE = page.TOP / "docs" / "pictures" / "architecture.svg"
+PICTURE = page.TOP / "docs" / "architecture.svg"
 # From the top: the height of each row, and its groups, each with what it is, its crates, and how many of the twelve columns it takes.
 # A group of the first row without a neighbour below it is as high as both rows.
 ROWS = (
@@ -125,7 +125,7 @@ def main():
     if sys.argv[1:] == ["--write"]:
         PICTURE.write_text(text)
     elif not PICTURE.is_file() or PICTURE.read_text() != text:
-        sys.exit("docs/pictures/architecture.svg is not as 'python3 bench/architecture.py --write' draws it")
+        sys.exit("docs/architecture.svg is not as 'python3 bench/architecture.py --write' draws it")
 
 
 if __name__ == "__main__":
