@@ -5,8 +5,8 @@ python3 bench/commands.py [PAGE ..]
 
 A block of a page is what is indented by four spaces. One that begins with '$ ' is a session: each line that begins so is a command, and
 the lines below it are what it writes, standard error among it. Any other block whose first word is a program of the pages is a script of
-the shell, and has to end with status 0. A block after a line that ends with `NAME`: is the file NAME. A line with [ .. ] shows which
-words a command takes, and is not run; nor are those with a word of LEFT_OUT. 'postmig' is the launcher; without a proved program it fails.
+the shell, and has to end with status 0. A block after a line that ends with `NAME`: is the file NAME. A line with [ .. ], or that ends with
+'..', shows which words a command takes, and is not run; nor are those with a word of LEFT_OUT. 'postmig' is the launcher; without a proved program it fails.
 """
 
 import os
@@ -112,7 +112,7 @@ def to_run(lines):
     """The lines of a block that are run: none where it is no block of commands."""
     if not (lines[0].startswith("$ ") or PROGRAMS.match(lines[0])):
         return []
-    left = [it for it in lines if not re.search(r"\[-?-?\w+.*\]", it) and not any(word in it for word in LEFT_OUT)]
+    left = [it for it in lines if not re.search(r"\[-?-?\w+.*\]| \.\.$", it) and not any(word in it for word in LEFT_OUT)]
     return left if lines[0] in left or not lines[0].startswith("$ ") else []
 
 
