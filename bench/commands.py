@@ -6,7 +6,8 @@ python3 bench/commands.py [PAGE ..]
 A block of a page is what is indented by four spaces. One that begins with '$ ' is a session: each line that begins so is a command, and
 the lines below it are what it writes, standard error among it. Any other block whose first word is a program of the pages is a script of
 the shell, and has to end with status 0. A block after a line that ends with `NAME`: is the file NAME. A line with [ .. ], or that ends with
-'..', shows which words a command takes, and is not run; nor are those with a word of LEFT_OUT. 'postmig' is the launcher; without a proved program it fails.
+'..', shows which words a command takes, and is not run; nor is one with a word of LEFT_OUT. 'postmig' is the launcher, which fails where
+there is no proved program.
 """
 
 import os
