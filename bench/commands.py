@@ -13,6 +13,7 @@ there is no proved program.
 import os
 import pathlib
 import re
+import shutil
 import signal
 import subprocess
 import sys
@@ -37,6 +38,8 @@ LEFT_OUT = {
 }
 # The most that a block may take.
 SECONDS = 60
+# Programs without which a line is not run.
+TOOLS = ("cc", "pkg-config", "gzip", "xargs", "awk")
 # What is made smaller, so that all blocks take seconds.
 SMALLER = {"seq 1 10000": "seq 1 20", "--seeds 1:1000": "--seeds 1:20"}
 
@@ -113,7 +116,10 @@ def to_run(lines):
     """The lines of a block that are run: none where it is no block of commands."""
     if not (lines[0].startswith("$ ") or PROGRAMS.match(lines[0])):
         return []
-    left = [it for it in lines if not re.search(r"\[-?-?\w+.*\]| \.\.$", it) and not any(word in it for word in LEFT_OUT)]
+    missing = [tool for tool in TOOLS if not shutil.which(tool)]
+    shown = re.compile(r"\[-?-?\w+.*\]| \.\.$")
+    left = [it for it in lines if not shown.search(it) and not any(word in it for word in LEFT_OUT)]
+    left = [it for it in left if not any(re.search(rf"\b{tool}\b", it) for tool in missing)]
     return left if lines[0] in left or not lines[0].startswith("$ ") else []
 
 
