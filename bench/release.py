@@ -1,8 +1,9 @@
 #!/usr/bin/env python3
 """Makes the release of the program and of the library for C in release/, from their proved builds, or compares both.
 
-python3 bench/release.py --write       makes it: of crates/postmig/out/postmig, which rt ci and ./postmig prove leave, and of dist/, where
-                                       ./postmig library --build makes the library, which it runs where that is not of these sources
+python3 bench/release.py --write       makes it: of crates/postmig/out/postmig, which rt ci and ./postmig prove leave, and of the library
+                                       in dist/, which ./postmig library --build makes: it runs that where neither dist/ nor the release
+                                       has a library of these sources
 python3 bench/release.py --sources     whether it is of these sources, and unpacks to what its checksums say
 python3 bench/release.py --check       the same, and whether the proved build is the program of the release, byte by byte; so with the
                                        library, if dist/ has one that was built here
@@ -58,9 +59,13 @@ def packed(text):
     return gzip.compress(text, 9, mtime=0)
 
 
-def built_library():
-    """The files of the library in dist/, which is built if it is not of these sources."""
-    if not sources("postmig_c")[1]:
+def library_parts():
+    """The files of the library: those that were built in dist/, or those of the release if they are of these sources; else it is built."""
+    checksum, is_built = sources("postmig_c")
+    if not is_built and LIBRARY.is_file() and SOURCES["postmig_c"].is_file() and SOURCES["postmig_c"].read_text().strip() == checksum:
+        with tarfile.open(LIBRARY) as tar:
+            return {it.name: tar.extractfile(it).read() for it in tar}
+    if not is_built:
         subprocess.run([page.TOP / "postmig", "library", "--build"], check=True)
     return {name: (DIST / name).read_bytes() for name in PARTS}
 
@@ -68,7 +73,7 @@ def built_library():
 def write():
     if not sources("postmig")[1]:
         sys.exit("release: there is no proved build of these sources: rt ci or ./postmig prove makes one")
-    program, parts = BUILT.read_bytes(), built_library()
+    program, parts = BUILT.read_bytes(), library_parts()
     FOLDER.mkdir(exist_ok=True)
     files = {PROGRAM: packed(program), LIBRARY: packed(archive(parts))}
     for file, content in files.items():
