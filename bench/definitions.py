@@ -1,13 +1,15 @@
 #!/usr/bin/env python3
-"""Lists, by crate, the files of definitions that the contracts of public calls rest on: those that they name, and those that these name in turn.
+"""Counts, promise by promise, the definitions that a reader has to believe: those that its contract names, and those that these name in turn.
 
-python3 bench/definitions.py [--write | --check]
+python3 bench/definitions.py [--write | --check | --list PROMISE]
 
-A reader has to believe these definitions; all others serve proofs. With --write the list goes to docs/DESIGN.md, with --check the status is 1
-where that page has another list.
+All other definitions serve proofs. Lines are those of the definitions, without comments. With --write the table goes to docs/DESIGN.md, with
+--check the status is 1 where that page has another table. --list prints the definitions of one promise, by its first word, in the order in
+which to read them.
 """
 
 import collections
+import functools
 import re
 import sys
 
@@ -18,15 +20,33 @@ DESIGN = page.TOP / "docs" / "DESIGN.md"
 USE = re.compile(r"^\s*(?:ghost )?use Rattle\.(\w+)\.specs\.(\w+)(?:\.\{([^}]*)\}| as (\w+))?;?\s*$")
 STARTS = ("abbrev ", "unfoldable ", "record ", "data ", "pub record ", "pub data ", "pub ")
 
+# A row with more files than this names the crates alone.
+MOST_FILES = 24
 
+# What each row of the table promises, and the definitions or the public calls by which it does so.
+PROMISES = (
+    ("`Core`: the transcript of a world is the run of one flat memory, and completion means that the destination alone holds it", ["world/Core/Core"]),
+    ("`CoreStep`: the same after each step; a processor gets the reply of its entry; nothing is installed over a present page; complete stays complete", ["world/Core/CoreStep"]),
+    ("`Headline`: all promises for every world, owed pages on their way among them", ["world/Headline/Headline"]),
+    ("`World::step`, with all that the machine says of a step", ["world::step"]),
+    ("`check_script`: `postmig check`", ["engine::check_script"]),
+    ("`run_script`: `postmig run`", ["engine::run_script"]),
+    ("`finish`: `postmig finish` completes a migration", ["finish::finish"]),
+    ("`Decoder::feed`: the bytes of frames", ["frame_decoder::feed"]),
+    ("`run_threads`: `postmig threads`", ["threads::run_threads"]),
+)
+
+
+@functools.cache
 def product():
     """The crates of the product, lowest first as crates.txt has them: not those of tests and benches."""
+    found = []
     for line in (page.TOP / "crates.txt").read_text().splitlines():
         if line.startswith("# tests"):
-            return
+            break
         words = line.partition("#")[0].partition(":")[0].split()
-        if words:
-            yield words[0]
+        found += words[:1]
+    return found
 
 
 def names(word, text):
@@ -47,66 +67,124 @@ def imports(text):
                 yield f"{found[4]}.{word}", found[1], found[2], word
 
 
-def contracts(text):
-    """The contracts of public functions, of public traits and of iterators, and the types that callers see."""
+def contracts(text, call=r"\w+"):
+    """The contracts of public functions, or of one of them, of public traits and of iterators, and the types that callers see."""
     inside = in_trait = False
     for line in text.splitlines():
         in_trait = line.startswith("pub trait ") or in_trait and not line.startswith("}")
-        if re.match(r'\s*pub (const )?(extern "C" )?fn ', line):
+        if re.match(rf'\s*pub (const )?(extern "C" )?fn {call}\b', line):
             inside = True
-        if inside or in_trait and not line.lstrip().startswith("//") or "ghost Value" in line or "ghost next_gives" in line:
+        every = call == r"\w+" and (in_trait and not line.lstrip().startswith("//") or "ghost Value" in line or "ghost next_gives" in line)
+        if inside or every:
             # (a clause may have a name of its own, which is no definition)
             yield re.sub(r"\b(requires|ensures) \w+ \{", "{", line)
         if re.match(r"\s*\{\}?\s*$", line) or line.endswith(" {}"):
             inside = False
 
 
-def definitions(text):
+@functools.cache
+def file_of(crate, file):
+    return (CRATES / crate / "specs" / f"{file}.antt").read_text()
+
+
+@functools.cache
+def definitions(crate, file):
     """The definitions of a file: the text of each, by its name."""
     found, name = collections.defaultdict(str), None
-    for line in text.splitlines():
+    for line in file_of(crate, file).splitlines():
         if line.startswith(STARTS) and not line.startswith("use "):
             words = [it for it in re.split(r"[\s:(]+", line) if it not in ("abbrev", "unfoldable", "record", "data", "pub")]
             name = words[0]
-        if name:
+        if name and line.strip() and not line.lstrip().startswith("--"):
             found[name] += line + "\n"
-    return found
+    return dict(found)
 
 
-def rest_on():
-    """Every definition that a public contract rests on, as (crate, file, name)."""
-    waiting, seen = [], set()
-    for crate in product():
-        for file in (CRATES / crate / "src").rglob("*.rt"):
-            said = "\n".join(contracts(file.read_text()))
-            waiting += [it[1:] for it in imports(file.read_text()) if names(it[0], said)]
+def named_by(crate, call):
+    """The definitions that the contract of a public function names."""
+    for file in sorted((CRATES / crate / "src").rglob("*.rt")):
+        text = file.read_text()
+        said = "\n".join(contracts(text, call))
+        yield from (it[1:] for it in imports(text) if names(it[0], said))
+
+
+def roots(promise):
+    """The definitions that a promise names: itself, or those of a call."""
+    if "::" in promise:
+        return list(named_by(*promise.split("::")))
+    return [tuple(promise.split("/"))]
+
+
+def closure(waiting):
+    """These definitions and all that they name in turn, each as (crate, file, name)."""
+    waiting, seen = list(waiting), set()
     while waiting:
         crate, file, name = at = waiting.pop()
         if at in seen:
             continue
+        own = definitions(crate, file)
+        if name not in own:
+            continue
         seen.add(at)
-        text = (CRATES / crate / "specs" / f"{file}.antt").read_text()
-        own = definitions(text)
-        body = own.get(name, "")
-        waiting += [(crate, file, other) for other in own if other != name and names(other, body)]
-        waiting += [it[1:] for it in imports(text) if names(it[0], body)]
+        waiting += [(crate, file, other) for other in own if other != name and names(other, own[name])]
+        waiting += [it[1:] for it in imports(file_of(crate, file)) if names(it[0], own[name])]
     return seen
 
 
+def lines_in(found):
+    return sum(len(definitions(crate, file)[name].splitlines()) for crate, file, name in found)
+
+
+def in_order(found):
+    """The files of definitions in the order in which to read them, lowest crate first, with the number of definitions in each."""
+    count = collections.Counter((crate, file) for crate, file, _ in found)
+    return [(crate, sorted((file, count[crate, file]) for at, file in count if at == crate)) for crate in product() if any(at == crate for at, _ in count)]
+
+
+def row(label, found):
+    files_in = in_order(found)
+    if sum(len(files) for _, files in files_in) <= MOST_FILES:
+        order = "; ".join(f"{crate}: " + ", ".join(f"{file} {count}" for file, count in files) for crate, files in files_in)
+    else:
+        order = ", ".join(f"{crate} {sum(count for _, count in files)}" for crate, files in files_in)
+    return f"| {label} | {len(found):,} | {lines_in(found):,} | {order} |"
+
+
+def everything():
+    return closure(it for crate in product() for it in named_by(crate, r"\w+"))
+
+
+def table():
+    rows = ["| Promise | Definitions | Lines | `specs/` to read, in this order, by crate and file, or by crate where the files are many |", "|---|---|---|---|"]
+    rows += [row(label, closure(it for promise in promises for it in roots(promise))) for label, promises in PROMISES]
+    whole = everything()
+    rows.append(f"| all public calls of all crates | {len(whole):,} | {lines_in(whole):,} | all |")
+    return "\n".join(rows)
+
+
+def list_one(word):
+    for label, promises in PROMISES:
+        if word in re.findall(r"\w+", label)[:2]:
+            found = closure(it for promise in promises for it in roots(promise))
+            for crate, files in in_order(found):
+                for file, _ in files:
+                    print(f"crates/{crate}/specs/{file}.antt: " + ", ".join(name for name in definitions(crate, file) if (crate, file, name) in found))
+            return
+    sys.exit(f"definitions: no promise {word}")
+
+
 def main():
-    by_crate = collections.defaultdict(collections.Counter)
-    for crate, file, _ in rest_on():
-        by_crate[crate][file] += 1
-    rows = ["| Crate | Files of `specs/`, with the number of definitions in each that public contracts rest on |", "|---|---|"]
-    rows += [f"| `{crate}` | {', '.join(f'{file} {by_crate[crate][file]}' for file in sorted(by_crate[crate]))} |" for crate in product() if by_crate[crate]]
-    part, text = "what has to be believed", "\n".join(rows)
-    if sys.argv[1:] == ["--check"]:
+    part, words = "what has to be believed", sys.argv[1:]
+    if words[:1] == ["--list"] and len(words) == 2:
+        return list_one(words[1])
+    text = table()
+    if words == ["--check"]:
         stands = DESIGN.read_text()
         if page.replaced(stands, part, text, DESIGN) != stands:
             raise SystemExit("docs/DESIGN.md: what has to be believed is not as 'python3 bench/definitions.py --write' makes it")
         return
     print(text)
-    if sys.argv[1:] == ["--write"]:
+    if words == ["--write"]:
         page.put(part, text, DESIGN)
 
 

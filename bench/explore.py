@@ -1,7 +1,7 @@
 #!/usr/bin/env python3
 """Explores with many seeds, judges each script by the other commands, and counts what happened in them.
 
-python3 bench/explore.py [SEEDS] [--first SEED] [--steps N] [--cpus C] [--pages M] [--finish] [--least N] [--program PATH] [--scripts FILE]
+python3 bench/explore.py [SEEDS] [--first SEED] [--lines N] [--cpus C] [--pages M] [--finish] [--least N] [--program PATH] [--scripts FILE]
         [--write]
 
 For each seed from SEED on (1), SEEDS of them (20), and for each profile: `postmig explore` writes a script with its answers. The same
@@ -275,10 +275,10 @@ def main():
     asked.add_argument("--scripts")
     asked.add_argument("--write", action="store_true")
     asked.add_argument("--least", type=int, default=0)
-    for name in ("steps", "cpus", "pages"):
+    for name in ("lines", "cpus", "pages"):
         asked.add_argument(f"--{name}", type=int)
     given = asked.parse_args()
-    options = [word for name in ("steps", "cpus", "pages") if getattr(given, name) for word in (f"--{name}", str(getattr(given, name)))]
+    options = [word for name in ("lines", "cpus", "pages") if getattr(given, name) for word in (f"--{name}", str(getattr(given, name)))]
     options += ["--finish"] * given.finish
 
     def one(case):

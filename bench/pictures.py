@@ -90,7 +90,7 @@ def parse(program, scripts):
         most = max(most, judge(script.name, drawn(program, b"", name=script.name)))
         count += 1
     for seed in range(scripts):
-        words = ["--seed", str(seed), "--profile", PROFILES[seed % len(PROFILES)], "--steps", str(50 + 7 * seed), "--pages", str(4 + seed)]
+        words = ["--seed", str(seed), "--profile", PROFILES[seed % len(PROFILES)], "--lines", str(50 + 7 * seed), "--pages", str(4 + seed)]
         script = subprocess.run([program, "explore", *words, "--cpus", "4"], stdout=subprocess.PIPE, check=True).stdout
         most = max(most, judge(" ".join(words), drawn(program, script, cpus=4)))
         count += 1

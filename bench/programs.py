@@ -5,19 +5,23 @@ python3 bench/programs.py [--program PATH] [CASE ..]
 
 A case is a folder: args has an argument a line, stdin the standard input, data/ the files that lie where the program runs, after/ those
 that have to lie there then, stdout and stderr what it has to write, and status its exit status. What is absent is empty, and the status 0;
-only where the status is another is an absent stderr not compared. In the file output stands a path that standard output goes to in place of a pipe, and in memory the bytes
-of address space that the program may take. It runs the proved builds: crates/postmig/out/postmig, as LLVM makes it, and beside it, where
+only where the status is another is an absent stderr not compared. In the file output is a path that standard output goes to in place of a
+pipe, and in memory the bytes of address space that the program may take. Where there is a file typed, its lines are typed at a terminal, and
+stdout is all that the terminal then shows but what was typed. It runs the proved builds: crates/postmig/out/postmig, as LLVM makes it, and beside it, where
 rt ci has left one, that of Rattle's own compiler; or with --program that one alone.
 """
 
 import argparse
 import contextlib
+import os
 import pathlib
+import pty
 import resource
 import shutil
 import subprocess
 import sys
 import tempfile
+import termios
 
 import page
 
@@ -42,6 +46,30 @@ def room(case):
         yield data
 
 
+def shown(terminal):
+    """What a terminal shows until nobody has it open any more."""
+    pieces = []
+    with contextlib.suppress(OSError):
+        while piece := os.read(terminal, 4096):
+            pieces.append(piece)
+    return b"".join(pieces).replace(b"\r\n", b"\n")
+
+
+def typed(words, lines, folder):
+    """How the program ends whose input is typed at a terminal, with what that shows but the input itself."""
+    terminal, other = pty.openpty()
+    modes = termios.tcgetattr(other)
+    modes[3] &= ~termios.ECHO
+    termios.tcsetattr(other, termios.TCSANOW, modes)
+    with subprocess.Popen(words, stdin=other, stdout=other, stderr=other, cwd=folder) as child:
+        os.close(other)
+        # (a line that ends, and then the end of the input)
+        os.write(terminal, lines + b"\x04")
+        output = shown(terminal)
+        os.close(terminal)
+        return subprocess.CompletedProcess(words, child.wait(timeout=60), output, b"")
+
+
 def ran(case, program):
     """How the program ends on a case, and the names of the files that are then not as they have to be."""
     words = [bytes(program), *part(case, "args").splitlines()]
@@ -51,6 +79,9 @@ def ran(case, program):
         if memory:
             resource.setrlimit(resource.RLIMIT_AS, (int(memory), int(memory)))
 
+    if (case / "typed").is_file():
+        with room(case) as data:
+            return typed(words, part(case, "typed"), data), []
     with room(case) as data, open(output, "wb") if output else contextlib.nullcontext(subprocess.PIPE) as to:
         given = part(case, "stdin")
         ended = subprocess.run(words, input=given, cwd=data, stdout=to, stderr=subprocess.PIPE, timeout=60, preexec_fn=limit)

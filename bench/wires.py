@@ -1,7 +1,7 @@
 #!/usr/bin/env python3
 """Compares the wires of runs with their output: docs/decode.py decodes every frame, and the frames are those that the lines name.
 
-python3 bench/wires.py [SEEDS] [--first SEED] [--steps N] [--program PATH]
+python3 bench/wires.py [SEEDS] [--first SEED] [--lines N] [--program PATH]
 
 It runs `postmig run --wire --back --urgent` on each example, and for each seed from SEED on (1), SEEDS of them (25), on a script of each
 profile of `postmig explore`. What is put on each wire follows from the lines of the output; the decoded frames have to be these, with
@@ -190,7 +190,7 @@ def main():
     parser = argparse.ArgumentParser()
     parser.add_argument("seeds", nargs="?", type=int, default=25)
     parser.add_argument("--first", type=int, default=1)
-    parser.add_argument("--steps", type=int, default=500)
+    parser.add_argument("--lines", type=int, default=500)
     parser.add_argument("--program", default=str(PROGRAM))
     given = parser.parse_args()
     program, counts, scripts = given.program.split(), collections.Counter(), 0
@@ -200,7 +200,7 @@ def main():
     for seed in range(given.first, given.first + given.seeds):
         for profile in PROFILES:
             cpus = str((1, 2, 4, 16)[seed % 4])
-            words = ["explore", "--seed", str(seed), "--steps", str(given.steps), "--profile", profile, "--cpus", cpus]
+            words = ["explore", "--seed", str(seed), "--lines", str(given.lines), "--profile", profile, "--cpus", cpus]
             judge(program, f"{profile} {seed}", run(program, words, b"").stdout, cpus, counts)
             scripts += 1
     fronts, size = counts.pop("fronts"), counts.pop("bytes")

@@ -200,7 +200,7 @@ def minimise_all(arguments, jobs, differing):
 def generating_options(parser):
     parser.add_argument("--profiles", metavar="A,B", help=f"random scripts of these profiles: {', '.join(PROFILES)}; or `every`")
     parser.add_argument("--seeds", metavar="FIRST:LAST", default="1:20", help="with these seeds (1:20)")
-    parser.add_argument("--steps", type=int, default=200, metavar="N", help="of at most N lines (200)")
+    parser.add_argument("--lines", "--steps", type=int, default=200, metavar="N", help="of at most N lines (200)")
     return parser
 
 
@@ -219,7 +219,7 @@ def random_jobs(arguments):
         for seed in range(int(first), int(last or first) + 1):
             settings = settings_of(arguments, cpus_of_seed(seed))
             name = f"{profile}/{seed}.cpus{settings.cpus}.script"
-            yield Job(name, None, settings, None, None, program, implementation_of(arguments), (seed, profile, arguments.steps))
+            yield Job(name, None, settings, None, None, program, implementation_of(arguments), (seed, profile, arguments.lines))
 
 
 def named_jobs(arguments):

@@ -14,13 +14,13 @@ use Rattle.engine.specs.declared.fault.RunFault.TheVariants as faults
 use Rattle.engine.specs.Script.{Runs, Prints, StopsWithin, StopsBy, Writes, Stops}
 use Rattle.engine.specs.Checking.{entries_of, IsVerdict, Checks, Silent, CheckStops}
 use Rattle.engine.specs.Engine.{Work, Running, Keeping, language_of, kept_entries, nothing_kept, Works, Outputs, Front, ReadsAll}
-use Rattle.engine.specs.WorldState.{WorldState, first_state}
+use Rattle.mig_model.specs.Migration.{World, first_world}
 use Rattle.engine.proofs.Transcripts.{run_promised}
 
 -- ---- lines
 
 -- the work on a world is a run
-works_run : (mode : Mode) (old : WorldState) (lines : List Line) (new : Work) (text : List ℕ) → Works (Running mode old) lines new text → (end : WorldState) × Runs mode old lines end text
+works_run : (mode : Mode) (old : World) (lines : List Line) (new : Work) (text : List ℕ) → Works (Running mode old) lines new text → (end : World) × Runs mode old lines end text
 works_run mode old [] new text p = (old, (refl, p.1))
 works_run mode old (Skipped ∷ lines) new text p =
     let rest = works_run mode old lines new p.2 (subst (λ (w : Work). Works w lines new p.2) p.3.0 p.5) in
@@ -32,9 +32,9 @@ works_run mode old (Do order ∷ lines) new text p =
 works_run mode old (Enter entry ∷ lines) new text p = absurd p.3
 
 -- from the first world, with what is promised of the last one
-works_print : (mode : Mode) (cpus : ℕ) (lines : List Line) (new : Work) (text : List ℕ) → Works (Running mode (first_state cpus)) lines new text → Prints mode (first_state cpus) lines text
+works_print : (mode : Mode) (cpus : ℕ) (lines : List Line) (new : Work) (text : List ℕ) → Works (Running mode (first_world cpus)) lines new text → Prints mode (first_world cpus) lines text
 works_print mode cpus lines new text p =
-    let ran = works_run mode (first_state cpus) lines new text p in
+    let ran = works_run mode (first_world cpus) lines new text p in
     (ran.0, ran.1, run_promised mode cpus lines ran.0 text ran.1)
 
 -- the work on kept entries keeps those of the lines, and prints nothing
@@ -92,32 +92,32 @@ stops_from_work a b r u fault v w is p = subst (λ (k : Work). IfSome r (λ inpu
 
 -- ---- a run
 
-pub run_no_start : (mode : Mode) (cpus : ℕ) (r w : Option (List ℕ)) → IfSome r (λ input. Stops mode (first_state cpus) input r faults.NoMemory w w)
+pub run_no_start : (mode : Mode) (cpus : ℕ) (r w : Option (List ℕ)) → IfSome r (λ input. Stops mode (first_world cpus) input r faults.NoMemory w w)
 run_no_start mode cpus None w = tt
-run_no_start mode cpus (Some x) w = none_within language.Script (Prints mode (first_state cpus)) (works_print mode cpus [] (Running mode (first_state cpus)) [] (refl, refl)) x w
+run_no_start mode cpus (Some x) w = none_within language.Script (Prints mode (first_world cpus)) (works_print mode cpus [] (Running mode (first_world cpus)) [] (refl, refl)) x w
 
-run_writes : (mode : Mode) (cpus : ℕ) (input : List ℕ) (end : Work) (u v w : Option (List ℕ)) → ReadsAll (Running mode (first_state cpus)) input end u v w → Writes mode (first_state cpus) input v w
+run_writes : (mode : Mode) (cpus : ℕ) (input : List ℕ) (end : Work) (u v w : Option (List ℕ)) → ReadsAll (Running mode (first_world cpus)) input end u v w → Writes mode (first_world cpus) input v w
 run_writes mode cpus input end u v w a = record { lines = a.lines; text = a.text; reads = a.reads; prints = works_print mode cpus a.lines end a.text a.works; appends = a.appends }
 
-run_reads : (mode : Mode) (cpus : ℕ) (r : Option (List ℕ)) (end : Work) (u v w : Option (List ℕ)) → IfSome r (λ input. ReadsAll (Running mode (first_state cpus)) input end u v w) → IfSome r (λ input. Writes mode (first_state cpus) input v w)
+run_reads : (mode : Mode) (cpus : ℕ) (r : Option (List ℕ)) (end : Work) (u v w : Option (List ℕ)) → IfSome r (λ input. ReadsAll (Running mode (first_world cpus)) input end u v w) → IfSome r (λ input. Writes mode (first_world cpus) input v w)
 run_reads mode cpus None end u v w a = tt
 run_reads mode cpus (Some input) end u v w a = run_writes mode cpus input end u v w a
 
-pub run_finished : {T E : Type 0} (result : Result T E) (work : Work) (mode : Mode) (cpus : ℕ) (r : Option (List ℕ)) (end : Work) (u v w : Option (List ℕ)) → work ≡ Running mode (first_state cpus)
-    → OnOk result (IfSome r (λ input. ReadsAll work input end u v w)) → OnOk result (IfSome r (λ input. Writes mode (first_state cpus) input v w))
+pub run_finished : {T E : Type 0} (result : Result T E) (work : Work) (mode : Mode) (cpus : ℕ) (r : Option (List ℕ)) (end : Work) (u v w : Option (List ℕ)) → work ≡ Running mode (first_world cpus)
+    → OnOk result (IfSome r (λ input. ReadsAll work input end u v w)) → OnOk result (IfSome r (λ input. Writes mode (first_world cpus) input v w))
 run_finished (Err x) work mode cpus r end u v w is a = tt
-run_finished (Ok x) work mode cpus r end u v w is a = run_reads mode cpus r end u v w (reads_from work (Running mode (first_state cpus)) r end u v w is a)
+run_finished (Ok x) work mode cpus r end u v w is a = run_reads mode cpus r end u v w (reads_from work (Running mode (first_world cpus)) r end u v w is a)
 
-run_stops : (mode : Mode) (cpus : ℕ) (r u : Option (List ℕ)) (fault : RunFault) (v w : Option (List ℕ)) → IfSome r (λ input. StopsBy language.Script (Outputs (Running mode (first_state cpus))) input u fault v w)
-    → IfSome r (λ input. Stops mode (first_state cpus) input u fault v w)
+run_stops : (mode : Mode) (cpus : ℕ) (r u : Option (List ℕ)) (fault : RunFault) (v w : Option (List ℕ)) → IfSome r (λ input. StopsBy language.Script (Outputs (Running mode (first_world cpus))) input u fault v w)
+    → IfSome r (λ input. Stops mode (first_world cpus) input u fault v w)
 run_stops mode cpus None u fault v w s = tt
 run_stops mode cpus (Some input) u fault v w s =
-    stops_map language.Script (Outputs (Running mode (first_state cpus))) (Prints mode (first_state cpus)) (λ lines text p. works_print mode cpus lines p.0 text p.1) input u fault v w s
+    stops_map language.Script (Outputs (Running mode (first_world cpus))) (Prints mode (first_world cpus)) (λ lines text p. works_print mode cpus lines p.0 text p.1) input u fault v w s
 
-pub run_stopped : {T : Type 0} (result : Result T RunFault) (work : Work) (mode : Mode) (cpus : ℕ) (r u v w : Option (List ℕ)) → work ≡ Running mode (first_state cpus)
-    → IfErr result (λ fault. IfSome r (λ input. StopsBy (language_of work) (Outputs work) input u fault v w)) → IfErr result (λ fault. IfSome r (λ input. Stops mode (first_state cpus) input u fault v w))
+pub run_stopped : {T : Type 0} (result : Result T RunFault) (work : Work) (mode : Mode) (cpus : ℕ) (r u v w : Option (List ℕ)) → work ≡ Running mode (first_world cpus)
+    → IfErr result (λ fault. IfSome r (λ input. StopsBy (language_of work) (Outputs work) input u fault v w)) → IfErr result (λ fault. IfSome r (λ input. Stops mode (first_world cpus) input u fault v w))
 run_stopped (Ok x) work mode cpus r u v w is s = tt
-run_stopped (Err fault) work mode cpus r u v w is s = run_stops mode cpus r u fault v w (stops_from_work work (Running mode (first_state cpus)) r u fault v w is s)
+run_stopped (Err fault) work mode cpus r u v w is s = run_stops mode cpus r u fault v w (stops_from_work work (Running mode (first_world cpus)) r u fault v w is s)
 
 -- ---- a check
 

@@ -7,7 +7,7 @@ use Rattle.grammar.specs.declared.line.Line.{Line}
 use Rattle.grammar.specs.declared.line.Line.TheVariants.{Do}
 use Rattle.engine.specs.declared.line_runner.Mode.{Mode}
 use Rattle.engine.specs.Script.{Obeys}
-use Rattle.engine.specs.WorldState.{WorldState}
+use Rattle.mig_model.specs.Migration.{World}
 use Rattle.engine.specs.declared.fault.RunFault.{RunFault}
 use Rattle.engine.specs.declared.fault.RunFault.TheVariants as faults
 use Rattle.grammar.specs.Spelling.{Spells}
@@ -19,7 +19,7 @@ use Rattle.engine.proofs.Lines.{reads_more, reads_then, works_then, works_keep}
 -- ---- one line
 
 -- an order that was carried out on the world, and what is printed of it gathered
-pub obeyed : (old : Gathered) (mode : Mode) (state new : WorldState) (order : Order) (text output : List ℕ) → old.work ≡ Running mode state → Obeys mode state order new text → output ≡ old.output ++ text
+pub obeyed : (old : Gathered) (mode : Mode) (state new : World) (order : Order) (text output : List ℕ) → old.work ≡ Running mode state → Obeys mode state order new text → output ≡ old.output ++ text
     → Takes old (Do order) (record { work = Running mode new; output = output })
 obeyed old mode state new order text output is obeys gathers = record {
   out = text;

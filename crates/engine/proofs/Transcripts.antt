@@ -4,7 +4,7 @@ use Rattle.mig_base.specs.declared.command.Entry.{Entry}
 use Rattle.mig_base.specs.declared.schedule.Side.{Side}
 use Rattle.mig_base.specs.declared.schedule.Step.{Step}
 use Rattle.mig_base.specs.Flat.{IsFlatRun}
-use Rattle.mig_model.specs.Migration.{World, next}
+use Rattle.mig_model.specs.Migration.{first_world, World, next}
 use Rattle.mig_model.specs.Promises.{IsReached}
 use Rattle.mig_model.specs.Runs.{Happens}
 use Rattle.mig_model.proofs.ReachedLemmas.{reached-next}
@@ -18,7 +18,8 @@ use Rattle.grammar.specs.Printed.{Outcome}
 use Rattle.engine.specs.declared.line_runner.Mode.{Mode}
 use Rattle.engine.specs.declared.line_runner.Mode.TheVariants.{Transcript}
 use Rattle.engine.specs.Script.{entry_lines, gained, MakesAny, Runs}
-use Rattle.engine.specs.WorldState.{WorldState, Answered, Promised, epoch_in, first_state}
+use Rattle.world.specs.Headline.{Headline}
+use Rattle.engine.specs.Worlds.{Answered, epoch_in}
 
 -- ---- a step makes the transcript longer, or leaves it
 
@@ -62,25 +63,25 @@ made_grows world Step.Resume = λ source destination down used. no_more world.tr
 next_grows : (world : World) (step : Step) → Grows world (next world step)
 next_grows world step = made-next (λ (new : World). Grows world new) world step (stays world) (made_grows world step)
 
-is_next : (old : WorldState) (step : Step) (outcome : Outcome) (new : WorldState) → Answered old step outcome new → new ≡ next old step
+is_next : (old : World) (step : Step) (outcome : Outcome) (new : World) → Answered old step outcome new → new ≡ next old step
 is_next old step outcome new answered = elim answered.1 [
   | inl h ↦ h.1
   | inr h ↦ absurd (answered.0 h.0)
 ]
 
 -- the same of what an order makes
-any_grows : (mode : Mode) (old : WorldState) (made : Option Step) (new : WorldState) (out : List ℕ) → MakesAny mode old made new out → Grows old new
-any_grows mode old None new out p = same_entries old new (ap (λ (w : WorldState). w.transcript) p.0)
+any_grows : (mode : Mode) (old : World) (made : Option Step) (new : World) (out : List ℕ) → MakesAny mode old made new out → Grows old new
+any_grows mode old None new out p = same_entries old new (ap (λ (w : World). w.transcript) p.0)
 any_grows mode old (Some step) new out p = subst (λ (w : World). Grows old w) (sym (is_next old step p.0 new p.1)) (next_grows old step)
 
-happens_grows : (old : WorldState) (step : Step) (outcome : Outcome) (new : WorldState) → Happens old step outcome new → Grows old new
+happens_grows : (old : World) (step : Step) (outcome : Outcome) (new : World) → Happens old step outcome new → Grows old new
 happens_grows old step outcome new happens = elim happens [
   | inl h ↦ subst (λ (w : World). Grows old w) (sym h.1) (next_grows old step)
   | inr h ↦ subst (λ (w : World). Grows old w) (sym h.2) (stays old)
 ]
 
 -- no entry is lost
-pub longer : (old : WorldState) (s : Step) (outcome : Outcome) (new : WorldState) (a b : List Entry) → Happens old s outcome new → a ≡ old.transcript → b ≡ new.transcript → length a ≤ length b
+pub longer : (old : World) (s : Step) (outcome : Outcome) (new : World) (a b : List Entry) → Happens old s outcome new → a ≡ old.transcript → b ≡ new.transcript → length a ≤ length b
 longer old s outcome new a b happens is_a is_b =
     let grows = happens_grows old s outcome new happens in
     let size : length b ≡ length (a ++ grows.0) = ap length (is_b ∙ grows.1 ∙ ap (λ (es : List Entry). es ++ grows.0) (sym is_a)) in
@@ -111,19 +112,19 @@ drop_front [] ys = refl
 drop_front (x ∷ xs) ys = drop_front xs ys
 
 -- the lines of a transcript are those of the entries before, and of those gained
-gained_lines : (old new : WorldState) → Grows old new → entry_lines new.transcript ≡ entry_lines old.transcript ++ entry_lines (gained old new)
+gained_lines : (old new : World) → Grows old new → entry_lines new.transcript ≡ entry_lines old.transcript ++ entry_lines (gained old new)
 gained_lines old new grows =
     let more : gained old new ≡ grows.0 = ap (λ (es : List Entry). drop (length old.transcript) es) grows.1 ∙ drop_front old.transcript grows.0 in
     ap entry_lines grows.1 ∙ entry_lines-append old.transcript grows.0 ∙ ap (λ (es : List Entry). entry_lines old.transcript ++ entry_lines es) (sym more)
 
 -- what an order prints is the lines of the entries gained
-any_printed : (old : WorldState) (made : Option Step) (new : WorldState) (out : List ℕ) → MakesAny Transcript old made new out → entry_lines new.transcript ≡ entry_lines old.transcript ++ out
-any_printed old None new out p = ap (λ (w : WorldState). entry_lines w.transcript) p.0 ∙ sym (append-nil (entry_lines old.transcript)) ∙ ap (λ (t : List ℕ). entry_lines old.transcript ++ t) (sym p.1)
+any_printed : (old : World) (made : Option Step) (new : World) (out : List ℕ) → MakesAny Transcript old made new out → entry_lines new.transcript ≡ entry_lines old.transcript ++ out
+any_printed old None new out p = ap (λ (w : World). entry_lines w.transcript) p.0 ∙ sym (append-nil (entry_lines old.transcript)) ∙ ap (λ (t : List ℕ). entry_lines old.transcript ++ t) (sym p.1)
 any_printed old (Some step) new out p = gained_lines old new (any_grows Transcript old (Some step) new out p) ∙ ap (λ (t : List ℕ). entry_lines old.transcript ++ t) (sym p.2)
 
-printed_lines : (old : WorldState) (lines : List Line) (new : WorldState) (text : List ℕ) → Runs Transcript old lines new text → entry_lines new.transcript ≡ entry_lines old.transcript ++ text
+printed_lines : (old : World) (lines : List Line) (new : World) (text : List ℕ) → Runs Transcript old lines new text → entry_lines new.transcript ≡ entry_lines old.transcript ++ text
 printed_lines old [] new text p =
-    ap (λ (w : WorldState). entry_lines w.transcript) p.0 ∙ sym (append-nil (entry_lines old.transcript)) ∙ ap (λ (t : List ℕ). entry_lines old.transcript ++ t) (sym p.1)
+    ap (λ (w : World). entry_lines w.transcript) p.0 ∙ sym (append-nil (entry_lines old.transcript)) ∙ ap (λ (t : List ℕ). entry_lines old.transcript ++ t) (sym p.1)
 printed_lines old (Skipped ∷ lines) new text p = printed_lines old lines new text p
 printed_lines old (Do order ∷ lines) new text p =
     let before = entry_lines old.transcript in
@@ -133,27 +134,27 @@ printed_lines old (Do order ∷ lines) new text p =
     ∙ ap (λ (t : List ℕ). before ++ t) (sym p.4)
 printed_lines old (Enter entry ∷ lines) new text p = absurd p
 
-pub printed_transcript : (cpus : ℕ) (lines : List Line) (end : WorldState) (text : List ℕ) → Runs Transcript (first_state cpus) lines end text → text ≡ entry_lines end.transcript
-printed_transcript cpus lines end text p = sym (printed_lines (first_state cpus) lines end text p)
+pub printed_transcript : (cpus : ℕ) (lines : List Line) (end : World) (text : List ℕ) → Runs Transcript (first_world cpus) lines end text → text ≡ entry_lines end.transcript
+printed_transcript cpus lines end text p = sym (printed_lines (first_world cpus) lines end text p)
 
 -- ---- and the last state is one that a list of steps leads to
 
-pub any_reached : (mode : Mode) (old : WorldState) (made : Option Step) (new : WorldState) (out : List ℕ) → IsReached old → MakesAny mode old made new out → IsReached new
+pub any_reached : (mode : Mode) (old : World) (made : Option Step) (new : World) (out : List ℕ) → IsReached old → MakesAny mode old made new out → IsReached new
 any_reached mode old None new out reached p = subst IsReached (sym p.0) reached
 any_reached mode old (Some step) new out reached p = subst IsReached (sym (is_next old step p.0 new p.1)) (reached-next old step reached)
 
-run_reached : (mode : Mode) (old : WorldState) (lines : List Line) (new : WorldState) (text : List ℕ) → IsReached old → Runs mode old lines new text → IsReached new
+run_reached : (mode : Mode) (old : World) (lines : List Line) (new : World) (text : List ℕ) → IsReached old → Runs mode old lines new text → IsReached new
 run_reached mode old [] new text reached p = subst IsReached (sym p.0) reached
 run_reached mode old (Skipped ∷ lines) new text reached p = run_reached mode old lines new text reached p
 run_reached mode old (Do order ∷ lines) new text reached p =
     run_reached mode p.0 lines new p.2 (any_reached mode old (step_of order (epoch_in old)) p.0 p.1 reached p.3) p.5
 run_reached mode old (Enter entry ∷ lines) new text reached p = absurd p
 
-pub first_reached : (cpus : ℕ) → IsReached (first_state cpus)
+pub first_reached : (cpus : ℕ) → IsReached (first_world cpus)
 first_reached cpus = record { cpus = cpus; epoch = 0; rounds = 0; steps = []; is = refl }
 
-pub run_promised : (mode : Mode) (cpus : ℕ) (lines : List Line) (end : WorldState) (text : List ℕ) → Runs mode (first_state cpus) lines end text → Promised end
-run_promised mode cpus lines end text p = headline_reached end (run_reached mode (first_state cpus) lines end text (first_reached cpus) p)
+pub run_promised : (mode : Mode) (cpus : ℕ) (lines : List Line) (end : World) (text : List ℕ) → Runs mode (first_world cpus) lines end text → Headline end
+run_promised mode cpus lines end text p = headline_reached end (run_reached mode (first_world cpus) lines end text (first_reached cpus) p)
 
-pub flat_transcript : (cpus : ℕ) (lines : List Line) (end : WorldState) (text : List ℕ) → Runs Transcript (first_state cpus) lines end text → IsFlatRun end.transcript
-flat_transcript cpus lines end text p = (run_promised Transcript cpus lines end text p).flat
+pub flat_transcript : (cpus : ℕ) (lines : List Line) (end : World) (text : List ℕ) → Runs Transcript (first_world cpus) lines end text → IsFlatRun end.transcript
+flat_transcript cpus lines end text p = (run_promised Transcript cpus lines end text p).core.flat

@@ -18,14 +18,15 @@ use Rattle.engine.specs.declared.fault.RunFault.TheVariants as faults
 use Rattle.grammar.specs.Spelling.{Spells}
 use Rattle.grammar.specs.Lines.{EndedLine, Reads, BeginsWrong}
 use Rattle.engine.specs.Script.{Obeys}
-use Rattle.engine.specs.WorldState.{WorldState, coded_state}
+use Rattle.mig_model.specs.Migration.{World}
+use Rattle.world.specs.Codes.{coded_world}
 
 -- Work: a world that is run, or the entries that are kept
 
 -- the work that the lines do: on a world, or on a list of entries
 pub data Work : Type 0 where
   -- orders are carried out on a world, and their output is that of the mode
-  Running : (mode : Mode) → (state : WorldState) → Work
+  Running : (mode : Mode) → (state : World) → Work
   -- entries are kept
   Keeping : (entries : List Entry) → Work
 
@@ -50,7 +51,7 @@ coded_mode = code_by Bool coded_bool mode_test tested_mode tested_mode-mode_test
 
 -- the parts of the work: a mode and a world, or entries
 abbrev pub WorkParts : Type 0
-WorkParts = (Mode × WorldState) ⊎ List Entry
+WorkParts = (Mode × World) ⊎ List Entry
 
 -- work as its parts
 abbrev pub work_parts : Work → WorkParts
@@ -69,7 +70,7 @@ parts_work-work_parts (Keeping entries) = refl
 
 -- the code of the work
 abbrev pub coded_work : Coded Work
-coded_work = code_by WorkParts (coded⊎ (coded× coded_mode coded_state) (coded_list entry.the_row.coded)) work_parts parts_work parts_work-work_parts
+coded_work = code_by WorkParts (coded⊎ (coded× coded_mode coded_world) (coded_list entry.the_row.coded)) work_parts parts_work parts_work-work_parts
 
 -- bridges a job of the code to its work
 abbrev pub work_of : Job → Work
@@ -87,7 +88,7 @@ kept_entries (Running mode state) = []
 kept_entries (Keeping entries) = entries
 
 -- the world that is run; none if entries are kept
-abbrev pub world_of : Work → Option WorldState
+abbrev pub world_of : Work → Option World
 world_of (Running mode state) = Some state
 world_of (Keeping entries) = None
 
@@ -98,7 +99,7 @@ nothing_kept = Keeping []
 -- a line's effect on the work, and its output
 abbrev pub Does : Work → Line → Work → List ℕ → Type 0
 Does old Skipped new text = (new ≡ old) × (text ≡ [])
-Does (Running mode old) (Do order) new text = (state : WorldState) × (new ≡ Running mode state) × Obeys mode old order state text
+Does (Running mode old) (Do order) new text = (state : World) × (new ≡ Running mode state) × Obeys mode old order state text
 Does (Running mode old) (Enter entry) new text = ⊥
 Does (Keeping entries) (Do order) new text = ⊥
 Does (Keeping entries) (Enter entry) new text = (new ≡ Keeping (entries ++ entry ∷ [])) × (text ≡ [])

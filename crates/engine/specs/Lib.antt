@@ -2,4 +2,4 @@ pub mod Checking
 pub mod Engine
 pub mod Script
 pub mod Spelled
-pub mod WorldState
+pub mod Worlds

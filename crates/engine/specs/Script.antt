@@ -16,7 +16,9 @@ use Rattle.grammar.specs.declared.order.Order.{Order}
 use Rattle.grammar.specs.Orders.{step_of}
 use Rattle.grammar.specs.Printed.{Outcome, outcome_line, progress_line}
 use Rattle.mig_base.specs.declared.schedule.Step.{Step}
-use Rattle.engine.specs.WorldState.{WorldState, Answered, Promised, epoch_in, progress_in}
+use Rattle.mig_model.specs.Migration.{World}
+use Rattle.world.specs.Headline.{Headline}
+use Rattle.engine.specs.Worlds.{Answered, epoch_in, progress_in}
 
 -- Runs of a script
 
@@ -26,51 +28,51 @@ entry_lines [] = []
 entry_lines (entry ∷ entries) = entry_line entry ++ entry_lines entries
 
 -- the entries by which a transcript has grown
-abbrev pub gained : WorldState → WorldState → List Entry
+abbrev pub gained : World → World → List Entry
 gained old new = drop (length old.transcript) new.transcript
 
 -- the output of a step: the line of its outcome, or those of the entries that it makes
-abbrev pub printed : Mode → WorldState → Outcome → WorldState → List ℕ
+abbrev pub printed : Mode → World → Outcome → World → List ℕ
 printed Lines old outcome new = outcome_line outcome
 printed Transcript old outcome new = entry_lines (gained old new)
 
 -- the output of an order for progress
-abbrev pub reported : Mode → WorldState → List ℕ
+abbrev pub reported : Mode → World → List ℕ
 reported Lines state = progress_line (progress_in state)
 reported Transcript state = []
 
 -- a step's effect on a world, and its output
-abbrev pub Makes : Mode → WorldState → Step → WorldState → List ℕ → Type 0
+abbrev pub Makes : Mode → World → Step → World → List ℕ → Type 0
 Makes mode old step new text = (outcome : Outcome) × Answered old step outcome new × (text ≡ printed mode old outcome new)
 
 -- the same for the step of an order; an order for progress has none, and changes nothing
-abbrev pub MakesAny : Mode → WorldState → Option Step → WorldState → List ℕ → Type 0
+abbrev pub MakesAny : Mode → World → Option Step → World → List ℕ → Type 0
 MakesAny mode old (Some step) new text = Makes mode old step new text
 MakesAny mode old None new text = (new ≡ old) × (text ≡ reported mode old)
 
 -- nothing changed, or the step was made
-abbrev pub MakesOrNot : Mode → WorldState → Step → WorldState → Type 0
+abbrev pub MakesOrNot : Mode → World → Step → World → Type 0
 MakesOrNot mode old step new = (new ≡ old) ⊎ ((text : List ℕ) × Makes mode old step new text)
 
 -- an order's effect on a world, and its output
-abbrev pub Obeys : Mode → WorldState → Order → WorldState → List ℕ → Type 0
+abbrev pub Obeys : Mode → World → Order → World → List ℕ → Type 0
 Obeys mode old order new text = MakesAny mode old (step_of order (epoch_in old)) new text
 
 -- nothing changed, or the order was carried out
-abbrev pub ObeysOrNot : Mode → WorldState → Order → WorldState → Type 0
+abbrev pub ObeysOrNot : Mode → World → Order → World → Type 0
 ObeysOrNot mode old order new = (new ≡ old) ⊎ ((text : List ℕ) × Obeys mode old order new text)
 
 -- these lines lead from one state to the other, with this output
-abbrev pub Runs : Mode → WorldState → List Line → WorldState → List ℕ → Type 0
+abbrev pub Runs : Mode → World → List Line → World → List ℕ → Type 0
 Runs mode old [] new text = (new ≡ old) × (text ≡ [])
 Runs mode old (Skipped ∷ lines) new text = Runs mode old lines new text
-Runs mode old (Do order ∷ lines) new text = (mid : WorldState) × (out : List ℕ) × (more : List ℕ)
+Runs mode old (Do order ∷ lines) new text = (mid : World) × (out : List ℕ) × (more : List ℕ)
     × Obeys mode old order mid out × (text ≡ out ++ more) × Runs mode mid lines new more
 Runs mode old (Enter entry ∷ lines) new text = ⊥
 
 -- the lines are run from this state, with this output, and the promises hold for the last state
-abbrev pub Prints : Mode → WorldState → List Line → List ℕ → Type 0
-Prints mode start lines text = (end : WorldState) × Runs mode start lines end text × Promised end
+abbrev pub Prints : Mode → World → List Line → List ℕ → Type 0
+Prints mode start lines text = (end : World) × Runs mode start lines end text × Headline end
 
 -- How reading ends. `Texts` relates lines to their output
 
@@ -114,9 +116,9 @@ StopsBy language Texts input unread faults.WriteFault before after = (held : Lis
 StopsBy language Texts input unread faults.NoMemory before after = (held : List ℕ) × StopsWithin language Texts input unread held [] before after
 
 -- a run of a script reads the whole input; its output in each mode
-abbrev pub Writes : Mode → WorldState → List ℕ → Option (List ℕ) → Option (List ℕ) → Type 0
+abbrev pub Writes : Mode → World → List ℕ → Option (List ℕ) → Option (List ℕ) → Type 0
 Writes mode start input before after = Finishes language.Script (Prints mode start) input before after
 
 -- a run of a script ends with a fault; what it wrote in each mode
-abbrev pub Stops : Mode → WorldState → List ℕ → Option (List ℕ) → RunFault → Option (List ℕ) → Option (List ℕ) → Type 0
+abbrev pub Stops : Mode → World → List ℕ → Option (List ℕ) → RunFault → Option (List ℕ) → Option (List ℕ) → Type 0
 Stops mode start input unread fault before after = StopsBy language.Script (Prints mode start) input unread fault before after

@@ -7,7 +7,8 @@ ghost use Rattle.grammar.specs.declared.line.Language.TheVariants.{Script as ASc
 ghost use Rattle.grammar.specs.declared.line.Line.TheVariants.{Do, Enter};
 ghost use Rattle.engine.specs.Script.{entry_lines, reported, Makes, Obeys, MakesOrNot, ObeysOrNot};
 ghost use Rattle.engine.specs.Engine.{Running, Keeping, Gathered, coded_gathered, work_of, language_of as language_of_work, kept_entries, world_of, Takes, Made, MakeFault, Leaves, Loses, Front};
-ghost use Rattle.engine.specs.WorldState.{first_state, progress_in};
+ghost use Rattle.mig_model.specs.Migration.{first_world};
+ghost use Rattle.engine.specs.Worlds.{progress_in};
 
 use crate::fault::RunFault;
 use grammar::parse::parse;
@@ -57,7 +58,8 @@ pub fn write_out<W: Write>(writer: &mut W, bytes: &[u8]) -> Result<(), RunFault>
 
 /// Appends the lines of entries to a text.
 fn print_entries(text: &mut String, entries: &[Entry]) -> Result<(), NoMemory>
-    ensures { OnOk result (string_bytes text.new ≡ string_bytes text.old ++ entry_lines entries.now) }
+    ensures { OnOk result (string_bytes text.new ≡
+        string_bytes text.old ++ entry_lines entries.now) }
 {
     for entry in entries {
         print_entry(text, *entry)?;
@@ -178,7 +180,8 @@ impl LineRunner {
     pub fn on_world(alloc: Global, cpus: u8, mode: Mode) -> Result<LineRunner, RunFault>
         requires low { 1 ≤ cpus }
         requires high { cpus ≤ 16 }
-        ensures ok { IfOk result (λ runner. (runner.work ≡ Running mode (first_state cpus)) × (runner.output ≡ [])) }
+        ensures ok { IfOk result (λ runner.
+            (runner.work ≡ Running mode (first_world cpus)) × (runner.output ≡ [])) }
         ensures err { IfErr result (λ fault. fault ≡ OutOfMemory) }
     {
         let Ok(world) = World::new(alloc, cpus) else {
@@ -282,7 +285,8 @@ impl LineRunner {
     /// `NoMemory` nothing changed either, or the line was done and its output is lost.
     pub fn run_line(&mut self, number: u64, text: &[u8]) -> Result<(), RunFault>
         ensures ok { OnOk result (Made self.old text.now self.new) }
-        ensures fault { IfErr result (λ fault. MakeFault (language_of_work self.old.work) number text.now fault) }
+        ensures fault { IfErr result (λ fault.
+            MakeFault (language_of_work self.old.work) number text.now fault) }
         ensures kept { OnErr result (self.new.output ≡ self.old.output) }
         ensures left { IfErr result (λ fault. Leaves self.old text.now fault self.new) }
     {

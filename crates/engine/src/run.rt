@@ -3,7 +3,7 @@
 ghost use Rattle.std.specs.Prelude.{◌≡◌, ◌≤◌, OnOk, IfErr, IfSome};
 ghost use Rattle.engine.specs.Script.{StopsBy, Writes, Stops};
 ghost use Rattle.engine.specs.Engine.{language_of, start_of, Outputs, ReadsAll};
-ghost use Rattle.engine.specs.WorldState.{first_state};
+ghost use Rattle.mig_model.specs.Migration.{first_world};
 
 use crate::fault::RunFault;
 use crate::line_runner::{LineRunner, Mode};
@@ -31,9 +31,9 @@ pub fn run_script<R: Read, W: Write>(
     requires low { 1 ≤ cpus }
     requires high { cpus ≤ 16 }
     ensures ok { OnOk result (IfSome (R.remaining reader.old) (λ input.
-        Writes mode (first_state cpus) input (W.contents writer.old) (W.contents writer.new))) }
+        Writes mode (first_world cpus) input (W.contents writer.old) (W.contents writer.new))) }
     ensures fault { IfErr result (λ fault. IfSome (R.remaining reader.old) (λ input.
-        Stops mode (first_state cpus) input (R.remaining reader.new) fault (W.contents writer.old) (W.contents writer.new))) }
+        Stops mode (first_world cpus) input (R.remaining reader.new) fault (W.contents writer.old) (W.contents writer.new))) }
 {
     let runner = LineRunner::on_world(alloc, cpus, mode)?;
     let mut script = ScriptReader::new(alloc, runner);

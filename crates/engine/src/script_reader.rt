@@ -103,7 +103,8 @@ impl ScriptReader {
     fn hold(&mut self, bytes: &[u8]) -> Result<(), RunFault>
         requires feed { HasNoFeed bytes.now }
         requires number { self.old.number + 1 < 2 ^ 64 }
-        ensures ok { OnOk result (self.new ≡ record self.old { line = self.old.line ++ bytes.now }) }
+        ensures ok { OnOk result (self.new ≡
+            record self.old { line = self.old.line ++ bytes.now }) }
         ensures fault { IfErr result (λ fault. FedUntil self.old bytes.now fault self.new.output) }
     {
         if bytes.len() > MAX_LINE - self.line.len() {
@@ -120,7 +121,8 @@ impl ScriptReader {
         requires number { self.old.number + 1 < 2 ^ 64 }
         ensures ok { OnOk result (Fed self.old (bytes.now ++ 10 ∷ []) self.new) }
         ensures number { OnOk result (self.new.number ≡ self.old.number + 1) }
-        ensures fault { IfErr result (λ fault. FedUntil self.old (bytes.now ++ 10 ∷ []) fault self.new.output) }
+        ensures fault { IfErr result (λ fault.
+            FedUntil self.old (bytes.now ++ 10 ∷ []) fault self.new.output) }
     {
         if bytes.len() > MAX_LINE {
             return Err(RunFault::Line(self.number + 1));
@@ -137,7 +139,8 @@ impl ScriptReader {
         requires number { self.old.number + 1 < 2 ^ 64 }
         ensures ok { OnOk result (Fed self.old (bytes.now ++ 10 ∷ []) self.new) }
         ensures number { OnOk result (self.new.number ≡ self.old.number + 1) }
-        ensures fault { IfErr result (λ fault. FedUntil self.old (bytes.now ++ 10 ∷ []) fault self.new.output) }
+        ensures fault { IfErr result (λ fault.
+            FedUntil self.old (bytes.now ++ 10 ∷ []) fault self.new.output) }
     {
         self.hold(bytes)?;
         self.runner
@@ -153,7 +156,8 @@ impl ScriptReader {
         requires number { self.old.number + 1 < 2 ^ 64 }
         ensures ok { OnOk result (Fed self.old (bytes.now ++ 10 ∷ []) self.new) }
         ensures number { OnOk result (self.new.number ≡ self.old.number + 1) }
-        ensures fault { IfErr result (λ fault. FedUntil self.old (bytes.now ++ 10 ∷ []) fault self.new.output) }
+        ensures fault { IfErr result (λ fault.
+            FedUntil self.old (bytes.now ++ 10 ∷ []) fault self.new.output) }
     {
         if self.line.is_empty() {
             return self.do_whole(bytes);
@@ -183,7 +187,8 @@ impl ScriptReader {
         ensures ok { OnOk result (Passes self.old bytes.now self.new (W.contents writer.old) (W.contents writer.new)) }
         ensures clean { OnOk result (self.new.output ≡ []) }
         ensures number { OnOk result (self.new.number ≤ self.old.number + length bytes.now) }
-        ensures fault { IfErr result (λ fault. Halts self.old bytes.now fault (W.contents writer.old) (W.contents writer.new)) }
+        ensures fault { IfErr result (λ fault.
+            Halts self.old bytes.now fault (W.contents writer.old) (W.contents writer.new)) }
         ensures open { HasNoFeed self.new.line }
     {
         let fed = self.feed(bytes);
@@ -195,8 +200,10 @@ impl ScriptReader {
     pub fn finish<W: Write>(&mut self, writer: &mut W) -> Result<(), RunFault>
         requires clean { self.old.output ≡ [] }
         requires number { self.old.number + 1 < 2 ^ 64 }
-        ensures ok { OnOk result ((text : List ℕ) × Closes self.old self.new.work [] text [] (W.contents writer.old) (W.contents writer.new)) }
-        ensures fault { IfErr result (λ fault. CloseFault self.old fault (W.contents writer.old) (W.contents writer.new)) }
+        ensures ok { OnOk result ((text : List ℕ) ×
+            Closes self.old self.new.work [] text [] (W.contents writer.old) (W.contents writer.new)) }
+        ensures fault { IfErr result (λ fault.
+            CloseFault self.old fault (W.contents writer.old) (W.contents writer.new)) }
     {
         if self.line.is_empty() {
             return Ok(());

@@ -3,7 +3,7 @@ use Rattle.std.proofs.Common.{◌≡◌, ℕ, ◌+◌, ◌<◌, ◌≤◌, List,
 use Rattle.std.specs.Str.Lines.{strip_carriage_return}
 use Rattle.grammar.specs.Lines.{HasNoFeed}
 use Rattle.grammar.proofs.Cuts.{feed_inside, one_cut, feed_behind}
-use Rattle.engine.specs.WorldState.{WorldState}
+use Rattle.mig_model.specs.Migration.{World}
 use Rattle.expected.specs.Cases.{Case, IsCase, ReadsCase, ReadsCases, BeginsWrong, Agrees}
 
 pub reads_then : (n m : ℕ) (a : List ℕ) (xs : List Case) (b : List ℕ) (ys : List Case) (c : List ℕ) → ReadsCases n a xs b → m ≡ n + length xs → ReadsCases m b ys c → ReadsCases n a (xs ++ ys) c
@@ -12,8 +12,8 @@ reads_then n m a [] b ys c p e q =
     subst (λ (t : List ℕ). ReadsCases n t ys c) (sym p) (subst (λ (k : ℕ). ReadsCases k b ys c) same q)
 reads_then n m a (x ∷ xs) b ys c p e q = (p.0, p.1, reads_then (n + 1) m p.0 xs b ys c p.2 (omega (arith, e)) q)
 
-pub agrees_then : (a : WorldState) (xs : List Case) (b : WorldState) (ys : List Case) (c : WorldState) → Agrees a xs b → Agrees b ys c → Agrees a (xs ++ ys) c
-agrees_then a [] b ys c p q = subst (λ (w : WorldState). Agrees w ys c) p q
+pub agrees_then : (a : World) (xs : List Case) (b : World) (ys : List Case) (c : World) → Agrees a xs b → Agrees b ys c → Agrees a (xs ++ ys) c
+agrees_then a [] b ys c p q = subst (λ (w : World). Agrees w ys c) p q
 agrees_then a (x ∷ xs) b ys c p q = (p.0, p.1, p.2, p.3, agrees_then p.0 xs b ys c p.4 q)
 
 pub ended_reads : (n : ℕ) (raw rest : List ℕ) (case : Case) → HasNoFeed raw → length raw ≤ 256 → IsCase n (strip_carriage_return raw) case → ReadsCase n (raw ++ 10 ∷ rest) case rest

@@ -6,7 +6,7 @@ use Rattle.grammar.specs.Lines.{HasNoFeed}
 use Rattle.grammar.proofs.Cuts.{no_feed-append}
 use Rattle.engine.specs.declared.fault.RunFault.{RunFault}
 use Rattle.engine.specs.declared.fault.RunFault.TheVariants as faults
-use Rattle.engine.specs.WorldState.{WorldState, first_state}
+use Rattle.mig_model.specs.Migration.{World, first_world}
 use Rattle.expected.specs.declared.outcome.Outcome.{Outcome}
 use Rattle.expected.specs.declared.outcome.Outcome.TheVariants.{Same, Differs}
 use Rattle.expected.specs.declared.player.Player.{Player}
@@ -19,7 +19,7 @@ use Rattle.expected.proofs.Counting.{count_then, count_push}
 use Rattle.expected.proofs.Lines.{reads_then, agrees_then, ended_reads, ended_wrong, last_wrong, long_wrong}
 
 -- nothing was read
-pub ran_none : (cpus : ℕ) (t : Tester) → t.line.items ≡ [] → t.number ≡ 0 → t.player.world ≡ first_state cpus → t.player.answers ≡ 0 → Ran cpus [] t
+pub ran_none : (cpus : ℕ) (t : Tester) → t.line.items ≡ [] → t.number ≡ 0 → t.player.world ≡ first_world cpus → t.player.answers ≡ 0 → Ran cpus [] t
 ran_none cpus t line number world answers = record {
   cases = [];
   reads = λ more. sym (ap (λ (l : List ℕ). l ++ more) line);
@@ -38,7 +38,7 @@ ran_hold cpus front bytes a b one line world number answers short ran = record {
   reads = λ more.
       subst (λ (t : List ℕ). ReadsCases 1 t ran.cases (b.line.items ++ more)) (sym (append_assoc front bytes more))
       (subst (λ (t : List ℕ). ReadsCases 1 (front ++ (bytes ++ more)) ran.cases t) (sym (ap (λ (l : List ℕ). l ++ more) line ∙ append_assoc a.line.items bytes more)) (ran.reads (bytes ++ more)));
-  agrees = subst (λ (w : WorldState). Agrees (first_state cpus) ran.cases w) (sym world) ran.agrees;
+  agrees = subst (λ (w : World). Agrees (first_world cpus) ran.cases w) (sym world) ran.agrees;
   number = number ∙ ran.number;
   answers = answers ∙ ran.answers;
   one = subst HasNoFeed (sym line) (no_feed-append a.line.items bytes ran.one one);
@@ -58,7 +58,7 @@ ran_line cpus bytes a b line number few ran p = record {
       subst (λ (t : List ℕ). ReadsCases 1 t (ran.cases ++ p.case ∷ []) (b.line.items ++ more)) (sym (append_assoc bytes (10 ∷ []) more))
       (subst (λ (t : List ℕ). ReadsCases 1 (bytes ++ 10 ∷ more) (ran.cases ++ p.case ∷ []) t) (sym (ap (λ (l : List ℕ). l ++ more) line))
       (reads_then 1 (a.number + 1) (bytes ++ 10 ∷ more) ran.cases (a.line.items ++ 10 ∷ more) (p.case ∷ []) more (ran.reads (10 ∷ more)) (omega (arith, ran.number)) here));
-  agrees = agrees_then (first_state cpus) ran.cases a.player.world (p.case ∷ []) b.player.world ran.agrees (b.player.world, string_bytes b.player.printed, p.does, p.meets, refl);
+  agrees = agrees_then (first_world cpus) ran.cases a.player.world (p.case ∷ []) b.player.world ran.agrees (b.player.world, string_bytes b.player.printed, p.does, p.meets, refl);
   number = omega (arith, number, ran.number, length-append ran.cases (p.case ∷ []));
   answers = count_push ran.cases p.case a.player.answers b.player.answers ran.answers (omega (arith, ran.number)) p.counts;
   one = subst HasNoFeed (sym line) tt;
@@ -206,8 +206,8 @@ pub last_comes : (name : List ℕ) (cpus : ℕ) (input : List ℕ) (a : Tester) 
     → Leads name (a.number + 1) a.player.world a.player.answers a.line.items outcome new → Comes name cpus input outcome new.answers new.report.items
 last_comes name cpus input a new Same some few ran p =
     let here : ReadsCases (a.number + 1) (a.line.items ++ []) (p.case ∷ []) [] = ([], last_reads (a.number + 1) a.line.items p.case some ran.one ran.short p.says, refl) in
-    let agrees : Agrees (first_state cpus) (ran.cases ++ p.case ∷ []) new.world =
-    agrees_then (first_state cpus) ran.cases a.player.world (p.case ∷ []) new.world ran.agrees (new.world, string_bytes new.printed, p.does, p.meets, refl) in (
+    let agrees : Agrees (first_world cpus) (ran.cases ++ p.case ∷ []) new.world =
+    agrees_then (first_world cpus) ran.cases a.player.world (p.case ∷ []) new.world ran.agrees (new.world, string_bytes new.printed, p.does, p.meets, refl) in (
       ran.cases ++ p.case ∷ [],
       new.world,
       record {

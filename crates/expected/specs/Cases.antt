@@ -12,7 +12,7 @@ use Rattle.grammar.specs.Spelling.{Spells}
 use Rattle.grammar.specs.Lines.{HasNoFeed}
 use Rattle.engine.specs.declared.line_runner.Mode.TheVariants.{Lines}
 use Rattle.engine.specs.Script.{Obeys}
-use Rattle.engine.specs.WorldState.{WorldState, first_state}
+use Rattle.mig_model.specs.Migration.{World, first_world}
 
 -- a line of a test
 pub data Case : Type 0 where
@@ -23,11 +23,11 @@ pub data Case : Type 0 where
   -- an order, and the answer that it must have, if it is compared
   Asks : (order : Order) → (answer : Option (List ℕ)) → Case
 
--- what stands between an order and its answer
+-- what is between an order and its answer
 abbrev pub arrow : List ℕ
 arrow = codes " => "
 
--- the first arrow of the text stands between these two parts
+-- the first arrow of the text is between these two parts
 pub record Cut (text front answer : List ℕ) : Type 0 where
   pub at : ℕ
   pub occurs : OccursAt text arrow at
@@ -35,7 +35,7 @@ pub record Cut (text front answer : List ℕ) : Type 0 where
   pub before : front ≡ take at text
   pub behind : answer ≡ drop (at + 4) text
 
--- the first two words of the text are # and cpus, and these come behind them
+-- the first two words of the text are # and cpus, and these follow them
 abbrev pub CpusLine : List ℕ → List (List ℕ) → Type 0
 CpusLine text words = words_of text ≡ codes "#" ∷ codes "cpus" ∷ words
 
@@ -47,7 +47,7 @@ pub record SaysCpus (text : List ℕ) (count : ℕ) : Type 0 where
   pub low : 1 ≤ count
   pub high : count ≤ 16
 
--- the text does not stand in the first line, or begins otherwise than with # and cpus
+-- the text is not that of the first line, or begins otherwise than with # and cpus
 abbrev pub NoCpus : ℕ → List ℕ → Type 0
 NoCpus number text = number ≡ 1 → (words : List (List ℕ)) → CpusLine text words → ⊥
 
@@ -96,9 +96,9 @@ pub record BeginsWrong (number : ℕ) (bytes : List ℕ) : Type 0 where
   pub wrong : (case : Case) (rest : List ℕ) → ReadsCase number bytes case rest → ⊥
 
 -- a line's effect on a world, and its output, which is that of a run of a script
-abbrev pub Does : WorldState → Case → WorldState → List ℕ → Type 0
+abbrev pub Does : World → Case → World → List ℕ → Type 0
 Does old Nothing new out = (new ≡ old) × (out ≡ [])
-Does old (Cpus count) new out = (new ≡ first_state count) × (out ≡ [])
+Does old (Cpus count) new out = (new ≡ first_world count) × (out ≡ [])
 Does old (Asks order answer) new out = Obeys Lines old order new out
 
 -- the output is the answer and a line feed, where the line has an answer
@@ -109,9 +109,9 @@ Meets (Asks order None) out = ⊤
 Meets (Asks order (Some answer)) out = out ≡ answer ++ 10 ∷ []
 
 -- the lines lead from one world to the other, and the output of each meets its answer
-abbrev pub Agrees : WorldState → List Case → WorldState → Type 0
+abbrev pub Agrees : World → List Case → World → Type 0
 Agrees old [] new = new ≡ old
-Agrees old (case ∷ cases) new = (mid : WorldState) × (out : List ℕ) × Does old case mid out × Meets case out × Agrees mid cases new
+Agrees old (case ∷ cases) new = (mid : World) × (out : List ℕ) × Does old case mid out × Meets case out × Agrees mid cases new
 
 -- how many answers a line has
 abbrev pub answers_of : Case → ℕ

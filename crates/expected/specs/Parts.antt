@@ -6,7 +6,7 @@ use Rattle.engine.specs.declared.line_runner.Mode.TheVariants.{Lines}
 use Rattle.engine.specs.declared.fault.RunFault.{RunFault}
 use Rattle.engine.specs.declared.fault.RunFault.TheVariants as faults
 use Rattle.engine.specs.Script.{Obeys}
-use Rattle.engine.specs.WorldState.{WorldState, first_state}
+use Rattle.mig_model.specs.Migration.{World, first_world}
 use Rattle.expected.specs.declared.outcome.Outcome.{Outcome}
 use Rattle.expected.specs.declared.outcome.Outcome.TheVariants.{Same, Differs}
 use Rattle.expected.specs.declared.cpus.Setting.{Setting}
@@ -29,7 +29,7 @@ abbrev pub Counts : ℕ → Case → ℕ → Type 0
 Counts old case new = old + 1 < 2 ^ 64 → new ≡ old + answers_of case
 
 -- the line was done, and its output meets its answer; `before` counts the answers of the lines before it
-pub record Passed (number : ℕ) (old : WorldState) (before : ℕ) (text : List ℕ) (new : Player) : Type 0 where
+pub record Passed (number : ℕ) (old : World) (before : ℕ) (text : List ℕ) (new : Player) : Type 0 where
   pub case : Case
   pub says : IsCase number text case
   pub does : Does old case new.world (string_bytes new.printed)
@@ -37,7 +37,7 @@ pub record Passed (number : ℕ) (old : WorldState) (before : ℕ) (text : List 
   pub counts : Counts before case new.answers
 
 -- the line was done, and its output is not its answer; the report says so
-pub record Failed (name : List ℕ) (number : ℕ) (old : WorldState) (before : ℕ) (text : List ℕ) (new : Player) : Type 0 where
+pub record Failed (name : List ℕ) (number : ℕ) (old : World) (before : ℕ) (text : List ℕ) (new : Player) : Type 0 where
   pub order : Order
   pub answer : List ℕ
   pub says : IsCase number text (Asks order (Some answer))
@@ -47,7 +47,7 @@ pub record Failed (name : List ℕ) (number : ℕ) (old : WorldState) (before : 
   pub counts : Counts before (Asks order (Some answer)) new.answers
 
 -- the outcome of one line
-abbrev pub Leads : List ℕ → ℕ → WorldState → ℕ → List ℕ → Outcome → Player → Type 0
+abbrev pub Leads : List ℕ → ℕ → World → ℕ → List ℕ → Outcome → Player → Type 0
 Leads name number old before text Same new = Passed number old before text new
 Leads name number old before text Differs new = Failed name number old before text new
 
@@ -64,7 +64,7 @@ LineFault number text faults.NoMemory = ⊤
 pub record Ran (cpus : ℕ) (bytes : List ℕ) (state : Tester) : Type 0 where
   pub cases : List Case
   pub reads : (more : List ℕ) → ReadsCases 1 (bytes ++ more) cases (state.line.items ++ more)
-  pub agrees : Agrees (first_state cpus) cases state.player.world
+  pub agrees : Agrees (first_world cpus) cases state.player.world
   pub number : state.number ≡ length cases
   pub answers : state.player.answers ≡ answers_in cases
   pub one : HasNoFeed state.line.items

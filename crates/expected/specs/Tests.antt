@@ -9,24 +9,25 @@ use Rattle.engine.specs.declared.fault.RunFault.{RunFault}
 use Rattle.engine.specs.declared.fault.RunFault.TheVariants as faults
 use Rattle.engine.specs.Engine.{Front}
 use Rattle.engine.specs.Script.{Obeys}
-use Rattle.engine.specs.WorldState.{WorldState, first_state, Promised}
+use Rattle.mig_model.specs.Migration.{World, first_world}
+use Rattle.world.specs.Headline.{Headline}
 use Rattle.expected.specs.declared.outcome.Outcome.{Outcome}
 use Rattle.expected.specs.declared.outcome.Outcome.TheVariants.{Same, Differs}
 use Rattle.expected.specs.Cases.{Case, Asks, ReadsCase, ReadsCases, BeginsWrong, Agrees, answers_in}
 
 -- the first lines of the input lead to this world and meet their answers, and rest comes after them; the promises hold for the world
-pub record Met (cpus : ℕ) (input : List ℕ) (cases : List Case) (world : WorldState) (rest : List ℕ) : Type 0 where
+pub record Met (cpus : ℕ) (input : List ℕ) (cases : List Case) (world : World) (rest : List ℕ) : Type 0 where
   pub reads : ReadsCases 1 input cases rest
-  pub agrees : Agrees (first_state cpus) cases world
-  pub promised : Promised world
+  pub agrees : Agrees (first_world cpus) cases world
+  pub promised : Headline world
 
 -- all lines of the input meet their answers, which are counted
 abbrev pub AllMet : ℕ → List ℕ → ℕ → Type 0
-AllMet cpus input answers = (cases : List Case) × (world : WorldState) × Met cpus input cases world [] × (answers ≡ answers_in cases)
+AllMet cpus input answers = (cases : List Case) × (world : World) × Met cpus input cases world [] × (answers ≡ answers_in cases)
 
 -- some lines from the first on meet their answers
 abbrev pub SomeMet : ℕ → List ℕ → Type 0
-SomeMet cpus input = (cases : List Case) × (world : WorldState) × (rest : List ℕ) × Met cpus input cases world rest
+SomeMet cpus input = (cases : List Case) × (world : World) × (rest : List ℕ) × Met cpus input cases world rest
 
 -- the line of a report: the file, the line's number, its answer, and its output, which ends in a line feed
 abbrev pub difference_line : List ℕ → ℕ → List ℕ → List ℕ → List ℕ
@@ -35,17 +36,17 @@ difference_line name number answer out = name ++ codes ":" ++ decimal number ++ 
 -- the lines before one meet their answers, and this one does not; the report says so. Its own answer counts too
 pub record Unmet (name : List ℕ) (cpus : ℕ) (input : List ℕ) (answers : ℕ) (report : List ℕ) : Type 0 where
   pub cases : List Case
-  pub old : WorldState
+  pub old : World
   pub rest : List ℕ
   pub met : Met cpus input cases old rest
   pub order : Order
   pub answer : List ℕ
   pub after : List ℕ
   pub reads : ReadsCase (length cases + 1) rest (Asks order (Some answer)) after
-  pub new : WorldState
+  pub new : World
   pub out : List ℕ
   pub obeys : Obeys Lines old order new out
-  pub promised : Promised new
+  pub promised : Headline new
   pub differs : out ≢ answer ++ 10 ∷ []
   pub says : report ≡ difference_line name (length cases + 1) answer out
   pub counts : answers ≡ answers_in cases + 1
@@ -53,7 +54,7 @@ pub record Unmet (name : List ℕ) (cpus : ℕ) (input : List ℕ) (answers : �
 -- the lines before line n meet their answers, and line n is wrong
 pub record WrongAt (cpus : ℕ) (input : List ℕ) (n : ℕ) : Type 0 where
   pub cases : List Case
-  pub world : WorldState
+  pub world : World
   pub rest : List ℕ
   pub met : Met cpus input cases world rest
   pub number : n ≡ length cases + 1
@@ -62,7 +63,7 @@ pub record WrongAt (cpus : ℕ) (input : List ℕ) (n : ℕ) : Type 0 where
 -- each line that was read to its line feed meets its answer, and held is left of what was read
 pub record ReadTo (cpus : ℕ) (input : List ℕ) (unread : Option (List ℕ)) : Type 0 where
   pub cases : List Case
-  pub world : WorldState
+  pub world : World
   pub rest : List ℕ
   pub met : Met cpus input cases world rest
   pub held : List ℕ

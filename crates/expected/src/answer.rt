@@ -3,6 +3,7 @@
 ghost use Rattle.std.specs.Prelude.{◌≤◌, ◌<◌, ◌+◌, ◌^◌, length};
 
 use crate::cut::{ARROW, split_answer};
+use crate::listing::read_whole;
 use crate::player::Player;
 use engine::RunFault;
 use engine::line_runner::write_out;
@@ -11,10 +12,10 @@ use grammar::parse::parse;
 use grammar::{Language, Token};
 use mig_base::NoMemory;
 use std::alloc::Global;
-use std::io::{ErrorKind, Read, Write};
+use std::io::{Read, Write};
 
-/// Reads a script, or a test, on a new world, and writes it as a test: each order with ` => ` and its output behind it. An answer that
-/// stands there already is replaced. Other lines stay as they are, and so does an order that would be longer than 256 bytes with its
+/// Reads a script, or a test, on a new world, and writes it as a test: each order with ` => ` and its output after it. An answer that
+/// is there already is replaced. Other lines stay as they are, and so does an order that would be longer than 256 bytes with its
 /// answer. Each line is written with a line feed. The world has as many processors as the first line says, and otherwise `cpus`, 1 to 16.
 ///
 /// A line is wrong where [`test_script`](crate::test_script) finds it wrong; then what comes before it is written. At any other fault but
@@ -65,15 +66,6 @@ pub fn renew_answers<R: Read>(alloc: Global, reader: &mut R, cpus: u8) -> Result
     })
 }
 
-/// Appends all that a reader has to the bytes.
-fn read_whole<R: Read>(reader: &mut R, bytes: &mut Vec<u8>) -> Result<(), RunFault> {
-    match reader.read_to_end(bytes) {
-        Ok(_) => Ok(()),
-        Err(error) if error.kind() == ErrorKind::OutOfMemory => Err(RunFault::NoMemory),
-        Err(_) => Err(RunFault::ReadFault),
-    }
-}
-
 /// The text of a line without its answer, and its answer, if it has one. The tokens are replaced.
 fn without_answer<'a>(
     tokens: &mut Vec<Token>,
@@ -98,7 +90,7 @@ enum Places {
 }
 
 impl Places {
-    /// What is written behind a line that ends so.
+    /// What is written after a line that ends so.
     fn ending(self, end: &'static [u8]) -> &'static [u8] {
         match self {
             Places::Every => b"\n".as_slice(),
@@ -117,7 +109,7 @@ struct Answerer {
     tokens: Vec<Token>,
     output: Vec<u8>,
     answers: u64,
-    /// How many answers are not those that stood there.
+    /// How many answers are not those that were there.
     changed: u64,
 }
 

@@ -20,7 +20,7 @@ pub(crate) enum Setting {
     Wrong,
 }
 
-/// What comes behind the words `#` and `cpus`, if a text begins with them.
+/// What follows the words `#` and `cpus`, if a text begins with them.
 fn behind_cpus(text: &[u8]) -> Option<&[u8]>
     ensures found { IfSome result (λ rest. CpusLine text.now (words_of rest.now)) }
     ensures none { IfNone result ((words : List (List ℕ)) → CpusLine text.now words → ⊥) }

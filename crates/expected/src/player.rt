@@ -7,7 +7,7 @@ ghost use Rattle.grammar.specs.declared.line.Line.TheVariants.{Do};
 ghost use Rattle.grammar.specs.declared.order.Order.{Order as AnOrder};
 ghost use Rattle.grammar.specs.Spelling.{Spells};
 ghost use Rattle.engine.specs.declared.fault.RunFault.TheVariants.{NoMemory as OutOfMemory};
-ghost use Rattle.engine.specs.WorldState.{first_state};
+ghost use Rattle.mig_model.specs.Migration.{first_world};
 ghost use Rattle.expected.specs.Cases.{NoCpus};
 ghost use Rattle.expected.specs.Tests.{difference_line};
 ghost use Rattle.expected.specs.Parts.{Leads, LineFault};
@@ -27,7 +27,7 @@ use world::World;
 fn new_world(alloc: Global, cpus: u8) -> Result<World, RunFault>
     requires low { 1 ≤ cpus }
     requires high { cpus ≤ 16 }
-    ensures ok { IfOk result (λ world. world ≡ first_state cpus) }
+    ensures ok { IfOk result (λ world. world ≡ first_world cpus) }
     ensures err { IfErr result (λ fault. fault ≡ OutOfMemory) }
 {
     let Ok(world) = World::new(alloc, cpus) else {
@@ -38,8 +38,10 @@ fn new_world(alloc: Global, cpus: u8) -> Result<World, RunFault>
 
 /// The order of a text, if it is one. The tokens are replaced.
 fn order_of(tokens: &mut Vec<Token>, text: &[u8]) -> Result<Option<Order>, NoMemory>
-    ensures found { IfOk result (λ found. IfSome found (λ order. Spells AScript text.now (Do order))) }
-    ensures none { IfOk result (λ found. IfNone found ((order : AnOrder) → Spells AScript text.now (Do order) → ⊥)) }
+    ensures found { IfOk result (λ found.
+        IfSome found (λ order. Spells AScript text.now (Do order))) }
+    ensures none { IfOk result (λ found.
+        IfNone found ((order : AnOrder) → Spells AScript text.now (Do order) → ⊥)) }
 {
     match parse(Language::Script, tokens, text)? {
         Some(Line::Do(order)) => Ok(Some(order)),
@@ -67,7 +69,8 @@ fn difference(
     answer: &[u8],
     output: &[u8],
 ) -> Result<Vec<u8>, NoMemory>
-    ensures { IfOk result (λ report. report.items ≡ difference_line name.now number answer.now output.now) }
+    ensures { IfOk result (λ report.
+        report.items ≡ difference_line name.now number answer.now output.now) }
 {
     let front = format!(in alloc; "{name}:{number}: expected ")?;
     let mut report = Vec::new(alloc);
@@ -98,7 +101,7 @@ impl Player {
     pub(crate) fn new(alloc: Global, cpus: u8) -> Result<Player, RunFault>
         requires low { 1 ≤ cpus }
         requires high { cpus ≤ 16 }
-        ensures ok { IfOk result (λ player. player.world ≡ first_state cpus) }
+        ensures ok { IfOk result (λ player. player.world ≡ first_world cpus) }
         ensures answers { IfOk result (λ player. player.answers ≡ 0) }
         ensures err { IfErr result (λ fault. fault ≡ OutOfMemory) }
     {
@@ -119,7 +122,8 @@ impl Player {
         number: u64,
         text: &[u8],
     ) -> Result<Outcome, RunFault>
-        ensures ok { IfOk result (λ outcome. Leads name.now number self.old.world self.old.answers text.now outcome self.new) }
+        ensures ok { IfOk result (λ outcome.
+            Leads name.now number self.old.world self.old.answers text.now outcome self.new) }
         ensures fault { IfErr result (λ fault. LineFault number text.now fault) }
     {
         self.printed.clear();
@@ -146,7 +150,8 @@ impl Player {
     fn run_order(&mut self, name: &str, number: u64, text: &[u8]) -> Result<Outcome, RunFault>
         requires cpus { NoCpus number text.now }
         requires clear { string_bytes self.old.printed ≡ [] }
-        ensures ok { IfOk result (λ outcome. Leads name.now number self.old.world self.old.answers text.now outcome self.new) }
+        ensures ok { IfOk result (λ outcome.
+            Leads name.now number self.old.world self.old.answers text.now outcome self.new) }
         ensures fault { IfErr result (λ fault. LineFault number text.now fault) }
     {
         match parse(Language::Script, &mut self.tokens, text)? {
@@ -164,7 +169,8 @@ impl Player {
     fn run_answered(&mut self, name: &str, number: u64, text: &[u8]) -> Result<Outcome, RunFault>
         requires cpus { NoCpus number text.now }
         requires other { (line : LineOf) → Spells AScript text.now line → ⊥ }
-        ensures ok { IfOk result (λ outcome. Leads name.now number self.old.world self.old.answers text.now outcome self.new) }
+        ensures ok { IfOk result (λ outcome.
+            Leads name.now number self.old.world self.old.answers text.now outcome self.new) }
         ensures fault { IfErr result (λ fault. LineFault number text.now fault) }
     {
         let Some((front, answer)) = split_answer(text) else {

@@ -14,7 +14,7 @@ use std::io::{Read, Write};
 /// The most bytes that are read at once.
 const PIECE: usize = 16_384;
 
-/// Runs a script on a new world, and compares the output of each line with its answer, if it has one: the text behind ` => `. The world has
+/// Runs a script on a new world, and compares the output of each line with its answer, if it has one: the text after ` => `. The world has
 /// as many processors as the first line says, and otherwise `cpus`, 1 to 16.
 ///
 /// At the first answer that differs it writes `NAME:LINE: expected ANSWER, got OUTPUT` and a line feed, and stops: LINE is counted from 1.
@@ -56,9 +56,11 @@ pub fn test_script<R: Read, W: Write>(
 /// Reads all lines to the end of the input, or up to the first that differs, and does each.
 fn test_lines<R: Read>(reader: &mut R, name: &str, tester: &mut Tester) -> Result<Outcome, RunFault>
     requires { tester.old.number ≡ 0 }
-    ensures ok { IfOk result (λ outcome. (cpus : ℕ) → Ran cpus [] tester.old → IfSome (R.remaining reader.old) (λ input.
+    ensures ok { IfOk result (λ outcome. (cpus : ℕ) → Ran cpus [] tester.old →
+        IfSome (R.remaining reader.old) (λ input.
         Comes name.now cpus input outcome tester.new.player.answers tester.new.player.report.items)) }
-    ensures fault { IfErr result (λ fault. (cpus : ℕ) → Ran cpus [] tester.old → IfSome (R.remaining reader.old) (λ input.
+    ensures fault { IfErr result (λ fault. (cpus : ℕ) → Ran cpus [] tester.old →
+        IfSome (R.remaining reader.old) (λ input.
         Halts cpus input (R.remaining reader.new) fault)) }
 {
     let mut buffer = [0u8; PIECE];

@@ -42,9 +42,11 @@ impl Tester {
     fn hold(&mut self, bytes: &[u8]) -> Result<(), RunFault>
         requires feed { HasNoFeed bytes.now }
         requires number { self.old.number + 1 < 2 ^ 64 }
-        ensures ok { OnOk result ((cpus : ℕ) (front : List ℕ) → Ran cpus front self.old → Ran cpus (front ++ bytes.now) self.new) }
+        ensures ok { OnOk result ((cpus : ℕ) (front : List ℕ) → Ran cpus front self.old →
+            Ran cpus (front ++ bytes.now) self.new) }
         ensures number { self.new.number ≡ self.old.number }
-        ensures fault { IfErr result (λ fault. (cpus : ℕ) (front : List ℕ) → Ran cpus front self.old → FaultIn cpus (front ++ bytes.now) fault) }
+        ensures fault { IfErr result (λ fault. (cpus : ℕ) (front : List ℕ) →
+            Ran cpus front self.old → FaultIn cpus (front ++ bytes.now) fault) }
     {
         if bytes.len() > MAX_LINE.saturating_sub(self.line.len()) {
             return Err(RunFault::Line(self.number + 1));
@@ -57,9 +59,11 @@ impl Tester {
     fn end_line(&mut self, name: &str, bytes: &[u8]) -> Result<Outcome, RunFault>
         requires feed { HasNoFeed bytes.now }
         requires number { self.old.number + 1 < 2 ^ 64 }
-        ensures ok { IfOk result (λ outcome. (cpus : ℕ) (front : List ℕ) → Ran cpus front self.old → After name.now cpus (front ++ (bytes.now ++ 10 ∷ [])) outcome self.new) }
+        ensures ok { IfOk result (λ outcome. (cpus : ℕ) (front : List ℕ) → Ran cpus front self.old →
+            After name.now cpus (front ++ (bytes.now ++ 10 ∷ [])) outcome self.new) }
         ensures number { OnOk result (self.new.number ≡ self.old.number + 1) }
-        ensures fault { IfErr result (λ fault. (cpus : ℕ) (front : List ℕ) → Ran cpus front self.old → FaultIn cpus (front ++ (bytes.now ++ 10 ∷ [])) fault) }
+        ensures fault { IfErr result (λ fault. (cpus : ℕ) (front : List ℕ) →
+            Ran cpus front self.old → FaultIn cpus (front ++ (bytes.now ++ 10 ∷ [])) fault) }
     {
         self.hold(bytes)?;
         let text = without_return(&self.line);
@@ -72,9 +76,11 @@ impl Tester {
     /// Takes the next bytes, and does each line that ends in them, up to the first that differs.
     pub(crate) fn feed(&mut self, name: &str, bytes: &[u8]) -> Result<Outcome, RunFault>
         requires { self.old.number + length bytes.now + 1 < 2 ^ 64 }
-        ensures ok { IfOk result (λ outcome. (cpus : ℕ) (front : List ℕ) → Ran cpus front self.old → After name.now cpus (front ++ bytes.now) outcome self.new) }
+        ensures ok { IfOk result (λ outcome. (cpus : ℕ) (front : List ℕ) → Ran cpus front self.old →
+            After name.now cpus (front ++ bytes.now) outcome self.new) }
         ensures number { OnOk result (self.new.number ≤ self.old.number + length bytes.now) }
-        ensures fault { IfErr result (λ fault. (cpus : ℕ) (front : List ℕ) → Ran cpus front self.old → FaultIn cpus (front ++ bytes.now) fault) }
+        ensures fault { IfErr result (λ fault. (cpus : ℕ) (front : List ℕ) →
+            Ran cpus front self.old → FaultIn cpus (front ++ bytes.now) fault) }
     {
         let mut rest = bytes;
         while let Some((front, behind)) = split_line(rest) {
@@ -90,8 +96,10 @@ impl Tester {
     /// Does the last line, if it lacks its line feed.
     pub(crate) fn finish(&mut self, name: &str) -> Result<Outcome, RunFault>
         requires { self.old.number + 1 < 2 ^ 64 }
-        ensures ok { IfOk result (λ outcome. (cpus : ℕ) (input : List ℕ) → Ran cpus input self.old → Comes name.now cpus input outcome self.new.player.answers self.new.player.report.items) }
-        ensures fault { IfErr result (λ fault. (cpus : ℕ) (input : List ℕ) → Ran cpus input self.old → FaultAtEnd cpus input fault) }
+        ensures ok { IfOk result (λ outcome. (cpus : ℕ) (input : List ℕ) → Ran cpus input self.old →
+            Comes name.now cpus input outcome self.new.player.answers self.new.player.report.items) }
+        ensures fault { IfErr result (λ fault. (cpus : ℕ) (input : List ℕ) →
+            Ran cpus input self.old → FaultAtEnd cpus input fault) }
     {
         if self.line.is_empty() {
             return Ok(Outcome::Same);

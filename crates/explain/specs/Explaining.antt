@@ -27,7 +27,7 @@ abbrev pub IsReason : Bool → List ℕ → Type 0
 IsReason true text = ⊤
 IsReason false text = text ≡ []
 
--- the line of each wrong entry, in order, and behind each its reason
+-- the line of each wrong entry, in order, and after each its reason
 abbrev pub Lists : Bool → List Wrong → List ℕ → Type 0
 Lists reasons [] text = text ≡ []
 Lists reasons (wrong ∷ wrongs) text =

@@ -5,7 +5,7 @@ use mig_base::{Entry, NoMemory};
 use report::EntryText;
 use std::alloc::Global;
 
-/// The entries of a transcript, and the lines in which they stand.
+/// The entries of a transcript, and the lines that they are in.
 #[derive(Drop)]
 pub(crate) struct Account<'a> {
     /// As the transcript has them.
@@ -48,7 +48,7 @@ impl<'a> Account<'a> {
         self.answered.get(..index).unwrap_or(&[])
     }
 
-    /// Puts the number of an entry's line and its text behind a text, in a line of its own.
+    /// Appends the number of an entry's line and its text to a text, in a line of its own.
     pub(crate) fn cite(
         &self,
         text: &mut String,

@@ -5,7 +5,7 @@ use crate::touch::holders;
 use mig_base::{Entry, NoMemory};
 use std::alloc::Global;
 
-/// Bytes that differ, one behind the other, which the same entries decide.
+/// Bytes that differ, one after the other, which the same entries decide.
 #[derive(Drop)]
 pub(crate) struct Differing {
     pub span: Span,

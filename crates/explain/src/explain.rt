@@ -37,7 +37,7 @@ pub struct Verdict {
 
 /// Reads a whole transcript, and writes what is wrong with it: `ok N`, where it has N entries and each has the reply of one flat
 /// memory; or else `wrong I expected REPLY` for the first that has another, or for all. I counts from 0. The flat memory goes on
-/// from its own reply. The lines of a reason stand behind that of its entry, with two spaces or more in front.
+/// from its own reply. The lines of a reason follow that of its entry, with two spaces or more in front.
 ///
 /// Nothing is written before the whole input was read. At most 4,294,967,295 reads are made; a transcript that needs more ends
 /// with a read fault. An interrupted read or write is a fault.
@@ -57,7 +57,7 @@ pub fn explain_script<R: Read, W: Write>(
     answer_of(alloc, reader, writer, &mut script, &mut text, asks)
 }
 
-/// Reads the entries of a whole transcript, and writes the report on them, whose text is left behind.
+/// Reads the entries of a whole transcript, and writes the report on them, whose text is left.
 fn answer_of<R: Read, W: Write>(
     alloc: Global,
     reader: &mut Noting<R>,
@@ -84,7 +84,7 @@ fn answer_of<R: Read, W: Write>(
     })
 }
 
-/// Puts the report on entries, which stand in these lines, behind a text without bytes, and says whether all is well.
+/// Puts the report on entries, which are in these lines, into a text without bytes, and says whether all is well.
 fn write_report(
     alloc: Global,
     text: &mut String,
@@ -107,7 +107,7 @@ fn write_report(
     Ok(false)
 }
 
-/// Puts the line of each wrong entry behind a text without bytes, and behind each its reason, where reasons are asked for.
+/// Puts the line of each wrong entry into a text without bytes, and after each its reason, where reasons are asked for.
 fn list(
     alloc: Global,
     text: &mut String,
@@ -124,7 +124,7 @@ fn list(
     Ok(())
 }
 
-/// Puts the line of a wrong entry behind a text, and its reason, where one is asked for.
+/// Appends the line of a wrong entry to a text, and its reason, where one is asked for.
 fn write_wrong(
     alloc: Global,
     text: &mut String,
@@ -132,7 +132,9 @@ fn write_wrong(
     wrong: Wrong,
     reasons: bool,
 ) -> Result<(), NoMemory>
-    ensures { OnOk result ((reason : List ℕ) × IsReason reasons reason × (string_bytes text.new ≡ string_bytes text.old ++ wrong_line wrong.index wrong.expected ++ reason)) }
+    ensures { OnOk result ((reason : List ℕ) × IsReason reasons reason ×
+        (string_bytes text.new ≡
+        string_bytes text.old ++ wrong_line wrong.index wrong.expected ++ reason)) }
 {
     let index = wrong.index;
     let expected = wrong.expected;

@@ -1,4 +1,4 @@
-//! In which lines the entries of a transcript stand.
+//! The lines that the entries of a transcript are in.
 
 ghost use Rattle.explain.specs.Unread.{unread};
 
@@ -44,7 +44,7 @@ impl Notes {
     }
 }
 
-/// A reader of a transcript that notes in which lines entries stand.
+/// A reader of a transcript that notes the lines that entries are in.
 #[derive(Drop)]
 pub struct Noting<R> {
     reader: R,

@@ -22,7 +22,7 @@ enum Touch {
     Grown { from: Addr },
 }
 
-/// What an mremap of a range that now stands at another one does to an address.
+/// What an mremap of a range that is now at another one does to an address.
 fn touch_of_move(old: Span, new: Span, addr: Addr) -> Option<Touch> {
     if !new.contains(addr) {
         return old.contains(addr).then_some(Touch::Unmapped);

@@ -9,7 +9,8 @@ use Rattle.engine.specs.declared.line_runner.Mode.TheVariants.{Lines}
 use Rattle.engine.specs.Engine.{Front}
 use Rattle.engine.specs.Script.{MakesAny, Obeys}
 use Rattle.engine.specs.declared.fault.RunFault.{RunFault}
-use Rattle.engine.specs.WorldState.{WorldState, epoch_in}
+use Rattle.mig_model.specs.Migration.{World}
+use Rattle.engine.specs.Worlds.{epoch_in}
 use Rattle.mig_base.specs.declared.schedule.Step.{Step}
 use Rattle.mig_model.specs.Promises.{IsComplete}
 use Rattle.finish.specs.Finishing.{needs_epoch, IsDue, steps_left}
@@ -18,16 +19,16 @@ use Rattle.explore.specs.Explorations.{IsComment, Adds, Explores, Explored, Gone
 
 -- ---- lines one after the other
 
-explores_then : (a : Bool) (s : WorldState) (xs : List (List ℕ)) (m : WorldState) (t : List ℕ) (ys : List (List ℕ)) (e : WorldState) (u : List ℕ)
+explores_then : (a : Bool) (s : World) (xs : List (List ℕ)) (m : World) (t : List ℕ) (ys : List (List ℕ)) (e : World) (u : List ℕ)
     → Explores a s xs m t → Explores a m ys e u → Explores a s (xs ++ ys) e (t ++ u)
 explores_then a s [] m t ys e u p q = rw (p.1, ← p.0) q
 explores_then a s (x ∷ xs) m t ys e u p q =
     (p.0, p.1, p.2, p.3 ++ u, p.4, p.5, ap (λ (z : List ℕ). z ++ u) p.6 ∙ append_assoc (x ++ tail a p.2) p.3 u, explores_then a p.0 xs m p.3 ys e u p.7 q)
 
-explores_one : (a : Bool) (s e : WorldState) (b c : List ℕ) → (q : Adds a s e b c) → Explores a s (q.raw ∷ []) e (q.raw ++ tail a q.out)
+explores_one : (a : Bool) (s e : World) (b c : List ℕ) → (q : Adds a s e b c) → Explores a s (q.raw ∷ []) e (q.raw ++ tail a q.out)
 explores_one a s e b c q = (e, q.order, q.out, [], q.line, q.obeys, sym (append-nil (q.raw ++ tail a q.out)), (refl, refl))
 
-explored_more : (a : Bool) (s : WorldState) (n : ℕ) (m e : WorldState) (t u : List ℕ) → Explored a s n m t → Adds a m e t u → Explored a s (n + 1) e u
+explored_more : (a : Bool) (s : World) (n : ℕ) (m e : World) (t u : List ℕ) → Explored a s n m t → Adds a m e t u → Explored a s (n + 1) e u
 explored_more a s n m e t u p q = record {
   comment = p.comment;
   raws = p.raws ++ (q.raw ∷ []);
@@ -38,7 +39,7 @@ explored_more a s n m e t u p q = record {
   whole = q.whole ∙ ap (λ (z : List ℕ). z ++ (q.raw ++ tail a q.out)) p.whole ∙ append_assoc (p.comment ++ (10 ∷ [])) p.more (q.raw ++ tail a q.out);
 }
 
-pub explored_first : (a : Bool) (s : WorldState) (out : List ℕ) → IsComment [] out → Explored a s 0 s out
+pub explored_first : (a : Bool) (s : World) (out : List ℕ) → IsComment [] out → Explored a s 0 s out
 explored_first a s out q = record {
   comment = q.raw;
   raws = [];
@@ -51,10 +52,10 @@ explored_first a s out q = record {
 
 -- ---- what was written, and what is gathered
 
-pub going_first : (a : Bool) (s : WorldState) (w : Option (List ℕ)) (output : List ℕ) → Explored a s 0 s output → Going a s 0 s w w output
+pub going_first : (a : Bool) (s : World) (w : Option (List ℕ)) (output : List ℕ) → Explored a s 0 s output → Going a s 0 s w w output
 going_first a s w output p = record { written = []; appends = Appends-nil w; explored = p }
 
-pub going_added : (a : Bool) (s : WorldState) (n : ℕ) (m e : WorldState) (w0 w1 : Option (List ℕ)) (b c : List ℕ) → Going a s n m w0 w1 b → Adds a m e b c → Going a s (n + 1) e w0 w1 c
+pub going_added : (a : Bool) (s : World) (n : ℕ) (m e : World) (w0 w1 : Option (List ℕ)) (b c : List ℕ) → Going a s n m w0 w1 b → Adds a m e b c → Going a s (n + 1) e w0 w1 c
 going_added a s n m e w0 w1 b c p q = record {
   written = p.written;
   appends = p.appends;
@@ -70,14 +71,14 @@ going_added a s n m e w0 w1 b c p q = record {
       });
 }
 
-pub going_gone : (a : Bool) (s : WorldState) (n : ℕ) (m : WorldState) (w0 w1 w2 : Option (List ℕ)) (b c : List ℕ) → Going a s n m w0 w1 b → Gone b c w1 w2 → Going a s n m w0 w2 c
+pub going_gone : (a : Bool) (s : World) (n : ℕ) (m : World) (w0 w1 w2 : Option (List ℕ)) (b c : List ℕ) → Going a s n m w0 w1 b → Gone b c w1 w2 → Going a s n m w0 w2 c
 going_gone a s n m w0 w1 w2 b c p q = record {
   written = p.written ++ q.written;
   appends = Appends-trans w0 w1 w2 p.written q.written p.appends q.appends;
   explored = subst (λ (z : List ℕ). Explored a s n m z) (ap (λ (z : List ℕ). p.written ++ z) q.whole ∙ sym (append_assoc p.written q.written c)) p.explored;
 }
 
-pub going_done : (a f g : Bool) (s : WorldState) (steps n : ℕ) (m : WorldState) (w0 w1 w2 : Option (List ℕ)) (b : List ℕ) → Going a s n m w0 w1 b → IsCount f g steps n m → Appends w1 w2 b → Writes a f g s steps w0 w2
+pub going_done : (a f g : Bool) (s : World) (steps n : ℕ) (m : World) (w0 w1 w2 : Option (List ℕ)) (b : List ℕ) → Going a s n m w0 w1 b → IsCount f g steps n m → Appends w1 w2 b → Writes a f g s steps w0 w2
 going_done a f g s steps n m w0 w1 w2 b p is q = record {
   end = m;
   count = n;
@@ -88,7 +89,7 @@ going_done a f g s steps n m w0 w1 w2 b p is q = record {
 }
 
 -- a write ended it
-pub going_cut : (a f : Bool) (s : WorldState) (n most : ℕ) (m : WorldState) (w0 w1 w2 : Option (List ℕ)) (b : List ℕ) → Going a s n m w0 w1 b → AreFew f most n → Front b w1 w2 → Stops a f s most w0 w2
+pub going_cut : (a f : Bool) (s : World) (n most : ℕ) (m : World) (w0 w1 w2 : Option (List ℕ)) (b : List ℕ) → Going a s n m w0 w1 b → AreFew f most n → Front b w1 w2 → Stops a f s most w0 w2
 going_cut a f s n most m w0 w1 w2 b p few q = record {
   end = m;
   count = n;
@@ -100,7 +101,7 @@ going_cut a f s n most m w0 w1 w2 b p few q = record {
 }
 
 -- something else ended it
-pub going_stops : (a f : Bool) (s : WorldState) (n most : ℕ) (m : WorldState) (w0 w1 : Option (List ℕ)) (b : List ℕ) → Going a s n m w0 w1 b → AreFew f most n → Stops a f s most w0 w1
+pub going_stops : (a f : Bool) (s : World) (n most : ℕ) (m : World) (w0 w1 : Option (List ℕ)) (b : List ℕ) → Going a s n m w0 w1 b → AreFew f most n → Stops a f s most w0 w1
 going_stops a f s n most m w0 w1 b p few = record { end = m; count = n; written = p.written; more = b; few = few; explored = p.explored; appends = p.appends }
 
 -- a number of lines that is small enough is so in each plan
@@ -109,7 +110,7 @@ are_few false most n few = few
 are_few true most n few = tt
 
 -- nothing was written
-pub stops_first : (a f : Bool) (s : WorldState) (most : ℕ) (w : Option (List ℕ)) → Stops a f s most w w
+pub stops_first : (a f : Bool) (s : World) (most : ℕ) (w : Option (List ℕ)) → Stops a f s most w w
 stops_first a f s most w = record {
   end = s;
   count = 0;
@@ -130,31 +131,31 @@ stops_first a f s most w = record {
 
 -- ---- the lines that follow the steps
 
-pub goes_first : (a : Bool) (m : WorldState) (w : Option (List ℕ)) (b : List ℕ) → GoesOn a m w b m w b
+pub goes_first : (a : Bool) (m : World) (w : Option (List ℕ)) (b : List ℕ) → GoesOn a m w b m w b
 goes_first a m w b = λ start count before p. (count, omega arith, p)
 
-pub goes_line : (a : Bool) (o m e : WorldState) (w0 w1 w2 : Option (List ℕ)) (b0 b c d : List ℕ) → GoesOn a o w0 b0 m w1 b → Adds a m e b c → Gone c d w1 w2 → GoesOn a o w0 b0 e w2 d
+pub goes_line : (a : Bool) (o m e : World) (w0 w1 w2 : Option (List ℕ)) (b0 b c d : List ℕ) → GoesOn a o w0 b0 m w1 b → Adds a m e b c → Gone c d w1 w2 → GoesOn a o w0 b0 e w2 d
 goes_line a o m e w0 w1 w2 b0 b c d on added gone = λ start count before p.
     let so_far = on start count before p in
     (so_far.0 + 1, omega (arith, so_far.1), going_gone a start (so_far.0 + 1) e before w1 w2 c d (going_added a start so_far.0 m e before w1 b c so_far.2 added) gone)
 
-pub goes_stops : (a : Bool) (o m : WorldState) (w0 w1 : Option (List ℕ)) (b0 b : List ℕ) → GoesOn a o w0 b0 m w1 b → StopsOn a o w0 b0 w1
+pub goes_stops : (a : Bool) (o m : World) (w0 w1 : Option (List ℕ)) (b0 b : List ℕ) → GoesOn a o w0 b0 m w1 b → StopsOn a o w0 b0 w1
 goes_stops a o m w0 w1 b0 b on = λ start count before p.
     let so_far = on start count before p in
     going_stops a true start so_far.0 count m before w1 b so_far.2 tt
 
-pub goes_cut : (a : Bool) (o m e : WorldState) (w0 w1 w2 : Option (List ℕ)) (b0 b c : List ℕ) → GoesOn a o w0 b0 m w1 b → Adds a m e b c → Front c w1 w2 → StopsOn a o w0 b0 w2
+pub goes_cut : (a : Bool) (o m e : World) (w0 w1 w2 : Option (List ℕ)) (b0 b c : List ℕ) → GoesOn a o w0 b0 m w1 b → Adds a m e b c → Front c w1 w2 → StopsOn a o w0 b0 w2
 goes_cut a o m e w0 w1 w2 b0 b c on added front = λ start count before p.
     let so_far = on start count before p in
     going_cut a true start (so_far.0 + 1) count e before w1 w2 c (going_added a start so_far.0 m e before w1 b c so_far.2 added) tt front
 
-pub goes_then : (a : Bool) (o m e : WorldState) (w0 w1 w2 : Option (List ℕ)) (b0 b c : List ℕ) → GoesOn a o w0 b0 m w1 b → GoesOn a m w1 b e w2 c → GoesOn a o w0 b0 e w2 c
+pub goes_then : (a : Bool) (o m e : World) (w0 w1 w2 : Option (List ℕ)) (b0 b c : List ℕ) → GoesOn a o w0 b0 m w1 b → GoesOn a m w1 b e w2 c → GoesOn a o w0 b0 e w2 c
 goes_then a o m e w0 w1 w2 b0 b c on further = λ start count before p.
     let so_far = on start count before p in
     let all = further start so_far.0 before so_far.2 in
     (all.0, omega (arith, so_far.1, all.1), all.2)
 
-pub stops_then : (a : Bool) (o m : WorldState) (w0 w1 w2 : Option (List ℕ)) (b0 b : List ℕ) → GoesOn a o w0 b0 m w1 b → StopsOn a m w1 b w2 → StopsOn a o w0 b0 w2
+pub stops_then : (a : Bool) (o m : World) (w0 w1 w2 : Option (List ℕ)) (b0 b : List ℕ) → GoesOn a o w0 b0 m w1 b → StopsOn a m w1 b w2 → StopsOn a o w0 b0 w2
 stops_then a o m w0 w1 w2 b0 b on stops = λ start count before p.
     let so_far = on start count before p in
     let cut = stops start so_far.0 before so_far.2 in
@@ -162,29 +163,29 @@ stops_then a o m w0 w1 w2 b0 b on stops = λ start count before p.
 
 -- ---- what a script ends with
 
-abbrev pub DoneOn : Bool → Bool → Bool → ℕ → WorldState → Option (List ℕ) → List ℕ → Option (List ℕ) → Type 0
-DoneOn a f g steps m w0 b w1 = (start : WorldState) (before : Option (List ℕ)) → Going a start steps m before w0 b → Writes a f g start steps before w1
+abbrev pub DoneOn : Bool → Bool → Bool → ℕ → World → Option (List ℕ) → List ℕ → Option (List ℕ) → Type 0
+DoneOn a f g steps m w0 b w1 = (start : World) (before : Option (List ℕ)) → Going a start steps m before w0 b → Writes a f g start steps before w1
 
-abbrev pub CutOn : Bool → Bool → ℕ → WorldState → Option (List ℕ) → List ℕ → Option (List ℕ) → Type 0
-CutOn a h steps m w0 b w1 = (start : WorldState) (before : Option (List ℕ)) → Going a start steps m before w0 b → Stops a h start steps before w1
+abbrev pub CutOn : Bool → Bool → ℕ → World → Option (List ℕ) → List ℕ → Option (List ℕ) → Type 0
+CutOn a h steps m w0 b w1 = (start : World) (before : Option (List ℕ)) → Going a start steps m before w0 b → Stops a h start steps before w1
 
-end_done : (a : Bool) (steps : ℕ) (m : WorldState) (w0 w1 : Option (List ℕ)) (b : List ℕ) → Appends w0 w1 b → DoneOn a false false steps m w0 b w1
+end_done : (a : Bool) (steps : ℕ) (m : World) (w0 w1 : Option (List ℕ)) (b : List ℕ) → Appends w0 w1 b → DoneOn a false false steps m w0 b w1
 end_done a steps m w0 w1 b appends = λ start before p. going_done a false false start steps steps m before w0 w1 b p refl appends
 
-end_cut : (a : Bool) (steps : ℕ) (m : WorldState) (w0 w1 : Option (List ℕ)) (b : List ℕ) → Front b w0 w1 → CutOn a false steps m w0 b w1
+end_cut : (a : Bool) (steps : ℕ) (m : World) (w0 w1 : Option (List ℕ)) (b : List ℕ) → Front b w0 w1 → CutOn a false steps m w0 b w1
 end_cut a steps m w0 w1 b front = λ start before p. going_cut a false start steps steps m before w0 w1 b p (omega arith) front
 
-finish_done : (a g : Bool) (steps : ℕ) (m e : WorldState) (w0 w1 w2 : Option (List ℕ)) (b c : List ℕ) → GoesOn a m w0 b e w1 c → IsComplete e ⊎ (needs_epoch e ≡ true) → Appends w1 w2 c → DoneOn a true g steps m w0 b w2
+finish_done : (a g : Bool) (steps : ℕ) (m e : World) (w0 w1 w2 : Option (List ℕ)) (b c : List ℕ) → GoesOn a m w0 b e w1 c → IsComplete e ⊎ (needs_epoch e ≡ true) → Appends w1 w2 c → DoneOn a true g steps m w0 b w2
 finish_done a g steps m e w0 w1 w2 b c on ended appends = λ start before p.
     let gone = on start steps before p in
     going_done a true g start steps gone.0 e before w1 w2 c gone.2 (gone.1, ended) appends
 
-sweep_done : (a : Bool) (steps : ℕ) (m e : WorldState) (w0 w1 w2 : Option (List ℕ)) (b c : List ℕ) → GoesOn a m w0 b e w1 c → Appends w1 w2 c → DoneOn a false true steps m w0 b w2
+sweep_done : (a : Bool) (steps : ℕ) (m e : World) (w0 w1 w2 : Option (List ℕ)) (b c : List ℕ) → GoesOn a m w0 b e w1 c → Appends w1 w2 c → DoneOn a false true steps m w0 b w2
 sweep_done a steps m e w0 w1 w2 b c on appends = λ start before p.
     let gone = on start steps before p in
     going_done a false true start steps gone.0 e before w1 w2 c gone.2 gone.1 appends
 
-more_cut : (a : Bool) (steps : ℕ) (m e : WorldState) (w0 w1 w2 : Option (List ℕ)) (b c : List ℕ) → GoesOn a m w0 b e w1 c → Front c w1 w2 → CutOn a true steps m w0 b w2
+more_cut : (a : Bool) (steps : ℕ) (m e : World) (w0 w1 w2 : Option (List ℕ)) (b c : List ℕ) → GoesOn a m w0 b e w1 c → Front c w1 w2 → CutOn a true steps m w0 b w2
 more_cut a steps m e w0 w1 w2 b c on front = λ start before p.
     let gone = on start steps before p in
     going_cut a true start gone.0 steps e before w1 w2 c gone.2 tt front
@@ -201,7 +202,7 @@ or_none f g isnt is = ap (λ (x : Bool). x || g) isnt ∙ is
 
 -- ---- without answers, the text is a script
 
-explores_reads : (s : WorldState) (xs : List (List ℕ)) (e : WorldState) (t : List ℕ) → Explores false s xs e t → IsScript s e (length xs) t
+explores_reads : (s : World) (xs : List (List ℕ)) (e : World) (t : List ℕ) → Explores false s xs e t → IsScript s e (length xs) t
 explores_reads s [] e t p = record { lines = []; out = []; number = refl; reads = p.1; runs = (p.0, refl) }
 explores_reads s (x ∷ xs) e t p =
     let r = explores_reads p.0 xs e p.3 p.7 in
@@ -214,7 +215,7 @@ explores_reads s (x ∷ xs) e t p =
       runs = (p.0, p.2, r.out, p.5, refl, r.runs);
     }
 
-pub explored_reads : (s e : WorldState) (n : ℕ) (t : List ℕ) → Explored false s n e t → IsScript s e (n + 1) t
+pub explored_reads : (s e : World) (n : ℕ) (t : List ℕ) → Explored false s n e t → IsScript s e (n + 1) t
 explored_reads s e n t p =
     let r = explores_reads s p.raws e p.more p.explores in
     record {
@@ -234,83 +235,83 @@ on_err (Err fault) P p = p
 
 -- ---- how a script ends, by the outcome of its last call
 
-pub ended_ok : (r : Result (Unit {0}) RunFault) (a f g : Bool) (steps : ℕ) (start m : WorldState) (before w0 w1 : Option (List ℕ)) (b : List ℕ)
+pub ended_ok : (r : Result (Unit {0}) RunFault) (a f g : Bool) (steps : ℕ) (start m : World) (before w0 w1 : Option (List ℕ)) (b : List ℕ)
     → Going a start steps m before w0 b → OnOk r (DoneOn a f g steps m w0 b w1) → OnOk r (Writes a f g start steps before w1)
 ended_ok (Ok done) a f g steps start m before w0 w1 b going p = p start before going
 ended_ok (Err fault) a f g steps start m before w0 w1 b going p = tt
 
-pub ended_fault : (r : Result (Unit {0}) RunFault) (a h : Bool) (steps : ℕ) (start m : WorldState) (before w0 w1 : Option (List ℕ)) (b : List ℕ)
+pub ended_fault : (r : Result (Unit {0}) RunFault) (a h : Bool) (steps : ℕ) (start m : World) (before w0 w1 : Option (List ℕ)) (b : List ℕ)
     → Going a start steps m before w0 b → OnErr r (CutOn a h steps m w0 b w1) → OnErr r (Stops a h start steps before w1)
 ended_fault (Ok done) a h steps start m before w0 w1 b going p = tt
 ended_fault (Err fault) a h steps start m before w0 w1 b going p = p start before going
 
-pub end_ok : (r : Result (Unit {0}) RunFault) (a f g : Bool) (steps : ℕ) (m : WorldState) (w0 w1 : Option (List ℕ)) (b : List ℕ)
+pub end_ok : (r : Result (Unit {0}) RunFault) (a f g : Bool) (steps : ℕ) (m : World) (w0 w1 : Option (List ℕ)) (b : List ℕ)
     → f ≡ false → g ≡ false → OnOk r (Appends w0 w1 b) → OnOk r (DoneOn a f g steps m w0 b w1)
 end_ok (Ok done) a f g steps m w0 w1 b no_finish no_sweep p =
     subst (λ (x : Bool). DoneOn a x g steps m w0 b w1) (sym no_finish)
     (subst (λ (y : Bool). DoneOn a false y steps m w0 b w1) (sym no_sweep) (end_done a steps m w0 w1 b p))
 end_ok (Err fault) a f g steps m w0 w1 b no_finish no_sweep p = tt
 
-pub end_fault : (r : Result (Unit {0}) RunFault) (a f g : Bool) (steps : ℕ) (m : WorldState) (w0 w1 : Option (List ℕ)) (b : List ℕ)
+pub end_fault : (r : Result (Unit {0}) RunFault) (a f g : Bool) (steps : ℕ) (m : World) (w0 w1 : Option (List ℕ)) (b : List ℕ)
     → f ≡ false → g ≡ false → OnErr r (Front b w0 w1) → OnErr r (CutOn a (f || g) steps m w0 b w1)
 end_fault (Ok done) a f g steps m w0 w1 b no_finish no_sweep p = tt
 end_fault (Err fault) a f g steps m w0 w1 b no_finish no_sweep p =
     subst (λ (h : Bool). CutOn a h steps m w0 b w1) (sym (or_none f g no_finish no_sweep)) (end_cut a steps m w0 w1 b p)
 
-pub finish_ok : (r : Result (Unit {0}) RunFault) (a f g : Bool) (steps : ℕ) (m e : WorldState) (w0 w1 w2 : Option (List ℕ)) (b c : List ℕ)
+pub finish_ok : (r : Result (Unit {0}) RunFault) (a f g : Bool) (steps : ℕ) (m e : World) (w0 w1 w2 : Option (List ℕ)) (b c : List ℕ)
     → f ≡ true → GoesOn a m w0 b e w1 c → IsComplete e ⊎ (needs_epoch e ≡ true) → OnOk r (Appends w1 w2 c) → OnOk r (DoneOn a f g steps m w0 b w2)
 finish_ok (Ok done) a f g steps m e w0 w1 w2 b c is on ended p =
     subst (λ (x : Bool). DoneOn a x g steps m w0 b w2) (sym is) (finish_done a g steps m e w0 w1 w2 b c on ended p)
 finish_ok (Err fault) a f g steps m e w0 w1 w2 b c is on ended p = tt
 
-pub sweep_ok : (r : Result (Unit {0}) RunFault) (a f g : Bool) (steps : ℕ) (m e : WorldState) (w0 w1 w2 : Option (List ℕ)) (b c : List ℕ)
+pub sweep_ok : (r : Result (Unit {0}) RunFault) (a f g : Bool) (steps : ℕ) (m e : World) (w0 w1 w2 : Option (List ℕ)) (b c : List ℕ)
     → f ≡ false → g ≡ true → GoesOn a m w0 b e w1 c → OnOk r (Appends w1 w2 c) → OnOk r (DoneOn a f g steps m w0 b w2)
 sweep_ok (Ok done) a f g steps m e w0 w1 w2 b c no_finish is on p =
     subst (λ (x : Bool). DoneOn a x g steps m w0 b w2) (sym no_finish)
     (subst (λ (y : Bool). DoneOn a false y steps m w0 b w2) (sym is) (sweep_done a steps m e w0 w1 w2 b c on p))
 sweep_ok (Err fault) a f g steps m e w0 w1 w2 b c no_finish is on p = tt
 
-more_fault : (r : Result (Unit {0}) RunFault) (a h : Bool) (steps : ℕ) (m e : WorldState) (w0 w1 w2 : Option (List ℕ)) (b c : List ℕ)
+more_fault : (r : Result (Unit {0}) RunFault) (a h : Bool) (steps : ℕ) (m e : World) (w0 w1 w2 : Option (List ℕ)) (b c : List ℕ)
     → h ≡ true → GoesOn a m w0 b e w1 c → OnErr r (Front c w1 w2) → OnErr r (CutOn a h steps m w0 b w2)
 more_fault (Ok done) a h steps m e w0 w1 w2 b c is on p = tt
 more_fault (Err fault) a h steps m e w0 w1 w2 b c is on p = subst (λ (x : Bool). CutOn a x steps m w0 b w2) (sym is) (more_cut a steps m e w0 w1 w2 b c on p)
 
-pub finish_fault : (r : Result (Unit {0}) RunFault) (a f g : Bool) (steps : ℕ) (m e : WorldState) (w0 w1 w2 : Option (List ℕ)) (b c : List ℕ)
+pub finish_fault : (r : Result (Unit {0}) RunFault) (a f g : Bool) (steps : ℕ) (m e : World) (w0 w1 w2 : Option (List ℕ)) (b c : List ℕ)
     → f ≡ true → GoesOn a m w0 b e w1 c → OnErr r (Front c w1 w2) → OnErr r (CutOn a (f || g) steps m w0 b w2)
 finish_fault r a f g steps m e w0 w1 w2 b c is on p = more_fault r a (f || g) steps m e w0 w1 w2 b c (or_left f g is) on p
 
-pub sweep_fault : (r : Result (Unit {0}) RunFault) (a f g : Bool) (steps : ℕ) (m e : WorldState) (w0 w1 w2 : Option (List ℕ)) (b c : List ℕ)
+pub sweep_fault : (r : Result (Unit {0}) RunFault) (a f g : Bool) (steps : ℕ) (m e : World) (w0 w1 w2 : Option (List ℕ)) (b c : List ℕ)
     → f ≡ false → g ≡ true → GoesOn a m w0 b e w1 c → OnErr r (Front c w1 w2) → OnErr r (CutOn a (f || g) steps m w0 b w2)
 sweep_fault r a f g steps m e w0 w1 w2 b c no_finish is on p = more_fault r a (f || g) steps m e w0 w1 w2 b c (or_right f g no_finish is) on p
 
 -- ---- it stops among the lines that follow the steps
 
-stopped : (a h : Bool) (steps : ℕ) (m : WorldState) (w0 w1 : Option (List ℕ)) (b : List ℕ) → h ≡ true → StopsOn a m w0 b w1 → CutOn a h steps m w0 b w1
+stopped : (a h : Bool) (steps : ℕ) (m : World) (w0 w1 : Option (List ℕ)) (b : List ℕ) → h ≡ true → StopsOn a m w0 b w1 → CutOn a h steps m w0 b w1
 stopped a h steps m w0 w1 b is stops = subst (λ (x : Bool). CutOn a x steps m w0 b w1) (sym is) (λ start before going. stops start steps before going)
 
-pub finish_stopped : (a f g : Bool) (steps : ℕ) (m : WorldState) (w0 w1 : Option (List ℕ)) (b : List ℕ)
+pub finish_stopped : (a f g : Bool) (steps : ℕ) (m : World) (w0 w1 : Option (List ℕ)) (b : List ℕ)
     → f ≡ true → StopsOn a m w0 b w1 → CutOn a (f || g) steps m w0 b w1
 finish_stopped a f g steps m w0 w1 b is stops = stopped a (f || g) steps m w0 w1 b (or_left f g is) stops
 
-pub sweep_stopped : (a f g : Bool) (steps : ℕ) (m : WorldState) (w0 w1 : Option (List ℕ)) (b : List ℕ)
+pub sweep_stopped : (a f g : Bool) (steps : ℕ) (m : World) (w0 w1 : Option (List ℕ)) (b : List ℕ)
     → f ≡ false → g ≡ true → StopsOn a m w0 b w1 → CutOn a (f || g) steps m w0 b w1
 sweep_stopped a f g steps m w0 w1 b no_finish is stops = stopped a (f || g) steps m w0 w1 b (or_right f g no_finish is) stops
 
 -- ---- the completion, the sweep, and the completion again
 
-pub then_ok : (r : Result (Unit {0}) RunFault) (a : Bool) (o m e : WorldState) (w0 w1 w2 : Option (List ℕ)) (b0 b c : List ℕ)
+pub then_ok : (r : Result (Unit {0}) RunFault) (a : Bool) (o m e : World) (w0 w1 w2 : Option (List ℕ)) (b0 b c : List ℕ)
     → GoesOn a o w0 b0 m w1 b → OnOk r (GoesOn a m w1 b e w2 c) → OnOk r (GoesOn a o w0 b0 e w2 c)
 then_ok (Ok done) a o m e w0 w1 w2 b0 b c on p = goes_then a o m e w0 w1 w2 b0 b c on p
 then_ok (Err fault) a o m e w0 w1 w2 b0 b c on p = tt
 
-pub then_fault : (r : Result (Unit {0}) RunFault) (a : Bool) (o m : WorldState) (w0 w1 w2 : Option (List ℕ)) (b0 b : List ℕ)
+pub then_fault : (r : Result (Unit {0}) RunFault) (a : Bool) (o m : World) (w0 w1 w2 : Option (List ℕ)) (b0 b : List ℕ)
     → GoesOn a o w0 b0 m w1 b → OnErr r (StopsOn a m w1 b w2) → OnErr r (StopsOn a o w0 b0 w2)
 then_fault (Ok done) a o m w0 w1 w2 b0 b on p = tt
 then_fault (Err fault) a o m w0 w1 w2 b0 b on p = stops_then a o m w0 w1 w2 b0 b on p
 
 -- ---- a step that was made
 
-pub made_step : (old new : WorldState) (order : Order) (step : Step) (out : List ℕ) → HasStep order step → Obeys Lines old order new out → MakesIt old step new
+pub made_step : (old new : World) (order : Order) (step : Step) (out : List ℕ) → HasStep order step → Obeys Lines old order new out → MakesIt old step new
 made_step old new order step out has obeys =
     let p = subst (λ (made : Option Step). MakesAny Lines old made new out) (has (epoch_in old)) obeys in
     elim p.1.1 [
@@ -318,5 +319,5 @@ made_step old new order step out has obeys =
       | inr h ↦ absurd (p.1.0 h.0)
     ]
 
-pub fewer_left : (old new : WorldState) (step : Step) → IsDue old step → MakesIt old step new → steps_left new < steps_left old
+pub fewer_left : (old new : World) (step : Step) → IsDue old step → MakesIt old step new → steps_left new < steps_left old
 fewer_left old new step due made = rw made due.fewer

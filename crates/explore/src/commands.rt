@@ -26,9 +26,9 @@ pub(crate) fn draw_of<R: Rng>(rng: &mut R, course: &Course, pages: &PageSet) -> 
     ensures { result < 0x10_0000 }
 {
     let from = draw_page(rng, course);
-    let behind = pages.next(from, true);
-    if behind < HIGH_PAGE {
-        return behind;
+    let above = pages.next(from, true);
+    if above < HIGH_PAGE {
+        return above;
     }
     let first = pages.next(0, true);
     if first < HIGH_PAGE { first } else { from }
@@ -51,7 +51,7 @@ fn draw_address<R: Rng>(rng: &mut R, course: &Course, memo: &Memo, world: &World
     u64::from(page) * PAGE_SIZE
 }
 
-/// Where a range is moved: mostly to one of as many pages behind those from which commands draw, so that it replaces little.
+/// Where a range is moved: mostly to one of as many pages after those from which commands draw, so that it replaces little.
 fn draw_target<R: Rng>(rng: &mut R, course: &Course, memo: &Memo, world: &World) -> Addr {
     match below(rng, 4) {
         0 => draw_address(rng, course, memo, world),
@@ -223,7 +223,7 @@ fn draw_map_call<R: Rng>(rng: &mut R, page: Addr, other: Addr) -> Command {
     }
 }
 
-/// What a processor does: in `maps` of 16 draws a map call. The first line of a script maps its pages, and those behind it fill them.
+/// What a processor does: in `maps` of 16 draws a map call. The first line of a script maps its pages, and those after it fill them.
 pub(crate) fn draw_command<R: Rng>(
     rng: &mut R,
     course: &Course,

@@ -30,7 +30,8 @@ pub(crate) struct Sheet {
 
 /// Gathers a line, and with `answers` what a run prints for it.
 fn gather(output: &mut Vec<u8>, line: &str, answers: bool, answer: &str) -> Result<(), RunFault>
-    ensures { OnOk result (output.new.items ≡ output.old.items ++ (line.now ++ tail answers answer.now)) }
+    ensures { OnOk result (output.new.items ≡
+        output.old.items ++ (line.now ++ tail answers answer.now)) }
 {
     output.extend_from_slice(line.as_bytes())?;
     if answers {

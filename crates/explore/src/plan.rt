@@ -73,18 +73,18 @@ impl Profile {
 pub struct Plan {
     /// The seed of the draws.
     pub seed: u64,
-    /// The number of lines behind the first, which is a comment.
+    /// The number of lines after the first, which is a comment.
     pub steps: u32,
     /// The processors of the guest, 1 to 16.
     pub cpus: u8,
     pub profile: Profile,
     /// The number of pages from which commands draw their addresses, 1 to 4,096. They lie from 0x10000 on.
     pub pages: u16,
-    /// Whether lines that complete the migration stand behind the steps, and a sweep behind these.
+    /// Whether lines that complete the migration follow the steps, and a sweep follows these.
     pub finish: bool,
-    /// Whether a sweep stands behind the steps: loads of what was stored, with the steps that these loads need.
+    /// Whether a sweep follows the steps: loads of what was stored, with the steps that these loads need.
     pub sweep: bool,
-    /// Whether ` => ` and the line that `postmig run` would print stand behind each line.
+    /// Whether ` => ` and the line that `postmig run` would print follow each line.
     pub answers: bool,
 }
 
@@ -98,7 +98,7 @@ impl fmt::Display for Plan {
         let finish = if self.finish { " --finish" } else { "" };
         let sweep = if self.sweep { " --sweep" } else { "" };
         let answers = if self.answers { " --answers" } else { "" };
-        write!(f, "--seed {seed} --steps {steps} --cpus {cpus} ")?;
+        write!(f, "--seed {seed} --lines {steps} --cpus {cpus} ")?;
         write!(f, "--profile {profile} --pages {pages}")?;
         write!(f, "{finish}{sweep}{answers}")
     }

@@ -3,7 +3,7 @@
 ghost use Rattle.std.specs.Prelude.{◌≡◌, ◌<◌, ◌≤◌, ◌⊎◌, ◌||◌, ℕ, List, [], Option, true, OnOk, OnErr};
 ghost use Rattle.std.specs.Io.KnownBytes.{Appends};
 ghost use Rattle.engine.specs.Engine.{Front};
-ghost use Rattle.engine.specs.WorldState.{WorldState, first_state};
+ghost use Rattle.mig_model.specs.Migration.{World as Machine, first_world};
 ghost use Rattle.mig_model.specs.Promises.{IsComplete};
 ghost use Rattle.finish.specs.Finishing.{needs_epoch};
 ghost use Rattle.explore.specs.Explorations.{Explored, Gone, Going, GoesOn, StopsOn, Writes, Stops};
@@ -31,8 +31,8 @@ const PIECE: usize = 16_384;
 
 /// Writes a random script: a comment that says how it was made, and one line for each of the plan's steps. About nine lines of ten are
 /// steps that the world of that script makes, and the others are steps that it refuses. Where the plan says so, lines that complete the
-/// migration stand behind them; they end before that only where a Start or a Resume is needed and the epoch is the last. Behind those, or
-/// where the plan has a sweep, stand loads of what was stored. The same plan has the same text.
+/// migration follow; they end before that only where a Start or a Resume is needed and the epoch is the last. After those, or where the
+/// plan has a sweep, come loads of what was stored. The same plan has the same text.
 ///
 /// `WriteFault` comes if a write fails or takes no byte; the first part of the text is written then. `NoMemory` comes if an allocation
 /// fails; some lines from the first on are written then, each in full. `Line` would come for a line that `postmig run` does not read,
@@ -42,8 +42,8 @@ pub fn run_explore<W: Write>(alloc: Global, writer: &mut W, plan: &Plan) -> Resu
     requires high { plan.now.cpus ≤ 16 }
     requires some { 1 ≤ plan.now.pages }
     requires few { plan.now.pages ≤ 4096 }
-    ensures ok { OnOk result (Writes plan.now.answers plan.now.finish plan.now.sweep (first_state plan.now.cpus) plan.now.steps (W.contents writer.old) (W.contents writer.new)) }
-    ensures fault { OnErr result (Stops plan.now.answers (plan.now.finish || plan.now.sweep) (first_state plan.now.cpus) plan.now.steps (W.contents writer.old) (W.contents writer.new)) }
+    ensures ok { OnOk result (Writes plan.now.answers plan.now.finish plan.now.sweep (first_world plan.now.cpus) plan.now.steps (W.contents writer.old) (W.contents writer.new)) }
+    ensures fault { OnErr result (Stops plan.now.answers (plan.now.finish || plan.now.sweep) (first_world plan.now.cpus) plan.now.steps (W.contents writer.old) (W.contents writer.new)) }
 {
     let Ok(mut world) = World::new(alloc, plan.cpus) else {
         return Err(RunFault::NoMemory);
@@ -53,7 +53,7 @@ pub fn run_explore<W: Write>(alloc: Global, writer: &mut W, plan: &Plan) -> Resu
     write_script(writer, &mut world, &mut sheet, plan)
 }
 
-/// Draws the course of a script, and writes its lines behind the comment.
+/// Draws the course of a script, and writes its lines after the comment.
 fn write_script<W: Write>(
     writer: &mut W,
     world: &mut World,
@@ -94,7 +94,7 @@ fn flush_much<W: Write>(writer: &mut W, sheet: &mut Sheet) -> Result<(), RunFaul
     flush(writer, sheet)
 }
 
-/// Writes the lines behind the comment, which was gathered.
+/// Writes the lines after the comment, which was gathered.
 fn write_lines<W: Write, R: Rng>(
     writer: &mut W,
     world: &mut World,
@@ -116,7 +116,7 @@ fn write_lines<W: Write, R: Rng>(
     write_end(writer, world, &mut memo, sheet, plan)
 }
 
-/// Writes what comes behind the steps: what was gathered, and where the plan has them the lines that complete the migration, and a sweep.
+/// Writes what follows the steps: what was gathered, and where the plan has them the lines that complete the migration, and a sweep.
 fn write_end<W: Write>(
     writer: &mut W,
     world: &mut World,
@@ -124,9 +124,11 @@ fn write_end<W: Write>(
     sheet: &mut Sheet,
     plan: &Plan,
 ) -> Result<(), RunFault>
-    ensures ok { OnOk result ((start : WorldState) (before : Option (List ℕ)) → Going plan.now.answers start plan.now.steps world.old before (W.contents writer.old) sheet.old.output.items
+    ensures ok { OnOk result ((start : Machine) (before : Option (List ℕ)) →
+        Going plan.now.answers start plan.now.steps world.old before (W.contents writer.old) sheet.old.output.items
         → Writes plan.now.answers plan.now.finish plan.now.sweep start plan.now.steps before (W.contents writer.new)) }
-    ensures fault { OnErr result ((start : WorldState) (before : Option (List ℕ)) → Going plan.now.answers start plan.now.steps world.old before (W.contents writer.old) sheet.old.output.items
+    ensures fault { OnErr result ((start : Machine) (before : Option (List ℕ)) →
+        Going plan.now.answers start plan.now.steps world.old before (W.contents writer.old) sheet.old.output.items
         → Stops plan.now.answers (plan.now.finish || plan.now.sweep) start plan.now.steps before (W.contents writer.new)) }
 {
     if plan.finish {

@@ -28,7 +28,8 @@ pub fn finish(world: &mut World, alloc: Global) -> Result<Vec<Step>, Refusal>
     ensures made { IfOk result (λ steps. Leads world.old steps.items world.new) }
     ensures strategy { IfOk result (λ steps. AreDue world.old steps.items) }
     ensures few { IfOk result (λ steps. length steps.items ≤ steps_left world.old) }
-    ensures refused { IfErr result (λ refusal. (refusal ≡ Refusal.CountUsed) ⊎ (refusal ≡ Refusal.NoMemory)) }
+    ensures refused { IfErr result (λ refusal.
+        (refusal ≡ Refusal.CountUsed) ⊎ (refusal ≡ Refusal.NoMemory)) }
     ensures used { (result ≡ Err Refusal.CountUsed) ↔ (lacks_epoch world.old ≡ true) }
     ensures stays { result ≡ Err Refusal.CountUsed → world.new ≡ world.old }
     ensures led { OnErr result ((steps : List Step) × Leads world.old steps world.new) }

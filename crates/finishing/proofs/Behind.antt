@@ -4,7 +4,7 @@ use Rattle.std.specs.Prelude.{IsOk}
 use Rattle.std.proofs.lemmas.Bool.{false≢true}
 use Rattle.mig_base.specs.declared.refusal.Refusal.TheVariants.{NoMemory}
 use Rattle.mig_base.specs.declared.schedule.Step.{Step}
-use Rattle.mig_model.specs.Migration.{after_steps, next, outcome}
+use Rattle.mig_model.specs.Migration.{World, after_steps, next, outcome}
 use Rattle.mig_model.specs.Promises.{AreAccepted, IsComplete}
 use Rattle.grammar.specs.declared.line.Language.TheVariants.{Script}
 use Rattle.grammar.specs.declared.line.Line.{Line}
@@ -14,7 +14,7 @@ use Rattle.grammar.specs.Printed.{Outcome, outcome_line}
 use Rattle.grammar.proofs.Cuts.{feed_inside}
 use Rattle.engine.specs.declared.line_runner.Mode.TheVariants.{Lines}
 use Rattle.engine.specs.Script.{MakesAny, Runs}
-use Rattle.engine.specs.WorldState.{WorldState, epoch_in}
+use Rattle.engine.specs.Worlds.{epoch_in}
 use Rattle.finishing.specs.Finished.{IsStepLine, AreLines, Adds, AreBehind, Completes, IsEnded, LeadsTo}
 
 -- ---- one line more
@@ -36,7 +36,7 @@ adds_more xs n other start before mid after raw lt p q grown ended =
 
 -- ---- a run of lines, and then of others
 
-runs_then : (s : WorldState) (xs : List Line) (m : WorldState) (a : List ℕ) (ys : List Line) (e : WorldState) (b : List ℕ) → Runs Lines s xs m a → Runs Lines m ys e b → Runs Lines s (xs ++ ys) e (a ++ b)
+runs_then : (s : World) (xs : List Line) (m : World) (a : List ℕ) (ys : List Line) (e : World) (b : List ℕ) → Runs Lines s xs m a → Runs Lines m ys e b → Runs Lines s (xs ++ ys) e (a ++ b)
 runs_then s [] m a ys e b p q = rw (p.1, ← p.0) q
 runs_then s (Skipped ∷ xs) m a ys e b p q = runs_then s xs m a ys e b p q
 runs_then s (Do order ∷ xs) m a ys e b p q =
@@ -50,10 +50,10 @@ not_lacking (Ok effect) is = λ h. cc
 not_lacking (Err refusal) is = absurd (false≢true is)
 
 -- a script that leads from one world to another
-abbrev Leading : WorldState → List ℕ → WorldState → Type 0
+abbrev Leading : World → List ℕ → World → Type 0
 Leading old text new = (lines : List Line) × (out : List ℕ) × Reads Script text lines [] × Runs Lines old lines new out
 
-steps_run : (old : WorldState) (steps : List Step) (text : List ℕ) → AreAccepted old steps → AreLines steps text → Leading old text (after_steps old steps)
+steps_run : (old : World) (steps : List Step) (text : List ℕ) → AreAccepted old steps → AreLines steps text → Leading old text (after_steps old steps)
 steps_run old [] text accepted p = ([], [], p, (refl, refl))
 steps_run old (step ∷ steps) text accepted p =
     let line = p.2.line in
@@ -67,11 +67,11 @@ steps_run old (step ∷ steps) text accepted p =
     )
 
 -- a line feed before a script is an empty line
-feed_first : (old : WorldState) (text : List ℕ) (new : WorldState) → Leading old text new → Leading old (10 ∷ text) new
+feed_first : (old : World) (text : List ℕ) (new : World) → Leading old text new → Leading old (10 ∷ text) new
 feed_first old text new p =
     (Skipped ∷ p.0, p.1, (text, inl (record { raw = []; whole = refl; one = tt; short = omega arith; spells = tt }), p.2), p.3)
 
-behind_run : (old : WorldState) (steps : List Step) (text : List ℕ) → AreAccepted old steps → AreBehind steps text → Leading old text (after_steps old steps)
+behind_run : (old : World) (steps : List Step) (text : List ℕ) → AreAccepted old steps → AreBehind steps text → Leading old text (after_steps old steps)
 behind_run old steps text accepted p =
     let new = after_steps old steps in
     let lines = steps_run old steps p.1 accepted p.4 in
@@ -116,7 +116,7 @@ reads_then input (line ∷ lines) text more ended p q = elim p.1 [
   | inr e ↦ absurd (last_open input e.0.some e.0.one ended)
 ]
 
-pub finished : (start world : WorldState) (input text : List ℕ) → IsEnded input → LeadsTo start input world → Completes world text → (end : WorldState) × LeadsTo start (input ++ text) end × IsComplete end
+pub finished : (start world : World) (input text : List ℕ) → IsEnded input → LeadsTo start input world → Completes world text → (end : World) × LeadsTo start (input ++ text) end × IsComplete end
 finished start world input text ended p q =
     let behind = behind_run world q.steps text q.leads.accepted q.lines in
     let end = after_steps world q.steps in (

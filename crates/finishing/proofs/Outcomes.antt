@@ -14,18 +14,19 @@ use Rattle.engine.specs.declared.fault.RunFault.{RunFault}
 use Rattle.engine.specs.declared.fault.RunFault.TheVariants as faults
 use Rattle.engine.specs.Script.{reported, MakesAny, Runs, StopsBy}
 use Rattle.engine.specs.Engine.{Work, Running, Works, Outputs, ReadsAll, language_of, world_of}
-use Rattle.engine.specs.WorldState.{WorldState, epoch_in}
+use Rattle.mig_model.specs.Migration.{World}
+use Rattle.engine.specs.Worlds.{epoch_in}
 use Rattle.finishing.specs.declared.ending.Ending.{Ending}
 use Rattle.finishing.specs.Finished.{Ends, Fails, LeadsTo, Finishes, Stops}
 
 -- ---- the world of the script
 
 -- what an order does, it does whatever is printed of it
-any_lines : (mode : Mode) (old : WorldState) (made : Option Step) (new : WorldState) (text : List ℕ) → MakesAny mode old made new text → (out : List ℕ) × MakesAny Lines old made new out
+any_lines : (mode : Mode) (old : World) (made : Option Step) (new : World) (text : List ℕ) → MakesAny mode old made new text → (out : List ℕ) × MakesAny Lines old made new out
 any_lines mode old None new text p = (reported Lines old, (p.0, refl))
 any_lines mode old (Some step) new text p = (outcome_line p.0, (p.0, p.1, refl))
 
-works_run : (mode : Mode) (old : WorldState) (lines : List Line) (new : Work) (text : List ℕ) → Works (Running mode old) lines new text → (end : WorldState) × (out : List ℕ) × (new ≡ Running mode end) × Runs Lines old lines end out
+works_run : (mode : Mode) (old : World) (lines : List Line) (new : Work) (text : List ℕ) → Works (Running mode old) lines new text → (end : World) × (out : List ℕ) × (new ≡ Running mode end) × Runs Lines old lines end out
 works_run mode old [] new text p = (old, [], p.0, (refl, refl))
 works_run mode old (Skipped ∷ lines) new text p = works_run mode old lines new p.2 (subst (λ (w : Work). Works w lines new p.2) p.3.0 p.5)
 works_run mode old (Do order ∷ lines) new text p =
@@ -35,8 +36,8 @@ works_run mode old (Do order ∷ lines) new text p =
 works_run mode old (Enter entry ∷ lines) new text p = absurd p.3
 
 -- the work on a whole script leads to a world
-pub read_leads : (mode : Mode) (start : WorldState) (work : Work) (input : List ℕ) (end : Work) (unread before after : Option (List ℕ)) → work ≡ Running mode start → ReadsAll work input end unread before after
-    → (world : WorldState) × (end ≡ Running mode world) × LeadsTo start input world
+pub read_leads : (mode : Mode) (start : World) (work : Work) (input : List ℕ) (end : Work) (unread before after : Option (List ℕ)) → work ≡ Running mode start → ReadsAll work input end unread before after
+    → (world : World) × (end ≡ Running mode world) × LeadsTo start input world
 read_leads mode start work input end unread before after is all =
     let p = subst (λ (w : Work). ReadsAll w input end unread before after) is all in
     let ran = works_run mode start p.lines end p.text p.works in
@@ -44,13 +45,13 @@ read_leads mode start work input end unread before after is all =
 
 -- ---- endings
 
-pub fails : (start world : WorldState) (input : List ℕ) (fault : RunFault) (before after : Option (List ℕ)) → LeadsTo start input world → Fails world fault before after → Stops start input fault before after
+pub fails : (start world : World) (input : List ℕ) (fault : RunFault) (before after : Option (List ℕ)) → LeadsTo start input world → Fails world fault before after → Stops start input fault before after
 fails start world input (faults.Line n) before after leads p = (inr p.0, p.1)
 fails start world input faults.ReadFault before after leads p = absurd p
 fails start world input faults.WriteFault before after leads p = inr (world, leads, p)
 fails start world input faults.NoMemory before after leads p = p
 
-pub stops_read : (mode : Mode) (start : WorldState) (work : Work) (input : List ℕ) (unread : Option (List ℕ)) (fault : RunFault) (a b before : Option (List ℕ)) → work ≡ Running mode start
+pub stops_read : (mode : Mode) (start : World) (work : Work) (input : List ℕ) (unread : Option (List ℕ)) (fault : RunFault) (a b before : Option (List ℕ)) → work ≡ Running mode start
     → StopsBy Script (Outputs work) input unread fault a b → Stops start input fault before before
 stops_read mode start work input unread (faults.Line n) a b before is p =
     (inl (record { lines = p.lines; rest = p.rest; reads = p.reads; number = p.number; wrong = p.wrong }), Appends-nil before)
@@ -60,31 +61,31 @@ stops_read mode start work input unread faults.NoMemory a b before is p = Append
 
 -- ---- the same of a reader whose bytes may not be known
 
-pub some_stops : (o : Option (List ℕ)) (mode : Mode) (start : WorldState) (work : Work) (unread : Option (List ℕ)) (fault : RunFault) (a b before : Option (List ℕ)) → work ≡ Running mode start
+pub some_stops : (o : Option (List ℕ)) (mode : Mode) (start : World) (work : Work) (unread : Option (List ℕ)) (fault : RunFault) (a b before : Option (List ℕ)) → work ≡ Running mode start
     → IfSome o (λ input. StopsBy (language_of work) (Outputs work) input unread fault a b) → IfSome o (λ input. Stops start input fault before before)
 some_stops None mode start work unread fault a b before is p = tt
 some_stops (Some input) mode start work unread fault a b before is p =
     stops_read mode start (Running mode start) input unread fault a b before refl (subst (λ (w : Work). StopsBy (language_of w) (Outputs w) input unread fault a b) is p)
 
-same_some : (x y : WorldState) → Some x ≡ Some y → x ≡ y
+same_some : (x y : World) → Some x ≡ Some y → x ≡ y
 same_some x y e = cc
 
 -- the world that was handed over is that of the script
-handed : (mode : Mode) (world other : WorldState) (end : Work) → Some world ≡ world_of end → end ≡ Running mode other → world ≡ other
+handed : (mode : Mode) (world other : World) (end : Work) → Some world ≡ world_of end → end ≡ Running mode other → world ≡ other
 handed mode world other end is e = same_some world other (is ∙ ap world_of e)
 
-pub some_finishes : (r : Result Ending RunFault) (o : Option (List ℕ)) (mode : Mode) (start world : WorldState) (work end : Work) (unread a b before after : Option (List ℕ)) → work ≡ Running mode start
+pub some_finishes : (r : Result Ending RunFault) (o : Option (List ℕ)) (mode : Mode) (start world : World) (work end : Work) (unread a b before after : Option (List ℕ)) → work ≡ Running mode start
     → IfSome o (λ input. ReadsAll work input end unread a b) → Some world ≡ world_of end → IfOk r (λ ending. Ends ending world before after) → IfOk r (λ ending. IfSome o (λ input. Finishes ending start input before after))
 some_finishes (Err fault) o mode start world work end unread a b before after is all same p = tt
 some_finishes (Ok ending) None mode start world work end unread a b before after is all same p = tt
 some_finishes (Ok ending) (Some input) mode start world work end unread a b before after is all same p =
     let read = read_leads mode start work input end unread a b is all in
-    (read.0, read.2, subst (λ (w : WorldState). Ends ending w before after) (handed mode world read.0 end same read.1) p)
+    (read.0, read.2, subst (λ (w : World). Ends ending w before after) (handed mode world read.0 end same read.1) p)
 
-pub some_fails : (r : Result Ending RunFault) (o : Option (List ℕ)) (mode : Mode) (start world : WorldState) (work end : Work) (unread a b before after : Option (List ℕ)) → work ≡ Running mode start
+pub some_fails : (r : Result Ending RunFault) (o : Option (List ℕ)) (mode : Mode) (start world : World) (work end : Work) (unread a b before after : Option (List ℕ)) → work ≡ Running mode start
     → IfSome o (λ input. ReadsAll work input end unread a b) → Some world ≡ world_of end → IfErr r (λ fault. Fails world fault before after) → IfErr r (λ fault. IfSome o (λ input. Stops start input fault before after))
 some_fails (Ok ending) o mode start world work end unread a b before after is all same p = tt
 some_fails (Err fault) None mode start world work end unread a b before after is all same p = tt
 some_fails (Err fault) (Some input) mode start world work end unread a b before after is all same p =
     let read = read_leads mode start work input end unread a b is all in
-    fails start read.0 input fault before after read.2 (subst (λ (w : WorldState). Fails w fault before after) (handed mode world read.0 end same read.1) p)
+    fails start read.0 input fault before after read.2 (subst (λ (w : World). Fails w fault before after) (handed mode world read.0 end same read.1) p)

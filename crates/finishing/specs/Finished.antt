@@ -14,7 +14,7 @@ use Rattle.engine.specs.declared.fault.RunFault.TheVariants as faults
 use Rattle.engine.specs.Engine.{Front}
 use Rattle.engine.specs.Script.{Runs}
 use Rattle.engine.specs.Spelled.{HasStep, IsLine}
-use Rattle.engine.specs.WorldState.{WorldState}
+use Rattle.mig_model.specs.Migration.{World}
 use Rattle.finish.specs.Finishing.{AreDue, Leads, lacks_epoch}
 use Rattle.finishing.specs.declared.ending.Ending.{Ending}
 use Rattle.finishing.specs.declared.ending.Ending.TheVariants.{Complete, NoEpoch}
@@ -43,28 +43,28 @@ AreBehind steps text = (front : List ℕ) × (lines : List ℕ) × ((front ≡ [
 -- Endings
 
 -- the text has the lines of the strategy's steps, which complete the migration of a world; none of them is refused
-pub record Completes (world : WorldState) (text : List ℕ) : Type 0 where
+pub record Completes (world : World) (text : List ℕ) : Type 0 where
   pub steps : List Step
-  pub end : WorldState
+  pub end : World
   pub leads : Leads world steps end
   pub due : AreDue world steps
   pub complete : IsComplete end
   pub lines : AreBehind steps text
 
 -- what is written for a world: the lines that complete its migration, or nothing where a Start or a Resume is needed and the epoch is the last
-abbrev pub Ends : Ending → WorldState → Option (List ℕ) → Option (List ℕ) → Type 0
+abbrev pub Ends : Ending → World → Option (List ℕ) → Option (List ℕ) → Type 0
 Ends Complete world before after = (text : List ℕ) × Completes world text × Appends before after text
 Ends NoEpoch world before after = (lacks_epoch world ≡ true) × Appends before after []
 
 -- a fault behind the script. Only a write fault comes after a part of the lines was written
-abbrev pub Fails : WorldState → RunFault → Option (List ℕ) → Option (List ℕ) → Type 0
+abbrev pub Fails : World → RunFault → Option (List ℕ) → Option (List ℕ) → Type 0
 Fails world (faults.Line n) before after = (n ≡ 0) × Appends before after []
 Fails world faults.ReadFault before after = ⊥
 Fails world faults.WriteFault before after = (text : List ℕ) × Completes world text × Front text before after
 Fails world faults.NoMemory before after = Appends before after []
 
 -- the input is a script, whose run leads from the first state to the last
-pub record LeadsTo (start : WorldState) (input : List ℕ) (end : WorldState) : Type 0 where
+pub record LeadsTo (start : World) (input : List ℕ) (end : World) : Type 0 where
   pub lines : List Line
   pub out : List ℕ
   pub reads : Reads Script input lines []
@@ -75,8 +75,8 @@ abbrev pub IsEnded : List ℕ → Type 0
 IsEnded bytes = (bytes ≡ []) ⊎ ((front : List ℕ) × (bytes ≡ front ++ 10 ∷ []))
 
 -- the script was run, and what finishes it was written
-abbrev pub Finishes : Ending → WorldState → List ℕ → Option (List ℕ) → Option (List ℕ) → Type 0
-Finishes ending start input before after = (world : WorldState) × LeadsTo start input world × Ends ending world before after
+abbrev pub Finishes : Ending → World → List ℕ → Option (List ℕ) → Option (List ℕ) → Type 0
+Finishes ending start input before after = (world : World) × LeadsTo start input world × Ends ending world before after
 
 -- line `n` of the input is the first that is not a line of a script
 pub record WrongAt (input : List ℕ) (n : ℕ) : Type 0 where
@@ -87,8 +87,8 @@ pub record WrongAt (input : List ℕ) (n : ℕ) : Type 0 where
   pub wrong : BeginsWrong Script rest
 
 -- how it ends with a fault: at a wrong line of the script, or behind the script
-abbrev pub Stops : WorldState → List ℕ → RunFault → Option (List ℕ) → Option (List ℕ) → Type 0
+abbrev pub Stops : World → List ℕ → RunFault → Option (List ℕ) → Option (List ℕ) → Type 0
 Stops start input (faults.Line n) before after = (WrongAt input n ⊎ (n ≡ 0)) × Appends before after []
 Stops start input faults.ReadFault before after = Appends before after []
-Stops start input faults.WriteFault before after = Appends before after [] ⊎ ((world : WorldState) × LeadsTo start input world × Fails world faults.WriteFault before after)
+Stops start input faults.WriteFault before after = Appends before after [] ⊎ ((world : World) × LeadsTo start input world × Fails world faults.WriteFault before after)
 Stops start input faults.NoMemory before after = Appends before after []

@@ -2,7 +2,7 @@
 
 ghost use Rattle.std.specs.Prelude.{◌≡◌, ◌≤◌, ◌⊎◌, IfOk, IfErr, IfSome, OnOk};
 ghost use Rattle.engine.specs.declared.fault.RunFault.TheVariants.{Line as AtLine, NoMemory as OutOfMemory};
-ghost use Rattle.engine.specs.WorldState.{first_state};
+ghost use Rattle.mig_model.specs.Migration.{first_world};
 ghost use Rattle.finishing.specs.Finished.{Adds, AreBehind, Ends, Finishes, Fails, Stops};
 
 use crate::ending::Ending;
@@ -33,9 +33,9 @@ pub fn finish_script<R: Read, W: Write>(
     requires low { 1 ≤ cpus }
     requires high { cpus ≤ 16 }
     ensures ok { IfOk result (λ ending. IfSome (R.remaining reader.old) (λ input.
-        Finishes ending (first_state cpus) input (W.contents writer.old) (W.contents writer.new))) }
+        Finishes ending (first_world cpus) input (W.contents writer.old) (W.contents writer.new))) }
     ensures fault { IfErr result (λ fault. IfSome (R.remaining reader.old) (λ input.
-        Stops (first_state cpus) input fault (W.contents writer.old) (W.contents writer.new))) }
+        Stops (first_world cpus) input fault (W.contents writer.old) (W.contents writer.new))) }
 {
     let runner = LineRunner::on_world(alloc, cpus, Mode::Transcript)?;
     let mut script = ScriptReader::new(alloc, runner);
@@ -55,8 +55,10 @@ fn finish_world<W: Write>(
     world: &mut World,
     is_open: bool,
 ) -> Result<Ending, RunFault>
-    ensures ok { IfOk result (λ ending. Ends ending world.old (W.contents writer.old) (W.contents writer.new)) }
-    ensures fault { IfErr result (λ fault. Fails world.old fault (W.contents writer.old) (W.contents writer.new)) }
+    ensures ok { IfOk result (λ ending.
+        Ends ending world.old (W.contents writer.old) (W.contents writer.new)) }
+    ensures fault { IfErr result (λ fault.
+        Fails world.old fault (W.contents writer.old) (W.contents writer.new)) }
 {
     match finish(world, alloc) {
         Ok(steps) => {

@@ -10,7 +10,7 @@ use Rattle.frames.specs.declared.fault.FramesFault.{FramesFault}
 use Rattle.frames.specs.declared.fault.FramesFault.TheVariants as faults
 use Rattle.frames.specs.Answers.{answer_lines, refusals, Adds}
 
--- the stream is frames, and behind them `held`, the bytes of one that is not whole, or a fault; the answers to all frames were written
+-- the stream is frames, and after them `held`, the bytes of one that is not whole, or a fault; the answers to all frames were written
 pub record IsAnswered (start : Destination) (stream held : List ℕ) (fault : Option StreamFault) (before after : Option (List ℕ)) : Type 0 where
   pub frames : List Sent
   pub version : Option Version
@@ -36,9 +36,9 @@ pub record IsAnsweredInPart (start : Destination) (stream more : List ℕ) (befo
 
 -- reading ends with a fault
 abbrev pub Stops : Destination → (input : List ℕ) → (unread : Option (List ℕ)) → FramesFault → (before after : Option (List ℕ)) → Type 0
--- the fault stands behind the frames
+-- the fault follows the frames
 Stops start input unread (faults.Stream fault) before after = IsAnswered start input [] (Some fault) before after
--- less than a frame stands behind the frames
+-- less than a frame follows the frames
 Stops start input unread faults.Truncated before after = (held : List ℕ) × (0 < length held) × IsAnswered start input held None before after
 -- all frames that were read were answered
 Stops start input unread faults.ReadFault before after = (read : List ℕ) × (held : List ℕ) × (fault : Option StreamFault)

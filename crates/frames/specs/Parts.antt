@@ -52,7 +52,7 @@ pub record Passes (old : FrameReader) (piece : List ℕ) (new : FrameReader) (be
   pub passed : Passed old piece frames new
   pub appends : Appends before after (answer_lines old.taker.destination frames)
 
--- the held bytes and the piece behind them begin with these frames
+-- the held bytes and the piece after them begin with these frames
 pub record BeginsWith (old : Held) (piece : List ℕ) (frames : List Sent) : Type 0 where
   pub front : List ℕ
   pub rest : List ℕ

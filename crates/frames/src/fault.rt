@@ -12,7 +12,7 @@ use thiserror::Error;
 /// Why a stream of frames was not taken to its end.
 #[derive(Clone, Copy, Debug, PartialEq, Eq, Error)]
 pub enum FramesFault {
-    /// The bytes behind the frames are not a frame. The lines of all frames before them were written.
+    /// The bytes after the frames are not a frame. The lines of all frames before them were written.
     #[error("stream fault {0:?}")]
     Stream(StreamFault),
     /// The input ends inside a frame. The lines of all frames before it were written.

@@ -42,7 +42,8 @@ impl FrameReader {
         requires high { cpus ≤ 16 }
         ensures decoder { IfOk result (λ reader. reader.decoder ≡ fresh) }
         ensures counted { IfOk result (λ reader. IsCounted reader.decoder reader.held) }
-        ensures destination { IfOk result (λ reader. reader.taker.destination ≡ first_destination cpus) }
+        ensures destination { IfOk result (λ reader.
+            reader.taker.destination ≡ first_destination cpus) }
         ensures clean { IfOk result (λ reader. reader.taker.output.items ≡ []) }
         ensures refused { IfOk result (λ reader. reader.taker.refused ≡ 0) }
         ensures err { IfErr result (λ fault. fault ≡ OutOfMemory) }
@@ -61,7 +62,8 @@ impl FrameReader {
         requires short { length piece.now < 2 ^ 32 }
         ensures ok { OnOk result (Gathers self.old piece.now self.new) }
         ensures counted { OnOk result (IsCounted self.new.decoder self.new.held) }
-        ensures fault { IfErr result (λ fault. FedUntil self.old piece.now fault self.new.taker.output.items) }
+        ensures fault { IfErr result (λ fault.
+            FedUntil self.old piece.now fault self.new.taker.output.items) }
     {
         let frames = self.decoder.feed(piece)?;
         self.held = self.held + piece.len() as u64 - len_of(&frames);
@@ -81,23 +83,25 @@ impl FrameReader {
         ensures ok { OnOk result (Passes self.old piece.now self.new (W.contents writer.old) (W.contents writer.new)) }
         ensures counted { OnOk result (IsCounted self.new.decoder self.new.held) }
         ensures clean { OnOk result (self.new.taker.output.items ≡ []) }
-        ensures fault { IfErr result (λ fault. Halts self.old piece.now fault (W.contents writer.old) (W.contents writer.new)) }
+        ensures fault { IfErr result (λ fault.
+            Halts self.old piece.now fault (W.contents writer.old) (W.contents writer.new)) }
     {
         let fed = self.feed(piece);
         self.taker.write_output(writer)?;
         fed
     }
 
-    /// Ends the stream. Returns how many of its frames were refused, or the fault that stands behind its last frame, or `Truncated` if
+    /// Ends the stream. Returns how many of its frames were refused, or the fault that follows its last frame, or `Truncated` if
     /// less than a frame does.
     pub(crate) fn finish<W: Write>(&mut self, writer: &mut W) -> Result<u64, FramesFault>
         requires counted { IsCounted self.old.decoder self.old.held }
         requires clean { self.old.taker.output.items ≡ [] }
         ensures ok { OnOk result (EndsWhole self.old self.new (W.contents writer.old) (W.contents writer.new)) }
         ensures refused { IfOk result (λ refused. refused ≡ self.new.taker.refused) }
-        ensures fault { IfErr result (λ fault. EndsBy self.old fault self.new (W.contents writer.old) (W.contents writer.new)) }
+        ensures fault { IfErr result (λ fault.
+            EndsBy self.old fault self.new (W.contents writer.old) (W.contents writer.new)) }
     {
-        // A feed that returns frames keeps the fault behind them for the next.
+        // A feed that returns frames keeps the fault after them for the next.
         self.run_piece(writer, &[])?;
         if self.held > 0 {
             return Err(FramesFault::Truncated);

@@ -15,7 +15,7 @@ use std::io::{Read, Write};
 const PIECE: usize = 16_384;
 
 /// Hands each frame of a stream to a new destination of `cpus` processors, 1 to 16, and writes a line for each: what the destination
-/// took, or `refused` and why. A frame that is refused changes nothing, and reading goes on behind it. Frames that the destination sends
+/// took, or `refused` and why. A frame that is refused changes nothing, and reading continues after it. Frames that the destination sends
 /// back are dropped. Returns how many frames were refused.
 ///
 /// At most 4,294,967,295 reads are made; a stream that needs more ends with a read fault. This bounds the loop: no clause counts reads.

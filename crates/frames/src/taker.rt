@@ -29,9 +29,12 @@ fn answer(
     line: &mut String,
 ) -> Result<bool, NoMemory>
     requires { IsFrame (frame_of frame) }
-    ensures taken { IfOk result (λ taken. refusals_of destination.old (sent_of (epoch, frame)) ≡ cond taken 0 1) }
-    ensures destination { OnOk result (destination.new ≡ after destination.old (sent_of (epoch, frame))) }
-    ensures line { OnOk result (string_bytes line.new ≡ answer_line destination.old (sent_of (epoch, frame))) }
+    ensures taken { IfOk result (λ taken.
+        refusals_of destination.old (sent_of (epoch, frame)) ≡ cond taken 0 1) }
+    ensures destination { OnOk result (destination.new ≡
+        after destination.old (sent_of (epoch, frame))) }
+    ensures line { OnOk result (string_bytes line.new ≡
+        answer_line destination.old (sent_of (epoch, frame))) }
 {
     line.clear();
     let effect = frame.effect();
@@ -89,8 +92,10 @@ impl FrameTaker {
     /// Hands over a frame, and gathers the line of the answer.
     fn take(&mut self, epoch: u32, frame: Frame) -> Result<(), NoMemory>
         requires { IsFrame (frame_of frame) }
-        ensures destination { OnOk result (self.new.destination ≡ after self.old.destination (sent_of (epoch, frame))) }
-        ensures line { OnOk result (self.new.output.items ≡ self.old.output.items ++ answer_line self.old.destination (sent_of (epoch, frame))) }
+        ensures destination { OnOk result (self.new.destination ≡
+            after self.old.destination (sent_of (epoch, frame))) }
+        ensures line { OnOk result (self.new.output.items ≡
+            self.old.output.items ++ answer_line self.old.destination (sent_of (epoch, frame))) }
         ensures count { OnOk result (Adds self.old.refused (refusals_of self.old.destination (sent_of (epoch, frame))) self.new.refused) }
         ensures err { OnErr result (self.new.output.items ≡ self.old.output.items) }
     {
@@ -103,8 +108,10 @@ impl FrameTaker {
     /// Hands over frames in turn, and gathers the lines of the answers. `NoMemory` leaves the lines of the frames before it.
     pub(crate) fn take_all(&mut self, frames: Vec<(u32, Frame)>) -> Result<(), NoMemory>
         requires { AreFrames (sents frames.items) }
-        ensures destination { OnOk result (self.new.destination ≡ behind self.old.destination (sents frames.items)) }
-        ensures lines { OnOk result (self.new.output.items ≡ self.old.output.items ++ answer_lines self.old.destination (sents frames.items)) }
+        ensures destination { OnOk result (self.new.destination ≡
+            behind self.old.destination (sents frames.items)) }
+        ensures lines { OnOk result (self.new.output.items ≡
+            self.old.output.items ++ answer_lines self.old.destination (sents frames.items)) }
         ensures count { OnOk result (Adds self.old.refused (refusals self.old.destination (sents frames.items)) self.new.refused) }
         ensures err { OnErr result (TakesSome self.old.destination (sents frames.items) self.old.output.items self.new.output.items) }
     {

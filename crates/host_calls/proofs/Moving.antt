@@ -15,7 +15,8 @@ use Rattle.mig_base.specs.declared.schedule.Step.{Step}
 use Rattle.engine.specs.declared.line_runner.Mode.TheVariants.{Lines}
 use Rattle.engine.specs.Engine.{ReadsEnded}
 use Rattle.engine.specs.Script.{MakesAny, Runs as Printed}
-use Rattle.engine.specs.WorldState.{WorldState, epoch_in, first_state}
+use Rattle.mig_model.specs.Migration.{World, first_world}
+use Rattle.engine.specs.Worlds.{epoch_in}
 use Rattle.engine.proofs.Lines.{reads_more, reads_then, reads_last}
 use Rattle.engine.proofs.Transcripts.{run_promised}
 use Rattle.engine.proofs.Whole.{input_is}
@@ -25,10 +26,10 @@ use Rattle.host_calls.specs.Stepped.{IsLine, MakesAny as Steps, Runs, Writes}
 
 -- One line
 
-pub new_open : (a : LineReader) (start : WorldState) → IsNew a start → IsOpen a
+pub new_open : (a : LineReader) (start : World) → IsNew a start → IsOpen a
 new_open a start fresh = record { one = subst HasNoFeed (sym fresh.line) tt; short = omega (arith, ap length fresh.line) }
 
-runs_one : (old : WorldState) (text : List ℕ) (new : WorldState) (out : List ℕ) (is : IsLine old text new out) → Runs old (is.0 ∷ []) new out
+runs_one : (old : World) (text : List ℕ) (new : World) (out : List ℕ) (is : IsLine old text new out) → Runs old (is.0 ∷ []) new out
 runs_one old text new out is = (new, out, [], is.2, sym (append-nil out), (refl, refl))
 
 -- the open line with these bytes and a line feed was done
@@ -36,7 +37,7 @@ pub moves_line : (old held new : LineReader) (bytes text out : List ℕ) (w0 w1 
     → new.line.items ≡ [] → Appends w0 w1 out → Moves old (bytes ++ 10 ∷ []) new w0 w1
 moves_line old held new bytes text out w0 w1 holds is line clear appends =
     let whole : old.line.items ++ (bytes ++ 10 ∷ []) ≡ held.line.items ++ 10 ∷ [] = sym (append_assoc old.line.items bytes (10 ∷ [])) ∙ ap (λ (l : List ℕ). l ++ 10 ∷ []) (sym holds.line) in
-    let same : IsLine old.stepper.world text new.stepper.world out = subst (λ (w : WorldState). IsLine w text new.stepper.world out) holds.world line in
+    let same : IsLine old.stepper.world text new.stepper.world out = subst (λ (w : World). IsLine w text new.stepper.world out) holds.world line in
     record {
       lines = same.0 ∷ [];
       text = out;
@@ -69,7 +70,7 @@ ends_written (Ok x) old new text out bytes w0 w1 is_open some is line same appen
 
 -- One after the other
 
-runs_then : (a : WorldState) (xs : List Line) (b : WorldState) (t : List ℕ) (ys : List Line) (c : WorldState) (u : List ℕ) → Runs a xs b t → Runs b ys c u → Runs a (xs ++ ys) c (t ++ u)
+runs_then : (a : World) (xs : List Line) (b : World) (t : List ℕ) (ys : List Line) (c : World) (u : List ℕ) → Runs a xs b t → Runs b ys c u → Runs a (xs ++ ys) c (t ++ u)
 runs_then a [] b t ys c u p q = rw (p.1, ← p.0) q
 runs_then a (x ∷ xs) b t ys c u p q = (p.0, p.1, p.2 ++ u, p.3, ap (λ (z : List ℕ). z ++ u) p.4 ∙ append_assoc p.1 p.2 u, runs_then p.0 xs b p.2 ys c u p.5 q)
 
@@ -129,7 +130,7 @@ ran_then a b c chunk r0 r1 r2 w0 w1 w2 ran more moves = record {
   moves = moves_then a b c ran.consumed chunk w0 w1 w2 ran.moves moves;
 }
 
-ran_ends : (a b c : LineReader) (start : WorldState) (r0 r1 r2 w0 w1 w2 : Option (List ℕ)) → IsNew a start → Ran a r0 r1 b w0 w1 → Consumes r1 r2 [] → IsAtEnd r2 → Ends b c w1 w2
+ran_ends : (a b c : LineReader) (start : World) (r0 r1 r2 w0 w1 w2 : Option (List ℕ)) → IsNew a start → Ran a r0 r1 b w0 w1 → Consumes r1 r2 [] → IsAtEnd r2 → Ends b c w1 w2
     → IfSome r0 (λ input. ReadsAll start input c.stepper.world w0 w2)
 ran_ends a b c start None r1 r2 w0 w1 w2 fresh ran last e ends = tt
 ran_ends a b c start (Some x) r1 r2 w0 w1 w2 fresh ran last e ends =
@@ -139,12 +140,12 @@ ran_ends a b c start (Some x) r1 r2 w0 w1 w2 fresh ran last e ends =
       text = ran.moves.text ++ ends.text;
       reads = subst (λ (t : List ℕ). Reads Script t (ran.moves.lines ++ ends.lines) []) (sym (input_is x ran.consumed r1 r2 ran.consumes last e).0)
           (reads_last Script ran.consumed ran.moves.lines b.line.items ends.lines [] read ends.reads);
-      runs = subst (λ (w : WorldState). Runs w (ran.moves.lines ++ ends.lines) c.stepper.world (ran.moves.text ++ ends.text)) fresh.world
+      runs = subst (λ (w : World). Runs w (ran.moves.lines ++ ends.lines) c.stepper.world (ran.moves.text ++ ends.text)) fresh.world
           (runs_then a.stepper.world ran.moves.lines b.stepper.world ran.moves.text ends.lines c.stepper.world ends.text ran.moves.runs ends.runs);
       appends = Appends-trans w0 w1 w2 ran.moves.text ends.text ran.moves.appends ends.appends;
     }
 
-pub ran_finished : {T E : Type 0} (result : Result T E) (a b c : LineReader) (start : WorldState) (r0 r1 r2 w0 w1 w2 : Option (List ℕ)) → IsNew a start → Ran a r0 r1 b w0 w1 → Consumes r1 r2 [] → IsAtEnd r2 → OnOk result (Ends b c w1 w2)
+pub ran_finished : {T E : Type 0} (result : Result T E) (a b c : LineReader) (start : World) (r0 r1 r2 w0 w1 w2 : Option (List ℕ)) → IsNew a start → Ran a r0 r1 b w0 w1 → Consumes r1 r2 [] → IsAtEnd r2 → OnOk result (Ends b c w1 w2)
     → OnOk result (IfSome r0 (λ input. ReadsAll start input c.stepper.world w0 w2))
 ran_finished (Err x) a b c start r0 r1 r2 w0 w1 w2 fresh ran last e ends = tt
 ran_finished (Ok x) a b c start r0 r1 r2 w0 w1 w2 fresh ran last e ends = ran_ends a b c start r0 r1 r2 w0 w1 w2 fresh ran last e ends
@@ -152,26 +153,26 @@ ran_finished (Ok x) a b c start r0 r1 r2 w0 w1 w2 fresh ran last e ends = ran_en
 -- Runs
 
 -- without the calls these are the lines of a run
-plain_line : (old : WorldState) (step : Option Step) (new : WorldState) (text : List ℕ) → Steps old step new text → (plain : List ℕ) × MakesAny Lines old step new plain
+plain_line : (old : World) (step : Option Step) (new : World) (text : List ℕ) → Steps old step new text → (plain : List ℕ) × MakesAny Lines old step new plain
 plain_line old (Some step) new text made = (outcome_line made.0, (made.0, made.1, refl))
 plain_line old None new text told = (text, told)
 
-pub plain_run : (old : WorldState) (lines : List Line) (new : WorldState) (text : List ℕ) → Runs old lines new text → (plain : List ℕ) × Printed Lines old lines new plain
+pub plain_run : (old : World) (lines : List Line) (new : World) (text : List ℕ) → Runs old lines new text → (plain : List ℕ) × Printed Lines old lines new plain
 plain_run old [] new text p = ([], (p.0, refl))
-plain_run old (Skipped ∷ lines) new text p = plain_run old lines new p.2 (subst (λ (w : WorldState). Runs w lines new p.2) p.3.0 p.5)
+plain_run old (Skipped ∷ lines) new text p = plain_run old lines new p.2 (subst (λ (w : World). Runs w lines new p.2) p.3.0 p.5)
 plain_run old (Do order ∷ lines) new text p =
     let line = plain_line old (step_of order (epoch_in old)) p.0 p.1 p.3 in
     let rest = plain_run p.0 lines new p.2 p.5 in
     (line.0 ++ rest.0, (p.0, line.0, rest.0, line.1, refl, rest.1))
 plain_run old (Enter entry ∷ lines) new text p = absurd p.3
 
-writes_by : (cpus : ℕ) (input : List ℕ) (end : WorldState) (w0 w1 : Option (List ℕ)) → ReadsAll (first_state cpus) input end w0 w1 → Writes (first_state cpus) input w0 w1
+writes_by : (cpus : ℕ) (input : List ℕ) (end : World) (w0 w1 : Option (List ℕ)) → ReadsAll (first_world cpus) input end w0 w1 → Writes (first_world cpus) input w0 w1
 writes_by cpus input end w0 w1 p =
-    let plain = plain_run (first_state cpus) p.lines end p.text p.runs in
+    let plain = plain_run (first_world cpus) p.lines end p.text p.runs in
     record { lines = p.lines; text = p.text; reads = p.reads; prints = (end, p.runs, run_promised Lines cpus p.lines end plain.0 plain.1); appends = p.appends }
 
-pub run_written : {T E : Type 0} (result : Result T E) (start : WorldState) (cpus : ℕ) (end : WorldState) (r w0 w1 : Option (List ℕ)) → start ≡ first_state cpus
-    → OnOk result (IfSome r (λ input. ReadsAll start input end w0 w1)) → OnOk result (IfSome r (λ input. Writes (first_state cpus) input w0 w1))
+pub run_written : {T E : Type 0} (result : Result T E) (start : World) (cpus : ℕ) (end : World) (r w0 w1 : Option (List ℕ)) → start ≡ first_world cpus
+    → OnOk result (IfSome r (λ input. ReadsAll start input end w0 w1)) → OnOk result (IfSome r (λ input. Writes (first_world cpus) input w0 w1))
 run_written (Err x) start cpus end r w0 w1 is p = tt
 run_written (Ok x) start cpus end None w0 w1 is p = tt
-run_written (Ok x) start cpus end (Some input) w0 w1 is p = writes_by cpus input end w0 w1 (subst (λ (w : WorldState). ReadsAll w input end w0 w1) is p)
+run_written (Ok x) start cpus end (Some input) w0 w1 is p = writes_by cpus input end w0 w1 (subst (λ (w : World). ReadsAll w input end w0 w1) is p)

@@ -5,7 +5,7 @@ use Rattle.grammar.specs.declared.line.Language.TheVariants.{Script}
 use Rattle.grammar.specs.declared.line.Line.{Line}
 use Rattle.grammar.specs.Lines.{HasNoFeed, Reads}
 use Rattle.engine.specs.Engine.{ReadsEnded}
-use Rattle.engine.specs.WorldState.{WorldState}
+use Rattle.mig_model.specs.Migration.{World}
 use Rattle.host_calls.specs.declared.lines.LineReader.{LineReader}
 use Rattle.host_calls.specs.Stepped.{Runs}
 
@@ -15,7 +15,7 @@ pub record IsOpen (lines : LineReader) : Type 0 where
   pub short : length lines.line.items ≤ 256
 
 -- nothing was read, in this state
-pub record IsNew (lines : LineReader) (start : WorldState) : Type 0 where
+pub record IsNew (lines : LineReader) (start : World) : Type 0 where
   pub line : lines.line.items ≡ []
   pub number : lines.number ≡ 0
   pub world : lines.stepper.world ≡ start
@@ -44,7 +44,7 @@ pub record Ends (old new : LineReader) (before after : Option (List ℕ)) : Type
   pub appends : Appends before after text
 
 -- the whole input was read from this state, and its output written
-pub record ReadsAll (start : WorldState) (input : List ℕ) (end : WorldState) (before after : Option (List ℕ)) : Type 0 where
+pub record ReadsAll (start : World) (input : List ℕ) (end : World) (before after : Option (List ℕ)) : Type 0 where
   pub lines : List Line
   pub text : List ℕ
   pub reads : Reads Script input lines []

@@ -11,37 +11,39 @@ use Rattle.grammar.specs.Spelling.{Spells}
 use Rattle.engine.specs.declared.fault.RunFault.{RunFault}
 use Rattle.engine.specs.declared.fault.RunFault.TheVariants as faults
 use Rattle.engine.specs.Script.{Finishes}
-use Rattle.engine.specs.WorldState.{WorldState, Answered, Promised, epoch_in, progress_in}
+use Rattle.mig_model.specs.Migration.{World}
+use Rattle.world.specs.Headline.{Headline}
+use Rattle.engine.specs.Worlds.{Answered, epoch_in, progress_in}
 use Rattle.host_calls.specs.Calls.{calls_by, node_of}
 use Rattle.host_calls.specs.Texts.{call_lines}
 
 -- One line
 
 -- the output of a step: the line of its outcome, and behind it the lines of its calls
-unfoldable pub step_lines : Step → Outcome → WorldState → List ℕ
+unfoldable pub step_lines : Step → Outcome → World → List ℕ
 step_lines step outcome new = outcome_line outcome ++ call_lines (node_of step) (calls_by step outcome new)
 
 -- a step's effect on a world, and its output
-abbrev pub Makes : WorldState → Step → WorldState → List ℕ → Type 0
+abbrev pub Makes : World → Step → World → List ℕ → Type 0
 Makes old step new text = (outcome : Outcome) × Answered old step outcome new × (text ≡ step_lines step outcome new)
 
 -- the same for the step of an order; an order for progress has none, and changes nothing
-abbrev pub MakesAny : WorldState → Option Step → WorldState → List ℕ → Type 0
+abbrev pub MakesAny : World → Option Step → World → List ℕ → Type 0
 MakesAny old (Some step) new text = Makes old step new text
 MakesAny old None new text = (new ≡ old) × (text ≡ progress_line (progress_in old))
 
 -- an order's effect on a world, and its output
-abbrev pub Obeys : WorldState → Order → WorldState → List ℕ → Type 0
+abbrev pub Obeys : World → Order → World → List ℕ → Type 0
 Obeys old order new text = MakesAny old (step_of order (epoch_in old)) new text
 
 -- a line's effect on a world, and its output
-abbrev pub Does : WorldState → Line → WorldState → List ℕ → Type 0
+abbrev pub Does : World → Line → World → List ℕ → Type 0
 Does old Skipped new text = (new ≡ old) × (text ≡ [])
 Does old (Do order) new text = Obeys old order new text
 Does old (Enter entry) new text = ⊥
 
 -- a text spells a line of a script, which has this effect and this output
-abbrev pub IsLine : WorldState → List ℕ → WorldState → List ℕ → Type 0
+abbrev pub IsLine : World → List ℕ → World → List ℕ → Type 0
 IsLine old text new out = (line : Line) × Spells Script text line × Does old line new out
 
 -- the line with this number and text ended with a fault: it is not a line of a script, or memory ran out
@@ -54,14 +56,14 @@ LineFault number text faults.NoMemory = ⊤
 -- Runs
 
 -- these lines lead from one state to the other, with this output
-abbrev pub Runs : WorldState → List Line → WorldState → List ℕ → Type 0
+abbrev pub Runs : World → List Line → World → List ℕ → Type 0
 Runs old [] new text = (new ≡ old) × (text ≡ [])
-Runs old (line ∷ lines) new text = (mid : WorldState) × (out : List ℕ) × (more : List ℕ) × Does old line mid out × (text ≡ out ++ more) × Runs mid lines new more
+Runs old (line ∷ lines) new text = (mid : World) × (out : List ℕ) × (more : List ℕ) × Does old line mid out × (text ≡ out ++ more) × Runs mid lines new more
 
 -- the lines are run from this state, with this output, and the promises hold for the last state
-abbrev pub Prints : WorldState → List Line → List ℕ → Type 0
-Prints start lines text = (end : WorldState) × Runs start lines end text × Promised end
+abbrev pub Prints : World → List Line → List ℕ → Type 0
+Prints start lines text = (end : World) × Runs start lines end text × Headline end
 
 -- a run of a script reads the whole input, and writes its output
-abbrev pub Writes : WorldState → List ℕ → Option (List ℕ) → Option (List ℕ) → Type 0
+abbrev pub Writes : World → List ℕ → Option (List ℕ) → Option (List ℕ) → Type 0
 Writes start input before after = Finishes Script (Prints start) input before after

@@ -4,7 +4,7 @@ ghost use Rattle.std.specs.Prelude.{◌≡◌, ◌<◌, ◌≤◌, ◌^◌, ◌+
 ghost use Rattle.grammar.specs.Lines.{HasNoFeed};
 ghost use Rattle.std.specs.Io.KnownBytes.{Appends};
 ghost use Rattle.engine.specs.declared.fault.RunFault.TheVariants.{NoMemory as OutOfMemory};
-ghost use Rattle.engine.specs.WorldState.{first_state};
+ghost use Rattle.mig_model.specs.Migration.{first_world};
 ghost use Rattle.host_calls.specs.Parts.{Ends, IsOpen, IsNew, Holds, Moves};
 
 use crate::stepper::Stepper;
@@ -29,7 +29,7 @@ impl LineReader {
     pub(crate) fn new(alloc: Global, cpus: u8) -> Result<LineReader, RunFault>
         requires low { 1 ≤ cpus }
         requires high { cpus ≤ 16 }
-        ensures ok { IfOk result (λ lines. IsNew lines (first_state cpus)) }
+        ensures ok { IfOk result (λ lines. IsNew lines (first_world cpus)) }
         ensures err { IfErr result (λ fault. fault ≡ OutOfMemory) }
     {
         Ok(LineReader {

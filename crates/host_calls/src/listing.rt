@@ -41,7 +41,8 @@ pub fn list_calls(
     effect: Effect,
 ) -> Result<(), NoMemory>
     requires { IsWithin step effect }
-    ensures { OnOk result (calls.new.items ≡ listed.calls_of (areas_at (listed.node_of step) world.now) step effect) }
+    ensures { OnOk result (calls.new.items ≡
+        listed.calls_of (areas_at (listed.node_of step) world.now) step effect) }
 {
     calls.clear();
     match step {
@@ -59,7 +60,8 @@ pub fn list_calls(
 
 /// Appends the registration of each area of a space.
 fn list_areas(calls: &mut Vec<Call>, space: &Space, mode: u64) -> Result<(), NoMemory>
-    ensures { OnOk result (calls.new.items ≡ calls.old.items ++ listed.registers (areas_of space.now.host.areas) mode) }
+    ensures { OnOk result (calls.new.items ≡
+        calls.old.items ++ listed.registers (areas_of space.now.host.areas) mode) }
 {
     let areas = space.areas()?;
     for area in areas.areas() {
@@ -193,7 +195,8 @@ fn list_resolved(calls: &mut Vec<Call>, effect: Effect) -> Result<(), NoMemory>
 
 /// Appends the calls of a Deliver.
 fn list_taken(calls: &mut Vec<Call>, world: &World, effect: Effect) -> Result<(), NoMemory>
-    ensures { OnOk result (calls.new.items ≡ calls.old.items ++ listed.taken_calls (areas_at Side.Destination world.now) effect) }
+    ensures { OnOk result (calls.new.items ≡
+        calls.old.items ++ listed.taken_calls (areas_at Side.Destination world.now) effect) }
 {
     match effect {
         Effect::TookPackage { .. } => {

@@ -1,7 +1,7 @@
 //! Reading a script, and writing its output with the calls behind each line.
 
 ghost use Rattle.std.specs.Prelude.{◌≤◌, OnOk, IfSome};
-ghost use Rattle.engine.specs.WorldState.{WorldState, first_state};
+ghost use Rattle.mig_model.specs.Migration.{World, first_world};
 ghost use Rattle.host_calls.specs.Parts.{IsNew, ReadsAll};
 ghost use Rattle.host_calls.specs.Stepped.{Writes};
 
@@ -28,7 +28,7 @@ pub fn run_steps<R: Read, W: Write>(
     requires low { 1 ≤ cpus }
     requires high { cpus ≤ 16 }
     ensures { OnOk result (IfSome (R.remaining reader.old) (λ input.
-        Writes (first_state cpus) input (W.contents writer.old) (W.contents writer.new))) }
+        Writes (first_world cpus) input (W.contents writer.old) (W.contents writer.new))) }
 {
     let mut lines = LineReader::new(alloc, cpus)?;
     read_lines(reader, writer, &mut lines)

@@ -2,7 +2,7 @@
 
 ghost use Rattle.std.specs.Prelude.{◌≡◌, ◌≤◌, ◌++◌, [], Ok, OnOk, IfOk, IfErr, string_bytes};
 ghost use Rattle.engine.specs.declared.fault.RunFault.TheVariants.{NoMemory as OutOfMemory};
-ghost use Rattle.engine.specs.WorldState.{first_state};
+ghost use Rattle.mig_model.specs.Migration.{first_world};
 ghost use Rattle.host_calls.specs.Texts.{call_line, call_lines};
 ghost use Rattle.host_calls.specs.Calls.{IsWithin};
 ghost use Rattle.host_calls.specs.Stepped.{Makes, Obeys, IsLine, LineFault, step_lines};
@@ -29,7 +29,8 @@ fn print_call(text: &mut String, node: Side, call: Call) -> Result<(), AllocErro
 
 /// Appends the lines of calls.
 fn print_calls(text: &mut String, node: Side, calls: &[Call]) -> Result<(), NoMemory>
-    ensures { OnOk result (string_bytes text.new ≡ string_bytes text.old ++ call_lines node calls.now) }
+    ensures { OnOk result (string_bytes text.new ≡
+        string_bytes text.old ++ call_lines node calls.now) }
 {
     for call in calls {
         print_call(text, node, *call)?;
@@ -54,7 +55,7 @@ impl Stepper {
     pub(crate) fn new(alloc: Global, cpus: u8) -> Result<Stepper, RunFault>
         requires low { 1 ≤ cpus }
         requires high { cpus ≤ 16 }
-        ensures ok { IfOk result (λ stepper. stepper.world ≡ first_state cpus) }
+        ensures ok { IfOk result (λ stepper. stepper.world ≡ first_world cpus) }
         ensures err { IfErr result (λ fault. fault ≡ OutOfMemory) }
     {
         let Ok(world) = World::new(alloc, cpus) else {
@@ -72,7 +73,8 @@ impl Stepper {
     fn print_made(&mut self, step: Step, effect: Effect) -> Result<(), RunFault>
         requires clear { string_bytes self.old.printed ≡ [] }
         requires within { IsWithin step effect }
-        ensures ok { OnOk result (string_bytes self.new.printed ≡ step_lines step (Ok effect) self.new.world) }
+        ensures ok { OnOk result (string_bytes self.new.printed ≡
+            step_lines step (Ok effect) self.new.world) }
         ensures same { self.new.world ≡ self.old.world }
         ensures fault { IfErr result (λ fault. fault ≡ OutOfMemory) }
     {

@@ -28,7 +28,7 @@ fn is_utf16(line: &[u8]) -> bool {
     }
 }
 
-/// The first byte of a line that is not printable ASCII. A comment behind the line is not looked at.
+/// The first byte of a line that is not printable ASCII. A comment after the line is not looked at.
 pub(crate) fn byte_fault(line: &[u8]) -> Option<Fault> {
     if is_utf16(line) {
         return Some(Fault::at(1, UTF16));

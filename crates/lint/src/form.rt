@@ -4,7 +4,7 @@ use crate::wanted::Wanted;
 use grammar::Language;
 use std::fmt;
 
-/// What may stand at the end of a line, or not.
+/// What may be at the end of a line, or not.
 #[derive(Clone, Copy)]
 pub(crate) enum Tail {
     Nothing,
@@ -13,7 +13,7 @@ pub(crate) enum Tail {
     Target,
 }
 
-/// What stands behind a first word, of a line or of a reply.
+/// What follows a first word, of a line or of a reply.
 #[derive(Clone, Copy)]
 pub(crate) struct Form {
     /// How the line is written.
@@ -22,7 +22,7 @@ pub(crate) struct Form {
     pub(crate) tail: Tail,
 }
 
-/// A first word, how its line is written, and what stands behind it.
+/// A first word, how its line is written, and what follows it.
 type Row = (&'static [u8], &'static str, &'static [Wanted], Tail);
 
 /// The lines of a script without a processor.

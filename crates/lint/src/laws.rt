@@ -9,5 +9,7 @@ ghost use Rattle.lint.specs.Listing.{Lists};
 
 /// Nothing is listed exactly of an input that `engine::run_script`, or `engine::check_script`, reads to its end.
 pub fn nothing_listed()
-    ensures { (language : LanguageOf) (name input : List ℕ) (texts : List (List ℕ)) → Lists language name 1 input texts [] → (concat texts ≡ []) ↔ ((lines : List LineOf) × Reads language input lines []) }
+    ensures { (language : LanguageOf) (name input : List ℕ) (texts : List (List ℕ)) →
+        Lists language name 1 input texts [] →
+        (concat texts ≡ []) ↔ ((lines : List LineOf) × Reads language input lines []) }
 {}

@@ -43,8 +43,11 @@ fn wrong_in<'a>(
     len: u64,
     ended: bool,
 ) -> Result<Option<Reason<'a>>, NoMemory>
-    ensures right { IfOk result (λ found. IfNone found ((held : List ℕ) → IsFront raw.now len held → IsRight language ended held)) }
-    ensures wrong { IfOk result (λ found. IfSome found (λ reason. (held : List ℕ) → IsFront raw.now len held → IsRight language ended held → ⊥)) }
+    ensures right { IfOk result (λ found.
+        IfNone found ((held : List ℕ) → IsFront raw.now len held → IsRight language ended held)) }
+    ensures wrong { IfOk result (λ found.
+        IfSome found (λ reason. (held : List ℕ) → IsFront raw.now len held →
+        IsRight language ended held → ⊥)) }
 {
     if len > MAX_LINE as u64 {
         return Ok(Some(Reason::too_long(len)));
@@ -126,7 +129,8 @@ impl Linter {
     fn hold(&mut self, bytes: &[u8]) -> Result<(), NoMemory>
         requires feed { HasNoFeed bytes.now }
         requires len { self.old.len + length bytes.now < 2 ^ 64 }
-        ensures holds { OnOk result ((held : List ℕ) → Holds self.old held → Holds self.new (held ++ bytes.now)) }
+        ensures holds { OnOk result ((held : List ℕ) → Holds self.old held →
+            Holds self.new (held ++ bytes.now)) }
         ensures len { OnOk result (self.new.len ≡ self.old.len + length bytes.now) }
         ensures number { self.new.number ≡ self.old.number }
         ensures language { self.new.language ≡ self.old.language }
@@ -142,7 +146,8 @@ impl Linter {
     /// Lists the open line, if it is wrong. Out of memory leaves the listing as it was.
     fn list_line(&mut self, name: &str, ended: bool) -> Result<(), NoMemory>
         requires { self.old.number + 1 < 2 ^ 64 }
-        ensures ok { OnOk result ((held : List ℕ) → Holds self.old held → Listed name.now ended self.old held self.new.output.items) }
+        ensures ok { OnOk result ((held : List ℕ) → Holds self.old held →
+            Listed name.now ended self.old held self.new.output.items) }
         ensures number { self.new.number ≡ self.old.number }
         ensures language { self.new.language ≡ self.old.language }
         ensures clean { self.new.clean ≡ self.old.clean }
@@ -166,7 +171,8 @@ impl Linter {
     /// Ends the open line, and lists it if it is wrong. Out of memory leaves the listing as it was.
     fn end_line(&mut self, name: &str, ended: bool) -> Result<(), NoMemory>
         requires { self.old.number + 1 < 2 ^ 64 }
-        ensures ok { OnOk result ((held : List ℕ) → Holds self.old held → Listed name.now ended self.old held self.new.output.items) }
+        ensures ok { OnOk result ((held : List ℕ) → Holds self.old held →
+            Listed name.now ended self.old held self.new.output.items) }
         ensures holds { OnOk result (Holds self.new []) }
         ensures number { OnOk result (self.new.number ≡ self.old.number + 1) }
         ensures len { OnOk result (self.new.len ≡ 0) }
@@ -184,7 +190,8 @@ impl Linter {
     /// Ends the last line, if it lacks its line feed. Out of memory leaves the listing as it was.
     fn end_last(&mut self, name: &str) -> Result<(), NoMemory>
         requires { self.old.number + 1 < 2 ^ 64 }
-        ensures ok { OnOk result ((held : List ℕ) → Holds self.old held → Last name.now self.old held self.new.output.items) }
+        ensures ok { OnOk result ((held : List ℕ) → Holds self.old held →
+            Last name.now self.old held self.new.output.items) }
         ensures clean { self.new.clean ≡ self.old.clean }
         ensures output { OnErr result (self.new.output.items ≡ self.old.output.items) }
     {
@@ -198,10 +205,12 @@ impl Linter {
     /// first on.
     fn feed(&mut self, name: &str, bytes: &[u8]) -> Result<(), NoMemory>
         requires { self.old.number + self.old.len + length bytes.now + 1 < 2 ^ 64 }
-        ensures ok { OnOk result ((held : List ℕ) → Holds self.old held → Fed name.now self.old held bytes.now self.new) }
+        ensures ok { OnOk result ((held : List ℕ) → Holds self.old held →
+            Fed name.now self.old held bytes.now self.new) }
         ensures number { OnOk result (self.new.number + self.new.len ≤ self.old.number + self.old.len + length bytes.now) }
         ensures clean { self.new.clean ≡ self.old.clean }
-        ensures err { OnErr result ((held : List ℕ) → Holds self.old held → FedUntil name.now self.old held bytes.now self.new.output.items) }
+        ensures err { OnErr result ((held : List ℕ) → Holds self.old held →
+            FedUntil name.now self.old held bytes.now self.new.output.items) }
     {
         let mut rest = bytes;
         while let Some((front, behind)) = split_line(rest) {
@@ -215,7 +224,8 @@ impl Linter {
     /// Writes the listing that was gathered. At a fault a front of it was written.
     fn write_output<W: Write>(&mut self, writer: &mut W) -> Result<(), RunFault>
         ensures ok { OnOk result (Appends (W.contents writer.old) (W.contents writer.new) self.old.output.items) }
-        ensures clean { OnOk result (IsTrue self.new.clean ↔ (IsTrue self.old.clean × (self.old.output.items ≡ []))) }
+        ensures clean { OnOk result (IsTrue self.new.clean ↔ (IsTrue self.old.clean ×
+            (self.old.output.items ≡ []))) }
         ensures line { self.new.line.items ≡ self.old.line.items }
         ensures len { self.new.len ≡ self.old.len }
         ensures number { self.new.number ≡ self.old.number }
@@ -239,10 +249,12 @@ impl Linter {
     ) -> Result<(), RunFault>
         requires clean { self.old.output.items ≡ [] }
         requires number { self.old.number + self.old.len + length bytes.now + 1 < 2 ^ 64 }
-        ensures ok { OnOk result ((held : List ℕ) → Holds self.old held → Passes name.now self.old held bytes.now self.new (W.contents writer.old) (W.contents writer.new)) }
+        ensures ok { OnOk result ((held : List ℕ) → Holds self.old held →
+            Passes name.now self.old held bytes.now self.new (W.contents writer.old) (W.contents writer.new)) }
         ensures clean { OnOk result (self.new.output.items ≡ []) }
         ensures number { OnOk result (self.new.number + self.new.len ≤ self.old.number + self.old.len + length bytes.now) }
-        ensures fault { IfErr result (λ fault. (held : List ℕ) → Holds self.old held → Halts name.now self.old held bytes.now fault (W.contents writer.old) (W.contents writer.new)) }
+        ensures fault { IfErr result (λ fault. (held : List ℕ) → Holds self.old held →
+            Halts name.now self.old held bytes.now fault (W.contents writer.old) (W.contents writer.new)) }
     {
         let fed = self.feed(name, bytes);
         self.write_output(writer)?;
@@ -254,8 +266,10 @@ impl Linter {
     pub(crate) fn finish<W: Write>(&mut self, writer: &mut W, name: &str) -> Result<bool, RunFault>
         requires clean { self.old.output.items ≡ [] }
         requires number { self.old.number + 1 < 2 ^ 64 }
-        ensures ok { IfOk result (λ answer. (held : List ℕ) → Holds self.old held → Closes name.now self.old held answer (W.contents writer.old) (W.contents writer.new)) }
-        ensures fault { IfErr result (λ fault. (held : List ℕ) → Holds self.old held → CloseFault name.now self.old held fault (W.contents writer.old) (W.contents writer.new)) }
+        ensures ok { IfOk result (λ answer. (held : List ℕ) → Holds self.old held →
+            Closes name.now self.old held answer (W.contents writer.old) (W.contents writer.new)) }
+        ensures fault { IfErr result (λ fault. (held : List ℕ) → Holds self.old held →
+            CloseFault name.now self.old held fault (W.contents writer.old) (W.contents writer.new)) }
     {
         self.end_last(name)?;
         self.write_output(writer)?;

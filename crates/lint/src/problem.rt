@@ -22,7 +22,7 @@ pub(crate) enum Problem {
     Case(&'static str),
     /// The word is not what is wanted.
     Unexpected(Wanted),
-    /// The word is not what is wanted, and may be meant to be another, behind these words.
+    /// The word is not what is wanted, and may be meant to be another, after these words.
     Near {
         wanted: Wanted,
         front: &'static str,
@@ -75,7 +75,7 @@ fn range_of(wanted: Wanted) -> &'static str {
 /// What a digit of a radix is called, and how many a number may have.
 fn texts_of(radix: u32) -> (&'static str, &'static str) {
     match radix {
-        16 => ("a hexadecimal digit", "at most 16 behind `0x`"),
+        16 => ("a hexadecimal digit", "at most 16 after `0x`"),
         _ => ("a decimal digit", "at most 20"),
     }
 }

@@ -40,7 +40,7 @@ impl Fault {
 /// Why a line is wrong, and where. It is printed without a line feed.
 #[derive(Clone, Copy)]
 pub struct Reason<'a> {
-    /// The column of the byte where the reason stands, counted in bytes from 1.
+    /// The column of the byte where the reason is, counted in bytes from 1.
     pub column: usize,
     word: &'a [u8],
     problem: Problem,

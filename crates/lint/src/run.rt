@@ -13,7 +13,7 @@ use std::io::{Read, Write};
 const PIECE: usize = 16_384;
 
 /// Reads a whole script or transcript, as the language says, and lists its wrong lines: for each, in order, it writes
-/// `NAME:LINE:COLUMN: reason` and a line feed. LINE is the number of the line and COLUMN that of the byte where the reason stands,
+/// `NAME:LINE:COLUMN: reason` and a line feed. LINE is the number of the line and COLUMN that of the byte where the reason is,
 /// both counted from 1. True where no line is wrong.
 ///
 /// Of a line of more than 256 bytes no more than these are kept, and it is listed once. The listing of the lines that end in one read is

@@ -11,6 +11,8 @@ use grammar::Language;
 
 const COMMENT: Problem = Problem::Plain("a comment stands on a line of its own");
 
+const ANSWER: Problem = Problem::Plain("`=>` begins an answer, which only `postmig test` reads");
+
 /// Why a word is not what is wanted, where it is none of its words and no number.
 fn unexpected(word: &[u8], wanted: Wanted) -> Problem {
     if let [b'#', ..] = word {
@@ -76,16 +78,17 @@ fn take_any<'a>(words: &mut Words<'a>, wanted: Wanted) -> Result<Option<Word<'a>
     }
 }
 
-/// A word stands where nothing more may.
+/// A word is where nothing more may be.
 fn extra(word: Word<'_>, usage: Usage) -> Fault {
     let problem = match word.text {
         [b'#', ..] => COMMENT,
+        [b'=', b'>'] => ANSWER,
         _ => Problem::Extra(usage),
     };
     Fault::of(word, problem)
 }
 
-/// Nothing more may stand here.
+/// Nothing more may be here.
 fn take_end(words: &mut Words<'_>, usage: Usage) -> Result<(), Fault> {
     match words.next() {
         Some(word) => Err(extra(word, usage)),
@@ -107,7 +110,7 @@ fn take_target(words: &mut Words<'_>, usage: Usage) -> Result<(), Fault> {
     }
 }
 
-/// The address behind a word, which has to be `fixed`.
+/// The address after a word, which must be `fixed`.
 fn take_fixed(words: &mut Words<'_>, word: Word<'_>, usage: Usage) -> Result<(), Fault> {
     if !word.is(b"fixed") {
         return Err(extra(word, usage));
@@ -135,7 +138,7 @@ fn take_place(words: &mut Words<'_>, usage: Usage) -> Result<(), Fault> {
     Ok(())
 }
 
-/// What may stand at the end of a line.
+/// What may be at the end of a line.
 fn take_tail(words: &mut Words<'_>, tail: Tail, usage: Usage) -> Result<(), Fault> {
     match tail {
         Tail::Nothing => Ok(()),
@@ -259,7 +262,7 @@ fn around_arrow(line: &[u8]) -> Option<(&[u8], &[u8])> {
     None
 }
 
-/// Whether `=>` stands by itself between these parts of a line.
+/// Whether `=>` is by itself between these parts of a line.
 fn is_apart(front: &[u8], back: &[u8]) -> bool {
     match (front, back) {
         ([.., b' '], [] | [b' ', ..]) => true,

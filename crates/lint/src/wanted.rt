@@ -1,4 +1,4 @@
-//! What may stand in a place of a line.
+//! What may be in a place of a line.
 
 /// What is expected in a place of a line.
 #[derive(Clone, Copy)]

@@ -1,4 +1,4 @@
-//! The words of a line, and where each stands.
+//! The words of a line, and where each is.
 
 use grammar::token::next_word;
 
@@ -6,7 +6,7 @@ use grammar::token::next_word;
 #[derive(Clone, Copy)]
 pub(crate) struct Word<'a> {
     pub(crate) text: &'a [u8],
-    /// Where its first byte stands in the line, counted from 1.
+    /// Where its first byte is in the line, counted from 1.
     pub(crate) column: usize,
 }
 
@@ -23,7 +23,7 @@ pub(crate) struct Words<'a> {
     rest: &'a [u8],
     /// How many bytes of the line come before the end of the part.
     end: usize,
-    /// The column behind the last word that was taken.
+    /// The column after the last word that was taken.
     pub(crate) after: usize,
 }
 

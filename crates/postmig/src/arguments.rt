@@ -3,7 +3,7 @@
 use clap::{Arg, ArgAction, Command, value_parser};
 use std::alloc::{AllocError, Global};
 
-/// What `--version` prints behind the program's name.
+/// What `--version` prints after the program's name.
 const VERSION: &str = "0.1.0";
 
 const WHY_IT_FAILED: &str = "Says on standard error why a read or a write failed";
@@ -70,7 +70,7 @@ fn wire_argument<'a>(alloc: Global, name: &'static str, help: &'a str) -> Arg<'a
 fn calls_argument<'a>(alloc: Global) -> Result<Arg<'a>, AllocError> {
     Arg::new(alloc, "steps")
         .long("steps")
-        .help("Writes behind each line the calls of a host that its step stands for")
+        .help("Writes after each line the calls of a host that its step stands for")
         .action(ArgAction::SetTrue)
         .conflicts_with("transcript")?
         .conflicts_with("wire")?
@@ -82,7 +82,7 @@ fn calls_argument<'a>(alloc: Global) -> Result<Arg<'a>, AllocError> {
 fn answers_argument<'a>(alloc: Global) -> Result<Arg<'a>, AllocError> {
     Arg::new(alloc, "answers")
         .long("answers")
-        .help("Writes the script with the answer of each line behind it")
+        .help("Writes the script with the answer of each line after it")
         .action(ArgAction::SetTrue)
         .conflicts_with("transcript")?
         .conflicts_with("steps")?
@@ -221,14 +221,15 @@ fn seeds_argument<'a>(alloc: Global) -> Result<Arg<'a>, AllocError> {
         .conflicts_with("seed")
 }
 
-/// `--steps N`.
-fn steps_argument<'a>(alloc: Global) -> Arg<'a> {
-    Arg::new(alloc, "steps")
-        .long("steps")
+/// `--lines N`, or `--steps N` as in scripts of earlier versions.
+fn lines_argument<'a>(alloc: Global) -> Result<Arg<'a>, AllocError> {
+    Arg::new(alloc, "lines")
+        .long("lines")
         .value_name("N")
-        .help("The number of lines behind the first, which is a comment")
+        .help("The number of lines after the first, which is a comment")
         .value_parser(value_parser!(u32))
         .default_value("200")
+        .alias("steps")
 }
 
 /// `--profile P`.
@@ -251,7 +252,7 @@ fn pages_argument<'a>(alloc: Global) -> Arg<'a> {
         .default_value("8")
 }
 
-/// `postmig explore --seed S [--steps N] [--cpus N] [--profile P] [--pages M] [--finish] [--sweep] [--answers] [--explain]`, or with
+/// `postmig explore --seed S [--lines N] [--cpus N] [--profile P] [--pages M] [--finish] [--sweep] [--answers] [--explain]`, or with
 /// `--seeds A:B` in place of `--seed S`.
 fn explore_command<'a>(alloc: Global) -> Result<Command<'a>, AllocError> {
     let finish = Arg::new(alloc, "finish")
@@ -264,13 +265,13 @@ fn explore_command<'a>(alloc: Global) -> Result<Command<'a>, AllocError> {
         .action(ArgAction::SetTrue);
     let answers = Arg::new(alloc, "answers")
         .long("answers")
-        .help("Writes the answer of each line behind it")
+        .help("Writes the answer of each line after it")
         .action(ArgAction::SetTrue);
     Command::new(alloc, "explore")
         .about("Writes a random script of a migration")
         .arg(seed_argument(alloc)?)?
         .arg(seeds_argument(alloc)?)?
-        .arg(steps_argument(alloc))?
+        .arg(lines_argument(alloc)?)?
         .arg(cpus_argument(alloc))?
         .arg(profile_argument(alloc))?
         .arg(pages_argument(alloc))?
@@ -280,14 +281,19 @@ fn explore_command<'a>(alloc: Global) -> Result<Command<'a>, AllocError> {
         .arg(explain_argument(alloc, WHY_IT_FAILED))
 }
 
-/// `postmig test [--cpus N] [--strict] [--write] [FILE ..]`.
+/// `postmig test [--cpus N] [--all] [--strict] [--write] [FILE ..]`.
 fn test_command<'a>(alloc: Global) -> Result<Command<'a>, AllocError> {
     let write = Arg::new(alloc, "write")
         .long("write")
         .help("Replaces the answers of each FILE by the output of its lines")
         .action(ArgAction::SetTrue)
         .conflicts_with("strict")?
+        .conflicts_with("all")?
         .requires_arg("file")?;
+    let all = Arg::new(alloc, "all")
+        .long("all")
+        .help("Names each answer that differs, and not the first of a FILE alone")
+        .action(ArgAction::SetTrue);
     let files = Arg::new(alloc, "file")
         .value_name("FILE")
         .help("Scripts with answers; standard input where none is given")
@@ -295,6 +301,7 @@ fn test_command<'a>(alloc: Global) -> Result<Command<'a>, AllocError> {
     Command::new(alloc, "test")
         .about("Runs scripts whose lines have answers, and names what differs")
         .arg(cpus_argument(alloc))?
+        .arg(all)?
         .arg(strict_argument(alloc, "Has status 3 if no answer of a file was compared"))?
         .arg(write)?
         .arg(files)

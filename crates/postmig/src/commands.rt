@@ -8,7 +8,7 @@ use crate::reasons::{say_wrong_line, say_wrong_lines};
 use crate::status::{
     ALL_DONE, BAD_COMMAND_OR_SCRIPT, NO_MEMORY, READ_OR_WRITE_FAULT, strict_status_of,
 };
-use crate::streams::{end, end_frames, end_lint, end_tapped, open_input, open_output};
+use crate::streams::{end, end_frames, end_lint, end_tapped, open_input, open_output, open_script};
 use crate::tally::test;
 use crate::tap::{has_taps, make_taps};
 use crate::watched::Watched;
@@ -46,7 +46,7 @@ fn run(rt: &HostRuntime, matches: &ArgMatches) -> u8 {
     } else {
         Mode::Lines
     };
-    let Some(mut input) = open_input(rt, matches) else {
+    let Some(mut input) = open_script(rt, matches) else {
         return READ_OR_WRITE_FAULT;
     };
     let mut output = open_output(rt);
@@ -223,7 +223,7 @@ fn seeds_of(matches: &ArgMatches) -> Option<(u64, u64)> {
 fn plan_of(matches: &ArgMatches, seed: u64) -> Option<Plan> {
     Some(Plan {
         seed,
-        steps: matches.get_one::<u32>("steps")?,
+        steps: matches.get_one::<u32>("lines")?,
         cpus: matches.get_one::<u8>("cpus")?,
         profile: Profile::named(matches.get_str("profile")?)?,
         pages: matches.get_one::<u16>("pages")?,

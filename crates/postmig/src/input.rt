@@ -1,13 +1,15 @@
 //! What a command reads.
 
+use crate::terminal::Terminal;
 use std::fs::File;
 use std::io;
 use std::io::{Read, Stdin};
 
-/// Standard input, or a file that was opened.
+/// Standard input, or a script that is typed, or a file that was opened.
 #[derive(Drop)]
 pub(crate) enum Input {
     Standard(Stdin),
+    Typed(Terminal),
     File(File),
 }
 
@@ -15,6 +17,7 @@ impl Read for Input {
     fn read(&mut self, buf: &mut [u8]) -> io::Result<usize> {
         match self {
             Input::Standard(stdin) => stdin.read(buf),
+            Input::Typed(terminal) => terminal.read(buf),
             Input::File(file) => file.read(buf),
         }
     }

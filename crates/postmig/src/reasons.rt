@@ -11,10 +11,10 @@ use std::fs::File;
 use std::io::{IsTerminal, Read, Stderr, Write};
 use std::{fs, io};
 
-/// What is wrong with a line of a test where a comment or nothing stands in place of its order.
+/// What is wrong with a line of a test where a comment or nothing is in place of its order.
 const NO_ORDER: &str = "no order stands before the answer, or N of `# cpus N` is not 1 to 16";
 
-/// A writer of one line on standard error. It takes no byte behind that line.
+/// A writer of one line on standard error. It takes no byte after that line.
 #[derive(Drop)]
 struct OneLine {
     stderr: Stderr,
@@ -86,8 +86,8 @@ pub(crate) fn say_wrong_lines(
 fn line_at(text: &[u8], number: u64) -> Option<&[u8]> {
     let mut rest = text;
     for _ in 1..number {
-        let (_, behind) = split_line(rest)?;
-        rest = behind;
+        let (_, after) = split_line(rest)?;
+        rest = after;
     }
     match split_line(rest) {
         Some((raw, _)) => Some(without_return(raw)),

@@ -7,13 +7,14 @@ use crate::input::Input;
 use crate::reasons::{gives_reasons, say_wrong_line, say_wrong_lines};
 use crate::status::{BAD_COMMAND_OR_SCRIPT, READ_OR_WRITE_FAULT, frames_status_of, status_of};
 use crate::tap::Tap;
+use crate::terminal::Terminal;
 use crate::watched::{Watched, say_reason};
 use clap::ArgMatches;
 use engine::RunFault;
 use frames::FramesFault;
 use grammar::Language;
 use std::fs::File;
-use std::io::Stdout;
+use std::io::{IsTerminal, Stdout};
 use wiretap::{Channel, TapFault, Taps};
 
 /// Opens the FILE of a command, or standard input. Says on standard error why a file cannot be opened.
@@ -25,6 +26,19 @@ pub(crate) fn open_input<'a>(
         None => Some(standard_input(rt)),
         Some(name) => open_file(rt, name),
     }
+}
+
+/// Opens the FILE of a run, or standard input. At a terminal a wrong line is named, and the run continues.
+pub(crate) fn open_script<'a>(
+    rt: &HostRuntime,
+    matches: &ArgMatches<'a>,
+) -> Option<Watched<'a, Input>> {
+    let stdin = rt.stdin();
+    if matches.get_str("file").is_some() || !stdin.is_terminal() {
+        return open_input(rt, matches);
+    }
+    let typed = Terminal::new(rt.alloc(), stdin, rt.stderr());
+    Some(Watched::new("standard input", Input::Typed(typed)))
 }
 
 /// Standard input.

@@ -10,7 +10,7 @@ use crate::streams::{end_test, open_file, open_output, standard_input};
 use crate::watched::Watched;
 use clap::ArgMatches;
 use engine::RunFault;
-use expected::{Outcome, Tested, test_script};
+use expected::{Outcome, Tested, list_differences, test_script};
 use std::io::{Stdout, Write};
 
 /// What messages call standard input.
@@ -21,6 +21,8 @@ const STANDARD: &str = "-";
 struct Tally {
     /// Whether an answer has to be compared in each.
     is_strict: bool,
+    /// Whether each answer that differs is named, and not the first of a file alone.
+    names_all: bool,
     files: u32,
     /// The answers that were compared in them. A file with a fault has none.
     answers: u64,
@@ -65,7 +67,12 @@ impl Tally {
         requires high { cpus ≤ 16 }
     {
         self.files = self.files.saturating_add(1);
-        match test_script(rt.alloc(), &mut input, output, name, cpus) {
+        let tested = if self.names_all {
+            list_differences(rt.alloc(), &mut input, output, name, cpus)
+        } else {
+            test_script(rt.alloc(), &mut input, output, name, cpus)
+        };
+        match tested {
             Ok(tested) => self.count(rt, name, tested),
             Err(fault) => {
                 let status = end_test(rt, name, &input, fault)?;
@@ -135,6 +142,7 @@ pub(crate) fn test(rt: &HostRuntime, matches: &ArgMatches) -> u8 {
     }
     let mut tally = Tally {
         is_strict: matches.get_flag("strict"),
+        names_all: matches.get_flag("all"),
         files: 0,
         answers: 0,
         differ: 0,

@@ -63,6 +63,30 @@ fn tap_on_input<'a>(rt: &HostRuntime, matches: &ArgMatches<'a>) -> Option<&'a st
     None
 }
 
+/// Whether two options name one file that is regular, or would be made.
+fn name_one_file(rt: &HostRuntime, one: &str, other: &str) -> bool {
+    match (fs::metadata(rt, one), fs::metadata(rt, other)) {
+        (Ok(first), Ok(second)) => is_one_file(&first, &second),
+        _ => one == other,
+    }
+}
+
+/// The name of a file that two wires would share.
+fn tap_of_two<'a>(rt: &HostRuntime, matches: &ArgMatches<'a>) -> Option<&'a str> {
+    for (at, option) in OPTIONS.iter().enumerate() {
+        let Some(name) = matches.get_str(option) else {
+            continue;
+        };
+        for other in OPTIONS.iter().skip(at.saturating_add(1)) {
+            match matches.get_str(other) {
+                Some(second) if name_one_file(rt, name, second) => return Some(name),
+                _ => {}
+            }
+        }
+    }
+    None
+}
+
 /// Makes the file of one of these options. Says on standard error why it cannot be made.
 fn make_tap<'a>(
     rt: &HostRuntime,
@@ -82,7 +106,8 @@ fn make_tap<'a>(
     }
 }
 
-/// Makes the files of all three wires. Makes none, and says so, if one of them is the file from which the script is read.
+/// Makes the files of all three wires. Makes none, and says so, if one of them is the file from which the script is read, or two are one
+/// file.
 pub(crate) fn make_taps<'a>(
     rt: &HostRuntime,
     matches: &ArgMatches<'a>,
@@ -90,6 +115,11 @@ pub(crate) fn make_taps<'a>(
     if let Some(name) = tap_on_input(rt, matches) {
         let _ = eprintln!(rt; "{}", RunFault::WriteFault);
         let _ = eprintln!(rt; "{name}: the script is read from this file");
+        return None;
+    }
+    if let Some(name) = tap_of_two(rt, matches) {
+        let _ = eprintln!(rt; "{}", RunFault::WriteFault);
+        let _ = eprintln!(rt; "{name}: two wires cannot be written to one file");
         return None;
     }
     Some(Taps {

@@ -62,7 +62,7 @@ impl<S: Write> Write for Watched<'_, S> {
     }
 }
 
-/// Why a call of the system failed, in the words of the C library alone: std puts the number of the error behind them.
+/// Why a call of the system failed, in the words of the C library alone: std puts the number of the error after them.
 fn reason(alloc: Global, error: &io::Error) -> Result<String, AllocError> {
     let text = format!(in alloc; "{error}")?;
     match text.split_once(" (os error ") {

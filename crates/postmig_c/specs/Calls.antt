@@ -11,7 +11,8 @@ use Rattle.engine.specs.declared.line_runner.Mode.{Mode}
 use Rattle.engine.specs.Checking.{CheckStops}
 use Rattle.engine.specs.Engine.{Work, Gathered, Made, Loses, language_of, world_of}
 use Rattle.engine.specs.Script.{Stops}
-use Rattle.engine.specs.WorldState.{WorldState, epoch_in, progress_in}
+use Rattle.mig_model.specs.Migration.{World as Machine}
+use Rattle.engine.specs.Worlds.{epoch_in, progress_in}
 use Rattle.postmig_c.specs.declared.handle.Content.{Content}
 use Rattle.postmig_c.specs.declared.handle.Content.TheVariants.{World, Frames}
 use Rattle.postmig_c.specs.declared.worlds.Counts.{Counts}
@@ -65,7 +66,7 @@ phase_number phases.Postcopy = 3
 phase_number phases.Complete = 4
 
 -- how far the migration of a world has come, in numbers
-abbrev pub counts_in : WorldState → Counts
+abbrev pub counts_in : Machine → Counts
 counts_in state =
     record {
       phase = phase_number (progress_in state).phase;
@@ -80,14 +81,14 @@ counts_in state =
 
 -- these are the numbers of the world that is run
 pub record CountsAre (runner : Gathered) (counts : Counts) : Type 0 where
-  pub state : WorldState
+  pub state : Machine
   pub runs : world_of runner.work ≡ Some state
   pub counts_are : counts ≡ counts_in state
 
 -- Whole scripts
 
 -- the first line of the script that is not one has this number
-abbrev pub StopsAtLine : Mode → WorldState → List ℕ → ℕ → Type 0
+abbrev pub StopsAtLine : Mode → Machine → List ℕ → ℕ → Type 0
 StopsAtLine mode start script number = (unread : Option (List ℕ)) × (text : Option (List ℕ)) × Stops mode start script unread (faults.Line number) (Some []) text
 
 -- the first line of the transcript that is not one has this number

@@ -41,7 +41,8 @@ fn feed_queue(queue: &mut FrameQueue, bytes: &[u8]) -> u32
 /// Feeds a decoder the next bytes of its stream. Frames of the bytes before them have to be taken first.
 #[unsafe(no_mangle)]
 pub extern "C" fn postmig_frames_feed(alloc: Global, handle: &mut Handle, bytes: &[u8]) -> u32
-    ensures ok { result ≡ 0 → HasQueues handle.old.content handle.new.content (λ old new. Feeds old bytes.now new) }
+    ensures ok { result ≡ 0 →
+        HasQueues handle.old.content handle.new.content (λ old new. Feeds old bytes.now new) }
     ensures refused { result ≢ 0 → handle.new.content ≡ handle.old.content }
     ensures not_open { result ≡ 2 → HasNoDecoder handle.old.content }
 {
@@ -104,11 +105,18 @@ pub extern "C" fn postmig_frames_next(
     out: &mut [u8],
     written: &mut usize,
 ) -> u32
-    ensures taken { result ≡ 0 → HasQueues handle.old.content handle.new.content (λ old new. Takes old frame.new written.new out.new new) }
-    ensures long { result ≡ 1 → HasQueues handle.old.content handle.new.content (λ old new. Waits old frame.new written.new out.new new) }
-    ensures not_open { result ≡ 2 → HasNoDecoder handle.old.content × (handle.new.content ≡ handle.old.content) }
-    ensures none { result ≡ 6 → HasQueues handle.old.content handle.new.content (λ old new. IsUp old new) }
-    ensures fault { 6 < result → HasQueues handle.old.content handle.new.content (λ old new. IsFaulty old result new) }
+    ensures taken { result ≡ 0 →
+        HasQueues handle.old.content handle.new.content (λ old new.
+        Takes old frame.new written.new out.new new) }
+    ensures long { result ≡ 1 →
+        HasQueues handle.old.content handle.new.content (λ old new.
+        Waits old frame.new written.new out.new new) }
+    ensures not_open { result ≡ 2 →
+        HasNoDecoder handle.old.content × (handle.new.content ≡ handle.old.content) }
+    ensures none { result ≡ 6 →
+        HasQueues handle.old.content handle.new.content (λ old new. IsUp old new) }
+    ensures fault { 6 < result →
+        HasQueues handle.old.content handle.new.content (λ old new. IsFaulty old result new) }
 {
     let Some(mut content) = handle.take(alloc) else {
         return NOT_OPEN;

@@ -88,7 +88,8 @@ impl Handle {
     /// Takes the content out, and leaves a null handle.
     pub fn take(&mut self, alloc: Global) -> Option<Box<Content>>
         ensures left { self.new.content ≡ Nothing }
-        ensures content { MatchOption result (self.old.content ≡ Nothing) (λ b. self.old.content ≡ Just b.value) }
+        ensures content { MatchOption result (self.old.content ≡ Nothing) (λ b.
+            self.old.content ≡ Just b.value) }
     {
         replace(self, Handle::empty(alloc)).into_box()
     }

@@ -5,7 +5,7 @@ ghost use Rattle.std.specs.declared.option.Option.TheVariants.{Some as Just};
 ghost use Rattle.engine.specs.Engine.{tested_mode};
 ghost use Rattle.engine.specs.Script.{Writes};
 ghost use Rattle.engine.specs.Checking.{Checks};
-ghost use Rattle.engine.specs.WorldState.{first_state};
+ghost use Rattle.mig_model.specs.Migration.{first_world};
 ghost use Rattle.postmig_c.specs.Room.{Fills, IsTooLong};
 ghost use Rattle.postmig_c.specs.Calls.{StopsAtLine, CheckStopsAtLine};
 
@@ -40,9 +40,12 @@ pub extern "C" fn postmig_run(
     out: &mut [u8],
     written: &mut usize,
 ) -> u32
-    ensures ok { result ≡ 0 → (text : List ℕ) × Writes (tested_mode is_transcript) (first_state cpus) script.now (Just []) (Just text) × Fills text written.new out.new }
-    ensures long { result ≡ 1 → (text : List ℕ) × Writes (tested_mode is_transcript) (first_state cpus) script.now (Just []) (Just text) × IsTooLong text written.new out.new }
-    ensures no_line { result ≡ 3 → StopsAtLine (tested_mode is_transcript) (first_state cpus) script.now written.new }
+    ensures ok { result ≡ 0 →
+        (text : List ℕ) × Writes (tested_mode is_transcript) (first_world cpus) script.now (Just []) (Just text) × Fills text written.new out.new }
+    ensures long { result ≡ 1 →
+        (text : List ℕ) × Writes (tested_mode is_transcript) (first_world cpus) script.now (Just []) (Just text) × IsTooLong text written.new out.new }
+    ensures no_line { result ≡ 3 →
+        StopsAtLine (tested_mode is_transcript) (first_world cpus) script.now written.new }
     ensures range { result ≤ 5 }
 {
     if cpus < 1 || cpus > 16 {
@@ -65,8 +68,12 @@ pub extern "C" fn postmig_check(
     out: &mut [u8],
     written: &mut usize,
 ) -> u32
-    ensures ok { result ≡ 0 → (text : List ℕ) × Checks transcript.now is_flat.new (Just []) (Just text) × Fills text written.new out.new }
-    ensures long { result ≡ 1 → (text : List ℕ) × Checks transcript.now is_flat.new (Just []) (Just text) × IsTooLong text written.new out.new }
+    ensures ok { result ≡ 0 →
+        (text : List ℕ) × Checks transcript.now is_flat.new (Just []) (Just text) ×
+        Fills text written.new out.new }
+    ensures long { result ≡ 1 →
+        (text : List ℕ) × Checks transcript.now is_flat.new (Just []) (Just text) ×
+        IsTooLong text written.new out.new }
     ensures no_line { result ≡ 3 → CheckStopsAtLine transcript.now written.new }
     ensures range { result ≤ 4 }
 {

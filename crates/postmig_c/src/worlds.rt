@@ -3,7 +3,7 @@
 ghost use Rattle.std.specs.Prelude.{◌≡◌, ◌≢◌, ◌≤◌, ◌⊎◌, [], Ok};
 ghost use Rattle.std.specs.declared.option.Option.TheVariants.{None as Nothing, Some as Just};
 ghost use Rattle.engine.specs.Engine.{Running, tested_mode};
-ghost use Rattle.engine.specs.WorldState.{WorldState, first_state};
+ghost use Rattle.mig_model.specs.Migration.{World as Machine, first_world};
 ghost use Rattle.mig_model.specs.Views.{new_world_with};
 ghost use Rattle.postmig_c.specs.Calls.{a_world, counts_in, phase_number, CountsAre, HasNoWorld, IsDone, IsNoLine, IsCutShort, Has, Tells};
 ghost use Rattle.postmig_c.specs.Room.{Fills, IsTooLong};
@@ -69,7 +69,8 @@ pub extern "C" fn postmig_world_new(
     is_transcript: bool,
     handle: &mut Handle,
 ) -> u32
-    ensures ok { result ≡ 0 → handle.new.content ≡ Just (a_world (Running (tested_mode is_transcript) (first_state cpus))) }
+    ensures ok { result ≡ 0 →
+        handle.new.content ≡ Just (a_world (Running (tested_mode is_transcript) (first_world cpus))) }
     ensures refused { result ≢ 0 → handle.new.content ≡ handle.old.content }
 {
     if cpus < 1 || cpus > 16 {
@@ -91,7 +92,9 @@ pub extern "C" fn postmig_world_new_with_counts(
     rounds: u32,
     handle: &mut Handle,
 ) -> u32
-    ensures ok { result ≡ 0 → (state : WorldState) × (new_world_with cpus epoch rounds ≡ Ok state) × (handle.new.content ≡ Just (a_world (Running (tested_mode is_transcript) state))) }
+    ensures ok { result ≡ 0 →
+        (state : Machine) × (new_world_with cpus epoch rounds ≡ Ok state) ×
+        (handle.new.content ≡ Just (a_world (Running (tested_mode is_transcript) state))) }
     ensures refused { result ≢ 0 → handle.new.content ≡ handle.old.content }
 {
     if cpus < 1 || cpus > 16 {
@@ -140,11 +143,18 @@ pub extern "C" fn postmig_world_line(
     out: &mut [u8],
     written: &mut usize,
 ) -> u32
-    ensures told { result ≡ 0 → Has handle.old.content handle.new.content (λ old new. IsDone old line.now new × Fills new.output written.new out.new) }
-    ensures untold { result ≡ 1 → Has handle.old.content handle.new.content (λ old new. IsDone old line.now new × IsTooLong new.output written.new out.new) }
-    ensures not_open { result ≡ 2 → HasNoWorld handle.old.content × (handle.new.content ≡ handle.old.content) }
-    ensures no_line { result ≡ 3 → Has handle.old.content handle.new.content (λ old new. IsNoLine old line.now new) }
-    ensures no_memory { result ≡ 4 → Has handle.old.content handle.new.content (λ old new. IsCutShort old line.now new) }
+    ensures told { result ≡ 0 →
+        Has handle.old.content handle.new.content (λ old new.
+        IsDone old line.now new × Fills new.output written.new out.new) }
+    ensures untold { result ≡ 1 →
+        Has handle.old.content handle.new.content (λ old new.
+        IsDone old line.now new × IsTooLong new.output written.new out.new) }
+    ensures not_open { result ≡ 2 →
+        HasNoWorld handle.old.content × (handle.new.content ≡ handle.old.content) }
+    ensures no_line { result ≡ 3 →
+        Has handle.old.content handle.new.content (λ old new. IsNoLine old line.now new) }
+    ensures no_memory { result ≡ 4 →
+        Has handle.old.content handle.new.content (λ old new. IsCutShort old line.now new) }
     ensures range { result ≤ 4 }
 {
     let Some(mut content) = handle.take(alloc) else {
@@ -167,8 +177,10 @@ pub extern "C" fn postmig_world_answer(
     written: &mut usize,
 ) -> u32
     ensures same { handle.new.content ≡ handle.old.content }
-    ensures answer { result ≡ 0 → Tells handle.old.content (λ runner. Fills runner.output written.new out.new) }
-    ensures long { result ≡ 1 → Tells handle.old.content (λ runner. IsTooLong runner.output written.new out.new) }
+    ensures answer { result ≡ 0 →
+        Tells handle.old.content (λ runner. Fills runner.output written.new out.new) }
+    ensures long { result ≡ 1 →
+        Tells handle.old.content (λ runner. IsTooLong runner.output written.new out.new) }
     ensures not_open { result ≡ 2 → HasNoWorld handle.old.content }
     ensures range { result ≤ 2 }
 {

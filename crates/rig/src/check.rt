@@ -35,7 +35,8 @@ fn next_wanted<'a>(
     list: &'a [Answer],
     cpu: u8,
 ) -> Option<(Answer, &'a [Entry], &'a [Answer])>
-    ensures some { IfSome result (λ r. answers_of cpu opening.now ++ list.now ≡ r.0 ∷ (answers_of cpu r.1.now ++ r.2.now)) }
+    ensures some { IfSome result (λ r.
+        answers_of cpu opening.now ++ list.now ≡ r.0 ∷ (answers_of cpu r.1.now ++ r.2.now)) }
     ensures none { IfNone result (answers_of cpu opening.now ++ list.now ≡ []) }
 {
     match next_answer(opening, cpu) {
@@ -49,8 +50,10 @@ fn next_wanted<'a>(
 
 /// Whether the processor's answers in `entries` are those in `opening` and then `list`.
 pub(crate) fn continues(entries: &[Entry], opening: &[Entry], list: &[Answer], cpu: u8) -> bool
-    ensures yes { result ≡ true → answers_of cpu entries.now ≡ answers_of cpu opening.now ++ list.now }
-    ensures no { result ≡ false → answers_of cpu entries.now ≡ answers_of cpu opening.now ++ list.now → ⊥ }
+    ensures yes { result ≡ true →
+        answers_of cpu entries.now ≡ answers_of cpu opening.now ++ list.now }
+    ensures no { result ≡ false →
+        answers_of cpu entries.now ≡ answers_of cpu opening.now ++ list.now → ⊥ }
 {
     let mut here = entries;
     let mut there = opening;
@@ -77,9 +80,11 @@ pub(crate) fn first_wrong(
     seats: &[CpuSeat],
     cpus: u8,
 ) -> Option<u8>
-    ensures none { IfNone result ((k : ℕ) → k < MAX_CPUS → IsRight (record { opening = opening.now; handed = handed.now }) seats.now entries.now cpus k) }
+    ensures none { IfNone result ((k : ℕ) → k < MAX_CPUS →
+        IsRight (record { opening = opening.now; handed = handed.now }) seats.now entries.now cpus k) }
     ensures numbers { IfNone result (All (λ s. s.cpu < MAX_CPUS) seats.now) }
-    ensures some { IfSome result (λ k. IsLeastWrong (record { opening = opening.now; handed = handed.now }) seats.now entries.now cpus k) }
+    ensures some { IfSome result (λ k.
+        IsLeastWrong (record { opening = opening.now; handed = handed.now }) seats.now entries.now cpus k) }
 {
     read_numbers(seats);
     for cpu in 0..MAX_CPUS {
@@ -100,8 +105,10 @@ fn is_right(
     cpus: u8,
     cpu: u8,
 ) -> bool
-    ensures yes { result ≡ true → IsRight (record { opening = opening.now; handed = handed.now }) seats.now entries.now cpus cpu }
-    ensures no { result ≡ false → IsRight (record { opening = opening.now; handed = handed.now }) seats.now entries.now cpus cpu → ⊥ }
+    ensures yes { result ≡ true →
+        IsRight (record { opening = opening.now; handed = handed.now }) seats.now entries.now cpus cpu }
+    ensures no { result ≡ false →
+        IsRight (record { opening = opening.now; handed = handed.now }) seats.now entries.now cpus cpu → ⊥ }
 {
     let was_handed = usize::from(cpu) < handed.len() && handed[usize::from(cpu)];
     let count = count_seats(seats, cpu);

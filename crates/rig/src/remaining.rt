@@ -17,7 +17,9 @@ pub(crate) fn remaining_in(alloc: Global, world: &World) -> Result<(u32, Vec<Pag
     ensures epoch { IfOk result (λ r. r.0 ≡ world.now.source.epoch) }
     ensures pages { IfOk result (λ r. Lists world.now.source.remaining r.1.items) }
     ensures stopped { IfOk result (λ _. world.now.source.phase ≡ Phase.Stopped) }
-    ensures refused { IfErr result (λ refusal. (refusal ≡ Refusal.NoMemory) ⊎ ((refusal ≡ Refusal.Phase) × (world.now.source.phase ≡ Phase.Stopped → ⊥))) }
+    ensures refused { IfErr result (λ refusal.
+        (refusal ≡ Refusal.NoMemory) ⊎
+        ((refusal ≡ Refusal.Phase) × (world.now.source.phase ≡ Phase.Stopped → ⊥))) }
 {
     let SourcePhase::Stopped = world.source_phase() else {
         return Err(Refusal::Phase);
@@ -42,8 +44,11 @@ fn listed(alloc: Global, set: &PageSet) -> Result<Vec<PageNo>, NoMemory>
 /// Whether claims of the world's epoch have a page that neither remains nor was claimed by the seat.
 pub(crate) fn are_lost(world: &World, claims: &Claims, seat: &ClaimSeat) -> bool
     requires { IsSeatOf claims.now seat.now }
-    ensures yes { result ≡ true → (claims.now.epoch ≡ world.now.source.epoch) × (AreKept claims.now seat.now world.now.source.remaining → ⊥) }
-    ensures no { result ≡ false → claims.now.epoch ≡ world.now.source.epoch → AreKept claims.now seat.now world.now.source.remaining }
+    ensures yes { result ≡ true →
+        (claims.now.epoch ≡ world.now.source.epoch) ×
+        (AreKept claims.now seat.now world.now.source.remaining → ⊥) }
+    ensures no { result ≡ false → claims.now.epoch ≡ world.now.source.epoch →
+        AreKept claims.now seat.now world.now.source.remaining }
 {
     claims.epoch() == world.epoch() && !are_kept(claims, seat, world.remaining())
 }

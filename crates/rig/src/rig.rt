@@ -79,7 +79,9 @@ impl Rig {
     /// Puts a world under a lock, and keeps a copy of its transcript. If memory is refused, the world comes back.
     pub fn new(alloc: Global, world: World) -> Result<Rig, World>
         ensures opening { IfOk result (λ rig. rig.opening ≡ world.transcript) }
-        ensures handed { IfOk result (λ rig. (length rig.handed ≡ length world.source.guest.cpus) × All (λ h. h ≡ false) rig.handed) }
+        ensures handed { IfOk result (λ rig.
+            (length rig.handed ≡ length world.source.guest.cpus) ×
+            All (λ h. h ≡ false) rig.handed) }
         ensures err { IfErr result (λ back. back ≡ world) }
     {
         let Ok(opening) = copied(alloc, world.transcript()) else {
@@ -101,7 +103,8 @@ impl Rig {
     pub fn seat(&mut self, cpu: u8) -> Result<CpuSeat, Refusal>
         ensures seat { IfOk result (λ seat. seat ≡ record { cpu = cpu; answers = [] }) }
         ensures first { IfOk result (λ seat. slice_get self.old.handed cpu ≡ Some false) }
-        ensures handed { OnOk result (self.new ≡ record self.old { handed = set self.old.handed cpu true }) }
+        ensures handed { OnOk result (self.new ≡
+            record self.old { handed = set self.old.handed cpu true }) }
         ensures no_cpu { (result ≡ Err Refusal.NoCpu) ↔ (length self.old.handed ≤ cpu) }
         ensures busy { (result ≡ Err Refusal.Busy) ↔ (slice_get self.old.handed cpu ≡ Some true) }
         ensures err { OnErr result (self.new ≡ self.old) }
@@ -132,7 +135,8 @@ impl Rig {
         command: Command,
     ) -> Result<Reply, Refusal>
         ensures cpu { seat.new.cpu ≡ seat.old.cpu }
-        ensures ok { IfOk result (λ reply. seat.new.answers ≡ seat.old.answers ++ record { command = command; reply = reply } ∷ []) }
+        ensures ok { IfOk result (λ reply.
+            seat.new.answers ≡ seat.old.answers ++ record { command = command; reply = reply } ∷ []) }
         ensures entered { IfOk result (λ reply. IsReplyOf seat.old.cpu reply) }
         ensures err { OnErr result (seat.new ≡ seat.old) }
     {
@@ -153,7 +157,9 @@ impl Rig {
     /// [`call`](Rig::call).
     pub fn finish<R: Wait>(&self, rt: &R, seat: &mut CpuSeat) -> Result<Reply, Refusal>
         ensures cpu { seat.new.cpu ≡ seat.old.cpu }
-        ensures ok { IfOk result (λ reply. (command : Command) × (seat.new.answers ≡ seat.old.answers ++ record { command = command; reply = reply } ∷ []) × IsReplyTo seat.old.cpu command reply) }
+        ensures ok { IfOk result (λ reply.
+            (command : Command) ×
+            (seat.new.answers ≡ seat.old.answers ++ record { command = command; reply = reply } ∷ []) × IsReplyTo seat.old.cpu command reply) }
         ensures err { OnErr result (seat.new ≡ seat.old) }
     {
         if seat.answers.try_reserve(1).is_err() {
@@ -257,11 +263,15 @@ impl Rig {
         requires { IfSome claims (λ c. IsSeatOf c.0 c.1) }
         ensures flat { IfOk result (λ world. IsFlatRun world.transcript) }
         ensures right { IfOk result (λ world. AreRight self seats.items world) }
-        ensures answers { IfOk result (λ world. (k : ℕ) → k < length world.source.guest.cpus → answers_of k world.transcript ≡ answers_of k self.opening ++ list_of k seats.items) }
-        ensures once { IfOk result (λ world. (k : ℕ) → k < length world.source.guest.cpus → seats_of k seats.items ≤ 1) }
-        ensures count { IfOk result (λ world. length world.transcript ≡ length self.opening + calls_of seats.items) }
+        ensures answers { IfOk result (λ world. (k : ℕ) → k < length world.source.guest.cpus →
+            answers_of k world.transcript ≡ answers_of k self.opening ++ list_of k seats.items) }
+        ensures once { IfOk result (λ world. (k : ℕ) → k < length world.source.guest.cpus →
+            seats_of k seats.items ≤ 1) }
+        ensures count { IfOk result (λ world.
+            length world.transcript ≡ length self.opening + calls_of seats.items) }
         ensures kept { IfOk result (λ world. AreFound claims world) }
-        ensures fault { IfErr result (λ r. (k : ℕ) → r.0 ≡ CloseFault.Answers k → IsLeastWrong self seats.items r.1.transcript (length r.1.source.guest.cpus) k) }
+        ensures fault { IfErr result (λ r. (k : ℕ) → r.0 ≡ CloseFault.Answers k →
+            IsLeastWrong self seats.items r.1.transcript (length r.1.source.guest.cpus) k) }
         ensures lost { IfErr result (λ r. r.0 ≡ CloseFault.Claims → IsLost claims r.1) }
         ensures flat_still { IfErr result (λ r. IsFlatRun r.1.transcript) }
     {
@@ -277,9 +287,11 @@ impl Rig {
         requires { IfSome claims (λ c. IsSeatOf c.0 c.1) }
         ensures flat { IfOk result (λ world. IsFlatRun world.transcript) }
         ensures right { IfOk result (λ world. AreRight self seats.now world) }
-        ensures answered { IfOk result (λ world. AreAnswered self seats.now world.transcript (length world.source.guest.cpus)) }
+        ensures answered { IfOk result (λ world.
+            AreAnswered self seats.now world.transcript (length world.source.guest.cpus)) }
         ensures kept { IfOk result (λ world. AreFound claims world) }
-        ensures fault { IfErr result (λ r. (k : ℕ) → r.0 ≡ CloseFault.Answers k → IsLeastWrong self seats.now r.1.transcript (length r.1.source.guest.cpus) k) }
+        ensures fault { IfErr result (λ r. (k : ℕ) → r.0 ≡ CloseFault.Answers k →
+            IsLeastWrong self seats.now r.1.transcript (length r.1.source.guest.cpus) k) }
         ensures lost { IfErr result (λ r. r.0 ≡ CloseFault.Claims → IsLost claims r.1) }
         ensures flat_still { IfErr result (λ r. IsFlatRun r.1.transcript) }
     {
@@ -300,8 +312,10 @@ impl Rig {
     fn close_seats(self, seats: &[CpuSeat]) -> Result<World, (CloseFault, World)>
         ensures flat { IfOk result (λ world. IsFlatRun world.transcript) }
         ensures right { IfOk result (λ world. AreRight self seats.now world) }
-        ensures answered { IfOk result (λ world. AreAnswered self seats.now world.transcript (length world.source.guest.cpus)) }
-        ensures fault { IfErr result (λ r. (k : ℕ) → r.0 ≡ CloseFault.Answers k → IsLeastWrong self seats.now r.1.transcript (length r.1.source.guest.cpus) k) }
+        ensures answered { IfOk result (λ world.
+            AreAnswered self seats.now world.transcript (length world.source.guest.cpus)) }
+        ensures fault { IfErr result (λ r. (k : ℕ) → r.0 ≡ CloseFault.Answers k →
+            IsLeastWrong self seats.now r.1.transcript (length r.1.source.guest.cpus) k) }
         ensures seats { IfErr result (λ r. r.0 ≡ CloseFault.Claims → ⊥) }
         ensures flat_still { IfErr result (λ r. IsFlatRun r.1.transcript) }
     {

@@ -38,7 +38,8 @@ pub(crate) fn step_in(world: &mut World, step: Step) -> Result<Effect, Refusal>
 /// A processor begins a command.
 pub(crate) fn issue_in(world: &mut World, cpu: u8, command: Command) -> Result<Tried, Refusal>
     ensures step { IsTry world.old (Step.Issue cpu command) result world.new }
-    ensures entered { IfOk result (λ tried. world.new.transcript ≡ world.old.transcript ++ entries_by cpu command tried) }
+    ensures entered { IfOk result (λ tried.
+        world.new.transcript ≡ world.old.transcript ++ entries_by cpu command tried) }
     ensures told { IsReached world.old → IfOk result (λ tried. IsToldOf cpu command tried) }
     ensures refused { OnErr result (world.new ≡ world.old) }
 {
@@ -50,9 +51,12 @@ pub(crate) fn issue_in(world: &mut World, cpu: u8, command: Command) -> Result<T
 
 /// A processor that was woken tries its command again. `NotAsleep` if it has no load or store outstanding.
 pub(crate) fn retry_in(world: &mut World, cpu: u8) -> Result<(Command, Tried), Refusal>
-    ensures woken { (command : Command) → cpu_state world.old cpu ≡ Ok (CpuState.Woken command) → IsRetry world.old cpu command result world.new }
-    ensures asleep { (command : Command) → cpu_state world.old cpu ≡ Ok (CpuState.Asleep command) → (world.new ≡ world.old) × (result ≡ Ok (command, Tried.Asleep)) }
-    ensures entered { IfOk result (λ r. world.new.transcript ≡ world.old.transcript ++ entries_by cpu r.0 r.1) }
+    ensures woken { (command : Command) → cpu_state world.old cpu ≡ Ok (CpuState.Woken command) →
+        IsRetry world.old cpu command result world.new }
+    ensures asleep { (command : Command) → cpu_state world.old cpu ≡ Ok (CpuState.Asleep command) →
+        (world.new ≡ world.old) × (result ≡ Ok (command, Tried.Asleep)) }
+    ensures entered { IfOk result (λ r.
+        world.new.transcript ≡ world.old.transcript ++ entries_by cpu r.0 r.1) }
     ensures told { IsReached world.old → IfOk result (λ r. IsToldOf cpu r.0 r.1) }
     ensures refused { OnErr result (world.new ≡ world.old) }
 {
@@ -76,9 +80,12 @@ pub(crate) fn is_in_call(world: &World, cpu: u8) -> bool
 
 /// Dequeues the oldest request of the destination. `StaleEpoch`, and no step, if the world's epoch is another.
 pub(crate) fn serve_in(world: &mut World, epoch: u32) -> Result<Effect, Refusal>
-    ensures stale { (epoch ≡ world.old.source.epoch → ⊥) → (result ≡ Err Refusal.StaleEpoch) × (world.new ≡ world.old) }
-    ensures served { epoch ≡ world.old.source.epoch → Happens world.old Step.Serve result world.new }
-    ensures outcome { (result ≡ Err Refusal.StaleEpoch) ⊎ Happens world.old Step.Serve result world.new }
+    ensures stale { (epoch ≡ world.old.source.epoch → ⊥) →
+        (result ≡ Err Refusal.StaleEpoch) × (world.new ≡ world.old) }
+    ensures served { epoch ≡ world.old.source.epoch →
+        Happens world.old Step.Serve result world.new }
+    ensures outcome { (result ≡ Err Refusal.StaleEpoch) ⊎
+        Happens world.old Step.Serve result world.new }
 {
     if world.epoch() != epoch {
         return Err(Refusal::StaleEpoch);
@@ -88,8 +95,11 @@ pub(crate) fn serve_in(world: &mut World, epoch: u32) -> Result<Effect, Refusal>
 
 /// What became of a try, by its effect. A map call that waits has the reply of the last entry, its own.
 fn tried_as(world: &World, effect: Effect) -> Tried
-    ensures entered { (old : List Entry) (cpu : ℕ) (command : Command) → IsEntered effect old world.now.transcript cpu command → world.now.transcript ≡ old ++ entries_by cpu command result }
-    ensures by_effect { (old : List Entry) (cpu : ℕ) (command : Command) → IsEntered effect old world.now.transcript cpu command → IsTriedAs effect result }
+    ensures entered { (old : List Entry) (cpu : ℕ) (command : Command) →
+        IsEntered effect old world.now.transcript cpu command →
+        world.now.transcript ≡ old ++ entries_by cpu command result }
+    ensures by_effect { (old : List Entry) (cpu : ℕ) (command : Command) →
+        IsEntered effect old world.now.transcript cpu command → IsTriedAs effect result }
 {
     match effect {
         Effect::Answered { reply, .. } => Tried::Replied(reply),

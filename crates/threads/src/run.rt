@@ -88,8 +88,10 @@ pub fn run_threads<R: Threads + Wait + Sync, W: Write>(
 ) -> Result<bool, RunFault>
     requires low { 1 ≤ cpus }
     requires high { cpus ≤ 16 }
-    ensures ok { IfOk result (λ answer. Reports cpus (1 + 2 * calls) answer (W.contents writer.old) (W.contents writer.new)) }
-    ensures fault { IfErr result (λ fault. Stops cpus (1 + 2 * calls) fault (W.contents writer.old) (W.contents writer.new)) }
+    ensures ok { IfOk result (λ answer.
+        Reports cpus (1 + 2 * calls) answer (W.contents writer.old) (W.contents writer.new)) }
+    ensures fault { IfErr result (λ fault.
+        Stops cpus (1 + 2 * calls) fault (W.contents writer.old) (W.contents writer.new)) }
 {
     let mut text = String::new(alloc);
     let answer = run_and_print(rt, alloc, cpus, calls, cut, &mut text)?;
@@ -109,7 +111,8 @@ fn run_and_print<R: Threads + Wait + Sync>(
     requires low { 1 ≤ cpus }
     requires high { cpus ≤ 16 }
     requires empty { string_bytes text.old ≡ [] }
-    ensures ok { IfOk result (λ answer. IsReport cpus (1 + 2 * calls) answer (string_bytes text.new)) }
+    ensures ok { IfOk result (λ answer.
+        IsReport cpus (1 + 2 * calls) answer (string_bytes text.new)) }
     ensures err { IfErr result (λ fault. fault ≡ OutOfMemory) }
 {
     let run = run_world(rt, alloc, cpus, calls, cut)?;

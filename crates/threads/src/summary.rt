@@ -30,7 +30,8 @@ pub(crate) fn are_whole(seats: &[CpuSeat], cpus: u8, calls: usize) -> bool
 
 /// Appends a line for each seat to a text.
 fn print_seats(text: &mut String, seats: &[CpuSeat]) -> Result<(), RunFault>
-    ensures ok { OnOk result (string_bytes text.new ≡ string_bytes text.old ++ seat_lines seats.now) }
+    ensures ok { OnOk result (string_bytes text.new ≡
+        string_bytes text.old ++ seat_lines seats.now) }
     ensures err { IfErr result (λ fault. fault ≡ OutOfMemory) }
 {
     let mut rest = seats;
@@ -54,7 +55,8 @@ fn print_seat(text: &mut String, seat: &CpuSeat) -> Result<(), RunFault>
 
 /// Appends the report of a run to a text.
 pub(crate) fn print_run(text: &mut String, run: &Run) -> Result<(), RunFault>
-    ensures ok { OnOk result (string_bytes text.new ≡ string_bytes text.old ++ report_lines run.now.seats.items (length run.now.world.transcript) run.now.fault) }
+    ensures ok { OnOk result (string_bytes text.new ≡
+        string_bytes text.old ++ report_lines run.now.seats.items (length run.now.world.transcript) run.now.fault) }
     ensures err { IfErr result (λ fault. fault ≡ OutOfMemory) }
 {
     print_seats(text, &run.seats)?;
@@ -67,7 +69,8 @@ pub(crate) fn print_run(text: &mut String, run: &Run) -> Result<(), RunFault>
 
 /// Appends the number of entries to a text, and that the tests of `close` passed.
 fn print_ok(text: &mut String, entries: usize) -> Result<(), RunFault>
-    ensures ok { OnOk result (string_bytes text.new ≡ string_bytes text.old ++ (count_line entries ++ ok_line)) }
+    ensures ok { OnOk result (string_bytes text.new ≡
+        string_bytes text.old ++ (count_line entries ++ ok_line)) }
     ensures err { IfErr result (λ fault. fault ≡ OutOfMemory) }
 {
     print_count(text, entries)?;
@@ -77,7 +80,8 @@ fn print_ok(text: &mut String, entries: usize) -> Result<(), RunFault>
 
 /// Appends the number of entries to a text, and the fault with which the rig was closed.
 fn print_fault(text: &mut String, entries: usize, fault: CloseFault) -> Result<(), RunFault>
-    ensures ok { OnOk result (string_bytes text.new ≡ string_bytes text.old ++ (count_line entries ++ fault_line fault)) }
+    ensures ok { OnOk result (string_bytes text.new ≡
+        string_bytes text.old ++ (count_line entries ++ fault_line fault)) }
     ensures err { IfErr result (λ fault. fault ≡ OutOfMemory) }
 {
     print_count(text, entries)?;

@@ -127,7 +127,7 @@ fn the_comment_has_the_arguments(rt: HostRuntime) -> Result<(), Fail> {
     let text = explored(&rt, rt.alloc(), &PLAN)?;
     assert!(rt;
         text.starts_with(
-            b"# postmig 0.1.0 explore --seed 7 --steps 100 --cpus 2 --profile all --pages 8\n"
+            b"# postmig 0.1.0 explore --seed 7 --lines 100 --cpus 2 --profile all --pages 8\n"
         )
     );
     let count = text.iter().filter(|byte| **byte == b'\n').count();
@@ -139,7 +139,7 @@ fn the_comment_has_the_arguments(rt: HostRuntime) -> Result<(), Fail> {
     };
     let text = explored(&rt, rt.alloc(), &plan)?;
     let comment =
-        b"# postmig 0.1.0 explore --seed 7 --steps 0 --cpus 2 --profile all --pages 8 --answers\n";
+        b"# postmig 0.1.0 explore --seed 7 --lines 0 --cpus 2 --profile all --pages 8 --answers\n";
     assert!(rt; text.as_slice() == comment.as_slice());
     Ok(())
 }
@@ -274,7 +274,7 @@ fn a_sweep_changes_no_line(rt: HostRuntime) -> Result<(), Fail> {
     let text = explored(&rt, rt.alloc(), &swept)?;
     assert!(rt;
         text.starts_with(
-            b"# postmig 0.1.0 explore --seed 7 --steps 100 --cpus 2 --profile all --pages 8 --sweep "
+            b"# postmig 0.1.0 explore --seed 7 --lines 100 --cpus 2 --profile all --pages 8 --sweep "
         )
     );
     let (all, _) = split_answers(rt.alloc(), &text)?;

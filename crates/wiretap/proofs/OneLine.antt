@@ -15,7 +15,8 @@ use Rattle.mig_base.specs.declared.schedule.Step.{Step}
 use Rattle.engine.specs.declared.line_runner.Mode.{Mode}
 use Rattle.engine.specs.Engine.{Place, Work, Running, Keeping, language_of, Does, Works, ReadsEnded, Passes, Closes, world_of}
 use Rattle.engine.specs.Script.{MakesAny}
-use Rattle.engine.specs.WorldState.{WorldState, epoch_in}
+use Rattle.mig_model.specs.Migration.{World}
+use Rattle.engine.specs.Worlds.{epoch_in}
 use Rattle.wiretap.specs.declared.marks.Marks.{Marks}
 use Rattle.wiretap.specs.declared.taps.Taps.{Taps}
 use Rattle.wiretap.specs.Traffic.{Traffic, no_traffic, with_more, put_between, Gets}
@@ -83,7 +84,7 @@ few_read l bytes (line ∷ other ∷ lines) rest none r = elim r.1 [
 none_put : (wire : Wire) → texts Two (drop (length wire.frames) wire.frames) ≡ []
 none_put wire = ap (texts Two) (drop_all (length wire.frames) wire.frames (omega arith))
 
-pub nothing_between : (state : WorldState) → put_between state state ≡ no_traffic
+pub nothing_between : (state : World) → put_between state state ≡ no_traffic
 nothing_between state = λ i. record { forward = none_put state.forward i; back = none_put state.back i; urgent = none_put state.urgent i }
 
 nothing_by : (work : Work) → IsRunning work → put_by work work ≡ no_traffic
@@ -101,21 +102,21 @@ carries_few old (line ∷ other ∷ lines) new text runs is w = absurd is
 
 -- Its frames come behind those in flight
 
-made_any : (mode : Mode) (old : WorldState) (step : Option Step) (new : WorldState) (text : List ℕ) → MakesAny mode old step new text → ArePut old new
+made_any : (mode : Mode) (old : World) (step : Option Step) (new : World) (text : List ℕ) → MakesAny mode old step new text → ArePut old new
 made_any mode old (Some step) new text m = put_happens old step m.0 new m.1.1
 made_any mode old None new text m = put_nothing old new m.0
 
-same_state : (again mode : Mode) (new old : WorldState) → Running again new ≡ Running mode old → new ≡ old
+same_state : (again mode : Mode) (new old : World) → Running again new ≡ Running mode old → new ≡ old
 same_state again mode new old e = let h : Some new ≡ Some old = ap world_of e in cc
 
-does_put : (mode : Mode) (old : WorldState) (line : Line) (again : Mode) (new : WorldState) (text : List ℕ) → Does (Running mode old) line (Running again new) text → ArePut old new
+does_put : (mode : Mode) (old : World) (line : Line) (again : Mode) (new : World) (text : List ℕ) → Does (Running mode old) line (Running again new) text → ArePut old new
 does_put mode old Skipped again new text d = put_nothing old new (same_state again mode new old d.0)
 does_put mode old (Do order) again new text d =
     let step = step_of order (epoch_in old) in
-    made_any mode old step new text (subst (λ (s : WorldState). MakesAny mode old step s text) (sym (same_state again mode new d.0 d.1)) d.2)
+    made_any mode old step new text (subst (λ (s : World). MakesAny mode old step s text) (sym (same_state again mode new d.0 d.1)) d.2)
 does_put mode old (Enter entry) again new text d = absurd d
 
-lines_put : (mode : Mode) (old : WorldState) (lines : List Line) (again : Mode) (new : WorldState) (text : List ℕ) → IsFew lines → Works (Running mode old) lines (Running again new) text → ArePut old new
+lines_put : (mode : Mode) (old : World) (lines : List Line) (again : Mode) (new : World) (text : List ℕ) → IsFew lines → Works (Running mode old) lines (Running again new) text → ArePut old new
 lines_put mode old [] again new text is w = put_nothing old new (same_state again mode new old w.0)
 lines_put mode old (line ∷ []) again new text is w = does_put mode old line again new w.1 (subst (λ (b : Work). Does (Running mode old) line b w.1) (sym w.5.0) w.3)
 lines_put mode old (line ∷ other ∷ lines) again new text is w = absurd is
@@ -143,13 +144,13 @@ closes_running a end rest text more u v r c = works_running a.work c.lines end (
 
 -- the bytes behind those that were in flight are what the line has put
 written : (old new : Work) (lines : List Line) (text : List ℕ) (marks : Marks) (r : IsRunning old) (s : IsRunning new) → IsFew lines → Works old lines new text
-    → ((mode : Mode) (state : WorldState) → old ≡ Running mode state → AreMarks state marks) → behind marks s.state ≡ put_by old new
+    → ((mode : Mode) (state : World) → old ≡ Running mode state → AreMarks state marks) → behind marks s.state ≡ put_by old new
 written old new lines text marks r s is w are =
     let works = rw (r.is, s.is) at w in
     behind_put r.state s.state marks (are r.mode r.state r.is) (lines_put r.mode r.state lines s.mode s.state text is works) ∙ sym (λ i. put_by (r.is i) (s.is i))
 
 pub moves_line : {T : Type 0} (contents : T → Option (List ℕ)) (a b : Place) (bytes : List ℕ) (w0 w1 : Option (List ℕ)) (t0 t1 : Taps T) (marks : Marks) (p : Passes a bytes b w0 w1) → IsRunning a.work → HasNoFeed a.line → EndsOne bytes
-    → ((mode : Mode) (state : WorldState) → a.work ≡ Running mode state → AreMarks state marks) → ((mode : Mode) (state : WorldState) → b.work ≡ Running mode state → Gets contents t0 t1 (behind marks state)) → Moves contents a bytes b w0 w1 t0 t1
+    → ((mode : Mode) (state : World) → a.work ≡ Running mode state → AreMarks state marks) → ((mode : Mode) (state : World) → b.work ≡ Running mode state → Gets contents t0 t1 (behind marks state)) → Moves contents a bytes b w0 w1 t0 t1
 moves_line contents a b bytes w0 w1 t0 t1 marks p r one ends are gets =
     let l : language_of a.work ≡ Script = ap language_of r.is in
     let s = passes_running a b bytes w0 w1 r p in
@@ -165,7 +166,7 @@ moves_line contents a b bytes w0 w1 t0 t1 marks p r one ends are gets =
     }
 
 pub ends_line : {T : Type 0} (contents : T → Option (List ℕ)) (a : Place) (end : Work) (text : List ℕ) (w0 w1 : Option (List ℕ)) (t0 t1 : Taps T) (marks : Marks) (c : Closes a end [] text [] w0 w1) → IsRunning a.work → HasNoFeed a.line
-    → ((mode : Mode) (state : WorldState) → a.work ≡ Running mode state → AreMarks state marks) → ((mode : Mode) (state : WorldState) → end ≡ Running mode state → Gets contents t0 t1 (behind marks state)) → Ends contents a end w0 w1 t0 t1
+    → ((mode : Mode) (state : World) → a.work ≡ Running mode state → AreMarks state marks) → ((mode : Mode) (state : World) → end ≡ Running mode state → Gets contents t0 t1 (behind marks state)) → Ends contents a end w0 w1 t0 t1
 ends_line contents a end text w0 w1 t0 t1 marks c r one are gets =
     let l : language_of a.work ≡ Script = ap language_of r.is in
     let s = closes_running a end [] text [] w0 w1 r c in

@@ -10,7 +10,7 @@ use Rattle.grammar.specs.Lines.{Reads}
 use Rattle.engine.specs.declared.line_runner.Mode.{Mode}
 use Rattle.engine.specs.Engine.{Place, Work, Running, ReadsEnded, start_of}
 use Rattle.engine.specs.Script.{Runs, Writes}
-use Rattle.engine.specs.WorldState.{WorldState, first_state}
+use Rattle.mig_model.specs.Migration.{World, first_world}
 use Rattle.engine.proofs.Lines.{reads_more, reads_then, reads_last}
 use Rattle.engine.proofs.Transcripts.{run_promised}
 use Rattle.engine.proofs.Whole.{input_is}
@@ -142,7 +142,7 @@ nothing_more : (traffic : Traffic) → with_more no_traffic traffic ≡ traffic
 nothing_more traffic = refl
 
 -- the work on a world is a run
-puts_of : (mode : Mode) (old : WorldState) (lines : List Line) (new : Work) (text : List ℕ) (traffic : Traffic) → Carries (Running mode old) lines new text traffic → (end : WorldState) × Puts mode old lines end text traffic
+puts_of : (mode : Mode) (old : World) (lines : List Line) (new : Work) (text : List ℕ) (traffic : Traffic) → Carries (Running mode old) lines new text traffic → (end : World) × Puts mode old lines end text traffic
 puts_of mode old [] new text traffic p = (old, (refl, p.1, p.2))
 puts_of mode old (Skipped ∷ lines) new text traffic p =
     let rest = puts_of mode old lines new p.2 p.3 (subst (λ (w : Work). Carries w lines new p.2 p.3) p.4.0 p.7) in
@@ -155,33 +155,33 @@ puts_of mode old (Do order ∷ lines) new text traffic p =
     (rest.0, (p.4.0, p.1, p.2, p.3, p.4.2, p.5, put, rest.1))
 puts_of mode old (Enter entry ∷ lines) new text traffic p = absurd p.4
 
-puts_run : (mode : Mode) (old : WorldState) (lines : List Line) (new : WorldState) (text : List ℕ) (traffic : Traffic) → Puts mode old lines new text traffic → Runs mode old lines new text
+puts_run : (mode : Mode) (old : World) (lines : List Line) (new : World) (text : List ℕ) (traffic : Traffic) → Puts mode old lines new text traffic → Runs mode old lines new text
 puts_run mode old [] new text traffic p = (p.0, p.1)
 puts_run mode old (Skipped ∷ lines) new text traffic p = puts_run mode old lines new text traffic p
 puts_run mode old (Do order ∷ lines) new text traffic p = (p.0, p.1, p.2, p.4, p.5, puts_run mode p.0 lines new p.2 p.3 p.7)
 puts_run mode old (Enter entry ∷ lines) new text traffic p = absurd p
 
-tapped_by : {T : Type 0} (contents : T → Option (List ℕ)) (mode : Mode) (start : WorldState) (input : List ℕ) (end : Work) (w0 w1 : Option (List ℕ)) (t0 t1 : Taps T)
+tapped_by : {T : Type 0} (contents : T → Option (List ℕ)) (mode : Mode) (start : World) (input : List ℕ) (end : Work) (w0 w1 : Option (List ℕ)) (t0 t1 : Taps T)
     → ReadsAll contents (Running mode start) input end w0 w1 t0 t1 → IsTapped contents mode start input w0 w1 t0 t1
 tapped_by contents mode start input end w0 w1 t0 t1 p =
     let puts = puts_of mode start p.lines end p.text p.traffic p.carries in
     record { lines = p.lines; end = puts.0; text = p.text; traffic = p.traffic; reads = p.reads; puts = puts.1; appends = p.appends; gets = p.gets }
 
 writes_by : {T : Type 0} (contents : T → Option (List ℕ)) (mode : Mode) (cpus : ℕ) (input : List ℕ) (end : Work) (w0 w1 : Option (List ℕ)) (t0 t1 : Taps T)
-    → ReadsAll contents (Running mode (first_state cpus)) input end w0 w1 t0 t1 → Writes mode (first_state cpus) input w0 w1
+    → ReadsAll contents (Running mode (first_world cpus)) input end w0 w1 t0 t1 → Writes mode (first_world cpus) input w0 w1
 writes_by contents mode cpus input end w0 w1 t0 t1 p =
-    let puts = puts_of mode (first_state cpus) p.lines end p.text p.traffic p.carries in
-    let runs = puts_run mode (first_state cpus) p.lines puts.0 p.text p.traffic puts.1 in
+    let puts = puts_of mode (first_world cpus) p.lines end p.text p.traffic p.carries in
+    let runs = puts_run mode (first_world cpus) p.lines puts.0 p.text p.traffic puts.1 in
     record { lines = p.lines; text = p.text; reads = p.reads; prints = (puts.0, runs, run_promised mode cpus p.lines puts.0 p.text runs); appends = p.appends }
 
-pub run_tapped : {T E : Type 0} (result : Result T E) {S : Type 0} (contents : S → Option (List ℕ)) (work : Work) (mode : Mode) (cpus : ℕ) (end : Work) (r w0 w1 : Option (List ℕ)) (t0 t1 : Taps S) → work ≡ Running mode (first_state cpus)
-    → OnOk result (IfSome r (λ input. ReadsAll contents work input end w0 w1 t0 t1)) → OnOk result (IfSome r (λ input. IsTapped contents mode (first_state cpus) input w0 w1 t0 t1))
+pub run_tapped : {T E : Type 0} (result : Result T E) {S : Type 0} (contents : S → Option (List ℕ)) (work : Work) (mode : Mode) (cpus : ℕ) (end : Work) (r w0 w1 : Option (List ℕ)) (t0 t1 : Taps S) → work ≡ Running mode (first_world cpus)
+    → OnOk result (IfSome r (λ input. ReadsAll contents work input end w0 w1 t0 t1)) → OnOk result (IfSome r (λ input. IsTapped contents mode (first_world cpus) input w0 w1 t0 t1))
 run_tapped (Err x) contents work mode cpus end r w0 w1 t0 t1 is p = tt
 run_tapped (Ok x) contents work mode cpus end None w0 w1 t0 t1 is p = tt
-run_tapped (Ok x) contents work mode cpus end (Some input) w0 w1 t0 t1 is p = tapped_by contents mode (first_state cpus) input end w0 w1 t0 t1 (subst (λ (w : Work). ReadsAll contents w input end w0 w1 t0 t1) is p)
+run_tapped (Ok x) contents work mode cpus end (Some input) w0 w1 t0 t1 is p = tapped_by contents mode (first_world cpus) input end w0 w1 t0 t1 (subst (λ (w : Work). ReadsAll contents w input end w0 w1 t0 t1) is p)
 
-pub run_written : {T E : Type 0} (result : Result T E) {S : Type 0} (contents : S → Option (List ℕ)) (work : Work) (mode : Mode) (cpus : ℕ) (end : Work) (r w0 w1 : Option (List ℕ)) (t0 t1 : Taps S) → work ≡ Running mode (first_state cpus)
-    → OnOk result (IfSome r (λ input. ReadsAll contents work input end w0 w1 t0 t1)) → OnOk result (IfSome r (λ input. Writes mode (first_state cpus) input w0 w1))
+pub run_written : {T E : Type 0} (result : Result T E) {S : Type 0} (contents : S → Option (List ℕ)) (work : Work) (mode : Mode) (cpus : ℕ) (end : Work) (r w0 w1 : Option (List ℕ)) (t0 t1 : Taps S) → work ≡ Running mode (first_world cpus)
+    → OnOk result (IfSome r (λ input. ReadsAll contents work input end w0 w1 t0 t1)) → OnOk result (IfSome r (λ input. Writes mode (first_world cpus) input w0 w1))
 run_written (Err x) contents work mode cpus end r w0 w1 t0 t1 is p = tt
 run_written (Ok x) contents work mode cpus end None w0 w1 t0 t1 is p = tt
 run_written (Ok x) contents work mode cpus end (Some input) w0 w1 t0 t1 is p = writes_by contents mode cpus input end w0 w1 t0 t1 (subst (λ (w : Work). ReadsAll contents w input end w0 w1 t0 t1) is p)

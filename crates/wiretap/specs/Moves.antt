@@ -8,7 +8,7 @@ use Rattle.grammar.specs.declared.line.Line.{Line}
 use Rattle.grammar.specs.Lines.{HasNoFeed, Reads}
 use Rattle.engine.specs.declared.line_runner.Mode.{Mode}
 use Rattle.engine.specs.Engine.{Place, Work, Running, Keeping, Does, ReadsEnded}
-use Rattle.engine.specs.WorldState.{WorldState}
+use Rattle.mig_model.specs.Migration.{World}
 use Rattle.wiretap.specs.declared.marks.Marks.{Marks}
 use Rattle.wiretap.specs.declared.taps.Taps.{Taps}
 use Rattle.wiretap.specs.Traffic.{Traffic, no_traffic, with_more, put_between, Gets}
@@ -16,17 +16,17 @@ use Rattle.wiretap.specs.Traffic.{Traffic, no_traffic, with_more, put_between, G
 -- a world is run
 pub record IsRunning (work : Work) : Type 0 where
   pub mode : Mode
-  pub state : WorldState
+  pub state : World
   pub is : work ≡ Running mode state
 
 -- the counts are those of the bytes in flight in a world
-pub record AreMarks (state : WorldState) (marks : Marks) : Type 0 where
+pub record AreMarks (state : World) (marks : Marks) : Type 0 where
   pub forward : marks.forward ≡ length (texts Two state.forward.frames)
   pub back : marks.back ≡ length (texts Two state.back.frames)
   pub urgent : marks.urgent ≡ length (texts Two state.urgent.frames)
 
 -- the bytes in flight in a world, on each wire those behind the number that its count says
-abbrev pub behind : Marks → WorldState → Traffic
+abbrev pub behind : Marks → World → Traffic
 behind marks state =
     record {
       forward = drop marks.forward (texts Two state.forward.frames);

@@ -11,7 +11,7 @@ use Rattle.grammar.specs.declared.line.Line.TheVariants.{Skipped, Do, Enter}
 use Rattle.grammar.specs.Lines.{Reads}
 use Rattle.engine.specs.declared.line_runner.Mode.{Mode}
 use Rattle.engine.specs.Script.{Obeys}
-use Rattle.engine.specs.WorldState.{WorldState}
+use Rattle.mig_model.specs.Migration.{World}
 use Rattle.wiretap.specs.declared.taps.Taps.{Taps}
 
 -- One step
@@ -39,7 +39,7 @@ abbrev pub with_more : Traffic → Traffic → Traffic
 with_more first more = record { forward = first.forward ++ more.forward; back = first.back ++ more.back; urgent = first.urgent ++ more.urgent }
 
 -- the texts of the frames that were put on each wire between two states
-abbrev pub put_between : (old new : WorldState) → Traffic
+abbrev pub put_between : (old new : World) → Traffic
 put_between old new =
     record {
       forward = texts Two (put_on old.forward new.forward);
@@ -50,10 +50,10 @@ put_between old new =
 -- Runs
 
 -- these lines lead from one state to the other, with this output, and their steps put these bytes on the wires
-abbrev pub Puts : Mode → WorldState → List Line → WorldState → List ℕ → Traffic → Type 0
+abbrev pub Puts : Mode → World → List Line → World → List ℕ → Traffic → Type 0
 Puts mode old [] new text traffic = (new ≡ old) × (text ≡ []) × (traffic ≡ no_traffic)
 Puts mode old (Skipped ∷ lines) new text traffic = Puts mode old lines new text traffic
-Puts mode old (Do order ∷ lines) new text traffic = (mid : WorldState) × (out : List ℕ) × (more : List ℕ) × (behind : Traffic)
+Puts mode old (Do order ∷ lines) new text traffic = (mid : World) × (out : List ℕ) × (more : List ℕ) × (behind : Traffic)
     × Obeys mode old order mid out × (text ≡ out ++ more) × (traffic ≡ with_more (put_between old mid) behind) × Puts mode mid lines new more behind
 Puts mode old (Enter entry ∷ lines) new text traffic = ⊥
 
@@ -64,9 +64,9 @@ pub record Gets {T : Type 0} (contents : T → Option (List ℕ)) (old new : Tap
   pub urgent : Appends (contents old.urgent) (contents new.urgent) traffic.urgent
 
 -- a run of a script reads the whole input; its output was written, and what its steps put on the wires
-pub record IsTapped {T : Type 0} (contents : T → Option (List ℕ)) (mode : Mode) (start : WorldState) (input : List ℕ) (before after : Option (List ℕ)) (old new : Taps T) : Type 0 where
+pub record IsTapped {T : Type 0} (contents : T → Option (List ℕ)) (mode : Mode) (start : World) (input : List ℕ) (before after : Option (List ℕ)) (old new : Taps T) : Type 0 where
   pub lines : List Line
-  pub end : WorldState
+  pub end : World
   pub text : List ℕ
   pub traffic : Traffic
   pub reads : Reads Script input lines []

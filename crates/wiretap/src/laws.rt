@@ -7,7 +7,10 @@ ghost use Rattle.wiretap.specs.Traffic.{IsPut, put_on};
 /// A step puts frames at the end of a wire, behind all that is in flight, or it puts none there. It puts none on a wire from which it
 /// takes frames, as a delivery and a break do.
 pub fn what_a_step_puts()
-    ensures forward { (world : World) (step : Step) → IsPut world.forward (next world step).forward (put_on world.forward (next world step).forward) }
-    ensures back { (world : World) (step : Step) → IsPut world.back (next world step).back (put_on world.back (next world step).back) }
-    ensures urgent { (world : World) (step : Step) → IsPut world.urgent (next world step).urgent (put_on world.urgent (next world step).urgent) }
+    ensures forward { (world : World) (step : Step) →
+        IsPut world.forward (next world step).forward (put_on world.forward (next world step).forward) }
+    ensures back { (world : World) (step : Step) →
+        IsPut world.back (next world step).back (put_on world.back (next world step).back) }
+    ensures urgent { (world : World) (step : Step) →
+        IsPut world.urgent (next world step).urgent (put_on world.urgent (next world step).urgent) }
 {}

@@ -5,7 +5,7 @@ ghost use Rattle.grammar.specs.Lines.{HasNoFeed};
 ghost use Rattle.engine.specs.declared.line_runner.Mode.{Mode as AMode};
 ghost use Rattle.engine.specs.Engine.{Running, start_of};
 ghost use Rattle.engine.specs.Script.{Writes};
-ghost use Rattle.engine.specs.WorldState.{WorldState, first_state};
+ghost use Rattle.mig_model.specs.Migration.{World, first_world};
 ghost use Rattle.wiretap.specs.Traffic.{IsTapped, Gets};
 ghost use Rattle.wiretap.specs.Moves.{IsRunning, EndsOne, Moves, Ends, ReadsAll, AreMarks, behind};
 
@@ -35,9 +35,9 @@ pub fn run_tapped<R: Read, W: Write, T: Write + Drop>(
     requires low { 1 ≤ cpus }
     requires high { cpus ≤ 16 }
     ensures output { OnOk result (IfSome (R.remaining reader.old) (λ input.
-        Writes mode (first_state cpus) input (W.contents writer.old) (W.contents writer.new))) }
+        Writes mode (first_world cpus) input (W.contents writer.old) (W.contents writer.new))) }
     ensures wires { OnOk result (IfSome (R.remaining reader.old) (λ input.
-        IsTapped T.contents mode (first_state cpus) input (W.contents writer.old) (W.contents writer.new) taps.old taps.new)) }
+        IsTapped T.contents mode (first_world cpus) input (W.contents writer.old) (W.contents writer.new) taps.old taps.new)) }
 {
     let runner = LineRunner::on_world(alloc, cpus, mode)?;
     let mut script = ScriptReader::new(alloc, runner);
@@ -136,7 +136,8 @@ fn finish<W: Write, T: Write + Drop>(
 /// How many bytes are in flight in the world of a script.
 fn marks_of(script: &ScriptReader) -> Result<Marks, TapFault>
     requires { IsRunning script.now.work }
-    ensures { IfOk result (λ marks. (mode : AMode) (state : WorldState) → script.now.work ≡ Running mode state → AreMarks state marks) }
+    ensures { IfOk result (λ marks. (mode : AMode) (state : World) →
+        script.now.work ≡ Running mode state → AreMarks state marks) }
 {
     match script.world() {
         Some(world) => Marks::of(world),
@@ -151,7 +152,8 @@ fn write_put<T: Write + Drop>(
     before: Marks,
 ) -> Result<(), TapFault>
     requires { IsRunning script.now.work }
-    ensures { OnOk result ((mode : AMode) (state : WorldState) → script.now.work ≡ Running mode state → Gets T.contents taps.old taps.new (behind before state)) }
+    ensures { OnOk result ((mode : AMode) (state : World) → script.now.work ≡ Running mode state →
+        Gets T.contents taps.old taps.new (behind before state)) }
 {
     match script.world() {
         Some(world) => taps.write_all_put(world, before),

@@ -12,6 +12,7 @@ use Rattle.mig_model.proofs.ViewPromises.{phase_complete}
 use Rattle.mig_model.proofs.WaitingAccesses.{are_accesses}
 use Rattle.world.specs.Headline.{Headline, InstallsNothingOver, IsMoved, SettlesRight}
 use Rattle.world.specs.Worlds.{IsWorld}
+use Rattle.world.proofs.CoreLemmas.{core_reached}
 
 installs : (world : World) → IsReached world → InstallsNothingOver world
 installs world reached =
@@ -46,7 +47,7 @@ headline_reached world reached =
     let kept = kept-reached world reached in
     record {
       reached = reached;
-      flat = kept.memory.flat;
+      core = core_reached world reached;
       installs = installs world reached;
       complete = λ h. moved world reached ((phase_complete world).0 h);
       current = kept.memory.holds;

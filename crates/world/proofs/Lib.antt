@@ -1,3 +1,4 @@
+pub mod CoreLemmas
 pub mod DeliveryLemmas
 pub mod EndLemmas
 pub mod HeadlineLemmas

@@ -1,6 +1,5 @@
--- The promises for every world, whatever list of steps has led to it: of processors, handlers, pushers and deliveries, breaks and resumes.
--- The transcript is the run of one flat memory on the same commands, in the order in which they took effect; no page is installed over one
--- that is present; and once the migration is complete, the destination alone holds that flat memory, and no page is owed.
+-- All promises for every world, whatever list of steps has led to it: of processors, handlers, pushers and deliveries, breaks and resumes.
+-- Core.antt has the first of them, which can be believed alone. The others speak of the steps of the machine, and of owed pages on their way.
 --
 -- `reached` brings the laws of mig_model/src/migration.rt, which hold for every such world. Some of them stand only there: no frame is
 -- refused (no_frame_is_refused); a page that is pushed does not remain again in its epoch (pages_that_remain); how a command begins to
@@ -9,7 +8,7 @@
 -- comes exactly by Done, or by a Recv of a destination that has ended (completion), and can be reached (a_migration_can_complete).
 use Rattle.std.specs.Prelude.{◌≡◌, ℕ, ◌/◌, ◌==◌, true, false, if◌then◌else◌, None, Ok, IsOk, List}
 use Rattle.mig_base.specs.Commands.{is_access}
-use Rattle.mig_base.specs.Flat.{IsFlatRun, memory_of, reply_of}
+use Rattle.mig_base.specs.Flat.{memory_of, reply_of}
 use Rattle.mig_base.specs.declared.TheConstants.{PAGE_SIZE}
 use Rattle.mig_base.specs.declared.command.Command.{Command}
 use Rattle.mig_base.specs.declared.effect.Effect.{Effect}
@@ -23,6 +22,7 @@ use Rattle.mig_model.specs.Migration.{World, after_steps, next, outcome}
 use Rattle.mig_model.specs.Promises.{AreUnderWay, ArePaired, IsAlone, IsComplete, IsPut, IsReached, IsZeroed, leaves_settled, owed_changed}
 use Rattle.mig_model.specs.Source.{is_precopy, is_source_paused, is_stopped, space_of}
 use Rattle.mig_model.specs.Views.{phase_of}
+use Rattle.world.specs.Core.{Core}
 
 -- the next step installs nothing over a page that is present: neither a copy, which is that of the page from which it was owed, nor a
 -- page of zeros
@@ -50,8 +50,9 @@ pub record SettlesRight (world : World) : Type 0 where
 pub record Headline (world : World) : Type 0 where
   -- some list of steps leads to it from a first world, so every law of such worlds speaks of it
   pub reached : IsReached world
-  -- the three sentences at the head of this file
-  pub flat : IsFlatRun world.transcript
+  -- the transcript is the run of one flat memory, and completion means that the destination alone holds it
+  pub core : Core world
+  -- the next step installs nothing over a page that is present, and a complete migration stays complete
   pub installs : InstallsNothingOver world
   pub complete : phase_of world ≡ WorldPhase.Complete → IsMoved world
   -- the guest's memory is the last memory of the transcript

@@ -1,4 +1,5 @@
 pub mod Answers
 pub mod Codes
+pub mod Core
 pub mod Headline
 pub mod Worlds

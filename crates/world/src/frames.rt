@@ -39,10 +39,16 @@ pub(crate) fn receive(
 ) -> Result<Effect, Refusal>
     requires frame { IsFrame (frame_of sent.frame) }
     requires right { frame_fault destination.old sent.epoch (frame_of sent.frame) ≡ None }
-    ensures took { IfOk result (λ effect. destinations.take destination.old sent.epoch (frame_of sent.frame) ≡ steps.sent effect (to.destination_answers destination.old (frame_of sent.frame)) destination.new) }
-    ensures answered { OnOk result (back.new.wire ≡ machine.wire_with back.old.wire destination.new.epoch (to.destination_answers destination.old (frame_of sent.frame))) }
-    ensures refused { IfErr result (λ refusal. (refusal ≡ refusals.Refusal.NoMemory) ⊎ (destinations.take destination.old sent.epoch (frame_of sent.frame) ≡ Err refusal)) }
-    ensures err { OnErr result ((destination.new ≡ destination.old) × (back.new.wire ≡ back.old.wire)) }
+    ensures took { IfOk result (λ effect.
+        destinations.take destination.old sent.epoch (frame_of sent.frame) ≡
+        steps.sent effect (to.destination_answers destination.old (frame_of sent.frame)) destination.new) }
+    ensures answered { OnOk result (back.new.wire ≡
+        machine.wire_with back.old.wire destination.new.epoch (to.destination_answers destination.old (frame_of sent.frame))) }
+    ensures refused { IfErr result (λ refusal.
+        (refusal ≡ refusals.Refusal.NoMemory) ⊎
+        (destinations.take destination.old sent.epoch (frame_of sent.frame) ≡ Err refusal)) }
+    ensures err { OnErr result ((destination.new ≡ destination.old) ×
+        (back.new.wire ≡ back.old.wire)) }
 {
     let effect = sent.frame.effect();
     let Ok(answers) = answers_to(alloc, destination, back, &sent.frame) else {
@@ -70,9 +76,14 @@ pub(crate) fn receive_back(
 ) -> Result<Effect, NoMemory>
     requires frame { IsFrame (frame_of sent.now.frame) }
     requires right { back_fault source.old sent.now.epoch (frame_of sent.now.frame) ≡ None }
-    requires recv { (state : Received) (owed : FinSet nat_cmp) → frame_of sent.now.frame ≡ machine.Frame.Recv state owed → rebuild_fault source.old state owed ≡ None }
-    ensures took { IfOk result (λ effect. sources.take source.old (frame_of sent.now.frame) ≡ steps.sent effect (from.source_answers source.old (frame_of sent.now.frame)) source.new) }
-    ensures answered { OnOk result (forward.new.wire ≡ machine.wire_with forward.old.wire source.new.epoch (from.source_answers source.old (frame_of sent.now.frame))) }
+    requires recv { (state : Received) (owed : FinSet nat_cmp) →
+        frame_of sent.now.frame ≡ machine.Frame.Recv state owed →
+        rebuild_fault source.old state owed ≡ None }
+    ensures took { IfOk result (λ effect.
+        sources.take source.old (frame_of sent.now.frame) ≡
+        steps.sent effect (from.source_answers source.old (frame_of sent.now.frame)) source.new) }
+    ensures answered { OnOk result (forward.new.wire ≡
+        machine.wire_with forward.old.wire source.new.epoch (from.source_answers source.old (frame_of sent.now.frame))) }
     ensures err { OnErr result ((source.new ≡ source.old) × (forward.new.wire ≡ forward.old.wire)) }
 {
     let effect = sent.frame.effect();
@@ -94,7 +105,9 @@ pub(crate) fn receive_back(
 pub(crate) fn receive_urgent(destination: &mut Destination, sent: Sent) -> Result<Effect, NoMemory>
     requires frame { IsFrame (frame_of sent.frame) }
     requires right { urgent_fault destination.old sent.epoch (frame_of sent.frame) ≡ None }
-    ensures took { IfOk result (λ effect. destinations.take_urgent destination.old (frame_of sent.frame) ≡ steps.acted effect destination.new) }
+    ensures took { IfOk result (λ effect.
+        destinations.take_urgent destination.old (frame_of sent.frame) ≡
+        steps.acted effect destination.new) }
     ensures err { OnErr result (destination.new ≡ destination.old) }
 {
     let effect = sent.frame.effect();
@@ -112,7 +125,9 @@ fn answers_to(
     back: &mut Wire,
     frame: &Frame,
 ) -> Result<Vec<Frame>, NoMemory>
-    ensures answers { IfOk result (λ answers. frames_of answers.items ++ answered_at_once destination.now (frame_of frame.now) ≡ to.destination_answers destination.now (frame_of frame.now)) }
+    ensures answers { IfOk result (λ answers.
+        frames_of answers.items ++ answered_at_once destination.now (frame_of frame.now) ≡
+        to.destination_answers destination.now (frame_of frame.now)) }
     ensures well_formed { IfOk result (λ answers. AreWellFormed (frames_of answers.items)) }
     ensures room { OnOk result (length (to.destination_answers destination.now (frame_of frame.now)) ≤ back.new.room) }
     ensures stays { back.new.wire ≡ back.old.wire }
@@ -133,7 +148,8 @@ fn answers_to(
 
 /// The Recv of the destination, and behind it, if it runs, its requests once more.
 fn report(alloc: Global, destination: &Destination) -> Result<Vec<Frame>, NoMemory>
-    ensures answers { IfOk result (λ answers. frames_of answers.items ≡ to.destination_answers destination.now machine.Frame.Resume) }
+    ensures answers { IfOk result (λ answers.
+        frames_of answers.items ≡ to.destination_answers destination.now machine.Frame.Resume) }
     ensures well_formed { IfOk result (λ answers. AreWellFormed (frames_of answers.items)) }
 {
     let received = report_received(alloc, destination)?;
@@ -162,7 +178,8 @@ fn push_all(wire: &mut Wire, epoch: u32, mut frames: Vec<Frame>)
 pub(crate) fn send_back(wire: &mut Wire, up: bool, epoch: u32, frame: Option<Frame>)
     requires well_formed { IfSome frame (λ frame. IsFrame (frame_of frame)) }
     requires room { length (option_to_list frame) ≤ wire.old.room }
-    ensures { wire.new.wire ≡ machine.wire_if up wire.old.wire epoch (map frame_of (option_to_list frame)) }
+    ensures { wire.new.wire ≡
+        machine.wire_if up wire.old.wire epoch (map frame_of (option_to_list frame)) }
 {
     match frame {
         Some(frame) if up => wire.push(epoch, frame),

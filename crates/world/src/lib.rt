@@ -8,8 +8,8 @@
 //!
 //! Contracts see a world as the machine's (`mig_model`, `specs/Migration.antt`): a step returns the machine's effect or refusal and leaves
 //! the machine's next world, or it runs out of memory and changes nothing. Every world is reached by some list of steps, so every law of
-//! such worlds holds for it: `specs/Headline.antt` has them in one record, which [`World::step`], [`World::run`] and
-//! [`World::headline`] promise.
+//! such worlds holds for it. `specs/Core.antt` has the first promise, in words that know nothing of the machine's steps, and
+//! `specs/Headline.antt` all of them in one record. [`World::step`] promises both, [`World::run`] and [`World::headline`] the second.
 //!
 //! The modules: `parts` (the parts of a world, and their steps, by kind), `frames` (how a node takes a frame, and frames that are put on a
 //! wire), `world` (the type that callers see).

@@ -8,6 +8,7 @@ ghost use Rattle.mig_model.specs.Runs.{Happens, IsRun};
 ghost use Rattle.mig_model.specs.Views.{new_world_with};
 ghost use Rattle.vcpu.specs.Answers.{is_count};
 ghost use Rattle.world.specs.Answers.{new_refusal};
+ghost use Rattle.world.specs.Core.{CoreFirst, CoreStep};
 ghost use Rattle.world.specs.Headline.{Headline};
 
 mod views;
@@ -60,8 +61,10 @@ impl World {
     /// refusal is `NoMemory`.
     pub fn new(alloc: Global, cpus: u8) -> Result<World, Refusal>
         ensures ok { IfOk result (λ world. new_world_with cpus 0 0 ≡ Ok world) }
-        ensures refused { IfErr result (λ refusal. (refusal ≡ Refusal.NoMemory) ⊎ (new_world_with cpus 0 0 ≡ Err refusal)) }
+        ensures refused { IfErr result (λ refusal.
+            (refusal ≡ Refusal.NoMemory) ⊎ (new_world_with cpus 0 0 ≡ Err refusal)) }
         ensures no_cpu { (result ≡ Err Refusal.NoCpu) ↔ (is_count cpus ≡ false) }
+        ensures core { IfOk result CoreFirst }
         ensures headline { IfOk result Headline }
     {
         World::with_counts(alloc, cpus, 0, 0)
@@ -70,8 +73,10 @@ impl World {
     /// The same, with these counts as the epoch and the number of rounds.
     pub fn with_counts(alloc: Global, cpus: u8, epoch: u32, rounds: u32) -> Result<World, Refusal>
         ensures ok { IfOk result (λ world. new_world_with cpus epoch rounds ≡ Ok world) }
-        ensures refused { IfErr result (λ refusal. (refusal ≡ Refusal.NoMemory) ⊎ (new_world_with cpus epoch rounds ≡ Err refusal)) }
+        ensures refused { IfErr result (λ refusal.
+            (refusal ≡ Refusal.NoMemory) ⊎ (new_world_with cpus epoch rounds ≡ Err refusal)) }
         ensures no_cpu { (result ≡ Err Refusal.NoCpu) ↔ (is_count cpus ≡ false) }
+        ensures core { IfOk result CoreFirst }
         ensures headline { IfOk result Headline }
     {
         let source = match Source::new(alloc, cpus, epoch, rounds) {
@@ -111,6 +116,7 @@ impl World {
     /// the first in the order of [`Refusal`] counts. `NoMemory` comes after all others, with one exception: a Deliver whose frame would
     /// have to wait may return it. Break, Notice and Serve never return it.
     pub fn step(&mut self, step: Step) -> Result<Effect, Refusal>
+        ensures core { CoreStep self.old step result self.new }
         ensures happens { Happens self.old step result self.new }
         ensures headline { Headline self.new }
     {

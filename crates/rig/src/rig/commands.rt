@@ -24,7 +24,8 @@ impl Rig {
         command: Command,
     ) -> (MutexGuard<'_, World>, Result<Reply, Refusal>)
         ensures entered { IfOk result.1 (λ reply. IsReplyOf cpu reply) }
-        ensures out { IfOk result.1 (λ reply. is_calling (cpu_state (mutex_guard_value result.0) cpu) ≡ false) }
+        ensures out { IfOk result.1 (λ reply.
+            is_calling (cpu_state (mutex_guard_value result.0) cpu) ≡ false) }
     {
         let (world, tried) = self.issue(rt, cpu, command);
         match tried {
@@ -72,7 +73,8 @@ impl Rig {
         cpu: u8,
     ) -> (MutexGuard<'_, World>, Result<Answer, Refusal>)
         ensures entered { IfOk result.1 (λ answer. IsReplyTo cpu answer.command answer.reply) }
-        ensures out { IfOk result.1 (λ answer. is_calling (cpu_state (mutex_guard_value result.0) cpu) ≡ false) }
+        ensures out { IfOk result.1 (λ answer.
+            is_calling (cpu_state (mutex_guard_value result.0) cpu) ≡ false) }
     {
         let mut world = self.world.lock(rt);
         for _ in rt.forever() {

@@ -31,8 +31,10 @@ impl Rig {
     /// Claims of the pages that remain to be sent in this epoch, all of them free. `Phase` unless the source is stopped, and then
     /// `NoMemory` if the list of the pages or the claims have no room. No step is made.
     pub fn claims<R: Wait>(&self, rt: &R) -> Result<(Claims, ClaimSeat), Refusal>
-        ensures seat { IfOk result (λ r. IsSeatOf r.0 r.1 × (r.1.claimed ≡ []) × (r.1.seen ≡ []) × (r.1.share ≡ 0 ∷ [])) }
-        ensures refused { IfErr result (λ refusal. (refusal ≡ Refusal.Phase) ⊎ (refusal ≡ Refusal.NoMemory)) }
+        ensures seat { IfOk result (λ r.
+            IsSeatOf r.0 r.1 × (r.1.claimed ≡ []) × (r.1.seen ≡ []) × (r.1.share ≡ 0 ∷ [])) }
+        ensures refused { IfErr result (λ refusal.
+            (refusal ≡ Refusal.Phase) ⊎ (refusal ≡ Refusal.NoMemory)) }
     {
         let (epoch, pages) = self.remaining(rt)?;
         match Claims::new(self.alloc, epoch, pages) {
@@ -93,7 +95,8 @@ impl Rig {
     /// The epoch, and the pages that remain in it.
     fn remaining<R: Wait>(&self, rt: &R) -> Result<(u32, Vec<PageNo>), Refusal>
         ensures apart { IfOk result (λ r. AllPairs ◌≢◌ r.1.items) }
-        ensures refused { IfErr result (λ refusal. (refusal ≡ Refusal.Phase) ⊎ (refusal ≡ Refusal.NoMemory)) }
+        ensures refused { IfErr result (λ refusal.
+            (refusal ≡ Refusal.Phase) ⊎ (refusal ≡ Refusal.NoMemory)) }
     {
         let world = self.world.lock(rt);
         remaining_in(self.alloc, &world)

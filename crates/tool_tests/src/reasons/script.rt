@@ -93,7 +93,7 @@ s:11:12: `-4096` has a sign: numbers have none
 s:12:12: `4K` is not a number: `K` is not a decimal digit; lengths are in bytes
 s:13:23: `18446744073709551616` is out of range: numbers are below 2^64
 s:14:23: `12345678901234567890123` has 23 digits: at most 20 are read
-s:15:23: `0x12345678901234567` has 17 digits: at most 16 behind `0x` are read
+s:15:23: `0x12345678901234567` has 17 digits: at most 16 after `0x` are read
 s:16:12: `0xZZ` is not a number: `Z` is not a hexadecimal digit
 s:17:12: `0X10` has a capital X: write `0x`
 s:18:12: `0x` has no digits

@@ -96,7 +96,8 @@ impl Parts {
 
     /// Whether a processor can begin a command.
     fn check_issue(&self, cpu: u8) -> Result<(), Refusal>
-        ensures { (command : Command) → result ≡ checked (answer (world_of self.now) (Step.Issue cpu command)) }
+        ensures { (command : Command) →
+            result ≡ checked (answer (world_of self.now) (Step.Issue cpu command)) }
     {
         self.cpus().ensure_idle(cpu)?;
         if !self.runs() {
@@ -160,7 +161,8 @@ fn is_out_of_phase(checked: Result<(), Refusal>) -> bool
 
 /// Whether the first frame in flight is End.
 fn is_end_first(wire: &Wire) -> bool
-    ensures { (sent : Sent) (rest : List Sent) → wire.now.wire.frames ≡ sent ∷ rest → result ≡ is_end sent.frame }
+    ensures { (sent : Sent) (rest : List Sent) → wire.now.wire.frames ≡ sent ∷ rest →
+        result ≡ is_end sent.frame }
 {
     byte_at(wire, 1) == END_TAG
 }

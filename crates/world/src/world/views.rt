@@ -143,14 +143,16 @@ impl World {
 
     /// The message that the source's handler reads next, a page fault or an event, if one waits.
     pub fn source_message(&self) -> Option<Message>
-        ensures { result ≡ option_map (λ noted. noted.message) (next_message self.now.source.guest.space.object) }
+        ensures { result ≡ option_map (λ noted.
+            noted.message) (next_message self.now.source.guest.space.object) }
     {
         self.parts.source.space().next_message()
     }
 
     /// The same at the destination.
     pub fn destination_message(&self) -> Option<Message>
-        ensures { result ≡ option_map (λ noted. noted.message) (next_message self.now.destination.guest.space.object) }
+        ensures { result ≡ option_map (λ noted.
+            noted.message) (next_message self.now.destination.guest.space.object) }
     {
         self.parts.destination.space().next_message()
     }

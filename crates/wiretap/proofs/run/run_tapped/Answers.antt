@@ -1,11 +1,11 @@
 use Rattle.std.proofs.Common.{ap, ◌∙◌}
 use Rattle.engine.specs.Engine.{Place}
-use Rattle.engine.specs.WorldState.{first_state}
+use Rattle.mig_model.specs.Migration.{first_world}
 use Rattle.wiretap.proofs.Whole.{run_written, run_tapped}
 use Rattle.wiretap.proofs.run.run_tapped.Goals as goal
 
 pub read_lines-requires-clause-runs : goal.read_lines-requires-clause-runs
-read_lines-requires-clause-runs g c = record { mode = c.args.mode; state = first_state c.args.cpus; is = ap (λ (p : Place). p.work) c.new-script.ensures ∙ c.in_ok-runner.ensures.ok.0 }
+read_lines-requires-clause-runs g c = record { mode = c.args.mode; state = first_world c.args.cpus; is = ap (λ (p : Place). p.work) c.new-script.ensures ∙ c.in_ok-runner.ensures.ok.0 }
 
 pub returns-clause-output : goal.returns-clause-output
 returns-clause-output g c =

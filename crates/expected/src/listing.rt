@@ -1,0 +1,102 @@
+//! Writing each answer that differs.
+
+ghost use Rattle.std.specs.Prelude.{◌≤◌};
+
+use crate::outcome::{Outcome, Tested};
+use crate::player::Player;
+use engine::RunFault;
+use engine::line_runner::write_out;
+use engine::script_reader::{MAX_LINE, split_line, without_return};
+use std::alloc::Global;
+use std::io::{ErrorKind, Read, Write};
+
+/// Runs a test on a new world as [`test_script`](crate::test_script) does, but goes on after an answer that differs: it writes the line of
+/// each of them. The world has as many processors as the first line says, and otherwise `cpus`, 1 to 16. [`Tested`] has the outcome, and
+/// how many answers were compared.
+///
+/// A line is wrong where `test_script` finds it wrong; then what differs before it is written. At any other fault but a write fault nothing
+/// is written. The whole input is kept until the end, and so is what is written.
+pub fn list_differences<R: Read, W: Write>(
+    alloc: Global,
+    reader: &mut R,
+    writer: &mut W,
+    name: &str,
+    cpus: u8,
+) -> Result<Tested, RunFault>
+    requires low { 1 ≤ cpus }
+    requires high { cpus ≤ 16 }
+{
+    let mut input = Vec::new(alloc);
+    read_whole(reader, &mut input)?;
+    let mut lister = Lister {
+        player: Player::new(alloc, cpus)?,
+        output: Vec::new(alloc),
+    };
+    let listed = lister.list_lines(name, &input);
+    match listed {
+        Ok(()) | Err(RunFault::Line(_)) => write_out(writer, &lister.output)?,
+        Err(_) => {}
+    }
+    listed?;
+    Ok(lister.tested())
+}
+
+/// Appends all that a reader has to the bytes.
+pub(crate) fn read_whole<R: Read>(reader: &mut R, bytes: &mut Vec<u8>) -> Result<(), RunFault> {
+    match reader.read_to_end(bytes) {
+        Ok(_) => Ok(()),
+        Err(error) if error.kind() == ErrorKind::OutOfMemory => Err(RunFault::NoMemory),
+        Err(_) => Err(RunFault::ReadFault),
+    }
+}
+
+/// Does the lines of a test, and gathers what is said of each answer that differs.
+#[derive(Drop)]
+struct Lister {
+    player: Player,
+    output: Vec<u8>,
+}
+
+impl Lister {
+    /// How the lines that were done have ended.
+    fn tested(&self) -> Tested {
+        let outcome = if self.output.is_empty() {
+            Outcome::Same
+        } else {
+            Outcome::Differs
+        };
+        Tested {
+            outcome,
+            answers: self.player.answers,
+        }
+    }
+
+    /// Does the line with this number and text.
+    fn list_line(&mut self, name: &str, number: u64, text: &[u8]) -> Result<(), RunFault> {
+        if let Outcome::Differs = self.player.run_line(name, number, text)? {
+            self.output.extend_from_slice(&self.player.report)?;
+        }
+        Ok(())
+    }
+
+    /// Does all lines of a test.
+    fn list_lines(&mut self, name: &str, input: &[u8]) -> Result<(), RunFault> {
+        let mut rest = input;
+        let mut number = 0u64;
+        while let Some((raw, behind)) = split_line(rest) {
+            number += 1;
+            if raw.len() > MAX_LINE {
+                return Err(RunFault::Line(number));
+            }
+            self.list_line(name, number, without_return(raw))?;
+            rest = behind;
+        }
+        if rest.len() > MAX_LINE {
+            return Err(RunFault::Line(number + 1));
+        }
+        if rest.is_empty() {
+            return Ok(());
+        }
+        self.list_line(name, number + 1, rest)
+    }
+}

@@ -1,0 +1,103 @@
+//! A script that is typed at a terminal.
+
+use engine::script_reader::{MAX_LINE, split_line, without_return};
+use grammar::parse::parse;
+use grammar::{Language, Token};
+use lint::reason_of;
+use std::alloc::Global;
+use std::io;
+use std::io::{ErrorKind, Read, Stderr, Stdin, Write};
+
+/// The most bytes that are read at once. A terminal hands over one line at a time, of at most 4,095 bytes and a line feed.
+const PIECE: usize = 4096;
+
+/// Standard input at a terminal. A line that is none of a script is named on standard error, with what is wrong with it, and is not passed
+/// on: a typo leaves the session as it is.
+#[derive(Drop)]
+pub(crate) struct Terminal {
+    stdin: Stdin,
+    stderr: Stderr,
+    /// The tokens of the last line, kept for their room.
+    tokens: Vec<Token>,
+    /// What was read and is to be passed on.
+    ready: Vec<u8>,
+    /// How many of these bytes were passed on.
+    passed: usize,
+    /// How many lines were read.
+    lines: u64,
+}
+
+impl Terminal {
+    pub(crate) fn new(alloc: Global, stdin: Stdin, stderr: Stderr) -> Terminal {
+        Terminal {
+            stdin,
+            stderr,
+            tokens: Vec::new(alloc),
+            ready: Vec::new(alloc),
+            passed: 0,
+            lines: 0,
+        }
+    }
+
+    /// Whether a line is one of a script.
+    fn is_right(&mut self, line: &[u8]) -> io::Result<bool> {
+        if line.len() > MAX_LINE {
+            return Ok(false);
+        }
+        match parse(Language::Script, &mut self.tokens, line) {
+            Ok(found) => Ok(found.is_some()),
+            Err(_) => Err(io::Error::from(ErrorKind::OutOfMemory)),
+        }
+    }
+
+    /// Keeps a line that is to be passed on, or says what is wrong with it.
+    fn take_line(&mut self, raw: &[u8]) -> io::Result<()> {
+        self.lines = self.lines.saturating_add(1);
+        let line = without_return(raw);
+        if self.is_right(line)? {
+            self.ready.extend_from_slice(raw)?;
+            self.ready.push(b'\n')?;
+            return Ok(());
+        }
+        let number = self.lines;
+        let reason = reason_of(line, Language::Script);
+        let column = reason.column;
+        write!(self.stderr, "-:{number}:{column}: {reason}\n")?;
+        Ok(())
+    }
+
+    /// Reads what was typed, and keeps what is to be passed on. Returns how many bytes were read.
+    fn fill(&mut self) -> io::Result<usize> {
+        let mut piece = [0u8; PIECE];
+        let count = self.stdin.read(&mut piece)?;
+        self.ready.clear();
+        self.passed = 0;
+        let mut rest = piece.get(..count).unwrap_or(&[]);
+        while let Some((line, after)) = split_line(rest) {
+            self.take_line(line)?;
+            rest = after;
+        }
+        self.ready.extend_from_slice(rest)?;
+        Ok(count)
+    }
+
+    /// What is to be passed on. It is empty at the end of the input.
+    fn waiting(&mut self) -> io::Result<&[u8]> {
+        for _ in 0..u32::MAX {
+            if self.passed < self.ready.len() || self.fill()? == 0 {
+                break;
+            }
+        }
+        Ok(self.ready.get(self.passed..).unwrap_or(&[]))
+    }
+}
+
+impl Read for Terminal {
+    fn read(&mut self, buf: &mut [u8]) -> io::Result<usize> {
+        let waiting = self.waiting()?;
+        let count = waiting.len().min(buf.len());
+        buf[..count].copy_from_slice(&waiting[..count]);
+        self.passed = self.passed.saturating_add(count);
+        Ok(count)
+    }
+}
