@@ -34,6 +34,7 @@ TURNS = {
     r"(?<!network )(?<!lags )(?<!lag )(?<!falls )(?<!fall )behind": "after, following",
     r"st(ands?|ood)(?! (alone|for|out|still|up)\b)": "is, appears; of a crate: depends on",
     rf"(?<!the )(?<!its )answer(s|ed|ing) {RESULT}|(can|may|must|not|to|will|would) answer {RESULT}": "returns, writes",
+    r"`` answers (the|an?|it|them|that|which|what|none|each|true|false)": "returns",
     r"(go|goes|went|going) on(?! (the|an?|its)\b)": "continues, resumes",
     r"(?<!would )(?<!could )(?<!may )(?<!might )(?<!will )(?<!not )(?<!still )ha(s|ve) to(?! be believed)": "must, needs",
     r"(those|that) of\b[^.;:|]{0,80}\b(those|that) of": "the noun again",
