@@ -2,7 +2,7 @@
 """Times postmig on scripts of its own making, and prints a table: seconds, lines a second, peak resident memory.
 
 Run it from anywhere, once ./postmig prove has built the program: python3 bench/bench.py [--write | NAME ..]
-With --write the table goes to docs/PERFORMANCE.md.
+With --write the rows of SHOWN go to docs/PERFORMANCE.md.
 """
 
 import os
@@ -126,6 +126,12 @@ CASES = {
 }
 
 
+# The rows that the page has, by their beginnings.
+SHOWN = (
+    "| case", "|---", "| accesses-1m", "| areas-only", "| one-area", "| many-areas", "| map-unmap-8192 |", "| moves-10k |", "| precopy-256",
+    "| postcopy-256", "| precopy-16384", "| postcopy-16384",
+)
+
 # The same scripts, run to a transcript, and those transcripts checked.
 TRANSCRIPTS = ["accesses-10k", "accesses-100k", "accesses-1m", "map-unmap-8192", "moves-10k"]
 
@@ -179,7 +185,7 @@ def main():
         print(row, flush=True)
         rows.append(row)
     if words == ["--write"]:
-        page.put("speed", f"Measured on {page.machine()}.\n\n" + "\n".join(rows))
+        page.put("speed", f"Measured on {page.machine()}.\n\n" + "\n".join(row for row in rows if row.startswith(SHOWN)))
 
 
 if __name__ == "__main__":

@@ -2,7 +2,7 @@
 """Times the codec, frames of pages that are written and read, as ratios to a loop that copies pages twice.
 
 Run it from anywhere, once `rt run` has built the crate bench: python3 bench/codec.py [--write]. With --write the table goes to
-docs/PERFORMANCE.md.
+dist/CODEC.md.
 """
 
 import re
@@ -92,7 +92,7 @@ def main():
             lines.append(line)
         lines.append("")
     if sys.argv[1:] == ["--write"]:
-        page.put("codec", "\n".join(lines))
+        page.write("CODEC.md", "\n".join(lines))
 
 
 if __name__ == "__main__":

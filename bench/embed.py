@@ -124,7 +124,7 @@ def programs(work):
     said = run(sys.executable, EMBED / "compare.py", *SCRIPTS[0]).decode()
     if said != "all answers agree\n":
         sys.exit("embed: compare.py: " + said)
-    print("drive.c and compare.py say what docs/EMBED.md says")
+    print("drive.c and compare.py say what docs/USING.md says")
 
 
 def beside_the_program(work, loads):

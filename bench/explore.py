@@ -8,7 +8,8 @@ For each seed from SEED on (1), SEEDS of them (20), and for each profile: `postm
 without answers has the same lines; `postmig run` prints the answers; `postmig check` accepts the transcript of the run. Its status is 1
 where one of these does not hold. Then it prints tables of what happened. Run it once ./postmig prove has built the program. With --finish
 each script ends with the lines that finish it, and its migration has to be complete. With --scripts it judges scripts with answers that
-stand in a file, one after the other, and runs no `postmig explore`. With --write the tables go to docs/EXPLORE.md.
+stand in a file, one after the other, and runs no `postmig explore`. With --write the tables go to dist/EXPLORED.md, or with --finish a part
+of the first to docs/EXPLORE.md.
 
 A script shows a destination that installs zeros for every page if one of its loads returns other bytes than 0 that were installed: there
 it would return 0 for them. With --least the status is also 1 where fewer than N of 100 scripts of a profile with post-copy show it.
@@ -306,7 +307,7 @@ def main():
         if given.finish:
             page.put("finished", "\n".join(events(totals, ("scripts", *DATA))), FILE)
         else:
-            page.put("explored", text, FILE)
+            page.write("EXPLORED.md", text)
     return 1 if wrong else 0
 
 

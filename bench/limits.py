@@ -4,7 +4,7 @@
 python3 bench/limits.py [--write]
 
 Run it once ./postmig prove has built the program. It needs 1 GiB of the disk, a gigabyte of memory and some minutes. Its status is 1 where
-a case does not end as it has to. With --write the tables go to docs/LIMITS.md.
+a case does not end as it has to. With --write the tables go to dist/LIMITS.md.
 """
 
 import collections
@@ -22,7 +22,6 @@ import time
 import page
 from bench import LOW, PAGE, PROGRAM, stored
 
-FILE = page.TOP / "docs" / "LIMITS.md"
 GIB = 1 << 30
 MIB = 1 << 20
 
@@ -306,7 +305,7 @@ def main():
         rows.append("## Little memory\n")
         little_memory(folder, rows, failed)
     if sys.argv[1:] == ["--write"]:
-        page.put("limits", "\n".join(rows), FILE)
+        page.write("LIMITS.md", "\n".join(["# Limits\n", *rows]))
     if failed:
         raise SystemExit(f"not as wanted: {', '.join(failed)}")
 

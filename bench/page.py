@@ -1,4 +1,5 @@
-"""Puts what a script has measured or found into its part of a page of docs/, between two comments that name the part."""
+"""Puts what a script has measured or found into its part of a page of docs/, between two comments that name the part, or into a page of
+dist/, which is not kept in the repository."""
 
 import os
 import pathlib
@@ -33,3 +34,11 @@ def replaced(page, part, text, file):
 
 def put(part, text, file=PAGE):
     file.write_text(replaced(file.read_text(), part, text, file))
+
+
+def write(name, text):
+    """Writes a page of dist/, and says where it is."""
+    file = TOP / "dist" / name
+    file.parent.mkdir(exist_ok=True)
+    file.write_text(text.rstrip("\n") + "\n")
+    print(file.relative_to(TOP))

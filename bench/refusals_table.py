@@ -3,7 +3,7 @@
 
 python3 bench/refusals_table.py [--write | --check]
 
-With --write the tables go to docs/REFUSALS.md; with --check the page is compared with them, and the status is 1 where it differs.
+With --write the tables go to dist/REFUSALS.md; with --check nothing is printed but what is wrong. docs/REFUSALS.md explains them.
 Calls, their answers and their clauses are read from crates/*/src. The order of the refusals is written by hand, in bench/refusals.txt.
 That an order has NoMemory exactly where the contract allows it, and only names of the call's fault, is checked each time.
 """
@@ -16,7 +16,6 @@ import sys
 import page
 from definitions import CRATES, definitions, imports, names, product
 
-PAGE = page.TOP / "docs" / "REFUSALS.md"
 ORDERS = page.TOP / "bench" / "refusals.txt"
 # What waits for a lock, and what only starts a program.
 LEFT_OUT = ("rig", "threads", "postmig")
@@ -257,18 +256,26 @@ def tables(wrong):
     yield from steps(orders, wrong)
 
 
-def main():
+def text():
+    """The tables. Ends the program where something is wrong with the orders."""
     wrong = []
-    text = "\n".join(tables(wrong))
+    found = "\n".join(tables(wrong))
     if wrong:
         raise SystemExit("\n".join(wrong))
+    return found
+
+
+def write():
+    page.write("REFUSALS.md", "# Refusals of each call\n\n`./dev pages` writes this page. docs/REFUSALS.md explains it.\n\n" + text())
+
+
+def main():
     if sys.argv[1:] == ["--write"]:
-        page.put("refusals", text, PAGE)
+        write()
     elif sys.argv[1:] == ["--check"]:
-        if f"<!-- refusals -->\n{text}\n<!-- end of refusals -->" not in PAGE.read_text():
-            raise SystemExit(f"{PAGE}: not up to date: python3 bench/refusals_table.py --write")
+        text()
     else:
-        print(text)
+        print(text())
 
 
 if __name__ == "__main__":

@@ -2,7 +2,7 @@
 """Times a world under one lock: calls by seats, claims, and workers in threads, as ratios to what does the same without them.
 
 Run it from anywhere, once `rt run` has built the crate bench: python3 bench/rig.py [--write]. With --write the table goes to
-docs/PERFORMANCE.md. Each row is the run with the middle ratio of some runs, in each of which both parts of the ratio were timed.
+dist/RIG.md. Each row is the run with the middle ratio of some runs, in each of which both parts of the ratio were timed.
 """
 
 import os
@@ -70,7 +70,7 @@ def main():
             lines.append(line)
         lines.append("")
     if sys.argv[1:] == ["--write"]:
-        page.put("rig", "\n".join(lines))
+        page.write("RIG.md", "\n".join(lines))
 
 
 if __name__ == "__main__":

@@ -4,7 +4,7 @@
 python3 bench/words.py [CRATE ..]
 
 It reads the pages that links.py reads, without code and without the parts that scripts write, and the comments of every *.rt and *.antt
-file of crates/. With crates it reads the comments of these alone. TURNS are of the PLAIN pages only. The status is 1 where one is found.
+file of crates/. With crates it reads the comments of these alone. TURNS are of the pages only. The status is 1 where one is found.
 """
 
 import re
@@ -34,6 +34,7 @@ TURNS = {
     r"(?<!network )(?<!lags )(?<!lag )(?<!falls )(?<!fall )behind": "after, following",
     r"st(ands?|ood)(?! (alone|for|out|still|up)\b)": "is, appears; of a crate: depends on",
     rf"(?<!the )(?<!its )answer(s|ed|ing) {RESULT}|(can|may|must|not|to|will|would) answer {RESULT}": "returns, writes",
+    r"`` answers (the|an?|it|them|that|which|what|none|each|true|false)": "returns",
     r"(go|goes|went|going) on(?! (the|an?|its)\b)": "continues, resumes",
     r"(?<!would )(?<!could )(?<!may )(?<!might )(?<!will )(?<!not )(?<!still )ha(s|ve) to(?! be believed)": "must, needs",
     r"(those|that) of\b[^.;:|]{0,80}\b(those|that) of": "the noun again",
@@ -44,8 +45,6 @@ TURNS = {
     r"for who(ever)?|whoever|who writes": "for authors of, if you, the caller that",
     r"gets? far": "as far as it can",
 }
-NAMES = "CLIENT DECISIONS DESIGN DRAW EMBED FORMATS LIBRARY LIMITS LINUX PERFORMANCE PROTOCOL STEPS THREADS USERFAULT"
-PLAIN = {f"docs/{name}.md" for name in NAMES.split()} | {"CONTRIBUTING.md", "conformance/README.md"}
 CODE = re.compile(r"`[^`]*`")
 
 
@@ -93,7 +92,7 @@ def main():
     faults = 0
     for file, lines in texts(sys.argv[1:]):
         name = str(file.relative_to(page.TOP))
-        words = {**WORDS, **TURNS} if name in PLAIN else WORDS
+        words = {**WORDS, **TURNS} if file.suffix == ".md" else WORDS
         for number, line in lines:
             for found, better in found_in(line, words):
                 faults += 1
