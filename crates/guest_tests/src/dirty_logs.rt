@@ -4,17 +4,17 @@ ghost use Rattle.std.specs.Prelude.{◌≡◌, true, false};
 ghost use Rattle.mig_base.specs.Commands.{is_access};
 ghost use Rattle.uffd_ioctl.specs.Lent.{IsLent};
 
+use crate::lent::{new_cpus, opened};
 use dirty_log::{Act, DirtyLog, Sent};
 use mig_base::cpu_state::CpuState;
 use mig_base::effect::Effect;
-use mig_base::flags::{ALL_FEATURES, API};
 use mig_base::refusal::Refusal;
 use mig_base::{Access, Addr, Command, HIGH_PAGE, Message, NoMemory, PageNo, Place, Prot, Reply};
 use std::alloc::Global;
 use std::process::Abort;
 use std::test::Fail;
 use uffd_ioctl::Space;
-use vcpu::{Cpus, NewFault};
+use vcpu::Cpus;
 
 /// A call with its arguments.
 #[derive(Clone, Copy)]
@@ -54,15 +54,6 @@ enum Answer {
     Is(CpuState),
     Pages(u32),
     Counted([u32; 3], usize),
-}
-
-/// A space on which nothing is mapped, whose object is enabled.
-fn opened(alloc: Global) -> Space
-    ensures { IsLent result }
-{
-    let mut space = Space::new(alloc);
-    let _ = space.handshake(API, ALL_FEATURES);
-    space
 }
 
 fn access(space: &mut Space, cpu: u8, command: Command) -> Result<Access, NoMemory>
@@ -208,13 +199,6 @@ fn make(
             Err(refusal) => Err(refusal),
         },
         _ => asked(log, space, cpus, call),
-    }
-}
-
-fn new_cpus(alloc: Global) -> Result<Cpus, NewFault> {
-    match Cpus::new(alloc, 3) {
-        Err(NewFault::NoMemory) => Cpus::new(alloc, 3),
-        answer => answer,
     }
 }
 

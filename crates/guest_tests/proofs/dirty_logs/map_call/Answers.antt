@@ -1,7 +1,7 @@
 use Rattle.mig_model.specs.Space.{called}
 use Rattle.uffd_ioctl.proofs.LentLemmas.{call_lent}
-use Rattle.log_tests.proofs.LentLemmas.{either_lent}
-use Rattle.log_tests.proofs.dirty_logs.map_call.Goals as goal
+use Rattle.guest_tests.proofs.LentLemmas.{either_lent}
+use Rattle.guest_tests.proofs.dirty_logs.map_call.Goals as goal
 
 pub returns : goal.returns
 returns c =
