@@ -1,3 +1,5 @@
+//! Scripts, transcripts and streams of frames in a hundred thousand reads.
+
 use engine::{Mode, RunFault, check_script, run_script};
 use frames::{FramesFault, run_frames};
 use std::alloc::{AllocError, Global};

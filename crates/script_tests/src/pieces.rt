@@ -1,3 +1,6 @@
+//! Scripts and transcripts that are read in pieces and written byte by byte, where each read and each write fails once; and lines at the
+//! limit of their length.
+
 use engine::{Mode, RunFault, check_script, run_script};
 use std::alloc::{AllocError, Global};
 use std::process::Abort;
@@ -17,7 +20,7 @@ const TRANSCRIPT: &[u8] =
 const VERDICT: &[u8] = b"ok 4\n";
 
 /// No case writes more bytes.
-const MOST: usize = 1_000;
+pub const MOST: usize = 1_000;
 
 /// What is done with the bytes that are read.
 #[derive(Clone, Copy, Debug, PartialEq, Eq)]
@@ -75,7 +78,7 @@ fn whole(size: usize, written: &'static [u8]) -> Case {
 }
 
 /// Room for what is written, on the second try if the first is refused memory: then no write is refused any.
-fn room(alloc: Global) -> Result<Vec<u8>, AllocError> {
+pub fn room(alloc: Global) -> Result<Vec<u8>, AllocError> {
     match Vec::with_capacity(alloc, MOST) {
         Ok(room) => Ok(room),
         Err(AllocError) => Vec::with_capacity(alloc, MOST),

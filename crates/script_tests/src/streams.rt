@@ -1,3 +1,6 @@
+//! Frames that are read in pieces and written byte by byte, where each read and each write fails once.
+
+use crate::pieces::{MOST, room};
 use frame_decoder::StreamFault;
 use frames::{FramesFault, run_frames};
 use std::alloc::{AllocError, Global};
@@ -16,9 +19,6 @@ const LINES: &[u8] =
 const FRAMES: usize = 165;
 
 const BAD_TAG: FramesFault = FramesFault::Stream(StreamFault::BadTag);
-
-/// No case writes more bytes.
-const MOST: usize = 1_000;
 
 /// The front of the stream that is read, in pieces of a size, and written one by one.
 #[derive(Clone, Copy)]
@@ -42,14 +42,6 @@ fn whole(len: usize, size: usize, fault: Option<FramesFault>, written: usize) ->
         write_fails_at: 0,
         fault,
         written,
-    }
-}
-
-/// Room for what is written, on the second try if the first is refused memory: then no write is refused any.
-fn room(alloc: Global) -> Result<Vec<u8>, AllocError> {
-    match Vec::with_capacity(alloc, MOST) {
-        Ok(room) => Ok(room),
-        Err(AllocError) => Vec::with_capacity(alloc, MOST),
     }
 }
 
