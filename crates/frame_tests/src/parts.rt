@@ -1,4 +1,4 @@
-//! Sets of pages and areas for frames, made of two ranges each.
+//! Sets of pages and areas for frames, of two ranges each.
 
 ghost use Rattle.std.specs.Prelude.{◌+◌, ◌≤◌};
 ghost use Rattle.mig_base.specs.declared.TheConstants.{HIGH_PAGE as END};
