@@ -87,17 +87,21 @@ def file_of(crate, file):
     return (CRATES / crate / "specs" / f"{file}.antt").read_text()
 
 
-@functools.cache
-def definitions(crate, file):
-    """The definitions of a file: the text of each, by its name."""
+def definitions(text):
+    """The definitions of a file: the text of each without comments, by its name."""
     found, name = collections.defaultdict(str), None
-    for line in file_of(crate, file).splitlines():
+    for line in text.splitlines():
         if line.startswith(STARTS) and not line.startswith("use "):
             words = [it for it in re.split(r"[\s:(]+", line) if it not in ("abbrev", "unfoldable", "record", "data", "pub")]
             name = words[0]
         if name and line.strip() and not line.lstrip().startswith("--"):
             found[name] += line + "\n"
-    return dict(found)
+    return found
+
+
+@functools.cache
+def definitions_of(crate, file):
+    return dict(definitions(file_of(crate, file)))
 
 
 def named_by(crate, call):
@@ -122,7 +126,7 @@ def closure(waiting):
         crate, file, name = at = waiting.pop()
         if at in seen:
             continue
-        own = definitions(crate, file)
+        own = definitions_of(crate, file)
         if name not in own:
             continue
         seen.add(at)
@@ -132,7 +136,7 @@ def closure(waiting):
 
 
 def lines_in(found):
-    return sum(len(definitions(crate, file)[name].splitlines()) for crate, file, name in found)
+    return sum(len(definitions_of(crate, file)[name].splitlines()) for crate, file, name in found)
 
 
 def in_order(found):
@@ -168,7 +172,7 @@ def list_one(word):
             found = closure(it for promise in promises for it in roots(promise))
             for crate, files in in_order(found):
                 for file, _ in files:
-                    print(f"crates/{crate}/specs/{file}.antt: " + ", ".join(name for name in definitions(crate, file) if (crate, file, name) in found))
+                    print(f"crates/{crate}/specs/{file}.antt: " + ", ".join(name for name in definitions_of(crate, file) if (crate, file, name) in found))
             return
     sys.exit(f"definitions: no promise {word}")
 

@@ -3,7 +3,7 @@
 
 python3 bench/refusals.py [CRATE ..]
 
-Run it once ./postmig prove has built the program, and `rt test` the tests of the crates: migration_tests and space_tests where none is
+Run it once ./postmig prove has built the program, and `rt test` the tests of the crates: migration_tests and guest_tests where none is
 named. It needs a C compiler, for a library that stands between the program and malloc.
 
 - The program ends with status 4 and `no memory`, and has written whole lines, which are the first of the script's output: the step that
@@ -63,7 +63,7 @@ int posix_memalign(void **block, size_t alignment, size_t size)
 }
 """
 
-TESTS = ("migration_tests", "space_tests")
+TESTS = ("migration_tests", "guest_tests")
 # How many growths of one test are tried at most.
 MOST = 1000
 

@@ -10,7 +10,7 @@ each call behind it, and the transcript is checked. Besides, a run says how ofte
 - `scenes_with_refusals` of migration_tests plays six scenes, from loads and stores to a channel that is lost with three pages in flight.
   Whichever of their growths is refused, exactly one call must answer NoMemory. Only a step that is refused for another reason, which comes
   first, answers that: two steps here grow something before they are refused (PASSED_OVER).
-- `a_copy_that_wants_memory` of space_tests copies two pages. All of the copy is put, or its first page alone, or nothing, each in some run.
+- `a_copy_that_wants_memory` of guest_tests copies two pages. All of the copy is put, or its first page alone, or nothing, each in some run.
 """
 
 import collections
@@ -23,7 +23,7 @@ import page
 from refusals import Refuser
 
 SCENES = ("migration_tests", "refusals::scenes_with_refusals")
-COPY = ("space_tests", "objects::a_copy_that_wants_memory")
+COPY = ("guest_tests", "objects::a_copy_that_wants_memory")
 # The growths of the scenes after which no call answers NoMemory: of the transcript, for a load of a processor that there is not, and of the
 # wire back, for an act while an event is unread.
 PASSED_OVER = 2

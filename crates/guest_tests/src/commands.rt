@@ -1,9 +1,9 @@
 //! `issue` and `retry`, call by call.
 
+use crate::lent::{new_cpus, opened};
 use guest::{Tried, issue, retry};
 use mig_base::cpu_state::CpuState;
 use mig_base::effect::Effect;
-use mig_base::flags::{ALL_FEATURES, API};
 use mig_base::refusal::Refusal;
 use mig_base::{Addr, Command, Message, PAGE_SIZE, Place, Prot, Reply};
 use std::alloc::Global;
@@ -93,13 +93,11 @@ struct Picture {
 impl Node {
     /// Three idle processors, and a space on which nothing is mapped, whose object is enabled.
     fn new(alloc: Global) -> Result<Self, NewFault> {
-        let cpus = match Cpus::new(alloc, 3) {
-            Err(NewFault::NoMemory) => Cpus::new(alloc, 3)?,
-            answer => answer?,
-        };
-        let mut space = Space::new(alloc);
-        let _ = space.handshake(API, ALL_FEATURES);
-        Ok(Node { space, cpus })
+        let cpus = new_cpus(alloc)?;
+        Ok(Node {
+            space: opened(alloc),
+            cpus,
+        })
     }
 
     fn picture(&self) -> Picture {

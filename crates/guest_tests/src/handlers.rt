@@ -5,10 +5,10 @@ ghost use Rattle.mig_base.specs.Userfault as object;
 ghost use Rattle.mig_model.specs.Guest.{is_forgotten, is_present};
 ghost use Rattle.uffd_ioctl.specs.Lent.{IsLent};
 
+use crate::lent::{new_cpus, opened};
 use guest::issue;
 use mig_base::cpu_state::CpuState;
 use mig_base::effect::Effect;
-use mig_base::flags::{ALL_FEATURES, API};
 use mig_base::refusal::Refusal;
 use mig_base::{
     Addr, Command, HIGH, LOW, Message, NoMemory, PAGE_BYTES, PageBytes, PageNo, Place, Prot, Reply,
@@ -17,7 +17,7 @@ use std::alloc::Global;
 use std::process::Abort;
 use std::test::Fail;
 use uffd_ioctl::{IoctlFault, Space, install_page, make_zeros};
-use vcpu::{Cpus, NewFault};
+use vcpu::Cpus;
 
 /// A call with its arguments.
 #[derive(Clone, Copy)]
@@ -44,15 +44,6 @@ enum Answer {
     Message(Message, Effect),
     Bytes(Option<[u8; 2]>),
     Is(CpuState),
-}
-
-/// A space on which nothing is mapped, whose object is enabled.
-fn opened(alloc: Global) -> Space
-    ensures { IsLent result }
-{
-    let mut space = Space::new(alloc);
-    let _ = space.handshake(API, ALL_FEATURES);
-    space
 }
 
 fn issued(space: &mut Space, cpus: &mut Cpus, cpu: u8, command: Command) -> Result<Answer, Refusal>
@@ -195,13 +186,6 @@ fn pictured(space: &Space, cpus: &Cpus) -> Picture {
         events: space.changing(),
         next: space.next_message(),
         present,
-    }
-}
-
-fn new_cpus(alloc: Global) -> Result<Cpus, NewFault> {
-    match Cpus::new(alloc, 3) {
-        Err(NewFault::NoMemory) => Cpus::new(alloc, 3),
-        answer => answer,
     }
 }
 

@@ -1,4 +1,5 @@
-//! Tests of the world of a migration, from its start to its completion.
+//! Tests of the world of a migration, from its start to its completion (`world`), and of the steps to completion (`finish`) where no script
+//! reaches: `stories` finishes each of its scripts from each prefix.
 //!
 //! A test is a table of steps with the answers that are wanted, worked out by hand. One loop plays a table; where a step is refused it
 //! looks that the world is as before, and where memory was refused it makes the step again. So a test passes whichever allocation is
@@ -17,6 +18,8 @@ mod commands;
 mod copies;
 #[cfg(test)]
 mod counts;
+#[cfg(test)]
+mod edges;
 #[cfg(test)]
 mod everywhere;
 #[cfg(test)]

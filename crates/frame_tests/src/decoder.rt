@@ -1,0 +1,7 @@
+//! `Decoder`: what it answers, against bytes that were worked out by hand. Each frame that it answers is written again and compared with
+//! the bytes that it took up.
+
+mod faults;
+mod frames;
+mod reading;
+mod vectors;

@@ -1,0 +1,373 @@
+//! Calls of a source, and what they answer.
+
+ghost use Rattle.std.specs.Prelude.{◌≡◌, false};
+ghost use Rattle.mig_model.specs.Source.{is_released};
+
+use crate::frames::set_of;
+use dirty_log::{DirtyLog, Sent};
+use guest::Tried;
+use mig_base::cpu_state::CpuState;
+use mig_base::effect::Effect;
+use mig_base::fault::BackFault;
+use mig_base::phase::{Received, SourcePhase};
+use mig_base::refusal::Refusal;
+use mig_base::schedule::Ticket;
+use mig_base::{Addr, Command, NoMemory, PageNo, PageSet, Place, Prot};
+use page_stream::{Frame, Waiting};
+use precopy::Source;
+use std::alloc::Global;
+use std::process::Abort;
+
+/// A call with its arguments. Loads and stores are of 8 bytes.
+#[derive(Clone, Copy)]
+pub(super) enum Call {
+    /// Maps this many bytes at the lowest free place, for reading and writing.
+    Map(u8, u64),
+    Load(u8, Addr),
+    Store(u8, Addr, u64),
+    /// Makes one page zeros again.
+    DontNeed(u8, Addr),
+    Retry(u8),
+    Start,
+    Round,
+    Send,
+    SendRun(u8),
+    Read,
+    Act,
+    Switch,
+    /// An epoch and a page.
+    Push(u32, PageNo),
+    PushUrgent(u32, PageNo),
+    Serve,
+    End,
+    /// A frame comes back, of an epoch.
+    Back(u32, Heard),
+    Pause,
+    SetEpoch(u32),
+    ToPrecopy,
+    /// The first page that remains, how many they are, and how many were owed.
+    ToStopped(PageNo, u32, u32),
+    Release,
+    /// A Package that owes this many pages from the first on.
+    Package(PageNo, u32),
+    /// How far the source is.
+    Phase,
+    /// What it counts.
+    Counts,
+    /// What a processor does.
+    Cpu(u8),
+}
+
+use Call::{
+    Act, Back, Counts, Cpu, DontNeed, End, Load, Map, Package, Pause, Phase, Push, PushUrgent,
+    Read, Release, Retry, Round, Send, SendRun, Serve, SetEpoch, Start, Store, Switch, ToPrecopy,
+    ToStopped,
+};
+
+/// A frame from the destination.
+#[derive(Clone, Copy)]
+pub(super) enum Heard {
+    Request(PageNo),
+    Recv,
+    Done,
+    /// One that only a source sends.
+    Advise,
+}
+
+/// A pair, and no array: tables are statics, which cannot be borrowed where they hold arrays of these.
+pub(super) type Two<T> = (T, T);
+
+/// A frame to the destination, or a page that is sent from the space, as far as a table says it.
+#[derive(Clone, Copy, Debug, PartialEq, Eq)]
+pub(super) enum Brief {
+    Advise,
+    /// A page with its first byte.
+    Page(PageNo, u8),
+    Zero(PageNo),
+    /// The first page, how many they are, and the first byte of the last.
+    Run(PageNo, usize, u8),
+    /// The first page, and how many they are.
+    Discard(PageNo, u32),
+    /// The mapped pages, the first owed one and how many they are, and the commands of two processors.
+    Package(u32, PageNo, u32, Two<Option<Command>>),
+    End(u32),
+    /// One that no source sends.
+    Unfit,
+}
+
+#[derive(Clone, Copy, Debug, PartialEq, Eq)]
+pub(super) enum Answer {
+    Done,
+    /// A command was answered, or a map call goes on, and it was entered; or its processor sleeps, and it was not.
+    Tries(Effect),
+    /// A command whose entry does not fit its effect.
+    Unfit(Tried),
+    Told(Effect),
+    Sends(Effect, Brief),
+    Hands(Effect, Two<Brief>),
+    Gives(Brief),
+    NotTaken(BackFault),
+    /// The phase, whether the source has switched, and its epoch.
+    Stands(SourcePhase, bool, u32),
+    /// How many pages are present, remaining, clean, in the run that is sent next and ever sent, how many were owed, and how many faults
+    /// are held.
+    Counted([u32; 6], usize),
+    Is(CpuState),
+}
+
+use Answer::{Counted, Done, Gives, Hands, Is, NotTaken, Sends, Stands, Told, Tries};
+
+/// The commands of the first two processors.
+fn first_two(commands: &Waiting) -> Two<Option<Command>> {
+    match commands.as_slice() {
+        [first, second, ..] => (*first, *second),
+        [first] => (*first, None),
+        [] => (None, None),
+    }
+}
+
+impl Brief {
+    fn of(frame: &Frame) -> Self {
+        match frame {
+            Frame::Advise => Brief::Advise,
+            Frame::Run { first, pages } => match pages.as_slice().last() {
+                Some(last) => Brief::Run(*first, pages.len(), last.as_array()[0]),
+                None => Brief::Unfit,
+            },
+            Frame::Discard { pages } => Brief::Discard(pages.next(0, true), pages.len()),
+            Frame::Package {
+                areas,
+                owed,
+                commands,
+            } => Brief::Package(
+                areas.mapped_pages(),
+                owed.next(0, true),
+                owed.len(),
+                first_two(commands),
+            ),
+            Frame::End { urgent } => Brief::End(*urgent),
+            _ => Brief::Unfit,
+        }
+    }
+}
+
+/// The outcome of a command.
+fn tried(answer: Result<Tried, Refusal>) -> Result<Answer, Refusal> {
+    answer.map(|tried| match (tried.effect, tried.entry) {
+        (Effect::Asleep { .. }, None) => Tries(tried.effect),
+        (Effect::Answered { cpu, reply }, Some(entry))
+            if entry.cpu == cpu && entry.reply == reply => { Tries(tried.effect) }
+        (Effect::InCall { cpu, .. }, Some(entry)) if entry.cpu == cpu => Tries(tried.effect),
+        _ => Answer::Unfit(tried),
+    })
+}
+
+fn sent(answer: Result<(Effect, Frame), Refusal>) -> Result<Answer, Refusal> {
+    match answer {
+        Ok((effect, frame)) => Ok(Sends(effect, Brief::of(&frame))),
+        Err(refusal) => Err(refusal),
+    }
+}
+
+/// What goes on the wire of a page.
+fn page_sent(page: PageNo, sent: Sent) -> Brief {
+    match sent {
+        Sent::Page(bytes) => Brief::Page(page, bytes[0]),
+        Sent::Zero => Brief::Zero(page),
+    }
+}
+
+fn send(source: &mut Source) -> Result<Answer, Refusal> {
+    let (effect, page, sent) = source.send_next()?;
+    Ok(Sends(effect, page_sent(page, sent)))
+}
+
+fn push(source: &mut Source, ticket: Ticket) -> Result<Answer, Refusal> {
+    let (effect, sent) = source.push(ticket)?;
+    Ok(Sends(effect, page_sent(ticket.page, sent)))
+}
+
+fn push_urgent(source: &mut Source, ticket: Ticket) -> Result<Answer, Refusal> {
+    let (effect, sent) = source.push_urgent(ticket)?;
+    Ok(Sends(effect, page_sent(ticket.page, sent)))
+}
+
+fn handed(answer: Result<(Effect, Frame, Frame), Refusal>) -> Result<Answer, Refusal> {
+    match answer {
+        Ok((effect, first, second)) => Ok(Hands(effect, (Brief::of(&first), Brief::of(&second)))),
+        Err(refusal) => Err(refusal),
+    }
+}
+
+/// Stops where a source is released.
+pub fn not_released(rt: &impl Abort, source: &Source)
+    ensures { is_released source.now.phase ≡ false }
+{
+    assert!(rt; source.phase() != SourcePhase::Released);
+}
+
+fn frame(alloc: Global, heard: Heard) -> Frame {
+    match heard {
+        Heard::Request(page) => Frame::Request { page },
+        Heard::Recv => Frame::Recv {
+            state: Received::Running,
+            owed: PageSet::new(alloc),
+        },
+        Heard::Done => Frame::Done,
+        Heard::Advise => Frame::Advise,
+    }
+}
+
+/// A frame comes back.
+fn back(source: &mut Source, epoch: u32, frame: &Frame) -> Result<Answer, Refusal> {
+    match source.back(epoch, frame) {
+        Ok(()) => Ok(Done),
+        Err(BackFault::NoMemory) => Err(Refusal::NoMemory),
+        Err(fault) => Ok(NotTaken(fault)),
+    }
+}
+
+fn to_stopped(
+    rt: &impl Abort,
+    alloc: Global,
+    source: &mut Source,
+    first: PageNo,
+    count: u32,
+    packaged: u32,
+) -> Result<Answer, Refusal> {
+    assert!(rt; source.has_switched());
+    not_released(rt, source);
+    match set_of(rt, alloc, (first, count)) {
+        Ok(pages) => {
+            source.to_stopped(pages, packaged);
+            Ok(Done)
+        }
+        Err(NoMemory) => Err(Refusal::NoMemory),
+    }
+}
+
+fn package(
+    rt: &impl Abort,
+    alloc: Global,
+    source: &Source,
+    first: PageNo,
+    count: u32,
+) -> Result<Answer, NoMemory> {
+    let owed = set_of(rt, alloc, (first, count))?;
+    let frame = source.package(&owed)?;
+    Ok(Gives(Brief::of(&frame)))
+}
+
+/// The number of pages in the run that the round sends next.
+pub(super) fn next_run(log: &DirtyLog) -> u32 {
+    match log.next_page() {
+        Some(first) => log.run_length(first, 64),
+        None => 0,
+    }
+}
+
+fn counts(source: &Source) -> Result<Answer, NoMemory> {
+    let present = source.present()?.len();
+    let log = source.log();
+    Ok(Counted(
+        [
+            present,
+            source.remaining().len(),
+            log.clean().len(),
+            next_run(log),
+            log.ever_sent().len(),
+            source.packaged(),
+        ],
+        log.held(),
+    ))
+}
+
+/// The command of a call.
+fn command(call: Call) -> Option<(u8, Command)> {
+    match call {
+        Map(cpu, addr_len) => Some((
+            cpu,
+            Command::Mmap {
+                addr_len,
+                prot: Prot::ReadWrite,
+                place: Place::Anywhere,
+            },
+        )),
+        Load(cpu, addr) => Some((cpu, Command::Load { addr, width: 8 })),
+        Store(cpu, addr, value) => Some((
+            cpu,
+            Command::Store {
+                addr,
+                width: 8,
+                value,
+            },
+        )),
+        DontNeed(cpu, addr) => Some((cpu, Command::DontNeed { addr, len: 0x1000 })),
+        _ => None,
+    }
+}
+
+/// Makes a call of the recovery, or asks for what a source knows.
+fn recovered(
+    rt: &impl Abort,
+    alloc: Global,
+    source: &mut Source,
+    call: Call,
+) -> Result<Answer, Refusal> {
+    match call {
+        Back(epoch, heard) => return back(source, epoch, &frame(alloc, heard)),
+        Pause => {
+            not_released(rt, source);
+            source.pause();
+        }
+        SetEpoch(epoch) => {
+            assert!(rt; source.epoch() < epoch);
+            source.set_epoch(epoch);
+        }
+        ToPrecopy => {
+            assert!(rt; !source.has_switched());
+            source.to_precopy();
+        }
+        ToStopped(first, count, packaged) => {
+            return to_stopped(rt, alloc, source, first, count, packaged);
+        }
+        Release => {
+            assert!(rt; source.has_switched());
+            source.release();
+        }
+        Package(first, count) => {
+            return package(rt, alloc, source, first, count).map_err(|_| Refusal::NoMemory);
+        }
+        Phase => return Ok(Stands(source.phase(), source.has_switched(), source.epoch())),
+        Cpu(cpu) => return source.cpus().state(cpu).map(Is),
+        _ => return counts(source).map_err(|_| Refusal::NoMemory),
+    }
+    Ok(Done)
+}
+
+/// Makes a call.
+pub(super) fn make(
+    rt: &impl Abort,
+    alloc: Global,
+    source: &mut Source,
+    call: Call,
+) -> Result<Answer, Refusal> {
+    if let Some((cpu, command)) = command(call) {
+        return tried(source.issue(cpu, command));
+    }
+    match call {
+        Retry(cpu) => tried(source.retry(cpu)),
+        Start => sent(source.start()),
+        Round => source.round().map(Told),
+        Send => send(source),
+        SendRun(count) => sent(source.send_run(count)),
+        Read => source.read().map(Told),
+        Act => source.act().map(Told),
+        Switch => handed(source.switch()),
+        Push(epoch, page) => push(source, Ticket { epoch, page }),
+        PushUrgent(epoch, page) => push_urgent(source, Ticket { epoch, page }),
+        Serve => source.serve().map(Told),
+        End => sent(source.end()),
+        _ => recovered(rt, alloc, source, call),
+    }
+}

@@ -1,4 +1,0 @@
-use Rattle.rig_tests.proofs.turns.ListedTurns.make.Goals as goal
-
-pub returns-clause-outcome : goal.returns-clause-outcome
-returns-clause-outcome c = (c.step.new.self, (c.args.self.now.world, c.headline.ensures.reached, c.step.ensures.happens))

@@ -1,5 +1,0 @@
-use Rattle.std.proofs.Common.{inr}
-use Rattle.rig_tests.proofs.turns.ListedTurns.serve.Goals as goal
-
-pub returns-clause-outcome : goal.returns-clause-outcome
-returns-clause-outcome c = inr (c.step.new.self, (c.args.self.now.world, c.headline.ensures.reached, c.step.ensures.happens))

@@ -1,8 +1,0 @@
-//! `Source`, call by call. No wire: the frames that it sends are looked at, and those that come back are handed to it.
-
-mod breaks;
-mod calls;
-mod phases;
-mod play;
-mod rounds;
-mod runs;

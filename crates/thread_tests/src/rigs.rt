@@ -1,0 +1,13 @@
+//! `Rig`: its seats, its workers, its claims, and two processors in threads of their own. Where memory is refused the tests look at what it
+//! has left: a command that sleeps, a page that is pushed again, a world that is handed back.
+
+mod claims;
+mod gates;
+mod memory;
+mod processors;
+mod scenes;
+mod seats;
+mod setup;
+mod steps;
+mod turns;
+mod workers;
