@@ -1,5 +1,5 @@
 //! A driver of a migration: it draws steps until the migration is complete, and prints the number of steps that the world took.
-//! docs/LIBRARY.md explains it. Copy this crate to begin a driver of your own.
+//! docs/USING.md explains it. Copy this crate to begin a driver of your own.
 #![tactic(auto)]
 
 ghost use Rattle.std.specs.Prelude.{◌<◌};

@@ -1,6 +1,6 @@
 /* postmig as a library: worlds in which a guest migrates, checks of transcripts, and a decoder of frames.
 
-   docs/EMBED.md has what a caller owes, and complete programs. The contracts of the functions are in crates/postmig_c/src. */
+   docs/USING.md has what a caller owes, and complete programs. The contracts of the functions are in crates/postmig_c/src. */
 #ifndef POSTMIG_H
 #define POSTMIG_H
 #include <stdbool.h>
