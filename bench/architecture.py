@@ -121,11 +121,7 @@ def drawn():
 
 
 def main():
-    text = drawn()
-    if sys.argv[1:] == ["--write"]:
-        PICTURE.write_text(text)
-    elif not PICTURE.is_file() or PICTURE.read_text() != text:
-        sys.exit("docs/architecture.svg is not as 'python3 bench/architecture.py --write' draws it")
+    page.keep(PICTURE, drawn())
 
 
 if __name__ == "__main__":

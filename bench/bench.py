@@ -5,25 +5,19 @@ Run it from anywhere, once ./postmig prove has built the program: python3 bench/
 With --write the rows of SHOWN go to docs/PERFORMANCE.md.
 """
 
-import os
 import pathlib
 import subprocess
 import sys
 import tempfile
-import time
 
+import clock
 import page
-
-PROGRAM = page.TOP / "crates" / "postmig" / "out" / "postmig"
-PAGE = 4096
-LOW = 0x10000
+from program import LOW, PAGE, PROGRAM, pushed, require, stored
 
 
 def accesses(count, pages=1024):
     """Loads and stores in turn over present pages."""
-    yield f"cpu 0 mmap {pages * PAGE} rw"
-    for page in range(pages):
-        yield f"cpu 0 store {LOW + page * PAGE:#x} 8 {page + 1}"
+    yield from stored(pages)
     seed = 1
     for index in range(count):
         seed = (seed * 1103515245 + 12345) % 2**31
@@ -67,18 +61,10 @@ def mapped_and_unmapped(count):
 def moves(count, pages=64):
     """A range that moves back and forth between two places."""
     places = (LOW, LOW + 4096 * PAGE)
-    yield f"cpu 0 mmap {pages * PAGE} rw"
-    for page in range(pages):
-        yield f"cpu 0 store {LOW + page * PAGE:#x} 8 {page + 1}"
+    yield from stored(pages)
     for index in range(count):
         old, new = places[index % 2], places[(index + 1) % 2]
         yield f"cpu 0 mremap {old:#x} {pages * PAGE} {pages * PAGE} maymove fixed {new:#x}"
-
-
-def stored(pages):
-    yield f"cpu 0 mmap {pages * PAGE} rw"
-    for page in range(pages):
-        yield f"cpu 0 store {LOW + page * PAGE:#x} 8 {page + 1}"
 
 
 def loaded(pages):
@@ -99,10 +85,7 @@ def precopy(pages):
 
 def postcopy(pages):
     """A migration of that many present pages, all of them pushed behind the switch."""
-    yield from stored(pages)
-    yield from ("start", "switch", "deliver", "deliver", "deliver")
-    for page in range(pages):
-        yield from (f"push {LOW + page * PAGE:#x}", "deliver", "install")
+    yield from pushed(pages)
     yield from loaded(pages)
 
 
@@ -138,17 +121,8 @@ TRANSCRIPTS = ["accesses-10k", "accesses-100k", "accesses-1m", "map-unmap-8192",
 
 def timed(name, count, arguments, script):
     """The row of a program's run on a file, the best of three."""
-    best, memory = None, 0
-    for _ in range(3):
-        with open(script) as source, open(os.devnull, "w") as sink:
-            begun = time.perf_counter()
-            child = subprocess.Popen([PROGRAM, *arguments], stdin=source, stdout=sink, env=page.environment())
-            _, status, usage = os.wait4(child.pid, 0)
-            seconds = time.perf_counter() - begun
-        if status:
-            sys.exit(f"{name}: status {status}")
-        best = seconds if best is None else min(best, seconds)
-        memory = max(memory, usage.ru_maxrss)
+    runs = [clock.played([PROGRAM, *arguments], script) for _ in range(3)]
+    best, memory = min(it[0] for it in runs), max(it[1] for it in runs)
     return f"| {name} | {count:,} | {best:.3f} | {count / best:,.0f} | {memory / 1024:.1f} |"
 
 
@@ -177,15 +151,11 @@ def table(names):
 
 
 def main():
-    if not PROGRAM.exists():
-        sys.exit("build the program first: ./postmig prove")
+    require(PROGRAM)
     words = sys.argv[1:]
-    rows = []
-    for row in table(CASES if words in ([], ["--write"]) else words):
-        print(row, flush=True)
-        rows.append(row)
-    if words == ["--write"]:
-        page.put("speed", f"Measured on {page.machine()}.\n\n" + "\n".join(row for row in rows if row.startswith(SHOWN)))
+    head = f"Measured on {page.machine()}."
+    rows = table(CASES if words in ([], ["--write"]) else words)
+    clock.report(head, rows, lambda text: page.put("speed", "\n".join(row for row in text.splitlines() if row.startswith((head, *SHOWN)) or not row)))
 
 
 if __name__ == "__main__":

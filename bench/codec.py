@@ -5,14 +5,16 @@ Run it from anywhere, once `rt run` has built the crate bench: python3 bench/cod
 dist/CODEC.md.
 """
 
+import itertools
 import re
 import subprocess
 import sys
 import time
 
+import clock
 import page
+from program import require
 
-PROGRAM = page.TOP / "crates" / "bench" / "out" / "bench"
 FRAME = 4112
 RUNS = 5
 
@@ -34,14 +36,14 @@ def run(kind, piece, batch, rounds, tunables):
     environment = page.environment()
     if not tunables:
         environment.pop("GLIBC_TUNABLES", None)
-    words = [PROGRAM, "frames", kind, str(piece), str(batch), str(rounds)]
+    words = [clock.BENCH, "frames", kind, str(piece), str(batch), str(rounds)]
     child = subprocess.Popen(words, stdout=subprocess.PIPE, text=True, env=environment)
     peak = 0
     while child.poll() is None:
         peak = max(peak, memory(child.pid))
         time.sleep(0.005)
     if child.returncode:
-        sys.exit(f"{PROGRAM}: status {child.returncode}")
+        sys.exit(f"{clock.BENCH}: status {child.returncode}")
     return [int(number) for number in re.findall(r"\d+", child.stdout.read())], peak
 
 
@@ -61,9 +63,7 @@ def pages():
     yield "|---|---|---|---|---|---|"
     for name, piece, batch, rounds in PIECES:
         for tunables in (True, False):
-            runs = [run("pages", piece, batch, rounds, tunables)[0] for _ in range(RUNS)]
-            codec = min(numbers[0] for numbers in runs)
-            copies = min(numbers[1] for numbers in runs)
+            codec, copies = clock.least(lambda: run("pages", piece, batch, rounds, tunables)[0], RUNS)
             allocator = "as the launcher asks" if tunables else "as it is"
             yield f"| {name} | {batch:,} | {allocator} | {codec} | {copies} | {copies / codec:.2f} |"
 
@@ -72,8 +72,8 @@ def feeds():
     yield "| fed byte by byte | ns a byte |"
     yield "|---|---|"
     for name, frames in STREAMS:
-        least = min(run("feed", 1, frames, 1, True)[0][1] for _ in range(RUNS))
-        yield f"| {name} | {least / 1000:.1f} |"
+        _, picoseconds = clock.least(lambda: run("feed", 1, frames, 1, True)[0], RUNS)
+        yield f"| {name} | {picoseconds / 1000:.1f} |"
 
 
 def stream():
@@ -83,16 +83,9 @@ def stream():
 
 
 def main():
-    if not PROGRAM.exists():
-        sys.exit(f"{PROGRAM} is not there")
-    lines = [f"Measured on {page.machine()}, the best of {RUNS} runs.", ""]
-    for part in (pages, feeds, stream):
-        for line in part():
-            print(line, flush=True)
-            lines.append(line)
-        lines.append("")
-    if sys.argv[1:] == ["--write"]:
-        page.write("CODEC.md", "\n".join(lines))
+    require(clock.BENCH)
+    lines = itertools.chain(pages(), [""], feeds(), [""], stream())
+    clock.report(f"Measured on {page.machine()}, the best of {RUNS} runs.", lines, lambda text: page.write("CODEC.md", text))
 
 
 if __name__ == "__main__":

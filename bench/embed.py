@@ -9,14 +9,16 @@ python3 bench/embed.py [--loads N]
 import argparse
 import pathlib
 import shutil
-import struct
 import subprocess
 import sys
 import tempfile
 import time
 
-TOP = pathlib.Path(__file__).resolve().parent.parent
-DIST, EMBED, PROGRAM = TOP / "dist", TOP / "examples/embed", TOP / "crates/postmig/out/postmig"
+from model.frames import encode
+from page import TOP
+from program import PROGRAM
+
+DIST, EMBED = TOP / "dist", TOP / "examples" / "embed"
 # The scripts, each with its answers.
 SCRIPTS = [(script, script.with_suffix(".out")) for script in sorted(TOP.glob("examples/*.script"))]
 # The two in which each allocation is refused.
@@ -31,16 +33,13 @@ def run(*words, **options):
     return done.stdout
 
 
-def frame(tag, epoch, body):
-    return struct.pack(">BBHII", 2, tag, 0, epoch, len(body)) + body
-
-
 def stream():
     """Advise, a zero page, four runs of two pages, a Discard and an End."""
     pages = bytes(n * 7 % 251 for n in range(8192))
-    runs = b"".join(frame(8, 1, struct.pack(">II", 32 + 2 * n, 2) + pages) for n in range(4))
-    discard = frame(4, 1, struct.pack(">IIIII", 2, 0x3FF, 0x102, 0x502, 1))
-    return frame(1, 1, b"") + frame(3, 1, struct.pack(">I", 16)) + runs + discard + frame(6, 1, struct.pack(">I", 0))
+    frames = [("advise", {}), ("zero", {"page": 16})]
+    frames += [("run", {"page": 32 + 2 * n, "count": 2, "bytes": pages}) for n in range(4)]
+    frames += [("discard", {"pages": [(0x3FF, 0x102), (0x502, 1)]}), ("end", {"urgent": 0})]
+    return b"".join(encode(1, *it) for it in frames)
 
 
 def built(made, *words):
@@ -153,4 +152,5 @@ def main():
         beside_the_program(work, loads)
 
 
-main()
+if __name__ == "__main__":
+    main()

@@ -20,27 +20,20 @@ import collections
 import concurrent.futures
 import os
 import re
-import subprocess
 import sys
 
 import guest
 import page
-from bench import PROGRAM
+from program import PROFILES, PROGRAM, written
 
 FILE = page.TOP / "docs" / "EXPLORE.md"
-PROFILES = ("commands", "precopy", "postcopy", "moves", "breaks", "urgent", "bytes", "runs", "all")
 POSTCOPY = PROFILES[2:]
 PHASES = ("precopy", "switching", "postcopy")
+# The phase that a step begins, and how many frames it sends on the wire to the destination.
+BEGINS = {"start": "precopy", "switch": "switching"}
+SENDS = {"start": 1, "switch": 2, "send": 1, "sendrun": 1, "push": 1, "end": 1, "resume": 1}
 GIVES = " => "
 NUMBER = re.compile(r"0x[0-9a-f]+|\b\d+\b")
-
-
-def ran(program, words, given=b""):
-    """What a command writes, which has to succeed."""
-    ended = subprocess.run([program, *words], input=given, stdout=subprocess.PIPE, stderr=subprocess.PIPE)
-    if ended.returncode != 0:
-        raise ValueError(f"{' '.join(words)}: status {ended.returncode}, {ended.stdout[-200:]}{ended.stderr[-200:]}")
-    return ended.stdout.decode()
 
 
 def split(text):
@@ -59,22 +52,22 @@ def judge(program, text):
     comment, lines, answers = split(text)
     script = "".join(f"{line}\n" for line in [comment, *lines]).encode()
     cpus = ["--cpus", argument(comment, "cpus")]
-    *printed, end = ran(program, ["run", *cpus], script + b"progress\n").splitlines()
+    *printed, end = written([program, "run", *cpus], script + b"progress\n").decode().splitlines()
     if printed != answers:
         raise ValueError(f"{comment}: run prints other answers")
     if " --finish" in comment and not end.startswith("progress phase complete "):
         raise ValueError(f"{comment}: it ends with {end}")
-    transcript = ran(program, ["run", *cpus, "--transcript"], script).encode()
-    verdict = ran(program, ["check"], transcript)
+    transcript = written([program, "run", *cpus, "--transcript"], script)
+    verdict = written([program, "check"], transcript).decode()
     if not verdict.startswith("ok "):
         raise ValueError(f"{comment}: check says {verdict}")
 
 
 def explored(program, seed, profile, options):
     """A script with its answers, whose lines are those that are written without answers."""
-    words = ["explore", "--seed", str(seed), "--profile", profile, *options]
-    text = ran(program, [*words, "--answers"])
-    plain = ran(program, words).splitlines()
+    words = [program, "explore", "--seed", str(seed), "--profile", profile, *options]
+    text = written([*words, "--answers"]).decode()
+    plain = written(words).decode().splitlines()
     if plain[1:] != split(text)[1]:
         raise ValueError(f"{' '.join(words)}: other lines with answers")
     return text
@@ -88,10 +81,9 @@ class Course:
         self.phase, self.resuming, self.order = "idle", set(), 0
         self.forward, self.urgent, self.pushed = [], [], set()
 
-    def send(self, wire, frames=1):
-        for _ in range(frames):
-            wire.append(self.order)
-            self.order += 1
+    def send(self, wire, frames):
+        wire += range(self.order, self.order + frames)
+        self.order += frames
 
     def take(self, line, answer):
         words = line.split()
@@ -107,32 +99,18 @@ class Course:
         self.follow(words[0], answer)
 
     def follow(self, step, answer):
+        self.phase = BEGINS.get(step, self.phase)
+        self.send(self.forward, SENDS.get(step, 0))
+        self.send(self.urgent, step == "upush")
         known = {
-            "start": self.start, "switch": self.switch, "break": self.break_link, "resume": self.resume, "send": self.sent, "sendrun": self.sent,
-            "push": self.push, "upush": self.push_urgent, "end": self.sent, "deliver": self.deliver, "udeliver": self.deliver_urgent,
-            "back": self.back, "serve": self.serve, "install": self.install, "dact": self.resolve,
+            "break": self.break_link, "resume": self.resume, "push": self.push, "upush": self.push, "deliver": self.deliver,
+            "udeliver": self.deliver_urgent, "back": self.back, "serve": self.serve, "install": self.install, "dact": self.resolve,
         }
         if step in known:
             known[step](answer)
 
-    def start(self, answer):
-        self.phase = "precopy"
-        self.send(self.forward)
-
-    def switch(self, answer):
-        self.phase = "switching"
-        self.send(self.forward, 2)
-
-    def sent(self, answer):
-        self.send(self.forward)
-
     def push(self, answer):
         self.pushed.add(answer.split()[2])
-        self.send(self.forward)
-
-    def push_urgent(self, answer):
-        self.pushed.add(answer.split()[2])
-        self.send(self.urgent)
 
     def break_link(self, answer):
         self.events[f"breaks in {self.phase}"] += 1
@@ -144,7 +122,6 @@ class Course:
         self.events["resumptions"] += 1
         self.resuming = {"source", "dest"}
         self.pushed = set()
-        self.send(self.forward)
 
     def deliver(self, answer):
         if not answer.startswith("took "):

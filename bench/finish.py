@@ -12,32 +12,24 @@ something else comes out. Run it once ./postmig prove has built the program.
 
 import argparse
 import concurrent.futures
-import os
 import pathlib
 import re
-import subprocess
 import sys
 import tempfile
-import time
 
+import clock
 import page
-from bench import PROGRAM, stored
+from program import PROGRAM, run, stored, written
 
 CPUS = re.compile(r"\.cpus(\d+)\.")
 
 
-def command(program, words, given):
-    """The status of a command on these bytes, and what it wrote."""
-    ended = subprocess.run([program, *words], input=given, stdout=subprocess.PIPE, stderr=subprocess.PIPE)
-    return ended.returncode, ended.stdout, ended.stderr
-
-
 def readable(program, script, cpus):
     """The script up to its first wrong line."""
-    status, _, said = command(program, ["run", "--cpus", cpus], script)
-    if status != 1:
+    ended = run([program, "run", "--cpus", cpus], script)
+    if ended.returncode != 1:
         return script
-    number = int(re.match(rb"line (\d+):", said)[1])
+    number = int(re.match(rb"line (\d+):", ended.stderr)[1])
     return b"".join(line + b"\n" for line in script.split(b"\n")[: number - 1])
 
 
@@ -52,14 +44,9 @@ def prefixes(script, every):
 
 def finish(program, script, cpus):
     """The number of lines that finish a script. Raises ValueError unless they do."""
-    status, lines, said = command(program, ["finish", "--cpus", cpus], script)
-    if status:
-        raise ValueError(f"finish: status {status}, {said}")
+    lines = written([program, "finish", "--cpus", cpus], script)
     count = lines.count(b"\n") - lines.startswith(b"\n")
-    status, output, said = command(program, ["run", "--cpus", cpus], script + lines + b"progress\n")
-    if status:
-        raise ValueError(f"run: status {status}, {said}")
-    answers = output.splitlines()
+    answers = written([program, "run", "--cpus", cpus], script + lines + b"progress\n").splitlines()
     if not answers[-1].startswith(b"progress phase complete "):
         raise ValueError(f"not complete: {answers[-1]}")
     refused = [answer for answer in answers[len(answers) - 1 - count : -1] if answer.startswith(b"refused")]
@@ -85,29 +72,18 @@ def finish_all(program, path, every):
     return count, lines
 
 
-def seconds(program, words, path):
-    """The seconds of a command on a file."""
-    with open(os.devnull, "wb") as sink:
-        start = time.perf_counter()
-        subprocess.run([program, *words, path], stdout=sink, check=True)
-        return time.perf_counter() - start
-
-
 def time_pages(program, pages, runs):
     """Times the completion of a migration of this many pages."""
     with tempfile.TemporaryDirectory() as folder:
         script = pathlib.Path(folder) / "script"
         whole = pathlib.Path(folder) / "whole"
         script.write_text("".join(f"{line}\n" for line in stored(pages)))
-        lines = subprocess.run([program, "finish", script], stdout=subprocess.PIPE, check=True).stdout
+        lines = written([program, "finish", script])
         whole.write_bytes(script.read_bytes() + lines)
         count = lines.count(b"\n")
-        finishing, running = [], []
-        for _ in range(runs):
-            finishing.append(seconds(program, ["finish"], script))
-            running.append(seconds(program, ["run"], whole))
-    ratio = min(finishing) / min(running)
-    print(f"{pages} pages, {count} lines: finish {min(finishing):.2f} s, run of the same lines {min(running):.2f} s, {ratio:.2f} times")
+        words = ([program, "finish", script], [program, "run", whole])
+        finishing, running = clock.least(lambda: [clock.played(it)[0] for it in words], runs)
+    print(f"{pages} pages, {count} lines: finish {finishing:.2f} s, run of the same lines {running:.2f} s, {finishing / running:.2f} times")
 
 
 def main():

@@ -12,7 +12,6 @@ processes five times a second, so that the end of each process is missing.
 
 import collections
 import os
-import pathlib
 import resource
 import subprocess
 import sys

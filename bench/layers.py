@@ -6,8 +6,6 @@ python3 bench/layers.py [--write]
 Without --write it changes nothing. The status is then 1 where the page is not as it would be written.
 """
 
-import sys
-
 import page
 import tower
 
@@ -17,7 +15,7 @@ PROGRAM = "postmig"
 
 
 def layers(known):
-    """Of each crate of the product its layer, from 1, ."""
+    """Of each crate of the product its layer, from 1."""
     found = {}
     for name in tower.below(PROGRAM):
         below = [it for it in known[name] if it in found]
@@ -44,12 +42,7 @@ def listed():
 
 
 def main():
-    stands = DESIGN.read_text()
-    made = page.replaced(stands, "layers", listed(), DESIGN)
-    if sys.argv[1:] == ["--write"]:
-        DESIGN.write_text(made)
-    elif made != stands:
-        sys.exit("docs/DESIGN.md is not as 'python3 bench/layers.py --write' makes it")
+    page.keep(DESIGN, page.replaced(DESIGN.read_text(), "layers", listed(), DESIGN))
 
 
 if __name__ == "__main__":

@@ -20,7 +20,8 @@ import threading
 import time
 
 import page
-from bench import LOW, PAGE, PROGRAM, stored
+from model.frames import encode
+from program import PROGRAM, pushed
 
 GIB = 1 << 30
 MIB = 1 << 20
@@ -30,8 +31,8 @@ LOAD = b"cpu 0 load 0x10000 8".ljust(255) + b"\n"
 ENTRY = b"0 load 0x10000 8 => segv unmapped".ljust(255) + b"\n"
 LINES = GIB // len(LOAD)
 # The same for frames of version 1: one Advise, and a page again and again.
-ADVISE = bytes.fromhex("010100000000000100000000")
-ONE_PAGE = bytes.fromhex("010200000000000100001004") + bytes.fromhex("00000010") + bytes(range(256)) * 16
+ADVISE = encode(1, "advise", {}, version=1)
+ONE_PAGE = encode(1, "page", {"page": 0x10, "bytes": bytes(range(256)) * 16}, version=1)
 FRAMES = GIB // len(ONE_PAGE)
 
 Ended = collections.namedtuple("Ended", "status written said seconds peak")
@@ -251,10 +252,7 @@ def table(cases, rows, failed):
 
 def migration(pages):
     """The script of a migration whose pages are pushed."""
-    yield from stored(pages)
-    yield from ("start", "switch", "deliver", "deliver", "deliver")
-    for index in range(pages):
-        yield from (f"push {LOW + index * PAGE:#x}", "deliver", "install")
+    yield from pushed(pages)
     yield from ("end", "deliver", "back", "progress")
 
 

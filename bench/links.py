@@ -9,9 +9,7 @@ does not.
 """
 
 import functools
-import pathlib
 import re
-import sys
 
 import page
 
@@ -53,9 +51,8 @@ def main():
             for text, target in LINK.findall(line):
                 count += 1
                 if wrong := fault(file, text, target):
-                    faults.append(f"{pathlib.Path(file).relative_to(page.TOP)}:{number}: {wrong}")
-    print(*faults, f"links: {count} in {len(pages())} pages, {len(faults)} faults", sep="\n")
-    sys.exit(1 if faults else 0)
+                    faults.append(f"{file.relative_to(page.TOP)}:{number}: {wrong}")
+    page.end(faults, f"links: {count} in {len(pages())} pages")
 
 
 if __name__ == "__main__":

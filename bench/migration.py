@@ -5,18 +5,14 @@ Run it from anywhere, once ./postmig prove has built the program, and `rt run` t
 With --write the rows of more than 1,024 pages go to docs/PERFORMANCE.md.
 """
 
-import os
+import collections
 import pathlib
 import re
-import subprocess
-import sys
 import tempfile
-import time
 
+import clock
 import page
-from bench import LOW, PAGE, PROGRAM, stored
-
-STEPS = page.TOP / "crates" / "bench" / "out" / "bench"
+from program import LOW, PAGE, PROGRAM, pushed, require, stored, switched
 
 # How many pages, and how many runs of each script: a short run is disturbed more.
 NUMBERS = ((1024, 140), (16_384, 28), (262_144, 14))
@@ -39,17 +35,6 @@ def stored_again(pages):
         yield from (f"cpu 0 store {LOW + index * PAGE:#x} 8 1", "sread", "sact", "retry 0")
 
 
-def switched(pages):
-    yield from stored(pages)
-    yield from ("start", "switch", "deliver", "deliver", "deliver")
-
-
-def pushed(pages):
-    yield from switched(pages)
-    for index in range(pages):
-        yield from (f"push {LOW + index * PAGE:#x}", "deliver", "install")
-
-
 def faulted(pages):
     yield from switched(pages)
     for index in range(pages):
@@ -66,32 +51,22 @@ WORK = {
 }
 
 
-def play(script):
-    """The seconds of one run of the program on a script, and its greatest memory in bytes."""
-    with open(script) as source, open(os.devnull, "w") as sink:
-        start = time.perf_counter()
-        child = subprocess.Popen([PROGRAM, "run"], stdin=source, stdout=sink, env=page.environment())
-        _, status, usage = os.wait4(child.pid, 0)
-        seconds = time.perf_counter() - start
-    if status:
-        sys.exit(f"{PROGRAM}: status {os.waitstatus_to_exitcode(status)}")
-    return seconds, usage.ru_maxrss * 1024
-
-
 def play_all(pages, runs):
-    """The least seconds of each script and its greatest memory. They take turns, so that a slow while is not one script's alone."""
-    scripts = {script for pair in WORK.values() for script in pair}
-    seconds, memory = {}, {}
+    """The least seconds of each script and its most memory in bytes. They take turns, so that a slow while is not one script's alone."""
+    scripts = sorted({script for pair in WORK.values() for script in pair}, key=lambda it: it.__name__)
+    memory = collections.Counter()
     with tempfile.TemporaryDirectory() as folder:
         for script in scripts:
             with open(pathlib.Path(folder) / script.__name__, "w") as file:
                 file.writelines(line + "\n" for line in script(pages))
-        for _ in range(runs):
+
+        def play():
             for script in scripts:
-                took, most = play(pathlib.Path(folder) / script.__name__)
-                seconds[script] = min(took, seconds.get(script, took))
-                memory[script] = max(most, memory.get(script, 0))
-    return seconds, memory
+                seconds, most = clock.played([PROGRAM, "run"], pathlib.Path(folder) / script.__name__)
+                memory[script] = max(memory[script], 1024 * most)
+                yield seconds
+
+        return dict(zip(scripts, clock.least(play, runs))), memory
 
 
 def steps(pages, runs):
@@ -99,8 +74,8 @@ def steps(pages, runs):
     as a run of a script it has no memory from other work."""
     least = {}
     for _ in range(runs):
-        for words in ([str(pages)], ["new-copies", str(pages)]):
-            line = subprocess.run([STEPS, "world", *words], check=True, capture_output=True, text=True, env=page.environment()).stdout
+        for words in ([pages], ["new-copies", pages]):
+            line = clock.said(clock.BENCH, "world", *words)
             for name, nanoseconds in re.findall(r"([a-z-]+) (\d+)[, ]", line.split(": ")[1]):
                 if name != "new-copy" or len(words) == 2:
                     least[name] = min(least.get(name, 10**12), int(nanoseconds))
@@ -124,17 +99,10 @@ def table():
 
 
 def main():
-    for program in (PROGRAM, STEPS):
-        if not program.exists():
-            sys.exit(f"{program} is not there")
-    rows = []
-    for row in table():
-        print(row, flush=True)
-        rows.append(row)
-    if sys.argv[1:] == ["--write"]:
-        counts = ", ".join(str(runs) for _, runs in NUMBERS[1:])
-        shown = "\n".join(row for row in rows if not re.match(r"\| [^|]+ \| 1,024 \|", row))
-        page.put("migration", f"Measured on {page.machine()}, the least of {counts} runs of each script.\n\n{shown}")
+    require(PROGRAM, clock.BENCH)
+    runs = ", ".join(str(runs) for _, runs in NUMBERS[1:])
+    head = f"Measured on {page.machine()}, the least of {runs} runs of each script."
+    clock.report(head, table(), lambda text: page.put("migration", "\n".join(row for row in text.splitlines() if not re.match(r"\| [^|]+ \| 1,024 \|", row))))
 
 
 if __name__ == "__main__":

@@ -4,6 +4,7 @@ dist/, which is not kept in the repository."""
 import os
 import pathlib
 import platform
+import sys
 
 TOP = pathlib.Path(__file__).resolve().parent.parent
 PAGE = TOP / "docs" / "PERFORMANCE.md"
@@ -20,6 +21,23 @@ def machine():
 def environment():
     """The environment that the launcher gives the program: huge pages for the allocator, where the kernel has them, and one arena for all threads."""
     return {"GLIBC_TUNABLES": "glibc.malloc.hugetlb=1:glibc.malloc.arena_max=1", **os.environ}
+
+
+def end(faults, summary):
+    """Prints what is wrong and a line that sums up, and ends the script: with status 1 where something is."""
+    print(*faults, f"{summary}, {len(faults)} faults", sep="\n")
+    sys.exit(1 if faults else 0)
+
+
+def keep(file, made):
+    """With --write a file becomes as a script makes it; else the status is 1 where it is another."""
+    name, faults = file.relative_to(TOP), []
+    if sys.argv[1:] == ["--write"]:
+        file.write_text(made)
+    elif not file.is_file() or file.read_text() != made:
+        script = pathlib.Path(sys.argv[0]).resolve().relative_to(TOP)
+        faults = [f"{name} is not as 'python3 {script} --write' makes it"]
+    end(faults, name)
 
 
 def replaced(page, part, text, file):

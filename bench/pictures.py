@@ -11,20 +11,17 @@ well-formed XML, its root is `svg`, it has only elements and attributes that a p
 """
 
 import argparse
-import pathlib
-import subprocess
 import sys
 import xml.etree.ElementTree
 
 import page
-from bench import PROGRAM
+from program import PROFILES, PROGRAM, require, written
 
 PICTURES = page.TOP / "docs" / "pictures"
 EXAMPLES = page.TOP / "examples"
 STORIES = ("background-push", "fault", "page-moves", "lost-after-run")
 # The processors of the scripts of docs/pictures, by name.
 SCRIPTS = {"64-pages": 4, "one-page": 2}
-PROFILES = ("commands", "precopy", "postcopy", "moves", "breaks", "urgent", "bytes", "runs", "all")
 SVG = "{http://www.w3.org/2000/svg}"
 ELEMENTS = {SVG + name for name in ("svg", "title", "style", "defs", "pattern", "g", "path", "text")}
 ATTRIBUTES = {"viewBox", "width", "height", "role", "id", "class", "patternUnits", "d", "transform"}
@@ -33,13 +30,7 @@ MOST_BYTES = 4_000_000
 
 def drawn(program, script, cpus=2, name=None, folder=EXAMPLES):
     """The picture of a script, or of the file of that name in a folder."""
-    words = [program, "draw", "--cpus", str(cpus)]
-    if name is not None:
-        words.append(name)
-    ended = subprocess.run(words, input=script, stdout=subprocess.PIPE, stderr=subprocess.PIPE, cwd=folder)
-    if ended.returncode != 0:
-        raise SystemExit(f"{' '.join(words)}: status {ended.returncode}: {ended.stderr.decode()}")
-    return ended.stdout
+    return written([program, "draw", "--cpus", str(cpus), *([name] if name else [])], script, folder)
 
 
 def judge(name, picture):
@@ -91,7 +82,7 @@ def parse(program, scripts):
         count += 1
     for seed in range(scripts):
         words = ["--seed", str(seed), "--profile", PROFILES[seed % len(PROFILES)], "--lines", str(50 + 7 * seed), "--pages", str(4 + seed)]
-        script = subprocess.run([program, "explore", *words, "--cpus", "4"], stdout=subprocess.PIPE, check=True).stdout
+        script = written([program, "explore", *words, "--cpus", "4"])
         most = max(most, judge(" ".join(words), drawn(program, script, cpus=4)))
         count += 1
     print(f"{count} pictures are read; the largest has {most[0]:,} bytes and {most[1]:,} elements")
@@ -104,8 +95,7 @@ def main():
     parser.add_argument("--parse", type=int, nargs="?", const=200)
     parser.add_argument("--program", default=str(PROGRAM))
     given = parser.parse_args()
-    if not pathlib.Path(given.program).is_file():
-        raise SystemExit(f"pictures: there is no {given.program}: ./postmig prove or rt ci makes one")
+    require(given.program)
     if given.write:
         write(given.program)
     if given.parse is not None:
@@ -114,4 +104,7 @@ def main():
 
 
 if __name__ == "__main__":
-    sys.exit(main())
+    try:
+        sys.exit(main())
+    except ValueError as error:
+        sys.exit(str(error))

@@ -10,7 +10,6 @@ such function, the function no such clause, or no clause at all.
 """
 
 import re
-import sys
 
 import definitions
 import page
@@ -87,9 +86,7 @@ def main():
             faults += [at + it for it in faults_of(cell, known)]
             count += 1
     faults += [f"docs/PROVED.md: no section for {crate}" for crate in product if crate not in seen and crate != "postmig"]
-    print(*faults, sep="\n", end="\n" if faults else "")
-    print(f"docs/PROVED.md: {count} promises, {len(faults)} faults")
-    sys.exit(1 if faults else 0)
+    page.end(faults, f"docs/PROVED.md: {count} promises")
 
 
 if __name__ == "__main__":

@@ -6,11 +6,11 @@ status 1 then.
 python3 bench/quotes.py
 """
 
-import pathlib
 import re
-import sys
 
-TOP = pathlib.Path(__file__).resolve().parent.parent
+import links
+import page
+
 # What a block of a language is quoted from, and whether it is the whole file.
 QUOTED = {
     "```rust": (re.compile(r"\]\(([^)#]+\.rt)\)"), False),
@@ -19,10 +19,10 @@ QUOTED = {
 }
 
 
-def quotes(page):
+def quotes(file):
     """The blocks of a page that follow a line with a link to one file, with that file, and whether the block is all of it."""
     linked, whole, block, before = None, False, None, ""
-    for line in page.read_text().splitlines():
+    for line in file.read_text().splitlines():
         if block is not None:
             if line == "```":
                 yield linked, whole, "\n".join(block)
@@ -31,22 +31,22 @@ def quotes(page):
                 block.append(line)
         elif line in QUOTED and QUOTED[line][0].search(before):
             link, whole = QUOTED[line]
-            linked, block = (page.parent / link.findall(before)[-1]).resolve(), []
+            linked, block = (file.parent / link.findall(before)[-1]).resolve(), []
         elif line.strip():
             before = line
 
 
 def main():
-    found = faults = 0
-    for page in [*TOP.glob("*.md"), *TOP.glob("docs/*.md")]:
-        for file, whole, block in quotes(page):
+    found, faults = 0, []
+    for file in links.pages():
+        for quoted, whole, block in quotes(file):
             found += 1
-            text = file.read_text()
+            text = quoted.read_text()
             if block not in text or whole and block + "\n" != text:
-                faults += 1
-                print(f"{page.relative_to(TOP)}: a block is not {'' if whole else 'in '}{file.relative_to(TOP)}: {block.splitlines()[0]}")
-    print(f"quotes: {found}, {faults} faults")
-    sys.exit(1 if faults else 0)
+                where = f"{'' if whole else 'in '}{quoted.relative_to(page.TOP)}"
+                faults.append(f"{file.relative_to(page.TOP)}: a block is not {where}: {block.splitlines()[0]}")
+    page.end(faults, f"quotes: {found}")
 
 
-main()
+if __name__ == "__main__":
+    main()

@@ -22,7 +22,7 @@ import sys
 import tempfile
 
 import page
-from bench import PROGRAM
+from program import PROGRAM
 
 SHIM = r"""
 #include <errno.h>

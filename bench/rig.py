@@ -5,14 +5,15 @@ Run it from anywhere, once `rt run` has built the crate bench: python3 bench/rig
 dist/RIG.md. Each row is the run with the middle ratio of some runs, in each of which both parts of the ratio were timed.
 """
 
+import itertools
+import operator
 import os
 import re
-import subprocess
-import sys
 
+import clock
 import page
+from program import require
 
-PROGRAM = page.TOP / "crates" / "bench" / "out" / "bench"
 RUNS = 9
 CALLS = 400_000
 SEATS = min(16, max(2, os.cpu_count() or 2))
@@ -22,7 +23,7 @@ OWED = 16_384
 
 def run(*words):
     """The numbers that a run prints behind its colon, by their names."""
-    line = subprocess.run([PROGRAM, "rig", *map(str, words)], check=True, capture_output=True, text=True, env=page.environment()).stdout
+    line = clock.said(clock.BENCH, "rig", *words)
     return {name: int(number) for name, number in re.findall(r"([a-z_][a-z_ ]*?) (\d+)\b", line.split(": ")[1])}
 
 
@@ -55,22 +56,17 @@ def claims():
     yield "| pages | claim | `index_of` | new | close |"
     yield "|---|---|---|---|---|"
     for pages in CLAIMED:
-        runs = [run("claims", pages) for _ in range(RUNS)]
-        least = [min(numbers[name] for numbers in runs) for name in ("claim", "index_of", "new", "close")]
+        least = clock.least(lambda: operator.itemgetter("claim", "index_of", "new", "close")(run("claims", pages)), RUNS)
         yield f"| {pages:,} | " + " | ".join(map(str, least)) + " |"
 
 
 def main():
-    if not PROGRAM.exists():
-        sys.exit(f"{PROGRAM} is not there")
-    lines = [f"Measured on {page.machine()}: of each row the run with the middle ratio of {RUNS}. `Claims` take these nanoseconds a page, the least of {RUNS} runs, in the second table.", ""]
-    for part in (ratios, claims):
-        for line in part():
-            print(line, flush=True)
-            lines.append(line)
-        lines.append("")
-    if sys.argv[1:] == ["--write"]:
-        page.write("RIG.md", "\n".join(lines))
+    require(clock.BENCH)
+    head = (
+        f"Measured on {page.machine()}: of each row the run with the middle ratio of {RUNS}. `Claims` take these nanoseconds a page, "
+        f"the least of {RUNS} runs, in the second table."
+    )
+    clock.report(head, itertools.chain(ratios(), [""], claims()), lambda text: page.write("RIG.md", text))
 
 
 if __name__ == "__main__":

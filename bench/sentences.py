@@ -11,6 +11,8 @@ import re
 import sys
 
 import definitions
+import page
+from definitions import CRATES
 
 DEFINITION = re.compile(r"^(?:(?:abbrev|unfoldable) (?:pub )?|pub )(?:rec |data |record |pub )*([^\s:]+)")
 FUNCTION = re.compile(r"^\s*pub (?:const |unsafe )*fn (\w+)")
@@ -28,20 +30,14 @@ def unsaid(text, pattern, comment, skipped):
 
 
 def main():
-    faults = 0
-    for crate in sys.argv[1:] or sorted(path.name for path in definitions.CRATES.iterdir()):
-        for file in sorted((definitions.CRATES / crate / "specs").glob("*.antt")):
-            for number, name in unsaid(file.read_text(), DEFINITION, "--", ("{-#",)):
-                faults += 1
-                print(f"{file.relative_to(definitions.CRATES)}:{number}: {name}")
-        if crate not in definitions.product():
-            continue
-        for file in sorted((definitions.CRATES / crate / "src").rglob("*.rt")):
-            for number, name in unsaid(file.read_text(), FUNCTION, "///", ("#[",)):
-                faults += 1
-                print(f"{file.relative_to(definitions.CRATES)}:{number}: {name}")
-    print(f"sentences: {faults} missing")
-    sys.exit(1 if faults else 0)
+    faults, product = [], list(definitions.product())
+    for crate in sys.argv[1:] or sorted(path.name for path in CRATES.iterdir()):
+        looked_at = [(file, DEFINITION, "--", "{-#") for file in sorted((CRATES / crate / "specs").glob("*.antt"))]
+        if crate in product:
+            looked_at += [(file, FUNCTION, "///", "#[") for file in sorted((CRATES / crate / "src").rglob("*.rt"))]
+        for file, *how in looked_at:
+            faults += [f"{file.relative_to(CRATES)}:{number}: {name}" for number, name in unsaid(file.read_text(), *how)]
+    page.end(faults, "sentences")
 
 
 if __name__ == "__main__":

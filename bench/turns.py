@@ -23,8 +23,8 @@ import shutil
 import subprocess
 import sys
 import tempfile
-import time
 
+import clock
 import page
 from bench import CASES
 from migration import WORK
@@ -56,24 +56,6 @@ LOOP = "*codec::write_and_read*"
 
 # How many frames are counted in few rounds, and how many times as many in many.
 FEW_FRAMES, TIMES = 256, 5
-
-
-def finished(program, words, stdin):
-    """Runs a program to its end, and returns what it wrote to standard output."""
-    done = subprocess.run([program, *words], stdin=stdin, capture_output=True, env=page.environment())
-    if done.returncode:
-        sys.exit(f"{program} {' '.join(words)}: status {done.returncode}\n{done.stderr.decode(errors='replace')}")
-    return done.stdout.decode(errors="replace")
-
-
-def seconds(program, script):
-    with open(script) as source, open(os.devnull, "w") as sink:
-        start = time.perf_counter()
-        status = subprocess.run([program, "run"], stdin=source, stdout=sink, env=page.environment()).returncode
-        took = time.perf_counter() - start
-    if status:
-        sys.exit(f"{program}: status {status}")
-    return took
 
 
 def instructions(program, words, script=os.devnull, function=None):
@@ -109,18 +91,14 @@ class Scripts:
         return self.path(name, CASES[name])
 
 
-def least(measure, programs, runs):
-    """The least that a measure gives of each program, which take turns."""
-    found = [[] for _ in programs]
-    for _ in range(runs):
-        for numbers, program in zip(found, programs):
-            numbers.append(measure(program))
-    return [min(numbers) for numbers in found]
+def seconds(programs, script, runs):
+    """The least seconds of each program on a script. They take turns."""
+    return clock.least(lambda: [clock.played([program, "run"], script)[0] for program in programs], runs)
 
 
-def row(name, unit, clock, digits, counted):
+def row(name, unit, took, digits, counted):
     """A row of the table: both clocks and both counts, each pair with its ratio."""
-    cells = [name, unit, *(f"{it:.{digits}f}" for it in clock), f"{clock[1] / max(clock[0], 1e-9):.3f}"]
+    cells = [name, unit, *(f"{it:.{digits}f}" for it in took), f"{took[1] / max(took[0], 1e-9):.3f}"]
     if counted:
         cells += [*(f"{it:,.1f}" for it in counted), f"{counted[1] / counted[0]:.4f}"]
     else:
@@ -128,8 +106,8 @@ def row(name, unit, clock, digits, counted):
     print("| " + " | ".join(cells) + " |", flush=True)
 
 
-def head(clock, counted):
-    print(f"| what | for each | {clock}, before | after | ratio | {counted}, before | after | ratio |")
+def head(took, counted):
+    print(f"| what | for each | {took}, before | after | ratio | {counted}, before | after | ratio |")
     print("|---|---|---|---|---|---|---|---|")
 
 
@@ -145,11 +123,11 @@ def compare_migrations(programs, scripts, runs):
     for pages in NUMBERS:
         for name, (base, whole) in WORK.items():
             script = scripts.migration(whole, pages)
-            clock = least(lambda program: seconds(program, script), programs, runs)
+            took = seconds(programs, script, runs)
             at = name, min(pages, COUNTED)
             if at not in known:
                 known[at] = [of_page(program, scripts, base, whole, at[1]) for program in programs]
-            row(f"{name}, {pages:,} pages", "page", clock, 4, known[at])
+            row(f"{name}, {pages:,} pages", "page", took, 4, known[at])
     return [after / before for before, after in known.values()]
 
 
@@ -157,13 +135,13 @@ def compare_lines(programs, scripts, runs):
     ratios = []
     for name, is_counted in LINES.items():
         script = scripts.lines(name)
-        clock = least(lambda program: seconds(program, script), programs, runs)
+        took = seconds(programs, script, runs)
         counted = None
         if is_counted:
             count = script.read_text().count("\n")
             counted = [instructions(program, ["run"], script) / count for program in programs]
             ratios.append(counted[1] / counted[0])
-        row(name, "line", clock, 4, counted)
+        row(name, "line", took, 4, counted)
     return ratios
 
 
@@ -173,7 +151,7 @@ def codec_words(program, words):
 
 def codec_clock(program, kind, piece, batch, rounds):
     """Nanoseconds a page, or picoseconds a byte."""
-    said = finished(program, codec_words(program, [kind, str(piece), str(batch), str(rounds)]), subprocess.DEVNULL)
+    said = clock.said(program, *codec_words(program, [kind, piece, batch, rounds]))
     numbers = [int(number) for number in re.findall(r"\d+", said)]
     return numbers[0] if kind == "pages" else numbers[1]
 
@@ -194,10 +172,10 @@ def codec_count(program, kind, piece, batch):
 def compare_codecs(programs, runs):
     ratios = []
     for kind, piece, batch, rounds in CODEC:
-        clock = least(lambda program: codec_clock(program, kind, piece, batch, rounds), programs, runs)
+        took = clock.least(lambda: [codec_clock(program, kind, piece, batch, rounds) for program in programs], runs)
         counted = [codec_count(program, kind, piece, batch) for program in programs]
         ratios.append(counted[1] / counted[0])
-        row(f"{kind}, pieces of {piece:,}, {batch:,} frames", "page" if kind == "pages" else "byte, frame", clock, 0, counted)
+        row(f"{kind}, pieces of {piece:,}, {batch:,} frames", "page" if kind == "pages" else "byte, frame", took, 0, counted)
     return ratios
 
 

@@ -14,19 +14,15 @@ import collections
 import os
 import pathlib
 import re
-import subprocess
 import sys
 import tempfile
 
 import page
-from bench import PROGRAM
+from model import frames
+from model.frames import decode
+from program import PAGE, PROFILES, PROGRAM, run
 
-sys.path.insert(0, str(page.TOP / "docs"))
-import decode  # noqa: E402
-
-PROFILES = ("commands", "precopy", "postcopy", "moves", "breaks", "urgent", "bytes", "runs", "all")
 WIRES = ("wire", "back", "urgent")
-PAGE = 4096
 NUMBER = re.compile(r"0x[0-9a-f]+|\d+")
 
 
@@ -133,10 +129,6 @@ def is_same(wanted, seen):
     return wanted == seen or wanted[:2] == seen[:2] and wanted[1] == "package" and wanted[2] is None
 
 
-def run(program, words, given):
-    return subprocess.run([*program, *words], input=given, stdout=subprocess.PIPE, stderr=subprocess.PIPE)
-
-
 def lines_of(script, output):
     """Each line of a script that has output, with it."""
     words = [line.split() for line in script.decode().splitlines()]
@@ -147,23 +139,22 @@ def lines_of(script, output):
 def front_lines(data):
     """The bytes up to the first Package, and what a destination that was never paused takes of them."""
     at, lines = 0, []
-    while at < len(data):
-        size = 12 + int.from_bytes(data[at + 8 : at + 12], "big")
-        ((epoch, name, found),) = decode.frames(data[at : at + size])
-        shown = " ".join(f"0x{n:x}" if name in ("page", "zero", "run") and i == 0 else str(n) for i, n in enumerate(told(name, found)))
-        at += size
-        lines.append("took package owed " + shown if name == "package" else f"took {name} {shown}".strip())
-        if name in ("package", "resume"):
+    for _, name, found in decode.frames(data):
+        if name == "resume":
+            return b"", []
+        at += frames.HEADER + len(frames.body_of(name, found))
+        lines.append(f"took {frames.told(name, found)}")
+        if name == "package":
             break
-    return data[:at], lines if not lines or not lines[-1].startswith("took resume") else None
+    return data[:at], lines
 
 
 def judge(program, name, script, cpus, counts):
-    words = ["run", "--cpus", cpus]
-    plain = run(program, words, script)
+    words = [*program, "run", "--cpus", cpus]
+    plain = run(words, script)
     with tempfile.TemporaryDirectory() as folder:
         files = {wire: os.path.join(folder, wire) for wire in WIRES}
-        tapped = run(program, [*words, *(text for wire in WIRES for text in (f"--{wire}", files[wire]))], script)
+        tapped = run([*words, *(text for wire in WIRES for text in (f"--{wire}", files[wire]))], script)
         data = {wire: pathlib.Path(files[wire]).read_bytes() for wire in WIRES}
     if (plain.stdout, plain.returncode) != (tapped.stdout, tapped.returncode):
         raise ValueError(f"{name}: another output")
@@ -179,8 +170,8 @@ def judge(program, name, script, cpus, counts):
             counts[f"{wire} {seen[at][1]}"] += 1
         counts["bytes"] += len(data[wire])
     front, lines = front_lines(data["wire"])
-    if front and lines:
-        taken = run(program, ["frames", "--cpus", cpus], front).stdout.decode().splitlines()
+    if front:
+        taken = run([*program, "frames", "--cpus", cpus], front).stdout.decode().splitlines()
         if taken != lines:
             raise ValueError(f"{name}: frames: {taken[-3:]}, wanted {lines[-3:]}")
         counts["fronts"] += 1
@@ -200,8 +191,8 @@ def main():
     for seed in range(given.first, given.first + given.seeds):
         for profile in PROFILES:
             cpus = str((1, 2, 4, 16)[seed % 4])
-            words = ["explore", "--seed", str(seed), "--lines", str(given.lines), "--profile", profile, "--cpus", cpus]
-            judge(program, f"{profile} {seed}", run(program, words, b"").stdout, cpus, counts)
+            words = [*program, "explore", "--seed", str(seed), "--lines", str(given.lines), "--profile", profile, "--cpus", cpus]
+            judge(program, f"{profile} {seed}", run(words).stdout, cpus, counts)
             scripts += 1
     fronts, size = counts.pop("fronts"), counts.pop("bytes")
     for name in sorted(counts):

@@ -68,7 +68,7 @@ def loads_of(memory):
         if protection == "none":
             yield f"0 load 0x{start:x} 8 => segv protected"
             continue
-        held = bytes.fromhex(data) if data else bytes(PAGE)
+        held = data or bytes(PAGE)
         for at in range(0, PAGE, 8):
             yield f"0 load 0x{start + at:x} 8 => value 0x{int.from_bytes(held[at:at + 8], 'little'):x}"
 

@@ -1,13 +1,12 @@
-"""The destination of a migration: docs/PROTOCOL.md."""
+"""The destination of a migration on a host: the node of bench/model, with a guest below it and wires beside it."""
 
-from collections import deque
+from model import nodes
 
 from .errors import Finding, Refused
 from .guest import Guest, Idle, Woken
 from .nodes import Node
-from .pages import PAGE, count_of, name, runs_of
-from .script import Mmap
-from .wires import Copy, Discard, End, Package, Recv, Request, Run, Signal
+from .pages import PAGE, PROTECTIONS, name
+from .script import Load, Mmap, Store
 
 # As the source's, without the thread's number.
 FEATURES = 0x4D
@@ -29,120 +28,45 @@ def followed(owed, event):
     return {**rest, **moved}
 
 
-class Destination(Node):
+class Destination(Node, nodes.Destination):
     def __init__(self, world, guest_class=Guest):
-        super().__init__(world)
+        nodes.Destination.__init__(self, world.settings.cpus)
+        Node.__init__(self, world)
         self.guest_class = guest_class
-        self.phase = "idle"
-        self.kept = {}  # the newest copy of each page, before it runs
-        self.has_run, self.has_ended = False, False
-        self.owed, self.arrivals, self.requested = {}, deque(), []
-        self.urgent_taken, self.installed, self.dropped = 0, 0, 0
 
-    def require_run(self):
-        if not self.has_run:
-            raise Refused("Phase")
-
-    def send_back(self, frame):
+    def transmit(self, name, fields):
         if self.link.is_up:
-            self.link.back.put(self.epoch, frame)
+            self.link.back.put(self.epoch, name, fields)
 
     # ---- frames ----
 
     def deliver(self, count):
         if self.world.source.phase == "idle":
             raise Refused("Phase")
-        self.link.require_up()
         wire = self.link.forward
-        if not wire.sent:
-            raise Refused("NothingThere")
-        completed = wire.completes(count)
-        if completed and isinstance(completed.frame, End):
-            self.require_all_came(completed.frame)
-        sent = wire.arrive(count)
-        if not sent:
-            return f"moved {count}"
-        return self.take(sent.epoch, sent.frame)
-
-    def require_all_came(self, end):
-        if self.arrivals:
-            raise Refused("InstallFirst")
-        if end.urgent > self.urgent_taken:
-            raise Refused("UrgentFirst")
-
-    def take(self, epoch, frame):
-        if isinstance(frame, Signal):
-            return self.take_advise(epoch) if frame.kind == "advise" else self.take_resume(epoch)
-        if isinstance(frame, Copy):
-            return self.take_copy(frame)
-        if isinstance(frame, Run):
-            self.kept.update((frame.first + at, data) for at, data in enumerate(frame.copies))
-            return f"took run {name(frame.first)} {len(frame.copies)}"
-        if isinstance(frame, Discard):
-            return self.discard(frame)
-        if isinstance(frame, Package):
-            return self.take_package(frame)
-        self.has_ended, self.phase = True, "ended"
-        self.send_back(Signal("done"))
-        return "took end"
-
-    def take_advise(self, epoch):
-        self.epoch, self.phase = epoch, "advised"
-        return "took advise"
-
-    def take_copy(self, copy):
-        if self.phase == "running":
-            self.arrivals.append(copy)
-        else:
-            self.kept[copy.page] = copy.data
-        return f"took {copy.kind()} {name(copy.page)}"
-
-    def discard(self, frame):
-        for first, end in frame.runs:
-            for page in range(first, end):
-                self.kept.pop(page, None)
-        self.phase = "discarding"
-        return f"took discard {count_of(frame.runs)}"
-
-    def take_package(self, frame):
-        """From here on the guest runs at this node."""
-        self.guest = self.guest_class(self.world.settings, self.record, FEATURES, MODE)
-        for start, end, protection in frame.areas:
-            value, events = self.guest.call_through(0, Mmap(end - start, protection, "noreplace", start))
-            if value != start or events:
-                raise Finding(f"an area of the package: {value} {events}")
-        self.guest.host.register(MODE)
-        for page in sorted(self.kept):
-            self.guest.host.put(page, self.kept[page])
-        self.owed = {page: page for first, end in frame.owed for page in range(first, end)}
-        self.kept = {}
-        self.guest.states = [Woken(command) if command else Idle() for command in frame.commands]
-        self.has_run, self.phase = True, "running"
-        return f"took package owed {len(self.owed)}"
-
-    def take_resume(self, epoch):
-        state = "ended" if self.has_ended else "running" if self.has_run else "notrun"
-        self.epoch, self.urgent_taken = epoch, 0
-        self.send_back(Recv(state, runs_of(self.owed.values()) if state == "running" else []))
-        if state == "running":
-            for page in self.requested:
-                self.send_back(Request(page))
-        if state == "notrun":
-            self.kept = {}
-        self.phase = "advised" if state == "notrun" else state
-        return "took resume"
+        self.link.require_frame(wire)
+        reason = self.wait_fault(*wire.first()[1:]) if wire.completes(count) else None
+        if reason:
+            raise Refused(reason)
+        return self.receive(wire, count, self.take)
 
     def deliver_urgent(self, count):
         self.require_run()
-        self.link.require_up()
-        if not self.link.urgent.sent:
-            raise Refused("NothingThere")
-        sent = self.link.urgent.arrive(count)
-        if not sent:
-            return f"moved {count}"
-        self.urgent_taken += 1
-        self.arrivals.append(sent.frame)
-        return f"took {sent.frame.kind()} {name(sent.frame.page)}"
+        self.link.require_frame(self.link.urgent)
+        return self.receive(self.link.urgent, count, self.take_urgent)
+
+    def begin_run(self, areas, commands):
+        self.guest = self.guest_class(self.world.settings, self.record, FEATURES, MODE)
+        for first, pages, protection in areas:
+            start = first * PAGE
+            value, events = self.guest.call_through(0, Mmap(pages * PAGE, PROTECTIONS[protection], "noreplace", start))
+            if value != start or events:
+                raise Finding(f"an area of the package: {value} {events}")
+        self.guest.host.register(MODE)
+        self.guest.states = [Woken((Load, Store)[len(command) - 2](*command)) if command else Idle() for command in commands]
+
+    def put(self, page, data):
+        self.guest.host.put(page, data)
 
     # ---- the handler ----
 
@@ -164,36 +88,19 @@ class Destination(Node):
         page, _ = self.held.popleft()
         if page not in self.owed:
             return self.make_zeros(page)
-        return self.request(page, self.owed[page])
-
-    def request(self, page, origin):
         if self.guest.host.is_present(page):
             raise Finding(f"owed page {name(page)} is present")
-        if origin not in self.requested:
-            self.requested.append(origin)
-            if self.phase == "running":
-                self.send_back(Request(origin))
-        return f"requested {name(origin)} for {name(page)}"
+        return self.request(page, self.owed[page])
 
     def install(self):
-        """The first copy that came is put where its page belongs now."""
-        self.require_run()
-        if not self.arrivals:
-            raise Refused("NothingThere")
-        self.require_unchanging(f"copy {name(self.arrivals[0].page)} 0 {'00' * PAGE}")
-        copy = self.arrivals.popleft()
-        page = next((page for page, origin in self.owed.items() if origin == copy.page), None)
-        if page is None:
-            self.dropped += 1
-            return f"dropped {name(copy.page)}"
-        cpus = self.guest.sleepers_of(page)
-        self.put_arrival(page, copy)
-        self.guest.see_woken(cpus)
-        del self.owed[page]
-        self.installed += 1
-        if copy.page in self.requested:
-            self.requested.remove(copy.page)
-        return f"installed {name(page)} from {name(copy.page)}"
+        if self.arrivals:
+            self.require_unchanging(f"copy {name(self.arrivals[0][0])} 0 {'00' * PAGE}")
+        return super().install()
 
-    def put_arrival(self, page, copy):
-        self.guest.host.put(page, copy.data)
+    def put_arrival(self, page, origin, data):
+        cpus = self.guest.sleepers_of(page)
+        self.put_copy(page, origin, data)
+        self.guest.see_woken(cpus)
+
+    def put_copy(self, page, origin, data):
+        self.put(page, data)

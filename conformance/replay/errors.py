@@ -1,4 +1,6 @@
-"""How a replay may end, and how a step may."""
+"""How a replay may end, and how a step may: Refused is that of the model."""
+
+from model.nodes import Refused  # noqa: F401
 
 
 class NotAScript(Exception):
@@ -7,7 +9,3 @@ class NotAScript(Exception):
 
 class Finding(Exception):
     """The kernel did what neither the model nor docs/LINUX.md says. The replay of this script ends."""
-
-
-class Refused(Exception):
-    """A step does not belong here: the argument is the refusal's name. It has changed nothing."""

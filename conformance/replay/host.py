@@ -116,15 +116,15 @@ class Host:
         return self.ask(f"bits {name(page)}") == "1 1"
 
     def page(self, page):
-        """The bytes of a present page in hexadecimal, or None where all are zeros."""
+        """The bytes of a present page, or None where all are zeros."""
         said = self.ask(f"page {name(page)}")
         if said == "absent" or said.startswith("refused"):
             raise Finding(f"page {name(page)}: {said}")
-        return None if said == "zero" else said
+        return None if said == "zero" else bytes.fromhex(said)
 
     def put(self, page, data):
         """Makes a missing page present, by UFFDIO_COPY or, for zeros, by UFFDIO_ZEROPAGE. Whoever sleeps on it is woken."""
-        self.must(f"copy {name(page)} 0 {data}" if data else f"zeropage {name(page)} {PAGE} 0")
+        self.must(f"copy {name(page)} 0 {data.hex()}" if data else f"zeropage {name(page)} {PAGE} 0")
 
     def register(self, mode):
         """Registers each area: mode 1 for missing faults, 3 for write-protect faults too."""

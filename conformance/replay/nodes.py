@@ -1,4 +1,4 @@
-"""What both nodes of a migration do: they make commands, read messages, and resolve faults."""
+"""What both nodes of a migration do on a host: they make commands, read messages, resolve faults, and receive frames."""
 
 from collections import deque
 
@@ -16,7 +16,7 @@ class Node:
         self.world, self.record, self.link = world, world.record, world.link
         self.guest = None
         self.held = deque()
-        self.epoch, self.faults_read = 0, 0
+        self.faults_read = 0
 
     # ---- commands ----
 
@@ -40,6 +40,18 @@ class Node:
         self.guest.events.extend((call, event) for event in made.messages)
         self.guest.states[cpu] = InCall(call)
         return f"cpu {cpu} in call {len(made.messages)}"
+
+    # ---- frames ----
+
+    def receive(self, wire, count, take):
+        """This number of bytes of a wire arrives, and the frame that they complete is taken. No frame of a world is refused."""
+        frame = wire.arrive(count)
+        if not frame:
+            return f"moved {count}"
+        try:
+            return take(*frame)
+        except Refused as reason:
+            raise Finding(f"frame {frame[1]} of epoch {frame[0]} is refused: {reason}") from None
 
     # ---- the handler ----
 

@@ -11,6 +11,8 @@ import subprocess
 import sys
 import time
 
+import page
+
 from . import machine, table
 from .comparison import Job, Result, answers_of, compare, cpus_of
 from .generator import PROFILES, generate
@@ -176,11 +178,8 @@ def asked_for(words):
 
 def write_page(total):
     """Puts the table into its part of docs/LINUX.md."""
-    page = TOP / "docs" / "LINUX.md"
-    begin, end = "<!-- measured -->\n", "<!-- end of measured -->\n"
-    head, _, rest = page.read_text().partition(begin)
-    text = "\n".join([f"`conformance/compare {asked_for(sys.argv[1:])}`, {headline()}:", "", *table.of_page(total), ""])
-    page.write_text(head + begin + text + end + rest.partition(end)[2])
+    text = "\n".join([f"`conformance/compare {asked_for(sys.argv[1:])}`, {headline()}:", "", *table.of_page(total)])
+    page.put("measured", text, page.TOP / "docs" / "LINUX.md")
 
 
 def differs(job, data):

@@ -149,7 +149,7 @@ class RawDestination(RawNode, Destination):
     def install(self):
         """A table that follows the messages may hold a page where nothing is registered any more: UFFDIO_COPY is ENOENT there."""
         if self.has_run and self.arrivals and not self.guest.calls():
-            origin = self.arrivals[0].page
+            origin = self.arrivals[0][0]
             page = next((page for page, other in self.owed.items() if other == origin), None)
             if page is not None and not self.is_registered(page):
                 self.record.check("install where nothing is registered")

@@ -1,40 +1,58 @@
-"""The source of a migration: docs/PROTOCOL.md."""
+"""The source of a migration on a host: the node of bench/model, with a guest below it and wires beside it."""
 
-from collections import deque
+from dataclasses import astuple
+
+from model import nodes
 
 from .errors import Finding, Refused
 from .guest import Asleep, Guest, Woken
 from .nodes import Node
-from .pages import PAGE, name, pages_of, runs_of
-from .wires import Copy, Discard, End, Package, Recv, Request, Run, Signal
+from .pages import PAGE, PROTECTIONS, name, pages_of
 
 # The four features of write protection and the three events, and the thread's number in each fault.
 FEATURES = 0x14D
 MODE = 3
 
 
-class Source(Node):
+class Source(Node, nodes.Source):
     def __init__(self, world, guest_class=Guest):
-        super().__init__(world)
+        nodes.Source.__init__(self)
+        Node.__init__(self, world)
         self.guest = guest_class(world.settings, world.record, FEATURES, MODE)
-        self.phase = "idle"
-        self.rounds, self.sent = 0, 0
+        self.rounds, self.states_at_switch = 0, None
         self.clean, self.to_send, self.ever_sent = set(), set(), set()
-        self.is_switched, self.states_at_switch = False, None
-        self.remaining, self.requests, self.last_owed = set(), deque(), 0
-        self.has_sent_end, self.urgent_sent = False, 0
 
-    def require(self, *phases):
-        if self.phase not in phases:
-            raise Refused("Phase")
+    # ---- the host and the wires ----
+
+    def transmit(self, name, fields, urgent=False):
+        wire = self.link.urgent if urgent else self.link.forward
+        wire.put(self.epoch, name, fields)
+
+    def require_link(self):
+        self.link.require_up()
+
+    def present(self):
+        return self.guest.host.present()
+
+    def is_present(self, page):
+        return self.guest.host.is_present(page)
+
+    def bytes_of(self, page):
+        return self.guest.host.page(page)
+
+    def package(self):
+        areas = [(start // PAGE, (end - start) // PAGE, PROTECTIONS.index(protection)) for start, end, protection in self.guest.host.areas()]
+        return areas, [astuple(state.command) if isinstance(state, (Asleep, Woken)) else () for state in self.states_at_switch]
+
+    def release(self):
+        super().release()
+        self.guest.close()
+        self.guest = None
 
     def begin(self):
-        self.require("idle")
-        self.epoch += 1
-        self.phase = "precopy"
+        line = super().begin()
         self.guest.host.register(MODE)
-        self.link.forward.put(self.epoch, Signal("advise"))
-        return f"started epoch {self.epoch}"
+        return line
 
     # ---- pre-copy ----
 
@@ -51,7 +69,7 @@ class Source(Node):
         self.check_clean()
         self.rounds += 1
         self.guest.host.register(MODE)
-        self.to_send = self.guest.host.present() - self.clean
+        self.to_send = self.present() - self.clean
         return f"round {self.rounds} todo {len(self.to_send)}"
 
     def require_sendable(self):
@@ -74,23 +92,18 @@ class Source(Node):
         self.sent += len(pages)
         return copies
 
-    def put_copy(self, wire, page, data):
-        copy = Copy(page, data)
-        wire.put(self.epoch, copy)
-        return f"sent {copy.kind()} {name(page)}"
-
     def send(self):
         self.require_sendable()
         page = min(self.to_send)
-        return self.put_copy(self.link.forward, page, self.copies_of([page])[0])
+        return self.send_page(page, self.copies_of([page])[0])
 
     def send_run(self, most):
         self.require_sendable()
         pages = [min(self.to_send)]
         while len(pages) < most and pages[-1] + 1 in self.to_send:
             pages.append(pages[-1] + 1)
-        self.link.forward.put(self.epoch, Run(pages[0], self.copies_of(pages)))
-        return f"sent run {name(pages[0])} {len(pages)}"
+        data = b"".join(it or bytes(PAGE) for it in self.copies_of(pages))
+        return self.send_frame("run", {"page": pages[0], "count": len(pages), "bytes": data})
 
     def require_handler(self):
         if self.phase == "idle" or self.is_switched:
@@ -124,21 +137,19 @@ class Source(Node):
         self.guest.wake_by(page, f"writeprotect {name(page)} {PAGE} 0")
         return f"unprotected {name(page)}"
 
-    # ---- the switch, and post-copy ----
+    # ---- the switch, and a report ----
 
     def switch(self):
         self.require("precopy")
-        self.link.require_up()
+        self.require_link()
         self.require_unchanging()
         self.check_clean()
-        discarded, owed = self.ever_sent - self.clean, self.guest.host.present() - self.clean
-        self.is_switched, self.phase = True, "stopped"
+        discarded, owed = self.ever_sent - self.clean, self.present() - self.clean
         self.states_at_switch = list(self.guest.states)
         self.stop_processors()
         self.guest.faults.clear()
         self.held.clear()
-        self.hand_over(runs_of(discarded), owed)
-        return f"switched discard {len(discarded)} owed {len(owed)}"
+        return self.make_switch(discarded, owed)
 
     def stop_processors(self):
         """Whoever sleeps in the kernel leaves the guest."""
@@ -148,92 +159,12 @@ class Source(Node):
                 self.guest.states[cpu] = Woken(state.command)
                 self.record.tag("stopped-at-switch")
 
-    def hand_over(self, discarded, owed):
-        commands = [state.command if isinstance(state, (Asleep, Woken)) else None for state in self.states_at_switch]
-        self.link.forward.put(self.epoch, Discard(discarded))
-        self.link.forward.put(self.epoch, Package(self.guest.host.areas(), runs_of(owed), commands))
-        self.last_owed, self.remaining = len(owed), owed
-
-    def push(self, page, epoch):
-        return self.push_on(self.link.forward, page, epoch)
-
-    def push_urgent(self, page, epoch):
-        line = self.push_on(self.link.urgent, page, epoch)
-        self.urgent_sent += 1
-        return line
-
-    def push_on(self, wire, page, epoch):
-        self.require("stopped")
-        self.link.require_up()
-        if epoch is not None and epoch != self.epoch:
-            raise Refused("StaleEpoch")
-        if not self.guest.host.is_present(page):
-            raise Refused("PageNotSendable")
-        if page not in self.remaining:
-            raise Refused("NotRemaining")
-        self.remaining.discard(page)
-        self.sent += 1
-        return self.put_copy(wire, page, self.guest.host.page(page))
-
-    def serve(self):
-        self.require("stopped")
-        self.link.require_up()
-        if not self.requests:
-            raise Refused("NothingThere")
-        return f"asked {name(self.requests.popleft())}"
-
-    def end(self):
-        self.require("stopped")
-        if self.has_sent_end:
-            raise Refused("Phase")
-        self.link.require_up()
-        if self.remaining:
-            raise Refused("PagesLeft")
-        self.has_sent_end = True
-        self.link.forward.put(self.epoch, End(self.urgent_sent))
-        return "end sent"
-
-    # ---- the wire back ----
-
     def take_back(self, count):
         if self.phase == "idle":
             raise Refused("Phase")
-        self.link.require_up()
-        if not self.link.back.sent:
-            raise Refused("NothingThere")
-        sent = self.link.back.arrive(count)
-        if not sent:
-            return f"moved {count}"
-        return self.take(sent.frame)
+        self.link.require_frame(self.link.back)
+        return self.receive(self.link.back, count, self.take)
 
-    def take(self, frame):
-        if isinstance(frame, Request):
-            self.requests.append(frame.page)
-            return f"took request {name(frame.page)}"
-        if isinstance(frame, Recv):
-            return self.take_report(frame)
-        self.release()
-        return "took done"
-
-    def take_report(self, frame):
-        """The source trusts the report, and not what it has sent."""
-        owed = {page for first, end in frame.owed for page in range(first, end)}
-        self.requests.clear()
-        if frame.state == "ended":
-            self.release()
-        elif frame.state == "running":
-            self.remaining, self.phase = owed, "stopped"
-        elif self.is_switched:
-            self.phase = "stopped"
-            self.hand_over([], self.guest.host.present())
-        else:
-            self.clean, self.to_send, self.ever_sent = set(), set(), set()
-            self.phase = "precopy"
-        return f"took recv {frame.state} {len(owed)}"
-
-    def release(self):
-        self.phase = "released"
-        self.guest.close()
-        self.guest = None
-        self.remaining = set()
-        self.requests.clear()
+    def begin_again(self):
+        super().begin_again()
+        self.clean, self.to_send, self.ever_sent = set(), set(), set()

@@ -7,7 +7,7 @@ from .guest import Asleep, Guest, Idle, InCall
 from .pages import PAGE, meets, name
 from .settings import Record
 from .source import Source
-from .wires import Link, Signal
+from .wires import Link
 
 
 class World:
@@ -125,8 +125,7 @@ class World:
             raise Refused("Phase")
         if self.link.is_up:
             raise Refused("NotBroken")
-        node.phase = "paused"
-        return f"paused {side}"
+        return node.pause()
 
     def resume(self):
         source = self.source
@@ -135,9 +134,8 @@ class World:
         if self.link.is_up:
             raise Refused("NotBroken")
         self.link.is_up = True
-        source.epoch += 1
-        source.has_sent_end, source.urgent_sent = False, 0
-        self.link.forward.put(source.epoch, Signal("resume"))
+        source.begin_epoch()
+        source.transmit("resume", {})
         return f"resumed epoch {source.epoch}"
 
     # ---- how far it is ----

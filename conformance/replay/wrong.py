@@ -77,7 +77,7 @@ def destination_registers_nothing():
 
 def installs_at_the_origin():
     """A copy is put where its page was at the source."""
-    Destination.put_arrival = lambda node, page, copy: node.guest.host.put(copy.page, copy.data)
+    Destination.put_copy = lambda node, page, origin, data: node.guest.host.put(origin, data)
 
 
 def change_table(kind):
@@ -113,17 +113,17 @@ def installs_while_changing():
 
 def wakes_nobody():
     """A copy is installed with UFFDIO_COPY_MODE_DONTWAKE."""
-    old = Destination.put_arrival
+    old = Destination.put_copy
 
-    def put_arrival(node, page, copy):
+    def put_copy(node, page, origin, data):
         old_ask = Host.ask
         Host.ask = lambda host, line: old_ask(host, line.replace(" 0 ", " 1 ", 1) if line.startswith("copy") else line)
         try:
-            old(node, page, copy)
+            old(node, page, origin, data)
         finally:
             Host.ask = old_ask
 
-    Destination.put_arrival = put_arrival
+    Destination.put_copy = put_copy
 
 
 def zeros_for_bytes():
@@ -140,10 +140,10 @@ def discards_nothing():
     """The destination keeps copies that the source has changed since."""
     old = Destination.discard
 
-    def discard(node, frame):
-        kept, line = dict(node.kept), old(node, frame)
+    def discard(node, runs):
+        kept = dict(node.kept)
+        old(node, runs)
         node.kept = kept
-        return line
 
     Destination.discard = discard
 
@@ -152,18 +152,18 @@ def trusts_what_was_sent():
     """After a lost channel the source does not take the destination's report."""
     old = Source.take_report
 
-    def take_report(source, frame):
-        remaining, line = source.remaining, old(source, frame)
-        if frame.state == "running":
+    def take_report(source, state, owed):
+        remaining = source.remaining
+        old(source, state, owed)
+        if state == "running":
             source.remaining = remaining
-        return line
 
     Source.take_report = take_report
 
 
 def end_does_not_wait():
     """End is taken before the urgent frames that it announces."""
-    Destination.require_all_came = lambda node, end: None
+    Destination.wait_fault = lambda node, name, fields: None
 
 
 def events_wake_nobody():
