@@ -1,4 +1,4 @@
-//! postmig's library for Rust: the parts that `decode.rs` and `bench/embed.py` need.
+//! postmig's library for Rust: the parts that `decode.rs` and `bench/compare/embed.py` need.
 
 use std::ptr::null_mut;
 

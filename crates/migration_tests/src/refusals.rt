@@ -1,4 +1,4 @@
-//! Scenes in which `bench/refused.py` refuses each growth in turn, and how many calls answered `NoMemory`.
+//! Scenes in which `bench/compare/refused.py` refuses each growth in turn, and how many calls answered `NoMemory`.
 //!
 //! Such a step has changed nothing; the same step has the answer of the table then, and so has each step behind it. In the end the
 //! transcript is checked.

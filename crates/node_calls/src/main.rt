@@ -17,7 +17,7 @@
 //! | `k` | `Source::set_epoch`, to the next epoch |
 //!
 //! Both nodes have two processors. The source has 16 pages mapped from 0x10 on, and stored to each second one. The exit status is 1
-//! where standard input has anything else, or where memory runs out. `bench/takes.py` draws calls and compares the answers.
+//! where standard input has anything else, or where memory runs out. `bench/compare/takes.py` draws calls and compares the answers.
 #![tactic(auto)]
 
 mod calls;

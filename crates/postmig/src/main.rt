@@ -17,7 +17,7 @@
 //! run in threads.
 //!
 //! The exit statuses are those of `specs/Status.antt`. Reading and writing is done by `engine` for scripts and transcripts, and by the
-//! crate of the same name for each other command. `bench/programs.py` runs the program on arguments, files and input of many kinds.
+//! crate of the same name for each other command. `bench/check/programs.py` runs the program on arguments, files and input of many kinds.
 #![tactic(auto)]
 
 mod arguments;

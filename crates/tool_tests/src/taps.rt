@@ -1,6 +1,6 @@
 //! The crate `wiretap`: bytes of wires that were worked out by hand, and readers and writers that take pieces, fail or stop.
 //!
-//! `bench/wires.py` compares the wires of many scripts with their output.
+//! `bench/compare/wires.py` compares the wires of many scripts with their output.
 
 use engine::{Mode, RunFault, run_script};
 use std::alloc::{AllocError, Global};

@@ -1,0 +1,130 @@
+#!/usr/bin/env python3
+"""Draws docs/architecture.svg: the crates of the program and of the library in groups, and which group stands on which.
+
+python3 bench/check/architecture.py [--write]
+
+The edges are those of crates.txt; one that follows from others is left out. Without --write it changes nothing, and the status is 1 where
+the picture is not as it would be drawn, or where crates.txt has a crate in no group.
+"""
+
+import sys
+
+import shared  # noqa: F401
+
+import page
+import tower
+
+PICTURE = page.TOP / "docs" / "architecture.svg"
+# From the top: the height of each row, and its groups, each with what it is, its crates, and how many of the twelve columns it takes.
+# A group of the first row without a neighbour below it is as high as both rows.
+ROWS = (
+    (52, ("the program", "postmig", 10), ("library for C", "postmig_c frame_queue", 2)),
+    (
+        68,
+        ("tools over scripts and frames", "wiretap host_calls frames explain lint expected explore finishing", 5),
+        ("threads and a lock", "threads rig pusher", 3),
+        ("pictures", "draw diagram svg", 2),
+    ),
+    (52, ("the steps to completion", "finish", 4), ("scripts, transcripts and replies as text", "engine grammar report hosts", 8)),
+    (52, ("a migration: both nodes, three wires, and its recovery", "world recovery", 12)),
+    (52, ("the source", "precopy dirty_log", 6), ("the destination", "fault_handler owed_pages", 6)),
+    (52, ("frames, and the wires that carry them", "wires frame_decoder page_stream", 12)),
+    (52, ("a guest's memory with its userfault object, and its processors", "guest uffd_ioctl userfault area_map page_table vcpu", 12)),
+    (52, ("the machine and the flat memory: what is proved, in definitions and laws", "mig_model mig_base frame_texts", 12)),
+)
+WIDTH, COLUMN, COLUMNS, GAP, RISE, LETTER = 748, 60, 12, 12, 26, 7.0
+STYLE = (
+    "text{font-family:system-ui,sans-serif;fill:#1f2933}.t{font-size:13px;font-weight:600}"
+    ".c{font-size:11.5px;font-family:ui-monospace,monospace;fill:#52606d}"
+    "rect.b{fill:#f5f7fa;stroke:#9aa5b1}rect.w{fill:#e3f2ec;stroke:#3f8f6b}path{stroke:#7b8794;fill:none}#h path{fill:#7b8794;stroke:none}"
+)
+
+
+class Group:
+    """A box of the picture."""
+
+    def __init__(self, name, crates, row, place, size):
+        self.name, self.crates, self.row = name, crates.split(), row
+        (self.x, self.y), (self.width, self.height) = place, size
+
+    def lines(self):
+        """The names of its crates, in lines that the box has room for."""
+        line = ""
+        for crate in self.crates:
+            if line and len(line) + 1 + len(crate) > (self.width - 20) / LETTER:
+                yield line
+                line = crate
+            else:
+                line = f"{line} {crate}".strip()
+        yield line
+
+    def box(self):
+        kind = "w" if "world" in self.crates else "b"
+        yield f'<rect class="{kind}" x="{self.x}" y="{self.y}" width="{self.width}" height="{self.height}" rx="5"/>'
+        yield f'<text class="t" x="{self.x + 10}" y="{self.y + 21}">{self.name}</text>'
+        for number, line in enumerate(self.lines()):
+            yield f'<text class="c" x="{self.x + 10}" y="{self.y + 40 + 16 * number}">{line}</text>'
+
+
+def groups():
+    found, top = [], 16
+    for row, (height, *cells) in enumerate(ROWS):
+        left = 0
+        for name, crates, columns in cells:
+            # (a box of the first row without a neighbour below it reaches down to the end of the second)
+            is_high = row == 0 and left >= sum(it[2] for it in ROWS[1][1:])
+            size = columns * COLUMN - GAP, height + (RISE + ROWS[1][0] if is_high else 0)
+            found.append(Group(name, crates, row, (20 + left * COLUMN, top), size))
+            left += columns
+        top += height + RISE
+    return found
+
+
+def edges(found):
+    """Which group stands on which: the edges between their crates, without those that follow from others."""
+    known = tower.crates()
+    home = {crate: group for group in found for crate in group.crates}
+    if missing := {it for top in ("postmig", "postmig_c") for it in tower.below(top)} - set(home):
+        sys.exit(f"architecture: no group has {', '.join(sorted(missing))}")
+    direct = {group: {home[low] for crate in group.crates for low in known[crate] if low in home} - {group} for group in found}
+
+    def reached(group):
+        return direct[group].union(*(reached(it) for it in direct[group]))
+
+    for group in found:
+        for low in direct[group]:
+            if low.row <= group.row:
+                sys.exit(f"architecture: '{group.name}' stands on '{low.name}', which is drawn no lower")
+            if not any(low in reached(other) for other in direct[group] - {low}):
+                yield group, low
+
+
+def arrow(high, low):
+    """A line from a box down to one that it stands on, from the middle of the part that they share."""
+    left, right = max(high.x, low.x), min(high.x + high.width, low.x + low.width)
+    if left >= right:
+        sys.exit(f"architecture: '{low.name}' is not drawn below '{high.name}'")
+    return f'<path d="M{(left + right) / 2:g} {high.y + high.height}V{low.y - 6}" marker-end="url(#h)"/>'
+
+
+def drawn():
+    found = groups()
+    height = found[-1].y + found[-1].height + 16
+    lines = [
+        f'<svg xmlns="http://www.w3.org/2000/svg" viewBox="0 0 {WIDTH} {height}" width="{WIDTH}" height="{height}">',
+        "<title>The crates of postmig: each group stands on those that its arrows lead to</title>",
+        f"<style>{STYLE}</style>",
+        '<defs><marker id="h" markerWidth="8" markerHeight="8" refX="4" refY="3" orient="auto"><path d="M0 0L6 3L0 6z"/></marker></defs>',
+        f'<rect width="{WIDTH}" height="{height}" fill="#fff"/>',
+    ]
+    lines += [arrow(*it) for it in sorted(edges(found), key=lambda it: (it[0].row, it[0].x, it[1].x))]
+    lines += [line for group in found for line in group.box()]
+    return "\n".join([*lines, "</svg>"]) + "\n"
+
+
+def main():
+    page.keep(PICTURE, drawn())
+
+
+if __name__ == "__main__":
+    main()

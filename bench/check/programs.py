@@ -1,0 +1,132 @@
+#!/usr/bin/env python3
+"""Runs the program on the arguments, files and input of bench/programs, and compares what it writes, and its status.
+
+python3 bench/check/programs.py [--program PATH] [CASE ..]
+
+A case is a folder: args has an argument a line, stdin the standard input, data/ the files that lie where the program runs, after/ those
+that have to lie there then, stdout and stderr what it has to write, and status its exit status. What is absent is empty, and the status 0;
+only where the status is another is an absent stderr not compared. In the file output is a path that standard output goes to in place of a
+pipe, and in memory the bytes of address space that the program may take. Where there is a file typed, its lines are typed at a terminal, and
+stdout is all that the terminal then shows but what was typed. It runs the proved builds: crates/postmig/out/postmig, as LLVM makes it, and beside it, where
+rt ci has left one, that of Rattle's own compiler; or with --program that one alone.
+"""
+
+import argparse
+import contextlib
+import os
+import pathlib
+import pty
+import resource
+import shutil
+import subprocess
+import sys
+import tempfile
+import termios
+
+import shared  # noqa: F401
+
+import page
+
+CASES = page.TOP / "bench" / "programs"
+BUILDS = [page.TOP / "crates" / "postmig" / "out" / name for name in ("postmig", "postmig.by-rattle")]
+
+
+def part(case, name):
+    file = case / name
+    return file.read_bytes() if file.is_file() else b""
+
+
+@contextlib.contextmanager
+def room(case):
+    """A folder with the files of a case."""
+    with tempfile.TemporaryDirectory() as folder:
+        data = pathlib.Path(folder) / "data"
+        if (case / "data").is_dir():
+            shutil.copytree(case / "data", data)
+        else:
+            data.mkdir()
+        yield data
+
+
+def shown(terminal):
+    """What a terminal shows until nobody has it open any more."""
+    pieces = []
+    with contextlib.suppress(OSError):
+        while piece := os.read(terminal, 4096):
+            pieces.append(piece)
+    return b"".join(pieces).replace(b"\r\n", b"\n")
+
+
+def typed(words, lines, folder):
+    """How the program ends whose input is typed at a terminal, with what that shows but the input itself."""
+    terminal, other = pty.openpty()
+    modes = termios.tcgetattr(other)
+    modes[3] &= ~termios.ECHO
+    termios.tcsetattr(other, termios.TCSANOW, modes)
+    with subprocess.Popen(words, stdin=other, stdout=other, stderr=other, cwd=folder) as child:
+        os.close(other)
+        # (a line that ends, and then the end of the input)
+        os.write(terminal, lines + b"\x04")
+        output = shown(terminal)
+        os.close(terminal)
+        return subprocess.CompletedProcess(words, child.wait(timeout=60), output, b"")
+
+
+def ran(case, program):
+    """How the program ends on a case, and the names of the files that are then not as they have to be."""
+    words = [bytes(program), *part(case, "args").splitlines()]
+    memory, output = part(case, "memory"), part(case, "output").decode().strip()
+
+    def limit():
+        if memory:
+            resource.setrlimit(resource.RLIMIT_AS, (int(memory), int(memory)))
+
+    if (case / "typed").is_file():
+        with room(case) as data:
+            return typed(words, part(case, "typed"), data), []
+    with room(case) as data, open(output, "wb") if output else contextlib.nullcontext(subprocess.PIPE) as to:
+        given = part(case, "stdin")
+        ended = subprocess.run(words, input=given, cwd=data, stdout=to, stderr=subprocess.PIPE, timeout=60, preexec_fn=limit)
+        wanted = sorted((case / "after").iterdir()) if (case / "after").is_dir() else []
+        return ended, [file.name for file in wanted if part(data, file.name) != file.read_bytes()]
+
+
+def faults(case, program):
+    """What differs in a case, in words."""
+    ended, others = ran(case, program)
+    wanted = int(part(case, "status") or 0)
+    if ended.returncode != wanted:
+        yield f"status {ended.returncode}, and not {wanted}: {ended.stderr.decode(errors='replace').strip()}"
+    if (ended.stdout or b"") != part(case, "stdout"):
+        yield f"standard output is {ended.stdout[:400]}"
+    if ((case / "stderr").is_file() or not wanted) and ended.stderr != part(case, "stderr"):
+        yield f"standard error is {ended.stderr[:400]}"
+    for name in others:
+        yield f"{name} is another file then"
+
+
+def asked():
+    parser = argparse.ArgumentParser(description="Runs the program on the cases of bench/programs.")
+    parser.add_argument("--program", type=pathlib.Path, metavar="PATH", help="a build of the program, in place of the proved ones")
+    parser.add_argument("cases", nargs="*", metavar="CASE", help="the cases, all where none is named")
+    return parser.parse_args()
+
+
+def main():
+    arguments = asked()
+    builds = [arguments.program.absolute()] if arguments.program else [it for it in BUILDS if it.is_file()]
+    if not builds:
+        sys.exit("programs: there is no proved build: ./postmig prove or rt ci makes one")
+    cases = [CASES / name for name in arguments.cases] or sorted(it for it in CASES.iterdir() if it.is_dir())
+    wrong = 0
+    for program in builds:
+        for case in cases:
+            for fault in faults(case, program):
+                print(f"programs: {case.name} by {program.name}: {fault}")
+                wrong += 1
+    print(f"programs: {len(cases)} cases, {len(builds)} builds, {wrong} faults")
+    sys.exit(1 if wrong else 0)
+
+
+if __name__ == "__main__":
+    main()

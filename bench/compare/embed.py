@@ -1,0 +1,158 @@
+#!/usr/bin/env python3
+"""Tests the library of dist/, which ./postmig library builds: from C with the address and the undefined-behaviour sanitizer, with each
+allocation refused in turn, from Python and from Rust; builds and runs the programs of examples/embed; and measures a million lines beside
+the program. Prints what it did, and stops at the first fault with the status 1. What the machine lacks is left out, and said.
+
+python3 bench/compare/embed.py [--loads N]
+"""
+
+import argparse
+import pathlib
+import shutil
+import subprocess
+import sys
+import tempfile
+import time
+
+import shared  # noqa: F401
+
+from model.frames import encode
+from page import TOP
+from program import PROGRAM
+
+DIST, EMBED = TOP / "dist", TOP / "examples" / "embed"
+# The scripts, each with its answers.
+SCRIPTS = [(script, script.with_suffix(".out")) for script in sorted(TOP.glob("examples/*.script"))]
+# The two in which each allocation is refused.
+REFUSED = [pair for pair in SCRIPTS if pair[0].stem in ("fault", "lost-after-run")]
+
+
+def run(*words, **options):
+    """Runs a program, and returns what it wrote."""
+    done = subprocess.run([str(word) for word in words], capture_output=True, **options)
+    if done.returncode:
+        sys.exit(f"embed: {words[0]}: status {done.returncode}\n{done.stdout.decode()}{done.stderr.decode()}")
+    return done.stdout
+
+
+def stream():
+    """Advise, a zero page, four runs of two pages, a Discard and an End."""
+    pages = bytes(n * 7 % 251 for n in range(8192))
+    frames = [("advise", {}), ("zero", {"page": 16})]
+    frames += [("run", {"page": 32 + 2 * n, "count": 2, "bytes": pages}) for n in range(4)]
+    frames += [("discard", {"pages": [(0x3FF, 0x102), (0x502, 1)]}), ("end", {"urgent": 0})]
+    return b"".join(encode(1, *it) for it in frames)
+
+
+def built(made, *words):
+    run("cc", "-std=gnu11", "-Wall", "-Wextra", "-I", DIST, "-o", made, *words, DIST / "libpostmig.a")
+    return made
+
+
+def in_c(work, loads):
+    pairs = [path for pair in SCRIPTS for path in pair]
+    checked = built(work / "checked", "-g", "-fsanitize=address,undefined", TOP / "bench/embed/lines.c")
+    print("C, with the sanitizers:", run(checked, 1000, *pairs).decode().split("\n")[0])
+    if shutil.which("valgrind"):
+        plain = built(work / "valgrind", "-g", TOP / "bench/embed/lines.c")
+        run("valgrind", "-q", "--error-exitcode=1", "--leak-check=full", plain, 100, *pairs[:8])
+        print("C, under valgrind: no fault")
+    else:
+        print("C, under valgrind: left out, there is none")
+    (work / "stream").write_bytes(stream())
+    wraps = [f"-Wl,--wrap={name}" for name in ("malloc", "realloc", "free")]
+    refuse = built(work / "refuse", "-g", "-fsanitize=address", *wraps, TOP / "bench/embed/refuse.c")
+    print("C:", run(refuse, work / "stream", *(path for pair in REFUSED for path in pair)).decode().strip())
+    fast = built(work / "fast", "-O2", TOP / "bench/embed/lines.c")
+    print("C:", run(fast, loads).decode().strip().split("\n")[-1])
+
+
+def in_python(loads):
+    sys.path.insert(0, str(EMBED))
+    import compare
+    import postmig
+
+    for script, answers in SCRIPTS:
+        differs = compare.compare(script.read_bytes(), iter(answers.open("rb")))
+        whole = postmig.run(script.read_bytes())
+        is_flat, verdict = postmig.check(postmig.run(script.read_bytes(), transcript=True))
+        if compare_fails(differs, script, answers) or whole != answers.read_bytes() or not is_flat or not verdict.startswith(b"ok "):
+            sys.exit(f"embed: Python: {script.stem} differs")
+    text = stream()
+    with postmig.Frames() as frames:
+        got = [(numbers.tag, numbers.addr, numbers.count, part) for at in range(0, len(text), 777) for numbers, part in frames.feed(text[at : at + 777])]
+    if b"".join(part for *_, part in got) != text or [(tag, addr, count) for tag, addr, count, _ in got][1:3] != [(3, 0x10000, 1), (8, 0x20000, 2)]:
+        sys.exit("embed: Python: the frames differ")
+    with postmig.World() as world:
+        world.line(b"cpu 0 mmap 65536 rw")
+        begun = time.perf_counter()
+        for _ in range(loads // 10):
+            world.line(b"cpu 0 load 0x10000 8")
+        print(f"Python: {len(SCRIPTS)} scripts and a stream agree; {loads // 10} loads: {time.perf_counter() - begun:.3f} s")
+
+
+def compare_fails(differs, script, answers):
+    """Whether the comparison found a difference, or misses one that is made on purpose in the last answer."""
+    import compare
+
+    lines = answers.read_bytes().splitlines(keepends=True)
+    wrong = compare.compare(script.read_bytes(), iter([*lines[:-1], b"wrong\n"]))
+    return differs is not None or wrong is None or wrong[3] != b"wrong\n"
+
+
+def in_rust(work):
+    if not shutil.which("rustc"):
+        print("Rust: left out, there is no rustc")
+        return
+    decode = work / "decode"
+    run("rustc", "--edition", "2024", "-O", "-o", decode, EMBED / "decode.rs", "-L", DIST, "-l", "static=postmig", cwd=work)
+    said = run(decode, input=stream()).decode().splitlines()
+    if len(said) != 9 or said[1] != "tag 0x03 epoch 1 address 0x10000 count 1 of 16 bytes" or said[-1] != "whole":
+        sys.exit("embed: Rust: " + "\n".join(said))
+    if run(decode, input=stream()[:-1]).decode().splitlines()[-1] != "truncated" or run(decode, input=bytes(12)) != b"fault 8 behind byte 0\n":
+        sys.exit("embed: Rust: a stream that ends inside a frame, or has a fault")
+    print("Rust: decode.rs reads a stream, one that is cut off, and one with a fault")
+
+
+def programs(work):
+    drive = built(work / "drive", "-O2", EMBED / "drive.c")
+    if run(drive).decode().splitlines()[-1] != "phase 4 sent 16 installed 16 left 0 faults 4":
+        sys.exit("embed: drive.c: " + run(drive).decode())
+    shared = work / "drive-shared"
+    run("cc", "-I", DIST, "-o", shared, EMBED / "drive.c", "-L", DIST, "-lpostmig", f"-Wl,-rpath,{DIST}")
+    if run(shared) != run(drive):
+        sys.exit("embed: drive.c differs over the shared object")
+    said = run(sys.executable, EMBED / "compare.py", *SCRIPTS[0]).decode()
+    if said != "all answers agree\n":
+        sys.exit("embed: compare.py: " + said)
+    print("drive.c and compare.py say what docs/USING.md says")
+
+
+def beside_the_program(work, loads):
+    if not PROGRAM.exists():
+        print("the program: left out, it is not proved and built")
+        return
+    script = work / "loads.script"
+    script.write_text("cpu 0 mmap 65536 rw\n" + "cpu 0 load 0x10000 8\n" * loads)
+    begun = time.perf_counter()
+    run(PROGRAM, "run", script)
+    print(f"the program: {loads} loads: {time.perf_counter() - begun:.3f} s")
+
+
+def main():
+    given = argparse.ArgumentParser(description=__doc__)
+    given.add_argument("--loads", type=int, default=1_000_000, help="the loads that are measured")
+    loads = given.parse_args().loads
+    if not (DIST / "libpostmig.a").exists():
+        sys.exit("embed: there is no library: ./postmig library")
+    with tempfile.TemporaryDirectory() as made:
+        work = pathlib.Path(made)
+        in_c(work, loads)
+        in_python(loads)
+        in_rust(work)
+        programs(work)
+        beside_the_program(work, loads)
+
+
+if __name__ == "__main__":
+    main()
