@@ -3,9 +3,9 @@
 
 python3 bench/check/links.py
 
-Of each *.md at the top and in docs/, and of conformance/README.md: a relative link names a file that is there, and after # a heading of
-it. A link whose text is the name of a function and which leads to a source file finds that function there. The status is 1 where one
-does not.
+Of each *.md at the top and in docs/, and of the README.md of bench/ and conformance/: a relative link names a file that is there, and
+after # a heading of it. A link whose text is the name of a function and which leads to a source file finds that function there. The
+status is 1 where one does not.
 """
 
 import functools
@@ -19,7 +19,8 @@ LINK = re.compile(r"\[([^\]]*)\]\(([^)\s]+)\)")
 
 
 def pages():
-    return [*sorted(page.TOP.glob("*.md")), *sorted((page.TOP / "docs").glob("*.md")), page.TOP / "conformance" / "README.md"]
+    others = [page.TOP / folder / "README.md" for folder in ("bench", "conformance")]
+    return [*sorted(page.TOP.glob("*.md")), *sorted((page.TOP / "docs").glob("*.md")), *others]
 
 
 @functools.lru_cache(maxsize=None)
