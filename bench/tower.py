@@ -18,6 +18,11 @@ def crates():
     return {name: below for name, (_, below) in lines_of((page.TOP / "crates.txt").read_text()).items()}
 
 
+def product():
+    """The crates of the product, lowest first: those before the head of the tests in crates.txt."""
+    return list(lines_of((page.TOP / "crates.txt").read_text().partition("\n# tests")[0]))
+
+
 def below(name):
     """A crate and all crates of the repository that it stands on, lowest first."""
     known, found = crates(), {name}

@@ -16,6 +16,7 @@ import sys
 import shared  # noqa: F401
 
 import page
+from tower import product
 
 CRATES = page.TOP / "crates"
 DESIGN = page.TOP / "docs" / "DESIGN.md"
@@ -37,19 +38,6 @@ PROMISES = (
     ("`Decoder::feed`: the bytes of frames", ["frame_decoder::feed"]),
     ("`run_threads`: `postmig threads`", ["threads::run_threads"]),
 )
-
-
-@functools.cache
-def product():
-    """The crates of the product, lowest first as crates.txt has them: not those of tests and benches."""
-    found = []
-    for line in (page.TOP / "crates.txt").read_text().splitlines():
-        if line.startswith("# tests"):
-            break
-        words = line.partition("#")[0].partition(":")[0].split()
-        found += words[:1]
-    return found
-
 
 def names(word, text):
     return re.search(r"(?<![\w'.-])" + re.escape(word) + r"(?![\w'-])", text)

@@ -13,8 +13,8 @@ import re
 
 import shared  # noqa: F401
 
-import definitions
 import page
+import tower
 
 CRATES = page.TOP / "crates"
 PROVED = page.TOP / "docs" / "PROVED.md"
@@ -77,7 +77,7 @@ def faults_of(cell, known):
 
 def main():
     faults, seen, known, count = [], set(), {}, 0
-    product = list(definitions.product())
+    product = tower.product()
     for crate, number, cell in promises():
         at = f"docs/PROVED.md:{number}: {crate}: "
         if cell is None:

@@ -16,7 +16,8 @@ import sys
 import shared  # noqa: F401
 
 import page
-from definitions import CRATES, definitions, imports, names, product
+from definitions import CRATES, definitions, imports, names
+from tower import product
 
 ORDERS = page.TOP / "bench" / "refusals.txt"
 # What waits for a lock, and what only starts a program.

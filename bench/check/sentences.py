@@ -12,10 +12,10 @@ import sys
 
 import shared  # noqa: F401
 
-import definitions
 import page
-from definitions import CRATES
+import tower
 
+CRATES = page.TOP / "crates"
 DEFINITION = re.compile(r"^(?:(?:abbrev|unfoldable) (?:pub )?|pub )(?:rec |data |record |pub )*([^\s:]+)")
 FUNCTION = re.compile(r"^\s*pub (?:const |unsafe )*fn (\w+)")
 
@@ -32,7 +32,7 @@ def unsaid(text, pattern, comment, skipped):
 
 
 def main():
-    faults, product = [], list(definitions.product())
+    faults, product = [], tower.product()
     for crate in sys.argv[1:] or sorted(path.name for path in CRATES.iterdir()):
         looked_at = [(file, DEFINITION, "--", "{-#") for file in sorted((CRATES / crate / "specs").glob("*.antt"))]
         if crate in product:
