@@ -39,6 +39,7 @@ PROMISES = (
     ("`run_threads`: `postmig threads`", ["threads::run_threads"]),
 )
 
+
 def names(word, text):
     return re.search(r"(?<![\w'.-])" + re.escape(word) + r"(?![\w'-])", text)
 
