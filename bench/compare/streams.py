@@ -27,6 +27,7 @@ import time
 
 import shared  # noqa: F401
 
+from drawing import Drawing
 from model.frames import HEADER, HIGH, LOW, MOST, PAGE, TAGS, encode, header, page_frame, read
 from model.nodes import Destination, Refused
 from program import run
@@ -67,130 +68,31 @@ class Wanted:
 # Making streams
 
 
-class Maker:
+class Maker(Drawing):
     """One stream, by its number."""
 
     def __init__(self, seed, number):
-        self.random = random.Random(f"{seed} {number}")
-        self.number = number
+        draws = random.Random(f"{seed} {number}")
+        base = draws.choice((LOW, LOW, 0x3F0, 0xFF000, HIGH - 48))
+        super().__init__(draws, range(base, base + 48), draws.choice((1, 2, 2, 3, 16)), wrong=0.1, light=0.9)
         self.version = 1 + number % 2
-        self.runs = number // 2 % 2 == 0  # whether it goes on after a Package
-        self.cpus = self.random.choice((1, 2, 2, 3, 16))
-        self.epoch = self.random.choice((0, 1, 2, self.random.getrandbits(32)))
-        self.base = self.random.choice((LOW, LOW, 0x3F0, 0xFF000, HIGH - 48))
-        self.parts, self.destination = [], Destination(self.cpus)
+        self.runs = number // 2 % 2 == 0  # whether it goes on after a Package that is taken
 
-    def chance(self, part):
-        return self.random.random() < part
+    def next_text(self, likely):
+        """The text of a frame more, with this chance one that the destination takes in its phase."""
+        name = self.name(self.destination.PLACES[self.destination.phase], likely)
+        name = "zero" if (name, self.version) == ("run", 1) else name
+        frame, text = self.frame(name, self.destination.epoch, version=self.version)
+        line_of(self.destination, frame)
+        return text
 
-    def put(self, name, fields={}, epoch=None):
-        epoch = self.epoch if epoch is None else epoch
-        self.parts.append(encode(epoch, name, fields, self.version))
-        line_of(self.destination, (epoch, name, fields))
-
-    def some_page(self):
-        return self.base + self.random.randrange(48)
-
-    def some_runs(self, most=3):
-        marks = sorted(self.random.sample(range(48), 2 * self.random.randrange(most + 1)))
-        runs = []
-        for first, last in zip(marks[::2], marks[1::2]):
-            if not runs or sum(runs[-1]) != self.base + first:
-                runs.append((self.base + first, last - first))
-        return runs
-
-    def page_bytes(self):
-        return bytes(PAGE) if self.chance(0.1) else self.random.randbytes(PAGE)
-
-    def copy(self):
-        page, kind = self.some_page(), self.random.random()
-        if kind < 0.08:
-            self.put("page", {"page": page, "bytes": self.page_bytes()})
-        elif kind < 0.13 and self.version == 2:
-            count = 64 if self.chance(0.02) else self.random.randrange(1, 4)
-            first = min(page, HIGH - count)
-            self.put("run", {"page": first, "count": count, "bytes": self.random.randbytes(count * PAGE)})
-        else:
-            self.put("zero", {"page": page})
-
-    def command(self):
-        kind = self.random.randrange(3)
-        if kind == 0:
-            return ()
-        width = self.random.choice((1, 2, 4, 8))
-        address = self.random.getrandbits(self.random.choice((20, 64))) // width * width
-        return (address, width) if kind == 1 else (address, width, self.random.randrange(256**width))
-
-    def package(self, right):
-        """A Package that is taken where `right` says so, if the destination kept what it was sent; else it may be wrong."""
-        base, kept = self.base, self.destination.kept
-        areas = [(base, 48, self.random.randrange(3))]
-        if self.chance(0.5):
-            count = self.random.randrange(1, 47)
-            areas = [(base, count, 1), (base + count, 48 - count, self.random.choice((0, 2)))]
-        owed = [(page, 1) for page in range(base, base + 48, 2) if page not in kept and self.chance(0.1)]
-        if self.chance(0.3):
-            owed = []
-        cpus = self.cpus
-        if not right:
-            wrong = self.random.randrange(4)
-            if wrong == 0:
-                cpus = cpus % 16 + 1
-            elif wrong == 1:
-                owed = self.some_runs()
-            elif wrong == 2:
-                areas = areas[1:]
-            else:
-                areas = [(base, 1, 2), (base + 40, 8, 2)]
-        self.put("package", {"areas": areas, "owed": owed, "commands": [self.command() for _ in range(cpus)]})
-
-    def stray(self):
-        """A frame that comes when it should not, or is of another epoch."""
-        name = self.random.choice([it for it in TAGS if it not in ("page", "package", "run")])
-        other = self.random.choice((None, self.epoch ^ 1, self.random.getrandbits(32)))
-        self.put(name, self.small_fields(name), other)
-
-    def stray_of(self, name):
-        self.put(name, self.small_fields(name))
-
-    def small_fields(self, name):
-        if name in ("zero", "request"):
-            return {"page": self.some_page()}
-        if name == "end":
-            return {"urgent": self.random.choice((0, 0, 1, 7))}
-        if name == "discard":
-            return {"pages": self.some_runs()}
-        if name == "recv":
-            return {"state": ("notrun", "running", "ended")[self.random.randrange(3)], "owed": self.some_runs()}
-        return {}
-
-    def migration(self):
-        """Frames up to the Package, which is taken where the stream goes on after it."""
-        if self.chance(0.1):
-            self.stray_of("end")
-        self.put("advise")
-        for _ in range(self.random.randrange(5)):
-            self.copy()
-            if self.chance(0.1):
-                self.stray_of(self.random.choice(("advise", "end", "resume", "request", "done", "recv")))
-            if self.chance(0.05):
-                self.put("zero", {"page": self.some_page()}, self.epoch ^ 1)
-        self.put("discard", {"pages": self.some_runs()})
-        if self.chance(0.1):
-            self.package(False)
-        if self.runs:
-            self.package(True)
-
-    def to_a_running_one(self):
-        """Frames for a destination that runs."""
-        for _ in range(self.random.randrange(4)):
-            self.copy()
-        if self.chance(0.5):
-            self.stray_of("end")
-        for _ in range(self.random.randrange(3)):
-            self.stray()
-        if self.chance(0.3):
-            self.stray_of("end")
+    def stream(self):
+        parts = []
+        while self.runs and not self.destination.has_run:
+            parts.append(self.next_text(0.85))
+        first = sum(map(len, parts))
+        parts += [self.next_text(0.7) for _ in range(self.random.randrange(10))]
+        return self.damage(b"".join(parts), first)
 
     def damage(self, stream, first):
         """Changes a byte, breaks a header or cuts the end off, none of it before `first`."""
@@ -206,24 +108,14 @@ class Maker:
         return stream + self.broken() + self.random.randbytes(self.random.randrange(20))
 
     def broken(self):
-        kind = self.random.randrange(4)
+        kind, epoch = self.random.randrange(4), self.destination.epoch
         if kind == 0:
-            return header(self.epoch, TAGS["advise"], 0, self.random.choice((0, 3 - self.version, 3)))
+            return header(epoch, TAGS["advise"], 0, self.random.choice((0, 3 - self.version, 3)))
         if kind == 1:
-            return header(self.epoch, self.random.choice((0, 9, 0x80, 0x84)), 0, self.version)
+            return header(epoch, self.random.choice((0, 9, 0x80, 0x84)), 0, self.version)
         if kind == 2:
-            return header(self.epoch, TAGS["zero"], self.random.choice((0, 3, 5, 2**32 - 1)), self.version)
-        return encode(self.epoch, "request", {"page": self.random.choice((0, LOW - 1, HIGH))}, self.version)
-
-    def stream(self):
-        self.migration()
-        first = sum(map(len, self.parts)) if self.runs else 0
-        if self.runs:
-            self.to_a_running_one()
-        else:
-            for _ in range(self.random.randrange(4)):
-                self.stray()
-        return self.damage(b"".join(self.parts), first)
+            return header(epoch, TAGS["zero"], self.random.choice((0, 3, 5, 2**32 - 1)), self.version)
+        return encode(epoch, "request", {"page": self.random.choice((0, LOW - 1, HIGH))}, self.version)
 
 
 # Comparing

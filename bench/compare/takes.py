@@ -21,12 +21,12 @@ import sys
 
 import shared  # noqa: F401
 
+from drawing import Drawing
 from model import nodes
-from model.frames import LOW, PAGE, TAGS, encode, runs_of
+from model.frames import LOW, TAGS
 from program import run
 
 CPUS = 2
-LAST_EPOCH = 2**32 - 1
 PAGES = range(LOW, LOW + 16)
 # A source maps these pages, and has stored to each second one.
 PRESENT = frozenset(PAGES[::2])
@@ -96,14 +96,13 @@ class Source(nodes.Source):
         return line if line.startswith("refused") else "done"
 
 
-class Run:
+class Run(Drawing):
     """The calls of one run, the lines that they are answered by, and what was seen."""
 
     def __init__(self, seed, number, calls):
-        self.random = random.Random(f"{seed} {number}")
+        super().__init__(random.Random(f"{seed} {number}"), PAGES, CPUS, wrong=0.25)
         self.destination, self.source = Destination(CPUS), Source()
         self.input, self.lines, self.counts = [], [], collections.Counter()
-        self.next_page = None  # the page of the next copy, if it is not to be drawn
         for _ in range(calls):
             self.draw_destination() if number % 2 else self.draw_source()
         self.add(b"m", self.destination.first_bytes())
@@ -112,66 +111,10 @@ class Run:
         self.input.append(call)
         self.lines.append(line)
 
-    def chance(self, part):
-        return self.random.random() < part
-
-    def page(self):
-        return self.random.choice(PAGES)
-
-    def some(self, pages, part):
-        return {page for page in pages if self.chance(part)}
-
-    def epoch_near(self, own, name):
-        """Mostly the epoch that is right."""
-        right = own + 1 if name == "resume" else own
-        if self.chance(0.25):
-            right = self.random.choice((0, own, own - 1, own + 1, own + 7, LAST_EPOCH if self.chance(0.1) else 1))
-        return min(max(right, 0), LAST_EPOCH)
-
-    def draw_frame(self, name, own):
-        """A frame, whose pages have all bytes alike, and its text."""
-        epoch, page, byte = self.epoch_near(own, name), self.next_page or self.page(), bytes([self.random.randrange(1, 256)])
-        self.next_page = None
-        fields = self.draw_fields(name, page, byte)
-        version = 2 if name == "run" else self.random.choice((1, 2))
-        return (epoch, name, fields), encode(epoch, name, fields, version)
-
-    def draw_fields(self, name, page, byte):
-        if name == "page":
-            return {"page": page, "bytes": byte * PAGE}
-        if name in ("zero", "request"):
-            return {"page": page}
-        if name == "run":
-            count = self.random.randrange(1, min(4, PAGES[-1] + 2 - page))
-            return {"page": page, "count": count, "bytes": byte * (count * PAGE)}
-        if name == "discard":
-            return {"pages": runs_of(self.some(PAGES, 0.2))}
-        if name == "end":
-            return {"urgent": self.destination.urgent_taken if self.chance(0.6) else self.random.randrange(4)}
-        return self.package() if name == "package" else self.recv() if name == "recv" else {}
-
-    def package(self):
-        """Mostly one that fits what the destination keeps."""
-        areas = [(PAGES[0], len(PAGES), self.random.randrange(3))]
-        owed, cpus = self.some(set(PAGES) - set(self.destination.kept), 0.15), CPUS
-        if self.chance(0.4):
-            owed = self.some(PAGES, 0.2)
-        if self.chance(0.2):
-            areas = [(PAGES[0], self.random.randrange(1, 16), 2)]
-        if self.chance(0.1):
-            cpus = self.random.choice((1, 3, 16))
-        return {"areas": areas, "owed": runs_of(owed), "commands": cpus * [()]}
-
-    def recv(self):
-        state = self.random.choice(("notrun", "running", "running", "ended"))
-        owed = self.some(PRESENT, 0.3) if state == "running" else set()
-        if self.chance(0.2):
-            owed = self.some(PAGES, 0.2)
-        return {"state": state, "owed": runs_of(owed)}
-
-    def hand(self, letter, kind, node, call, name):
+    def hand(self, letter, kind, node, name, page=None):
         """Hands a frame to a node. What the answer says of frames that are sent is Done of a destination, and their number of a source."""
-        phase, (frame, text) = node.phase.capitalize(), self.draw_frame(name, node.epoch)
+        call, phase = node.take_urgent if kind == "urgent" else node.take, node.phase.capitalize()
+        frame, text = self.frame(name, node.epoch, page)
         self.source.transmitted = 0
         answer = outcome(call, *frame)
         if not answer.startswith("refused"):
@@ -184,31 +127,27 @@ class Run:
         """A call by which a destination that runs comes nearer to its end."""
         node = self.destination
         if node.arrivals:
-            return self.add(b"i", f"{node.installing()}; {node.state()}")
-        if node.owed:
-            self.next_page = min(node.owed)
-            if self.chance(0.5):
-                return self.hand(b"u", "urgent", node, node.take_urgent, "zero")
-            return self.hand(b"t", "take", node, node.take, "zero")
-        self.hand(b"t", "take", node, node.take, "end")
+            self.add(b"i", f"{node.installing()}; {node.state()}")
+        elif node.owed:
+            self.hand(*self.random.choice(((b"u", "urgent"), (b"t", "take"))), node, "zero", min(node.owed))
+        else:
+            self.hand(b"t", "take", node, "end")
 
     def draw_destination(self):
         node, draw = self.destination, self.random.random()
         if node.phase == "running" and self.chance(0.5):
-            return self.help()
-        if draw < 0.04:
+            self.help()
+        elif draw < 0.04:
             node.pause()
-            return self.add(b"p", f"paused; {node.state()}")
-        if draw < 0.2:
-            return self.add(b"i", f"{node.installing()}; {node.state()}")
-        if draw < 0.23:
-            return self.add(b"m", node.first_bytes())
-        place = sorted(node.PLACES[node.phase], key=TAGS.get) or list(TAGS)
-        if draw < 0.4:
-            name = self.random.choice(("page", "zero")) if self.chance(0.5) else self.random.choice(list(TAGS))
-            return self.hand(b"u", "urgent", node, node.take_urgent, name)
-        name = self.random.choice(place if draw < 0.75 else list(TAGS))
-        self.hand(b"t", "take", node, node.take, name)
+            self.add(b"p", f"paused; {node.state()}")
+        elif draw < 0.2:
+            self.add(b"i", f"{node.installing()}; {node.state()}")
+        elif draw < 0.23:
+            self.add(b"m", node.first_bytes())
+        elif draw < 0.4:
+            self.hand(b"u", "urgent", node, self.name(("page", "zero"), 0.5))
+        else:
+            self.hand(b"t", "take", node, self.name(node.PLACES[node.phase], 0.6))
 
     def likely(self):
         """A call that the source's phase may accept."""
@@ -217,9 +156,9 @@ class Run:
     def draw_source(self):
         node = self.source
         if self.chance(0.5):
-            place = {"paused": ("recv",), "stopped": ("request", "done")}.get(node.phase, tuple(TAGS))
-            name = self.random.choice(place if self.chance(0.4) else list(TAGS))
-            return self.hand(b"b", "back", node, node.take, name)
+            place = {"paused": ("recv",), "stopped": ("request", "done")}.get(node.phase)
+            self.hand(b"b", "back", node, self.name(place, 0.4))
+            return
         letter = self.random.choice(self.likely() if self.chance(0.8) else "swervxnk")
         page = [self.random.choice(sorted(node.remaining) if node.remaining and self.chance(0.8) else PAGES)] if letter in "vx" else []
         answer = node.make(letter, *page)
