@@ -26,45 +26,7 @@ import shared  # noqa: F401
 import page
 from program import PROGRAM
 
-SHIM = r"""
-#include <errno.h>
-#include <fcntl.h>
-#include <stdlib.h>
-#include <unistd.h>
-
-extern void *__libc_malloc(size_t size);
-extern void *__libc_calloc(size_t count, size_t size);
-extern void *__libc_realloc(void *block, size_t size);
-extern void *__libc_memalign(size_t alignment, size_t size);
-
-static unsigned long asked;
-
-/* Whether this is the growth that is refused: then a file says that it came to it. */
-static int is_refused(void)
-{
-    const char *which = getenv("REFUSED");
-    if (!which || __sync_add_and_fetch(&asked, 1) != strtoul(which, 0, 10))
-        return 0;
-    int told = open(getenv("REFUSED_TOLD"), O_CREAT | O_WRONLY, 0600);
-    if (told >= 0)
-        close(told);
-    errno = ENOMEM;
-    return 1;
-}
-
-void *malloc(size_t size) { return is_refused() ? 0 : __libc_malloc(size); }
-void *calloc(size_t count, size_t size) { return is_refused() ? 0 : __libc_calloc(count, size); }
-void *realloc(void *block, size_t size) { return is_refused() ? 0 : __libc_realloc(block, size); }
-void *aligned_alloc(size_t alignment, size_t size) { return is_refused() ? 0 : __libc_memalign(alignment, size); }
-int posix_memalign(void **block, size_t alignment, size_t size)
-{
-    if (is_refused())
-        return ENOMEM;
-    *block = __libc_memalign(alignment, size);
-    return *block ? 0 : ENOMEM;
-}
-"""
-
+SHIM = page.TOP / "bench" / "sources" / "refuse_growth.c"
 TESTS = ("migration_tests", "guest_tests")
 # How many growths of one test are tried at most.
 MOST = 1000
@@ -76,9 +38,7 @@ class Refuser:
     def __init__(self, folder):
         self.folder = pathlib.Path(folder)
         self.library = self.folder / "refuse.so"
-        source = self.folder / "refuse.c"
-        source.write_text(SHIM)
-        subprocess.run(["cc", "-O2", "-Wall", "-Wextra", "-Werror", "-shared", "-fPIC", "-o", self.library, source], check=True)
+        subprocess.run(["cc", "-O2", "-Wall", "-Wextra", "-Werror", "-shared", "-fPIC", "-o", self.library, SHIM], check=True)
 
     def run(self, number, words, given=b""):
         """The run, and whether it came to its Nth growth."""

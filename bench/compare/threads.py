@@ -26,6 +26,7 @@ import shared  # noqa: F401
 import page
 from refusals import Refuser
 
+SOURCES = page.TOP / "bench" / "sources"
 # The slowest run that passes, in seconds.
 SLOWEST = 10
 
@@ -41,77 +42,6 @@ COUNTERS = (
     "breaks before the destination ran",
     "breaks after it ran",
 )
-
-SEEN = """//! Counters.
-
-use crate::section::Tried;
-use mig_base::WorldPhase;
-use std::sync::atomic::{AtomicU64, Ordering};
-
-#[derive(Drop)]
-pub struct Seen {
-    pub counts: [AtomicU64; 9],
-}
-
-impl Seen {
-    pub fn new() -> Seen {
-        Seen {
-            counts: [
-                AtomicU64::new(0), AtomicU64::new(0), AtomicU64::new(0), AtomicU64::new(0), AtomicU64::new(0),
-                AtomicU64::new(0), AtomicU64::new(0), AtomicU64::new(0), AtomicU64::new(0),
-            ],
-        }
-    }
-
-    pub fn count(&self, at: usize) {
-        self.counts[at].fetch_add(1, Ordering::SeqCst);
-    }
-
-    pub fn of(&self, at: usize) -> u64 {
-        self.counts[at].load(Ordering::SeqCst)
-    }
-
-    pub(crate) fn tried(&self, phase: WorldPhase, tried: Tried) {
-        match (tried, phase) {
-            (Tried::Asleep, WorldPhase::Idle | WorldPhase::Precopy) => self.count(0),
-            (Tried::Asleep, _) => self.count(1),
-            (Tried::InCall(_), _) => self.count(4),
-            _ => {}
-        }
-    }
-
-    pub fn waited(&self, phase: WorldPhase) {
-        if phase == WorldPhase::Switching {
-            self.count(2);
-        }
-    }
-
-    pub fn broke(&self, phase: WorldPhase) {
-        match phase {
-            WorldPhase::Switching => self.count(7),
-            _ => self.count(8),
-        }
-    }
-}
-"""
-
-MAIN = """//! Runs with a cut, each with the next number of processors.
-#![tactic(auto)]
-
-use std::io;
-use std::time::Instant;
-use threads::run_threads;
-
-fn main(rt: HostRuntime) -> io::Result<()> {
-    for run in 0..RUNS {
-        let begun = Instant::now(&rt)?;
-        let answer = run_threads(&rt, rt.alloc(), &mut rt.stdout(), 1 + (run % 16) as u8, CALLS, true);
-        let took = begun.elapsed(&rt)?.as_millis();
-        println!(rt; "{answer:?} {took} ms")?;
-    }
-    Ok(())
-}
-"""
 
 # (a file of the copy, what stands there once, what is put in its place)
 EDITS = (
@@ -160,7 +90,7 @@ def copied(folder):
 
 
 def put_counters(folder):
-    (folder / "crates/rig/src/seen.rt").write_text(SEEN)
+    shutil.copy(SOURCES / "seen.rt", folder / "crates/rig/src")
     for name, old, new in EDITS:
         file = folder / "crates" / name
         text = file.read_text()
@@ -173,7 +103,8 @@ def put_program(folder, name, runs, calls):
     """A program that runs so often."""
     source = folder / "crates" / name / "src"
     source.mkdir(parents=True)
-    (source / "main.rt").write_text(MAIN.replace("RUNS", f"{runs}_u32").replace("CALLS", str(calls)))
+    text = (SOURCES / "many_runs.rt").read_text()
+    (source / "main.rt").write_text(text.replace("RUNS", f"{runs}_u32").replace("CALLS", str(calls)))
     with open(folder / "crates.txt", "a") as crates:
         crates.write(f"{name}: threads\n")
 
