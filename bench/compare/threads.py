@@ -43,40 +43,39 @@ COUNTERS = (
     "breaks after it ran",
 )
 
-# (a file of the copy, what stands there once, what is put in its place)
+# A file of the copy, what it has once, and what follows that then.
 EDITS = (
-    ("rig/src/lib.rt", "mod section;", "mod section;\npub mod seen;"),
-    ("rig/src/rig.rt", "use crate::section::{", "use crate::seen::Seen;\nuse crate::section::{"),
-    ("rig/src/rig.rt", "    changed: Condvar,", "    changed: Condvar,\n    pub seen: Seen,"),
-    ("rig/src/rig.rt", "            changed: Condvar::new(),", "            changed: Condvar::new(),\n            seen: Seen::new(),"),
-    ("rig/src/rig.rt", "            changed: _,", "            changed: _,\n            seen: _,"),
-    ("rig/src/rig.rt", "            changed: _changed,", "            changed: _changed,\n            seen: _seen,"),
-    ("rig/src/rig.rt", "                Ok(tried) => {", "                Ok(tried) => {\n                    self.seen.tried(world.phase(), tried);"),
+    ("rig/src/lib.rt", "mod section;", "\npub mod seen;"),
+    ("rig/src/rig.rt", "use crate::section::{serve_in, step_in};", "\nuse crate::seen::Seen;"),
+    ("rig/src/rig.rt", "    changed: Condvar,", "\n    pub seen: Seen,"),
+    ("rig/src/rig.rt", "            changed: Condvar::new(),", "\n            seen: Seen::new(),"),
+    ("rig/src/rig.rt", "            changed: _,", "\n            seen: _,"),
+    ("rig/src/rig.rt", "            changed: _changed,", "\n            seen: _seen,"),
+    ("rig/src/rig.rt", "        let outcome = step_in(&mut world, step);", "\n        self.seen.made(step, &outcome, world.phase());"),
+    ("rig/src/rig.rt", "        let outcome = serve_in(&mut world, epoch);", "\n        self.seen.made(Step::Serve, &outcome, world.phase());"),
     (
-        "rig/src/rig.rt",
-        "                Err(Refusal::Phase) => world = self.changed.wait(rt, world),",
-        "                Err(Refusal::Phase) => {\n                    self.seen.waited(world.phase());\n                    world = self.changed.wait(rt, world)\n                }",
+        "rig/src/rig/commands.rt",
+        "        ensures { IfOk result.1 (λ tried. IsToldOf cpu command tried) }\n    {\n        let mut world = self.world.lock(rt);\n"
+        "        for _ in rt.forever() {\n            world.headline();",
+        "\n            self.seen.begins(world.phase());",
     ),
     (
-        "rig/src/rig.rt",
-        "        let outcome = world.step(step);",
-        "        let outcome = world.step(step);\n        if outcome == Err(Refusal::Changing) {\n            self.seen.count(3);\n        }\n"
-        "        if step == Step::Break && outcome.is_ok() {\n            self.seen.broke(world.phase());\n        }",
+        "rig/src/rig/commands.rt",
+        "                Ok(tried) => {",
+        "\n                    self.seen.tried(world.phase(), tried, is_in_call(&world, cpu));",
     ),
-    (
-        "rig/src/rig/pushing.rt",
-        "        let outcome = serve_in(&mut world, epoch);",
-        "        let outcome = serve_in(&mut world, epoch);\n        if outcome.is_ok() {\n            self.seen.count(5);\n        }",
-    ),
-    (
-        "rig/src/rig/pushing.rt",
-        "        let outcome = send_in(&mut world, epoch, ticket, urgent);",
-        "        let outcome = send_in(&mut world, epoch, ticket, urgent);\n        if urgent && outcome.is_ok() {\n            self.seen.count(6);\n        }",
-    ),
+    ("threads/src/run.rt", "pub struct Run {", "\n    pub counts: [u64; 9],"),
     (
         "threads/src/run.rt",
-        "    print_seats(text, &seats)?;",
-        '    for at in 0..9 {\n        let count = rig.seen.of(at);\n        write!(text, "{count} ")?;\n    }\n    write!(text, "seen\\n")?;\n    print_seats(text, &seats)?;',
+        "&seats, cpus, calls_with(calls) as usize) {\n        return Err(RunFault::NoMemory);\n    }",
+        "\n    let counts = rig.seen.all();",
+    ),
+    ("threads/src/run.rt", "            fault: None,", "\n            counts,"),
+    ("threads/src/run.rt", "            fault: Some(fault),", "\n            counts,"),
+    (
+        "threads/src/summary.rt",
+        "(length run.now.world.transcript) run.now.fault) }\n    ensures err { IfErr result (λ fault. fault ≡ OutOfMemory) }\n{",
+        '\n    for at in 0..9 {\n        let count = run.counts[at];\n        write!(text, "{count} ")?;\n    }\n    write!(text, "seen\\n")?;',
     ),
 )
 
@@ -91,12 +90,12 @@ def copied(folder):
 
 def put_counters(folder):
     shutil.copy(SOURCES / "seen.rt", folder / "crates/rig/src")
-    for name, old, new in EDITS:
+    for name, old, added in EDITS:
         file = folder / "crates" / name
         text = file.read_text()
         if text.count(old) != 1:
             sys.exit(f"{name}: not once: {old}")
-        file.write_text(text.replace(old, new))
+        file.write_text(text.replace(old, old + added))
 
 
 def put_program(folder, name, runs, calls):
