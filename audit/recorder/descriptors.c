@@ -68,7 +68,7 @@ static int close_around_log(unsigned first, unsigned last, int flags)
 INTERPOSED int close_range(unsigned first, unsigned last, int flags)
 {
     if (log_is_open() && first <= last && !flags)
-        for (unsigned fd = first; fd <= last && (int)fd <= object_highest(); fd++)
+        for (unsigned fd = first; fd <= last && (long)fd <= object_highest(); fd++)
             if (object_is_possible((int)fd))
                 (void)close((int)fd); /* (as close_range, which reports no error of a file) */
     return log_is_open() && first <= last ? close_around_log(first, last, flags) : next()->close_range(first, last, flags);

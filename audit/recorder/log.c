@@ -117,7 +117,8 @@ static void forget_file_limit(void)
 /* Two parts of a line as one write. */
 static bool write_line(const struct text *first, const struct text *rest)
 {
-    size_t feed = atomic_exchange(&after_part, false), length = feed + first->length + rest->length;
+    bool feed = atomic_exchange(&after_part, false);
+    size_t length = feed + first->length + rest->length;
     struct iovec parts[3] = { { "\n", feed }, { first->bytes, first->length }, { rest->bytes, rest->length } };
     int fd = descriptor();
     long written;
@@ -129,7 +130,7 @@ static bool write_line(const struct text *first, const struct text *rest)
         return true;
     if (written == -EFBIG)
         forget_file_limit();
-    atomic_store(&after_part, written > 0 ? (size_t)written > feed : feed);
+    atomic_store(&after_part, written > 0 ? written > feed : feed);
     return false;
 }
 

@@ -1,4 +1,7 @@
-/* The file that the lines go to. Each line is one write to a file that is open for appending: the kernel gives all processes and threads one order. */
+/*
+ * The file that the lines go to. Each line is one write to a file that is open for appending: so the kernel gives the lines of all
+ * processes and threads one order.
+ */
 #ifndef LOG_H
 #define LOG_H
 

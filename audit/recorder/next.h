@@ -1,4 +1,7 @@
-/* The functions that the recorder takes the place of, as the program would have called them without it: those of the C library, or of another preloaded one. */
+/*
+ * The functions that the recorder takes the place of, as the program would have called them without it: those of the C library, or of
+ * another library that is preloaded.
+ */
 #ifndef NEXT_H
 #define NEXT_H
 

@@ -14,7 +14,10 @@
 #define MOST_FDS (1 << 20) /* the kernel's own limit, unless fs.nr_open was raised: descriptors above it are not recorded */
 #define OWN (UINT64_C(1) << 63)
 
-/* What the log knows of each descriptor of the process `owner`: the object, and OWN where the process has made it. Pages that are never used cost nothing. */
+/*
+ * What the log knows of each descriptor of the process `owner`: the object, and OWN where the process has made it. (Pages of this table
+ * that are never used cost nothing.)
+ */
 static _Atomic uint64_t known[MOST_FDS];
 static _Atomic int highest = -1;
 static _Atomic long owner;

@@ -66,7 +66,8 @@ static long scan(const struct call *call, struct run *run, int pagemap, uint64_t
 
     while (done < length) {
         uint64_t left = (length - done) / size, count = left < ENTRIES ? left : ENTRIES;
-        long got = raw_call(SYS_pread64, pagemap, (long)entries, (long)(count * sizeof *entries), (long)((start + done) / size * sizeof *entries), 0, 0);
+        long bytes = (long)(count * sizeof *entries), place = (long)((start + done) / size * sizeof *entries);
+        long got = raw_call(SYS_pread64, pagemap, (long)entries, bytes, place, 0, 0);
 
         if (got <= 0 || got % (long)sizeof *entries)
             return got < 0 ? got : -ENODATA;

@@ -36,35 +36,35 @@ static bool covers(const struct range *range, uint64_t start, uint64_t length)
     return from <= start && size && start - from <= size && length <= size - (start - from);
 }
 
-void ranges_add(struct shared *shared, uint64_t start, uint64_t length)
+void ranges_add(struct shared *page, uint64_t start, uint64_t length)
 {
-    uint64_t count = atomic_load(&shared->ranges), place;
+    uint64_t count = atomic_load(&page->ranges), place;
 
     for (uint64_t i = 0; i < count && i < MOST_RANGES; i++)
-        if (covers(&shared->range[i], start, length))
+        if (covers(&page->range[i], start, length))
             return;
     if (count >= MOST_RANGES)
         return;
-    place = atomic_fetch_add(&shared->ranges, 1);
+    place = atomic_fetch_add(&page->ranges, 1);
     if (place >= MOST_RANGES)
         return;
-    atomic_store(&shared->range[place].start, start);
-    atomic_store(&shared->range[place].length, length);
+    atomic_store(&page->range[place].start, start);
+    atomic_store(&page->range[place].length, length);
 }
 
-bool ranges_any(struct shared *shared)
+bool ranges_any(struct shared *page)
 {
-    return atomic_load_explicit(&shared->ranges, memory_order_relaxed) != 0;
+    return atomic_load_explicit(&page->ranges, memory_order_relaxed) != 0;
 }
 
-bool ranges_meet(struct shared *shared, uint64_t start, uint64_t length)
+bool ranges_meet(struct shared *page, uint64_t start, uint64_t length)
 {
-    uint64_t count = atomic_load(&shared->ranges);
+    uint64_t count = atomic_load(&page->ranges);
 
     if (count >= MOST_RANGES)
         return true;
     for (uint64_t i = 0; i < count; i++) {
-        uint64_t from = atomic_load(&shared->range[i].start), size = atomic_load(&shared->range[i].length);
+        uint64_t from = atomic_load(&page->range[i].start), size = atomic_load(&page->range[i].length);
 
         /* (neither end is computed: it may be 2^64) */
         if (size && (start < from ? length > from - start : start - from < size))

@@ -31,8 +31,8 @@ struct shared *shared(void);
  * Ranges that were ever registered, or that something registered was moved to. None is taken away, so that a map call may be recorded
  * that no longer meets one; a reader expects that.
  */
-void ranges_add(struct shared *shared, uint64_t start, uint64_t length);
-bool ranges_any(struct shared *shared);
-bool ranges_meet(struct shared *shared, uint64_t start, uint64_t length);
+void ranges_add(struct shared *page, uint64_t start, uint64_t length);
+bool ranges_any(struct shared *page);
+bool ranges_meet(struct shared *page, uint64_t start, uint64_t length);
 
 #endif

@@ -78,7 +78,8 @@ static int open_object(int flags)
 
 static void handshake(int fd, uint64_t features)
 {
-    struct uffdio_api api = { .api = UFFD_API, .features = features }, less = { .api = UFFD_API, .features = features & ~(uint64_t)UFFD_FEATURE_EVENT_FORK };
+    struct uffdio_api api = { .api = UFFD_API, .features = features };
+    struct uffdio_api less = { .api = UFFD_API, .features = features & ~(uint64_t)UFFD_FEATURE_EVENT_FORK };
 
     /* Not everybody may have the message FORK. */
     if (ioctl(fd, UFFDIO_API, &api) && (errno != EPERM || ioctl(fd, UFFDIO_API, &less)))

@@ -163,7 +163,8 @@ class Right(unittest.TestCase):
         self.assertEqual((text, wrong), (whole, []))
 
     def test_an_object_of_unknown_origin(self):
-        text, wrong = converted(f"7 1.000000 ioctl(3{OBJECT}, UFFDIO_WAKE, {{start=0x1000, len=0x1000}}) = 0\n8 1.000001 close(3{OBJECT}) = 0\n", process=7)
+        text, wrong = converted(f"7 1.000000 ioctl(3{OBJECT}, UFFDIO_WAKE, {{start=0x1000, len=0x1000}}) = 0\n"
+                                f"8 1.000001 close(3{OBJECT}) = 0\n", process=7)
         self.assertEqual(wrong, [])
         self.assertEqual(text.splitlines()[0], "1000000000 7 7 found 1:3")
         self.assertEqual(text.splitlines()[3], "1000001000 7 8 begin 2 close 1:3")
@@ -268,7 +269,8 @@ class Program(unittest.TestCase):
                 done = common.run("from-strace", "-o", f"{folder}/{name}.log", f"{folder}/{name}.strace")
                 self.assertEqual(done.returncode, status, done.stderr)
                 self.assertEqual(common.run("check", f"{folder}/{name}.log").returncode, 0)
-            self.assertEqual(done.stderr.splitlines(), [f"{folder}/bad.strace:{TRACE.count(chr(10)) + 1}: not a thread's number, a time (-tt or -ttt) and a call"])
+            place = f"{folder}/bad.strace:{TRACE.count(chr(10)) + 1}"
+            self.assertEqual(done.stderr.splitlines(), [f"{place}: not a thread's number, a time (-tt or -ttt) and a call"])
             done = common.run("from-strace", f"{folder}/missing")
             self.assertEqual((done.returncode, done.stderr.count("\n")), (2, 1))
 

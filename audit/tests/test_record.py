@@ -58,8 +58,8 @@ class Preloaded(Kernel):
 
     def check_program(self, found):
         calls = collections.Counter(entry.call.word for entry in found if entry.kind == "end")
-        for word in ("open", "api", "register", "scan", "copy", "zeropage", "wake", "writeprotect", "read", "poll", "nonblock", "dup", "close", "unregister",
-                     "mmap", "munmap", "mremap", "madvise", "fork"):
+        for word in ("open", "api", "register", "scan", "copy", "zeropage", "wake", "writeprotect", "read", "poll", "nonblock", "dup", "close",
+                     "unregister", "mmap", "munmap", "mremap", "madvise", "fork"):
             self.assertTrue(calls[word], word)
         messages = collections.Counter(entry.word for entry in found if entry.kind == "message")
         for word in ("fault", "remap", "remove", "unmap"):
@@ -180,7 +180,8 @@ class Traced(Kernel):
         self.assertEqual(wrong, [])
 
         def calls(found):
-            return collections.Counter((entry.call.word, entry.word) for entry in found if entry.kind == "end" and entry.call.word not in ("scan", "mmap"))
+            ends = [entry for entry in found if entry.kind == "end" and entry.call.word not in ("scan", "mmap")]
+            return collections.Counter((entry.call.word, entry.word) for entry in ends)
         # (how many pages were installed hangs on the time)
         self.assertEqual(set(calls(traced)), set(calls(recorded)))
         self.assertEqual(calls(traced)["register", "ok"], 1)

@@ -72,14 +72,15 @@ class Right(unittest.TestCase):
         self.is_right(*OPENED, "begin 2 wake 3:5 0 0x1000", "begin 3 wake 3:5 0 0x1000", "end 3 ok", "end 2 ok")
 
     def test_messages_of_all_kinds(self):
-        self.is_right(*OPENED, "begin 2 read 3:5 160", "message 2 fault 0x7001 3 0", "message 2 remap 0x1000 0x3000 0x1000", "message 2 unmap 0 0x1000",
-                      "message 2 remove 0x1000 0x2000", "message 2 fork 4:6", "end 2 ok 5", "begin 3 close 4:6", "end 3 ok")
+        self.is_right(*OPENED, "begin 2 read 3:5 160", "message 2 fault 0x7001 3 0", "message 2 remap 0x1000 0x3000 0x1000",
+                      "message 2 unmap 0 0x1000", "message 2 remove 0x1000 0x2000", "message 2 fork 4:6", "end 2 ok 5", "begin 3 close 4:6", "end 3 ok")
 
     def test_exec_and_inheritance(self):
         self.is_right(*OPENED, "begin 2 read 3:5 32", "started 1 ./other % a%20b ...", "found 3:5", "begin 1 close 3:5", "end 1 ok")
 
     def test_lost_lines_excuse(self):
-        wrong, _, said = read(log("lost 3", "end 4 ok", "begin 5 wake 3:5 0 0x1000", "message 9 fault 0x7000 1 9", "begin 10 read 3:5 64", "end 10 ok 1"))
+        wrong, _, said = read(log("lost 3", "end 4 ok", "begin 5 wake 3:5 0 0x1000", "message 9 fault 0x7000 1 9", "begin 10 read 3:5 64",
+                                  "end 10 ok 1"))
         self.assertEqual(wrong, [])
         self.assertIn("          4 lines lack what the lost lines may have had", said)
 
@@ -172,7 +173,8 @@ class Wrong(unittest.TestCase):
         self.assertEqual(read(log(*lines, clock="log"))[0], [(8, "time runs back, from 9 to 8")])
 
     def test_one_wrong_line_is_named_once(self):
-        wrong = read(log(*OPENED, "begin 2 wake 3:5 0x1000", "end 2 ok", "begin 3 close 4:6", "end 3 ok", "begin 4 close 3:5", "end 4 ok"))[0]
+        lines = ("begin 2 wake 3:5 0x1000", "end 2 ok", "begin 3 close 4:6", "end 3 ok", "begin 4 close 3:5", "end 4 ok")
+        wrong = read(log(*OPENED, *lines))[0]
         self.assertEqual([line for line, _ in wrong], [9, 11])
 
     def test_the_head(self):
