@@ -154,9 +154,9 @@ class Converter:
                 if child := re.match(r"(\d+)", call.returned):
                     self.made[int(child[1])] = call
             elif call.name == "ioctl" and "UFFDIO_REGISTER," in call.arguments and not call.errno:
-                start, length = (re.search(rf"\b{name}=(0x[0-9a-f]+|\d+)", call.arguments) for name in ("start", "len"))
+                start, length = (re.search(rf"\b{name}=(0x[0-9a-f]+)", call.arguments) for name in ("start", "len"))
                 if start and length:
-                    self.ranges.append((int(start[1], 0), int(length[1], 0)))
+                    self.ranges.append((int(start[1], 16), int(length[1], 16)))
 
     def adopt(self, thread, time):
         """The process of a thread that is seen for the first time."""

@@ -83,7 +83,7 @@ def why_not_preloaded(path):
     """Why LD_PRELOAD does nothing to a program: None where nothing is known against it. A script is run by a program that may take it."""
     with open(path, "rb") as file:
         start = file.read(64)
-        if not start.startswith(ELF):
+        if not start.startswith(ELF) or len(start) < 64:
             return None
         if os.stat(path).st_mode & 0o6000:
             return "it changes its user, and LD_PRELOAD is ignored"

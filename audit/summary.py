@@ -96,7 +96,7 @@ class Summary:
     def __init__(self, reader):
         self.reader = reader
         self.waits = Waits(reader.page)
-        self.processes, self.threads, self.commands = set(), set(), []
+        self.processes, self.threads, self.commands, self.ended = set(), set(), [], set()
         self.objects, self.answers, self.messages = {}, defaultdict(Counter), Counter()
         self.first = self.last = None
 
@@ -121,6 +121,9 @@ class Summary:
 
     def take_forked(self, entry):
         self.commands.append(f"{entry.pid}, line {entry.line}: a copy of {entry.values['PARENT']}")
+
+    def take_exit(self, entry):
+        self.ended.add(entry.pid)
 
     def take_found(self, entry):
         self.object(entry.values["O"][0], f"found in process {entry.pid} at line {entry.line}")
@@ -161,8 +164,9 @@ class Summary:
             self.waits.resolve(call.object, entry, *found)
 
     def is_held(self, found):
-        """Whether a process of the log still has a descriptor of an object."""
-        return any(process.is_bound(found, fd) for process in self.reader.processes.values() for fd in process.bound)
+        """Whether a process of the log, which has not ended, still has a descriptor of an object."""
+        running = [process for pid, process in self.reader.processes.items() if pid not in self.ended]
+        return any(process.is_bound(found, fd) for process in running for fd in process.bound)
 
     # What is written
 

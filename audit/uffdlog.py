@@ -362,11 +362,11 @@ class Reader:
         """A descriptor that a line uses has to be known. It is named once, and known then."""
         if process.is_bound(found, fd):
             return
-        held = process.bound.get(fd)
+        held = sorted(process.bound.get(fd, ()))
         process.bind(found, fd)
         self.objects.add(found)
         if held:
-            self.excuse(f"descriptor {fd} is object {' or '.join(map(str, sorted(held)))}, and not {found}")
+            self.excuse(f"descriptor {fd} is object {' or '.join(map(str, held))}, and not {found}")
         else:
             self.excuse(f"descriptor {fd}, object {found}, is not known in this process")
 
@@ -424,7 +424,7 @@ class Reader:
 
     def check_range(self, start, length, what):
         self.check_page(start, what)
-        if not length or length % self.page:
+        if length <= 0 or length % self.page:
             raise Wrong(f"{what}: {length} bytes are not a number of pages")
         if start + length > ALL_ADDRESSES:
             raise Wrong(f"{what}: the range ends past the address space")

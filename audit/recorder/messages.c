@@ -191,7 +191,8 @@ static void begin_polled(struct polled *polled, const struct pollfd *one, nfds_t
     polled->calls[polled->count++] = begin_of_object("poll", object, one->fd);
 }
 
-static void begin_poll(struct polled *polled, const struct pollfd *fds, nfds_t count)
+/* (`fds` is not const: gcc takes poll(2) for one that only writes there, and warns of what it hands on to be read) */
+static void begin_poll(struct polled *polled, struct pollfd *fds, nfds_t count)
 {
     struct pollfd chunk[POLL_CHUNK];
 

@@ -12,7 +12,7 @@ STATUS_CANNOT = 77
 
 def run(program, *words, **more):
     """Runs a program of this folder."""
-    return subprocess.run([sys.executable, AUDIT / program, *map(str, words)], capture_output=True, text=True, timeout=600, **more)
+    return subprocess.run([sys.executable, AUDIT / program, *map(str, words)], capture_output=True, text=True, timeout=60, **more)
 
 
 def compiled(name):

@@ -110,16 +110,24 @@ static void wake(int fd, uint64_t start, uint64_t length)
         fail("UFFDIO_WAKE");
 }
 
-/* Writes are allowed again. While an event is unread the kernel says EAGAIN. */
-static void protect(int fd, uint64_t start, uint64_t length, uint64_t mode)
+static void protect(int fd, uint64_t start, uint64_t length)
 {
-    struct uffdio_writeprotect call = { { start, length }, mode };
+    struct uffdio_writeprotect call = { { start, length }, UFFDIO_WRITEPROTECT_MODE_WP };
 
-    while (ioctl(fd, UFFDIO_WRITEPROTECT, &call))
-        if (errno != EAGAIN && errno != ENOENT)
-            fail("UFFDIO_WRITEPROTECT");
-        else if (errno == ENOENT)
-            return;
+    if (ioctl(fd, UFFDIO_WRITEPROTECT, &call))
+        fail("UFFDIO_WRITEPROTECT");
+}
+
+/* Allows stores to a page. While an event is unread the kernel says EAGAIN: the thread is woken, and faults again after it. */
+static void unprotect(int fd, uint64_t page)
+{
+    struct uffdio_writeprotect call = { { page, PAGE }, 0 };
+
+    if (!ioctl(fd, UFFDIO_WRITEPROTECT, &call))
+        return;
+    if (errno != EAGAIN && errno != ENOENT)
+        fail("UFFDIO_WRITEPROTECT of one page");
+    wake(fd, page, PAGE);
 }
 
 static void install(int fd, uint64_t page)
@@ -145,7 +153,7 @@ static void handle(int fd, const struct uffd_msg *message)
     case UFFD_EVENT_PAGEFAULT:
         page = message->arg.pagefault.address & ~(uint64_t)(PAGE - 1);
         if (message->arg.pagefault.flags & UFFD_PAGEFAULT_FLAG_WP)
-            protect(fd, page, PAGE, 0);
+            unprotect(fd, page);
         else
             install(fd, page);
         break;
@@ -384,7 +392,7 @@ int main(void)
     if (pthread_create(&thread, NULL, handler, NULL))
         fail("pthread_create");
     run_workers();
-    protect(object, address(area), PAGES * PAGE, UFFDIO_WRITEPROTECT_MODE_WP);
+    protect(object, address(area), PAGES * PAGE);
     run_workers();
     change_map();
     copy_descriptors();

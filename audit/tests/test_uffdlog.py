@@ -258,7 +258,7 @@ class Changed(unittest.TestCase):
                 outcomes[kind, "wrong" if wrong else "right"] += 1
         # A reader that takes everything, or nothing, would be none.
         for kind in ("byte", "bit", "line twice", "lines swapped", "word"):
-            self.assertGreater(outcomes[kind, "wrong"], SEEDS / 8 / 2, outcomes)
+            self.assertGreater(outcomes[kind, "wrong"], SEEDS / 8 / 3, outcomes)
         self.assertGreater(sum(count for (_, what), count in outcomes.items() if what == "right"), 0)
 
     def test_a_line_that_is_missing(self):
