@@ -116,12 +116,13 @@ def create(log, text):
         file.write(text)
 
 
-def run_to_end(command, environment=None, passed=(signal.SIGTERM,)):
-    """Runs a program, and passes some signals on to it. Those of a terminal reach it anyway. Returns its status as a shell has it."""
+def run_to_end(command, path=None, environment=None, passed=(signal.SIGTERM,)):
+    """Runs a program, and passes some signals on to it. Those of a terminal reach it anyway. Returns its status as a shell has it. The program is that
+    of `path`, where it is not the first word of the command."""
     kinds = (signal.SIGINT, signal.SIGQUIT, signal.SIGTERM)
     before = [(it, signal.signal(it, signal.SIG_IGN)) for it in kinds]
     try:
-        child = subprocess.Popen(command, env=environment, preexec_fn=lambda: [signal.signal(it, signal.SIG_DFL) for it in kinds])
+        child = subprocess.Popen(command, executable=path, env=environment, close_fds=False, preexec_fn=lambda: [signal.signal(it, signal.SIG_DFL) for it in kinds])
         for it in passed:
             signal.signal(it, lambda kind, _: child.send_signal(kind))
         status = child.wait()
@@ -145,7 +146,7 @@ def preload(log, words, scan=True):
         environment["LD_PRELOAD"] = ":".join(filter(None, (str(RECORDER), os.environ.get("LD_PRELOAD"))))
         if not scan:
             environment["UFFDLOG_NO_SCAN"] = "1"
-        status = run_to_end([path, *words[1:]], environment)
+        status = run_to_end(words, path, environment)
         page.seek(0)
         lost, = struct.unpack("<Q", page.read(8))
     if lost:

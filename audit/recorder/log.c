@@ -24,10 +24,13 @@ static ino_t log_inode;
 static _Atomic int log_fd = -1;
 static _Atomic bool after_part; /* the last write was short: the next one begins with a line feed */
 static _Atomic uint64_t last_number;
+/* Who has asked last. (In the static block of each thread, which needs no allocation.) */
+static _Thread_local long last_pid __attribute__((tls_model("initial-exec")));
+static _Thread_local long last_tid __attribute__((tls_model("initial-exec")));
 
 static bool is_the_log(int fd)
 {
-    struct stat found;
+    struct stat found = { 0 };
 
     return fd >= 0 && !raw_failed(raw_call(SYS_fstat, fd, (long)&found, 0, 0, 0, 0)) && found.st_ino == log_inode && found.st_dev == log_device;
 }
@@ -47,12 +50,13 @@ static int open_high(void)
 
 bool log_open(const char *path)
 {
-    struct stat found;
+    struct stat found = { 0 };
+    size_t length = strlen(path);
     int fd;
 
-    if (strlen(path) >= sizeof log_path)
+    if (length >= sizeof log_path)
         return false;
-    strcpy(log_path, path);
+    memcpy(log_path, path, length + 1);
     fd = open_high();
     if (fd < 0 || raw_failed(raw_call(SYS_fstat, fd, (long)&found, 0, 0, 0, 0)))
         return false;
@@ -194,7 +198,23 @@ static void write_entry(struct call *call, const char *kind, bool numbered, stru
 
 struct call log_caller(void)
 {
-    return (struct call){ raw_call(SYS_getpid, 0, 0, 0, 0, 0, 0), raw_call(SYS_gettid, 0, 0, 0, 0, 0, 0), 0 };
+    struct call caller = { .tid = raw_call(SYS_gettid, 0, 0, 0, 0, 0, 0) };
+
+    /* The process of a thread never changes, and a thread that lives keeps its number: only another one asks again. */
+    if (last_tid == caller.tid) {
+        caller.pid = last_pid;
+        return caller;
+    }
+    caller.pid = raw_call(SYS_getpid, 0, 0, 0, 0, 0, 0);
+    last_pid = caller.pid; /* (first: a signal handler may come between) */
+    atomic_signal_fence(memory_order_seq_cst);
+    last_tid = caller.tid;
+    return caller;
+}
+
+long log_last_thread(void)
+{
+    return last_tid ? last_tid : log_caller().tid;
 }
 
 struct call log_begin(struct text *rest)

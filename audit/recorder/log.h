@@ -21,8 +21,11 @@ bool log_open(const char *path);
 /* Whether there is one. Where there is not, nothing is recorded. */
 bool log_is_open(void);
 
-/* The thread that runs here. (Asked for each time: a thread of vfork(2) or clone(2) shares all variables of another process.) */
+/* The thread that runs here. Its number is asked for each time: a child of vfork(2) or clone(2) shares all variables of another process. */
 struct call log_caller(void);
+
+/* The thread that was found by the last log_caller of this thread: without a system call, where the caller has just asked. */
+long log_last_thread(void);
 
 /*
  * Each writes a line of which `rest` is the part after the words that it puts itself. A line that is cut, or that cannot be written, is

@@ -5,6 +5,7 @@
 #include <stdbool.h>
 #include <stddef.h>
 
+/* The caller has asked log_caller, in the same function or above it. */
 bool memory_copy(void *to, const void *from, size_t bytes);
 
 #endif

@@ -99,7 +99,7 @@ INTERPOSED ssize_t read(int fd, void *buffer, size_t length)
     got = next()->read(fd, buffer, length);
     error = errno;
     for (ssize_t at = 0; at + (ssize_t)sizeof(struct uffd_msg) <= got; at += (ssize_t)sizeof(struct uffd_msg)) {
-        struct uffd_msg message;
+        struct uffd_msg message = { 0 };
 
         memcpy(&message, (const char *)buffer + at, sizeof message);
         record_message(&call, &message);
@@ -160,7 +160,7 @@ INTERPOSED ssize_t readv(int fd, const struct iovec *parts, int count)
     got = next()->readv(fd, parts, count);
     error = errno;
     for (ssize_t at = 0; at + (ssize_t)sizeof(struct uffd_msg) <= got; at += (ssize_t)sizeof(struct uffd_msg)) {
-        struct uffd_msg message;
+        struct uffd_msg message = { 0 };
 
         gather(&message, parts, count, (size_t)at, sizeof message);
         record_message(&call, &message);
@@ -199,6 +199,7 @@ static void begin_poll(struct polled *polled, struct pollfd *fds, nfds_t count)
     polled->count = 0;
     if (!log_is_open() || !object_any_is_possible())
         return;
+    (void)log_caller(); /* for memory_copy */
     for (nfds_t at = 0; at < count; at += POLL_CHUNK) {
         nfds_t size = count - at < POLL_CHUNK ? count - at : POLL_CHUNK;
 

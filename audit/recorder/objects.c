@@ -26,7 +26,7 @@ static _Atomic uint64_t device; /* of the file system that all objects are in, o
 /* The number of the inode of an object, 0 where a descriptor is no file of that file system. */
 static uint64_t inode_of(int fd)
 {
-    struct stat found;
+    struct stat found = { 0 };
 
     if (raw_failed(raw_call(SYS_fstat, fd, (long)&found, 0, 0, 0, 0)) || found.st_dev != atomic_load(&device))
         return 0;
@@ -35,7 +35,7 @@ static uint64_t inode_of(int fd)
 
 static bool is_owner(void)
 {
-    return raw_call(SYS_getpid, 0, 0, 0, 0, 0, 0) == atomic_load_explicit(&owner, memory_order_relaxed);
+    return log_caller().pid == atomic_load_explicit(&owner, memory_order_relaxed);
 }
 
 static void note(const char *kind, uint64_t object, int fd)
@@ -49,7 +49,7 @@ static void note(const char *kind, uint64_t object, int fd)
 
 uint64_t object_of_new(int fd)
 {
-    struct stat found;
+    struct stat found = { 0 };
 
     if (raw_failed(raw_call(SYS_fstat, fd, (long)&found, 0, 0, 0, 0)))
         return 0;

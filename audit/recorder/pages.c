@@ -62,7 +62,7 @@ static void add_page(const struct call *call, struct run *run, uint64_t page, ui
 /* Returns minus an errno where not all pages could be read. */
 static long scan(const struct call *call, struct run *run, int pagemap, uint64_t start, uint64_t length)
 {
-    uint64_t entries[ENTRIES], size = (uint64_t)sysconf(_SC_PAGESIZE), done = 0;
+    uint64_t entries[ENTRIES] = { 0 }, size = (uint64_t)sysconf(_SC_PAGESIZE), done = 0;
 
     while (done < length) {
         uint64_t left = (length - done) / size, count = left < ENTRIES ? left : ENTRIES;

@@ -3,6 +3,7 @@
 #include <linux/userfaultfd.h>
 #include <stdarg.h>
 #include <stddef.h>
+#include <string.h>
 #include <sys/ioctl.h>
 #include <sys/mman.h>
 
@@ -60,11 +61,16 @@ struct passed {
     bool readable;
 };
 
-static struct passed read_passed(const struct kind *kind, const void *argument)
+/* A structure that the kernel has just written is read as it is: no address is wrong then. */
+static struct passed read_passed(const struct kind *kind, const void *argument, bool is_sound)
 {
-    struct passed passed = { .kind = kind };
+    struct passed passed = { .kind = kind, .readable = true };
+    size_t bytes = (kind->answer + kind->answers) * sizeof *passed.numbers;
 
-    passed.readable = memory_copy(passed.numbers, argument, (kind->answer + kind->answers) * sizeof *passed.numbers);
+    if (is_sound)
+        memcpy(passed.numbers, argument, bytes);
+    else
+        passed.readable = memory_copy(passed.numbers, argument, bytes);
     return passed;
 }
 
@@ -96,7 +102,7 @@ static struct call begin_ioctl(const struct kind *kind, uint64_t object, int fd,
 
 static void end_ioctl(const struct call *call, const struct kind *kind, bool failed, int error, const void *argument)
 {
-    struct passed after = read_passed(kind, argument);
+    struct passed after = read_passed(kind, argument, !failed);
     bool has_answer = kind->answers && after.readable && (!failed || kind->counts);
 
     end_call(call, failed, error, has_answer ? put_answer : NULL, &after);
@@ -112,7 +118,7 @@ static void after_register(uint64_t object, int fd, const struct passed *passed)
 
 static int recorded_ioctl(const struct kind *kind, uint64_t object, int fd, void *argument)
 {
-    struct passed passed = read_passed(kind, argument);
+    struct passed passed = read_passed(kind, argument, false);
     struct call call = begin_ioctl(kind, object, fd, &passed);
     int result = next()->ioctl(fd, kind->request, argument), error = errno;
 

@@ -1,5 +1,6 @@
 """What the tests share."""
 
+import os
 import pathlib
 import subprocess
 import sys
@@ -8,6 +9,8 @@ AUDIT = pathlib.Path(__file__).resolve().parent.parent
 OUT = AUDIT / "out"
 sys.path.insert(0, str(AUDIT))
 STATUS_CANNOT = 77
+# Set by audit/test --quick: fewer runs and seeds.
+QUICK = "AUDIT_QUICK" in os.environ
 
 
 def run(program, *words, **more):

@@ -11,7 +11,7 @@ import common
 import convert
 from test_uffdlog import read
 
-SEEDS = 300
+SEEDS = 60 if common.QUICK else 300
 HEAD = "uffdlog 1\nrecorder strace 1\nkernel - - -\npage 4096\nclock log\ncommand -\n"
 OBJECT = "<anon_inode:[userfaultfd]>"
 

@@ -14,7 +14,7 @@ import unittest
 import common
 import uffdlog
 
-RUNS = int(os.environ.get("AUDIT_TEST_RUNS", "5"))
+RUNS = 1 if common.QUICK else 5
 
 
 def entries(path):
@@ -163,6 +163,8 @@ class Refused(Kernel):
 class Traced(Kernel):
     def setUp(self):
         super().setUp()
+        if common.QUICK:
+            self.skipTest("by --quick")
         if not shutil.which("strace"):
             self.skipTest("strace is not there")
         if subprocess.run(["strace", "-o", "/dev/null", "true"], capture_output=True).returncode:
@@ -170,11 +172,11 @@ class Traced(Kernel):
 
     def test_cost_by_strace(self):
         """A run by strace has the calls of a run by the recorder."""
-        done = self.record("--strace", common.compiled("cost"), "0")
+        done = self.record("--strace", common.compiled("cost"), "0.01")
         self.assertEqual(done.returncode, 0, done.stderr)
         traced, wrong = entries(self.log)
         self.assertEqual(wrong, [])
-        done = self.record(common.compiled("cost"), "0")
+        done = self.record(common.compiled("cost"), "0.01")
         self.assertEqual(done.returncode, 0, done.stderr)
         recorded, wrong = entries(self.log)
         self.assertEqual(wrong, [])
@@ -194,7 +196,10 @@ class Traced(Kernel):
         self.addCleanup(process.kill)
         time.sleep(0.3)
         recorder = subprocess.Popen([common.AUDIT / "record", "-o", self.log, "--attach", str(process.pid)], stderr=subprocess.PIPE, text=True)
-        time.sleep(2)
+        for _ in range(200):
+            if os.path.exists(f"{self.log}.strace") and os.path.getsize(f"{self.log}.strace") > 10_000:
+                break
+            time.sleep(0.05)
         recorder.send_signal(signal.SIGINT)
         said = recorder.communicate(timeout=60)[1]
         if re.search("ptrace|not permitted", said):

@@ -11,7 +11,7 @@ import common
 import summary
 import uffdlog
 
-SEEDS = 400
+SEEDS, PROGRAM_SEEDS = (80, 4) if common.QUICK else (400, 24)
 REPORT = re.compile(r".+:\d+: .+")
 
 
@@ -270,7 +270,7 @@ class Changed(unittest.TestCase):
 
     def test_the_program(self):
         with tempfile.TemporaryDirectory() as folder:
-            for seed in range(24):
+            for seed in range(PROGRAM_SEEDS):
                 kind, made = changed(full_example(), seed)
                 path = f"{folder}/{seed}.log"
                 with open(path, "wb") as file:
