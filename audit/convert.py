@@ -245,7 +245,7 @@ class Converter:
     def object_ioctl(self, call, found, fd, request, text):
         word, given, answer, counts = IOCTLS[request]
         if not text.startswith("{"):
-            raise Refused(f"the fields of UFFDIO_{request} are not in the trace: this strace does not decode it")
+            raise Refused(f"the fields of UFFDIO_{request} are not in the trace: this strace does not decode it, or the address was bad")
         values = {}
         for name, value in re.findall(r"\b([a-z]+)=([A-Z_a-z0-9<|\-]+)", text):
             values.setdefault(name, []).append(value)
@@ -514,18 +514,28 @@ class Writer:
             self.converter.write(call.entered_at, call.thread, "exit")
 
 
+# What happens at a line of the trace, in this order.
+UNREAD, ENTER, LEAVE = range(3)
+
+
 def convert(file, out, process=None):
-    """Writes the lines of a log after its head. Returns the lines of the trace that cannot be read, with the reasons."""
+    """Writes the lines of a log after its head; where a line of the trace cannot be read, `lost` with the lines that it may have made. Returns these
+    lines of the trace, with the reasons."""
     reader = Reader()
     calls = reader.read(file)
-    wrong = reader.wrong
+    wrong = list(reader.wrong)
     converter = Converter(out, process)
     converter.prepare(calls)
     writer = Writer(converter)
-    steps = [(call.entered, 0, call) for call in calls] + [(call.left, 1, call) for call in calls if call.left is not None and call.name != "+++"]
-    for line, leaves, call in sorted(steps, key=lambda step: step[:2]):
+    steps = [(line, UNREAD, None) for line, _ in wrong] + [(call.entered, ENTER, call) for call in calls]
+    steps += [(call.left, LEAVE, call) for call in calls if call.left is not None and call.name != "+++"]
+    for line, what, call in sorted(steps, key=lambda step: step[:2]):
         try:
-            (writer.leave if leaves else writer.enter)(call)
+            if what == UNREAD:
+                out.write("lost 1\n")
+            else:
+                (writer.leave if what == LEAVE else writer.enter)(call)
         except Refused as reason:
             wrong.append((line, str(reason)))
+            out.write("lost 2\n" if what == ENTER else "lost 1\n")
     return sorted(wrong)

@@ -187,7 +187,7 @@ def by_strace(log, options, words, process=None):
     if not os.path.exists(trace):
         raise CannotRecord(f"strace has status {status} and wrote nothing")
     if wrong := convert_trace(trace, log, words, process):
-        raise CannotRecord(f"{wrong} lines of {trace} cannot be read, and {log} lacks them")
+        raise CannotRecord(f"{wrong} lines of {trace} cannot be read, and {log} has 'lost' there")
     os.unlink(trace)
     return status
 

@@ -226,6 +226,7 @@ class Wrong(unittest.TestCase):
                 self.assertEqual([number for number, _ in wrong], [2], wrong)
                 self.assertIn(reason, wrong[0][1])
                 self.assertIn("close 1:3", text)
+                self.assertIn("\nlost ", text)
                 is_log(self, text)
 
     def test_a_call_in_a_call(self):
