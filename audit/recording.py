@@ -117,12 +117,13 @@ def create(log, text):
 
 
 def run_to_end(command, path=None, environment=None, passed=(signal.SIGTERM,)):
-    """Runs a program, and passes some signals on to it. Those of a terminal reach it anyway. Returns its status as a shell has it. The program is that
-    of `path`, where it is not the first word of the command."""
+    """Runs a program, and passes some signals on to it. Those of a terminal reach it anyway. Returns its status as a shell has it. The program is
+    that of `path`, where it is not the first word of the command."""
     kinds = (signal.SIGINT, signal.SIGQUIT, signal.SIGTERM)
     before = [(it, signal.signal(it, signal.SIG_IGN)) for it in kinds]
     try:
-        child = subprocess.Popen(command, executable=path, env=environment, close_fds=False, preexec_fn=lambda: [signal.signal(it, signal.SIG_DFL) for it in kinds])
+        child = subprocess.Popen(command, executable=path, env=environment, close_fds=False,
+                                 preexec_fn=lambda: [signal.signal(it, signal.SIG_DFL) for it in kinds])
         for it in passed:
             signal.signal(it, lambda kind, _: child.send_signal(kind))
         status = child.wait()

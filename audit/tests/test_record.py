@@ -55,6 +55,9 @@ class Preloaded(Kernel):
             found, wrong = entries(self.log)
             self.assertEqual(wrong, [])
             self.check_program(found)
+            ended = {(entry.pid, entry.call.line) for entry in found if entry.kind == "end"}
+            begun = {(entry.pid, entry.line) for entry in found if entry.kind == "begin"}
+            self.assertEqual(begun - ended, set())
 
     def check_program(self, found):
         calls = collections.Counter(entry.call.word for entry in found if entry.kind == "end")

@@ -73,7 +73,8 @@ class Right(unittest.TestCase):
 
     def test_messages_of_all_kinds(self):
         self.is_right(*OPENED, "begin 2 read 3:5 160", "message 2 fault 0x7001 3 0", "message 2 remap 0x1000 0x3000 0x1000",
-                      "message 2 unmap 0 0x1000", "message 2 remove 0x1000 0x2000", "message 2 fork 4:6", "end 2 ok 5", "begin 3 close 4:6", "end 3 ok")
+                      "message 2 unmap 0 0x1000", "message 2 remove 0x1000 0x2000", "message 2 fork 4:6", "end 2 ok 5",
+                      "begin 3 close 4:6", "end 3 ok")
 
     def test_exec_and_inheritance(self):
         self.is_right(*OPENED, "begin 2 read 3:5 32", "started 1 ./other % a%20b ...", "found 3:5", "begin 1 close 3:5", "end 1 ok")
@@ -233,7 +234,8 @@ def changed(lines, seed):
 
 def full_example():
     """The example and more, so that each kind of line is there to be changed."""
-    more = ("begin 8 open device 0", "end 8 ok 9:5", "begin 9 read 9:5 64", "message 9 remap 0x1000 0x3000 0x1000", "message 9 fork 10:7", "end 9 ok 2",
+    more = ("begin 8 open device 0", "end 8 ok 9:5", "begin 9 read 9:5 64", "message 9 remap 0x1000 0x3000 0x1000", "message 9 fork 10:7",
+            "end 9 ok 2",
             "begin 10 dup 9:5 -", "end 10 ok 6", "begin 11 mremap 0x8000 1 0x2000 1 0", "end 11 ok 0xa000", "begin 12 fork", "end 12 ok 88",
             "dropped 9:6", "begin 13 zeropage 9:5 0x5000 0x1000 0", "end 13 EAGAIN -11", "begin 14 poll 9:5", "end 14 interrupted")
     lines = [f"{5000 + 100 * time} 70 70 {line}\n".encode() for time, line in enumerate(more)]
