@@ -73,7 +73,10 @@ impl Terminal {
         self.ready.clear();
         self.passed = 0;
         let mut rest = piece.get(..count).unwrap_or(&[]);
-        while let Some((line, after)) = split_line(rest) {
+        for _ in 0..count {
+            let Some((line, after)) = split_line(rest) else {
+                break;
+            };
             self.take_line(line)?;
             rest = after;
         }
