@@ -89,7 +89,7 @@ def copied(folder):
 
 
 def put_counters(folder):
-    shutil.copy(SOURCES / "seen.rt", folder / "crates/rig/src")
+    shutil.copy(SOURCES / "seen.rattle", folder / "crates/rig/src/seen.rt")
     for name, old, added in EDITS:
         file = folder / "crates" / name
         text = file.read_text()
@@ -102,7 +102,7 @@ def put_program(folder, name, runs, calls):
     """A program that runs so often."""
     source = folder / "crates" / name / "src"
     source.mkdir(parents=True)
-    text = (SOURCES / "many_runs.rt").read_text()
+    text = (SOURCES / "many_runs.rattle").read_text()
     (source / "main.rt").write_text(text.replace("RUNS", f"{runs}_u32").replace("CALLS", str(calls)))
     with open(folder / "crates.txt", "a") as crates:
         crates.write(f"{name}: threads\n")
