@@ -38,7 +38,7 @@ def written(words, given=b"", folder=None):
 
 
 def stored(pages):
-    """A guest that has stored to so many pages."""
+    """A guest that has stored to this many pages."""
     yield f"cpu 0 mmap {pages * PAGE} rw"
     for page_number in range(pages):
         yield f"cpu 0 store {LOW + page_number * PAGE:#x} 8 {page_number + 1}"

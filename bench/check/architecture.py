@@ -1,5 +1,5 @@
 #!/usr/bin/env python3
-"""Draws docs/architecture.svg: the crates of the program and of the library in groups, and which group stands on which.
+"""Draws docs/architecture.svg: the crates of the program and of the library in groups, and which group depends on which.
 
 python3 bench/check/architecture.py [--write]
 
@@ -81,7 +81,7 @@ def groups():
 
 
 def edges(found):
-    """Which group stands on which: the edges between their crates, without those that follow from others."""
+    """Which group depends on which: the edges between their crates, without those that follow from others."""
     known = tower.crates()
     home = {crate: group for group in found for crate in group.crates}
     if missing := {it for top in ("postmig", "postmig_c") for it in tower.below(top)} - set(home):
@@ -94,13 +94,13 @@ def edges(found):
     for group in found:
         for low in direct[group]:
             if low.row <= group.row:
-                sys.exit(f"architecture: '{group.name}' stands on '{low.name}', which is drawn no lower")
+                sys.exit(f"architecture: '{group.name}' depends on '{low.name}', which is drawn no lower")
             if not any(low in reached(other) for other in direct[group] - {low}):
                 yield group, low
 
 
 def arrow(high, low):
-    """A line from a box down to one that it stands on, from the middle of the part that they share."""
+    """A line from a box down to one that it depends on, from the middle of the part that they share."""
     left, right = max(high.x, low.x), min(high.x + high.width, low.x + low.width)
     if left >= right:
         sys.exit(f"architecture: '{low.name}' is not drawn below '{high.name}'")
@@ -112,7 +112,7 @@ def drawn():
     height = found[-1].y + found[-1].height + 16
     lines = [
         f'<svg xmlns="http://www.w3.org/2000/svg" viewBox="0 0 {WIDTH} {height}" width="{WIDTH}" height="{height}">',
-        "<title>The crates of postmig: each group stands on those that its arrows lead to</title>",
+        "<title>The crates of postmig: each group depends on those that its arrows lead to</title>",
         f"<style>{STYLE}</style>",
         '<defs><marker id="h" markerWidth="8" markerHeight="8" refX="4" refY="3" orient="auto"><path d="M0 0L6 3L0 6z"/></marker></defs>',
         f'<rect width="{WIDTH}" height="{height}" fill="#fff"/>',

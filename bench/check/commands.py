@@ -94,7 +94,7 @@ def faults_of(lines, folder, path):
         for command, wanted in [*session(lines)]:
             _, said = ran(command, folder, path)
             if said.splitlines() != wanted:
-                yield f"'{command}' does not write what stands below it, but:\n{said}"
+                yield f"'{command}' does not write what is below it, but:\n{said}"
         return
     script = "\n".join(lines)
     for old, new in SMALLER.items():

@@ -83,7 +83,7 @@ def peak_of(process):
 
 def run(words, given, taken=None, space=None):
     """Runs the program. `given` and `taken` are descriptors, or none: without `taken` what is written is read, and -1 closes either. With
-    `space` it has so many bytes of address space."""
+    `space` it has this many bytes of address space."""
 
     def begin():
         if space:

@@ -61,7 +61,7 @@ class Refuser:
 
 
 def numbers(count):
-    """The growths that are tried of so many."""
+    """The numbers of the growths that are tried, of this many."""
     if count <= MOST:
         return range(1, count + 1)
     return sorted({1 + at * (count - 1) // (MOST - 1) for at in range(MOST)})

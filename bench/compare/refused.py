@@ -29,7 +29,7 @@ COPY = ("guest_tests", "objects::a_copy_that_wants_memory")
 # The growths of the scenes after which no call answers NoMemory: of the transcript, for a load of a processor that there is not, and of the
 # wire back, for an act while an event is unread.
 PASSED_OVER = 2
-# No test here comes near to so many growths.
+# No test here has nearly as many growths.
 MOST = 20000
 
 

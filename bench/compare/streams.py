@@ -76,7 +76,7 @@ class Maker(Drawing):
         base = draws.choice((LOW, LOW, 0x3F0, 0xFF000, HIGH - 48))
         super().__init__(draws, range(base, base + 48), draws.choice((1, 2, 2, 3, 16)), wrong=0.1, light=0.9)
         self.version = 1 + number % 2
-        self.runs = number // 2 % 2 == 0  # whether it goes on after a Package that is taken
+        self.runs = number // 2 % 2 == 0  # whether it continues after a Package that is taken
 
     def next_text(self, likely):
         """The text of a frame more, with this chance one that the destination takes in its phase."""

@@ -45,7 +45,7 @@ static size_t bytes_of(const char *path, uint8_t *bytes, size_t room) {
     return length;
 }
 
-/* Plays a script line by line. At a refusal the world goes on: it is freed only at the end. */
+/* Plays a script line by line. A refusal leaves the world in use: it is freed only at the end. */
 static bool lines(const uint8_t *script, size_t length, const uint8_t *answers, size_t wanted) {
     postmig_handle world = POSTMIG_NONE;
     static uint8_t out[65536];

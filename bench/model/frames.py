@@ -63,7 +63,7 @@ def is_length(version, name, length):
 
 
 def are_in_order(runs, most=HIGH):
-    """Whether runs or areas ascend, each with a page between it and one of the same protection before it, and have at most so many pages."""
+    """Whether runs or areas ascend, each with a page between it and one of the same protection before it, and have at most this many pages."""
     end, before = 0, None
     for first, count, *protection in runs:
         if count == 0 or first < max(LOW, end + (protection == before)) or first + count > HIGH or protection > [2]:
