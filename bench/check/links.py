@@ -3,7 +3,7 @@
 
 python3 bench/check/links.py
 
-Of each *.md at the top and in docs/, and of the README.md of bench/ and conformance/: a relative link names a file that is there, and
+Of each *.md at the top and in docs/, and of the README.md of bench/, conformance/ and audit/: a relative link names a file that is there, and
 after # a heading of it. A link whose text is the name of a function and which leads to a source file finds that function there. The
 status is 1 where one does not.
 """
@@ -19,7 +19,7 @@ LINK = re.compile(r"\[([^\]]*)\]\(([^)\s]+)\)")
 
 
 def pages():
-    others = [page.TOP / folder / "README.md" for folder in ("bench", "conformance")]
+    others = [page.TOP / folder / "README.md" for folder in ("bench", "conformance", "audit")]
     return [*sorted(page.TOP.glob("*.md")), *sorted((page.TOP / "docs").glob("*.md")), *others]
 
 
