@@ -6,6 +6,7 @@ use crate::pen::{Frame, share};
 use crate::record::{Change, FEW, Record};
 use crate::rows::{Rows, Stir, stirs_of};
 use crate::waits::{Wait, find_waits};
+use mig_base::schedule::Side;
 
 /// Where the columns begin, in tenths of a pixel.
 pub(crate) const LEFT: u64 = 840;
@@ -169,9 +170,9 @@ impl Plan {
     fn of(memory: &mut Memory, record: &Record, per: u32, together: u32) -> Plan {
         let lines = record.lines.len().clamp(1, u32::MAX as usize) as u32;
         let columns = Columns { lines, per };
-        let stirs = stirs_of(memory, &record.source, &record.dots, false);
+        let stirs = stirs_of(memory, &record.source, &record.dots, Side::Source);
         let source = Band::new(memory, &record.source.changes, &stirs, together, columns);
-        let stirs = stirs_of(memory, &record.destination, &record.dots, true);
+        let stirs = stirs_of(memory, &record.destination, &record.dots, Side::Destination);
         let changes = &record.destination.changes;
         let destination = Band::new(memory, changes, &stirs, together, columns);
         let stirs = memory.filled(Stir::Touched, record.cpus as usize);

@@ -2,6 +2,7 @@
 
 use crate::state::State;
 use mig_base::refusal::Refusal;
+use mig_base::schedule::Side;
 
 /// The number of lines that a picture shows in words, if it has no more.
 pub const FEW: u32 = 76;
@@ -129,7 +130,7 @@ pub struct Dot {
     pub line: u32,
     pub page: u32,
     pub cpu: u8,
-    pub at_destination: bool,
+    pub side: Side,
 }
 
 /// A mapping that a call moved to another place: its first page before and after.
@@ -138,7 +139,7 @@ pub struct Move {
     pub line: u32,
     pub from: u32,
     pub to: u32,
-    pub at_destination: bool,
+    pub side: Side,
 }
 
 /// What a run did.

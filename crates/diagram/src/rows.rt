@@ -4,6 +4,7 @@ use crate::memory::Memory;
 use crate::record::{Dot, Track};
 use crate::state::State;
 use mig_base::HIGH_PAGE;
+use mig_base::schedule::Side;
 
 /// The most rows of a band.
 const MOST_ROWS: usize = 256;
@@ -124,12 +125,7 @@ pub(crate) enum Stir {
 }
 
 /// What has happened to each page of a node.
-pub(crate) fn stirs_of(
-    memory: &mut Memory,
-    track: &Track,
-    dots: &[Dot],
-    at_destination: bool,
-) -> Vec<Stir> {
+pub(crate) fn stirs_of(memory: &mut Memory, track: &Track, dots: &[Dot], side: Side) -> Vec<Stir> {
     let mut stirs = memory.filled(Stir::Never, track.now.len());
     for change in &track.changes {
         if let Some(stir) = stirs.get_mut(change.row as usize) {
@@ -142,7 +138,7 @@ pub(crate) fn stirs_of(
         }
     }
     for dot in dots {
-        if dot.at_destination == at_destination
+        if dot.side == side
             && let Some(stir) = stirs.get_mut(dot.page as usize)
         {
             *stir = Stir::Touched;

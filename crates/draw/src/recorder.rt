@@ -1,11 +1,14 @@
-//! Running a script, and recording what each step did: from its effect, and from the world after it.
+//! Running a script, and recording what each step did: from its effect, from the frames that it put on the wires, and from the world after
+//! it.
 
 mod channel;
+mod frames;
 mod marks;
 mod pages;
 mod tracks;
 mod waits;
 
+use self::frames::InFlight;
 use area_map::AreaMap;
 use diagram::Record;
 use diagram::record::{FEW, Lane, SHOWN, Track};
@@ -17,12 +20,12 @@ use mig_base::{Addr, Command, HIGH_PAGE, NoMemory, PAGE_SIZE, PageNo, PageSet};
 use std::alloc::Global;
 use world::World;
 
-/// The page of an address; the one behind the last for an address above the address space.
+/// The page of an address; the one after the last for an address above the address space.
 fn page_at(addr: Addr) -> PageNo {
     (addr / PAGE_SIZE).min(u64::from(HIGH_PAGE)) as PageNo
 }
 
-/// The page behind a range of bytes.
+/// The page after a range of bytes.
 fn end_of(addr: Addr, len: u64) -> PageNo {
     page_at(addr.saturating_add(len).saturating_add(PAGE_SIZE - 1))
 }
@@ -63,22 +66,13 @@ fn lane(alloc: Global) -> Lane {
     }
 }
 
-/// A node.
-#[derive(Clone, Copy)]
-enum Node {
-    Source,
-    Destination,
-}
-
 /// What has to be known from before a step.
 #[derive(Clone, Copy)]
 struct Before {
     step: Step,
     /// The command that it makes, if it makes one.
     command: Option<Command>,
-    /// The bytes in flight to the destination, and back.
-    forward: u64,
-    back: u64,
+    in_flight: InFlight,
 }
 
 /// Runs a script on a world, and records what it does. If memory runs out, the rest of the step is still recorded, and `make` then
@@ -92,13 +86,13 @@ pub(crate) struct Recorder {
     destination_areas: AreaMap,
     /// The pages at the source of which a copy waits at the destination.
     came: PageSet,
-    /// The pages that were pushed and are in flight.
+    /// The pages in flight in a frame of their own, as each page is that is pushed.
     flying: PageSet,
     /// The pages whose requests are in flight.
     asking: PageSet,
     /// The pages on which processors sleep at the destination.
     sleeping: PageSet,
-    /// The page behind the last that was ever mapped.
+    /// The page after the last that was ever mapped.
     high: PageNo,
     /// The number of the line, among those that are orders.
     line: u32,
@@ -199,8 +193,7 @@ impl Recorder {
         let before = Before {
             step,
             command: self.command_of(step),
-            forward: self.world.forward_bytes(),
-            back: self.world.back_bytes(),
+            in_flight: InFlight::of(&self.world),
         };
         self.line = self.record.lines.len().min(u32::MAX as usize) as u32;
         self.record.lines.push(number)?;
@@ -229,9 +222,10 @@ impl Recorder {
         }
     }
 
-    /// Records an effect.
+    /// Records an effect. The frames come first, since what a processor waits for depends on those in flight; then the processors, since
+    /// a missing page is shown by who sleeps on it; then the pages.
     fn see(&mut self, before: Before, effect: Effect) {
-        self.see_sent(before, effect);
+        self.see_put(before.in_flight);
         self.see_taken(before.step, effect);
         self.see_marks(effect);
         self.watch_processors();

@@ -16,7 +16,7 @@ pub(crate) enum Setting {
     Absent,
     /// There are this many, 1 to 16.
     Count(u8),
-    /// It begins with `# cpus`, and goes on otherwise.
+    /// It begins with `# cpus`, and continues otherwise.
     Wrong,
 }
 

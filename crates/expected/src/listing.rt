@@ -10,7 +10,7 @@ use engine::script_reader::{MAX_LINE, split_line, without_return};
 use std::alloc::Global;
 use std::io::{ErrorKind, Read, Write};
 
-/// Runs a test on a new world as [`test_script`](crate::test_script) does, but goes on after an answer that differs: it writes the line of
+/// Runs a test on a new world as [`test_script`](crate::test_script) does, but continues after an answer that differs: it writes the line of
 /// each of them. The world has as many processors as the first line says, and otherwise `cpus`, 1 to 16. [`Tested`] has the outcome, and
 /// how many answers were compared.
 ///

@@ -36,7 +36,7 @@ pub struct Verdict {
 }
 
 /// Reads a whole transcript, and writes what is wrong with it: `ok N`, where it has N entries and each has the reply of one flat
-/// memory; or else `wrong I expected REPLY` for the first that has another, or for all. I counts from 0. The flat memory goes on
+/// memory; or else `wrong I expected REPLY` for the first that has another, or for all. I counts from 0. The flat memory continues
 /// from its own reply. The lines of a reason follow that of its entry, with two spaces or more in front.
 ///
 /// Nothing is written before the whole input was read. At most 4,294,967,295 reads are made; a transcript that needs more ends

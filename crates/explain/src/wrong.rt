@@ -18,7 +18,7 @@ pub struct Wrong {
     pub expected: Reply,
 }
 
-/// Replays entries on one flat memory, and lists all that are wrong, in order. The flat memory goes on from its own reply.
+/// Replays entries on one flat memory, and lists all that are wrong, in order. The flat memory continues from its own reply.
 pub fn wrong_entries(alloc: Global, entries: &[Entry]) -> Result<Vec<Wrong>, NoMemory>
     ensures { IfOk result (λ wrongs. AreWrong no_memory 0 entries.now wrongs.items) }
 {

@@ -4,8 +4,8 @@ use clap::ArgMatches;
 use engine::RunFault;
 use engine::script_reader::{MAX_LINE, split_line, without_return};
 use expected::order_part;
-use grammar::Language;
 use grammar::parse::parse;
+use grammar::{Language, Token};
 use lint::{lint_lines, reason_of};
 use std::fs::File;
 use std::io::{IsTerminal, Read, Stderr, Write};
@@ -95,22 +95,28 @@ fn line_at(text: &[u8], number: u64) -> Option<&[u8]> {
     }
 }
 
-/// Says on standard error what is wrong with a line of a test.
-fn say_reason(rt: &HostRuntime, name: &str, number: u64, line: &[u8]) -> io::Result<()> {
+/// Writes what is wrong with a line of a test. The tokens are replaced.
+pub(crate) fn write_reason<W: Write>(
+    writer: &mut W,
+    tokens: &mut Vec<Token>,
+    name: &str,
+    number: u64,
+    line: &[u8],
+) -> io::Result<()> {
     let order = if line.len() > MAX_LINE {
         line
     } else {
         order_part(line)
     };
-    let mut tokens = Vec::new(rt.alloc());
-    match parse(Language::Script, &mut tokens, order) {
-        Ok(Some(_)) => eprintln!(rt; "{name}:{number}:1: {NO_ORDER}"),
+    match parse(Language::Script, tokens, order) {
+        Ok(Some(_)) => write!(writer, "{name}:{number}:1: {NO_ORDER}\n")?,
         _ => {
             let reason = reason_of(order, Language::Script);
             let column = reason.column;
-            eprintln!(rt; "{name}:{number}:{column}: {reason}")
+            write!(writer, "{name}:{number}:{column}: {reason}\n")?;
         }
     }
+    Ok(())
 }
 
 /// Says on standard error what is wrong with the line of a FILE at which a test ended.
@@ -123,6 +129,7 @@ pub(crate) fn say_wrong_line(rt: &HostRuntime, name: &str, number: u64) {
         return;
     }
     if let Some(line) = line_at(&text, number) {
-        let _ = say_reason(rt, name, number, line);
+        let mut tokens = Vec::new(rt.alloc());
+        let _ = write_reason(&mut rt.stderr(), &mut tokens, name, number, line);
     }
 }

@@ -37,7 +37,8 @@ pub(crate) fn open_script<'a>(
     if matches.get_str("file").is_some() || !stdin.is_terminal() {
         return open_input(rt, matches);
     }
-    let typed = Terminal::new(rt.alloc(), stdin, rt.stderr());
+    let has_answers = matches.get_flag("answers");
+    let typed = Terminal::new(rt.alloc(), stdin, rt.stderr(), has_answers);
     Some(Watched::new("standard input", Input::Typed(typed)))
 }
 

@@ -1,8 +1,10 @@
 //! A script that is typed at a terminal.
 
+use crate::reasons::write_reason;
 use engine::script_reader::{MAX_LINE, split_line, without_return};
+use expected::order_part;
 use grammar::parse::parse;
-use grammar::{Language, Token};
+use grammar::{Language, Line, Token};
 use lint::reason_of;
 use std::alloc::Global;
 use std::io;
@@ -17,6 +19,8 @@ const PIECE: usize = 4096;
 pub(crate) struct Terminal {
     stdin: Stdin,
     stderr: Stderr,
+    /// Whether an order may have an answer.
+    has_answers: bool,
     /// The tokens of the last line, kept for their room.
     tokens: Vec<Token>,
     /// What was read and is to be passed on.
@@ -28,10 +32,11 @@ pub(crate) struct Terminal {
 }
 
 impl Terminal {
-    pub(crate) fn new(alloc: Global, stdin: Stdin, stderr: Stderr) -> Terminal {
+    pub(crate) fn new(alloc: Global, stdin: Stdin, stderr: Stderr, has_answers: bool) -> Terminal {
         Terminal {
             stdin,
             stderr,
+            has_answers,
             tokens: Vec::new(alloc),
             ready: Vec::new(alloc),
             passed: 0,
@@ -39,15 +44,25 @@ impl Terminal {
         }
     }
 
-    /// Whether a line is one of a script.
+    /// What a text says, if it is a line of a script.
+    fn parsed(&mut self, text: &[u8]) -> io::Result<Option<Line>> {
+        match parse(Language::Script, &mut self.tokens, text) {
+            Ok(found) => Ok(found),
+            Err(_) => Err(io::Error::from(ErrorKind::OutOfMemory)),
+        }
+    }
+
+    /// Whether a line is one of a script, or, where these are taken, an order with its answer.
     fn is_right(&mut self, line: &[u8]) -> io::Result<bool> {
         if line.len() > MAX_LINE {
             return Ok(false);
         }
-        match parse(Language::Script, &mut self.tokens, line) {
-            Ok(found) => Ok(found.is_some()),
-            Err(_) => Err(io::Error::from(ErrorKind::OutOfMemory)),
+        if self.parsed(line)?.is_some() {
+            return Ok(true);
         }
+        let is_order = self.has_answers
+            && matches!(self.parsed(order_part(line))?, Some(Line::Do(_)));
+        Ok(is_order)
     }
 
     /// Keeps a line that is to be passed on, or says what is wrong with it.
@@ -60,6 +75,9 @@ impl Terminal {
             return Ok(());
         }
         let number = self.lines;
+        if self.has_answers {
+            return write_reason(&mut self.stderr, &mut self.tokens, "-", number, line);
+        }
         let reason = reason_of(line, Language::Script);
         let column = reason.column;
         write!(self.stderr, "-:{number}:{column}: {reason}\n")?;

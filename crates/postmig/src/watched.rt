@@ -4,7 +4,7 @@ use std::alloc::{AllocError, Global};
 use std::io;
 use std::io::{Read, Write};
 
-/// A reader or a writer with the last error that it has answered.
+/// A reader or a writer with the last error that it returned.
 #[derive(Drop)]
 pub(crate) struct Watched<'a, S> {
     stream: S,
@@ -33,7 +33,7 @@ impl<'a, S> Watched<'a, S> {
         }
     }
 
-    /// Says on standard error why it has failed, or this, where it has answered no error.
+    /// Says on standard error why it has failed, or this, where it returned no error.
     pub(crate) fn say_why(&self, rt: &HostRuntime, otherwise: &str) -> io::Result<()> {
         match &self.error {
             Some(error) => say_reason(rt, self.name, error),

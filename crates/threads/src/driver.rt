@@ -89,7 +89,7 @@ pub(crate) fn run_all<R: Threads + Wait + Sync>(
 }
 
 /// Switches once half of the calls are made, breaks the channel and resumes if the plan says so, and waits for the other calls. False if
-/// the switch was refused for lack of memory, or a processor was not started: the source then goes on to run the others.
+/// the switch was refused for lack of memory, or a processor was not started: the source then continues to run the others.
 fn migrate<R: Wait>(rt: &R, rig: &Rig, course: &Course, cut: Option<Cut>, calls: u64) -> bool {
     course.wait_for_calls(rt, calls / 2);
     let is_moved = !course.is_lacking() && switch(rt, rig);

@@ -4,7 +4,7 @@ ghost use Rattle.mig_base.specs.declared.schedule.Step.{Step};
 ghost use Rattle.mig_model.specs.Migration.{World, next};
 ghost use Rattle.wiretap.specs.Traffic.{IsPut, put_on};
 
-/// A step puts frames at the end of a wire, behind all that is in flight, or it puts none there. It puts none on a wire from which it
+/// A step puts frames at the end of a wire, after all that is in flight, or it puts none there. It puts none on a wire from which it
 /// takes frames, as a delivery and a break do.
 pub fn what_a_step_puts()
     ensures forward { (world : World) (step : Step) →

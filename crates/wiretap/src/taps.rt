@@ -27,7 +27,7 @@ pub struct Taps<T: Drop> {
     pub urgent: T,
 }
 
-/// Writes the bytes in flight on a wire that come behind the first `known`.
+/// Writes the bytes in flight on a wire after the first `known`.
 fn write_behind<W: Write>(writer: &mut W, wire: &Wire, known: u64) -> Result<(), RunFault>
     ensures { OnOk result (Appends (W.contents writer.old) (W.contents writer.new) (drop known (texts Two wire.now.wire.frames))) }
 {

@@ -9,6 +9,7 @@ use crate::state::State;
 use crate::text::Part::{Count, More, Nothing, Number, Page, Words};
 use crate::text::{Part, width_of};
 use crate::waits::{Total, Wait};
+use mig_base::schedule::Side;
 
 /// The most dots and the most crosses that are drawn.
 const MOST_DOTS: usize = 3000;
@@ -218,14 +219,14 @@ fn moved(pen: &mut Pen, plan: &Plan, band: &Band, one: &Move) {
 }
 
 /// Draws the sleeps and the moves of mappings in a band.
-fn signs(pen: &mut Pen, plan: &Plan, record: &Record, band: &Band, at_destination: bool) {
+fn signs(pen: &mut Pen, plan: &Plan, record: &Record, band: &Band, side: Side) {
     for sleep in drawn(&record.dots) {
-        if sleep.at_destination == at_destination {
+        if sleep.side == side {
             dot(pen, plan, band, sleep);
         }
     }
     for one in drawn(&record.moves) {
-        if one.at_destination == at_destination {
+        if one.side == side {
             moved(pen, plan, band, one);
         }
     }
@@ -293,10 +294,10 @@ fn title(pen: &mut Pen, band: &Band, name: &str) {
 pub(super) fn nodes(pen: &mut Pen, plan: &Plan, record: &Record) {
     title(pen, &plan.source, "source pages");
     pages(pen, plan, record, &plan.source);
-    signs(pen, plan, record, &plan.source, false);
+    signs(pen, plan, record, &plan.source, Side::Source);
     title(pen, &plan.destination, "destination pages");
     pages(pen, plan, record, &plan.destination);
     ages(pen, plan, record);
-    signs(pen, plan, record, &plan.destination, true);
+    signs(pen, plan, record, &plan.destination, Side::Destination);
     drops(pen, plan, record);
 }

@@ -1,33 +1,53 @@
-//! Frames: which are sent, taken and lost.
+//! Frames: which are put on a wire, taken and lost.
 
+use super::frames::{InFlight, frames_after};
 use super::tracks::{lose, take};
-use super::{Before, Node, Recorder, exclude, include, page_at};
+use super::{Recorder, exclude, include, page_at};
 use diagram::record::{End, Flight, Kind};
 use mig_base::effect::Effect;
-use mig_base::schedule::Step;
-use mig_base::{Addr, PageNo, PageSet, WorldPhase};
+use mig_base::schedule::{Side, Step};
+use mig_base::{PageNo, PageSet};
+use page_stream::Frame;
 
 /// A wire: that to the destination, the urgent one beside it, or that back.
 #[derive(Clone, Copy)]
-enum Wire {
+enum WireName {
     Forward,
     Urgent,
     Back,
 }
 
 /// The wire from which a step delivers a frame, if it does.
-fn delivers(step: Step) -> Option<Wire> {
+fn delivers(step: Step) -> Option<WireName> {
     match step {
-        Step::Deliver { .. } => Some(Wire::Forward),
-        Step::DeliverUrgent { .. } => Some(Wire::Urgent),
-        Step::DeliverBack { .. } => Some(Wire::Back),
+        Step::Deliver { .. } => Some(WireName::Forward),
+        Step::DeliverUrgent { .. } => Some(WireName::Urgent),
+        Step::DeliverBack { .. } => Some(WireName::Back),
         _ => None,
     }
 }
 
+/// What is shown of a frame: its kind, the first page that it has or names, and how many these are.
+fn shown(frame: &Frame) -> (Kind, PageNo, u32) {
+    match frame {
+        Frame::Advise => (Kind::Advise, 0, 0),
+        Frame::Page { page, .. } => (Kind::Page, *page, 1),
+        Frame::Zero { page } => (Kind::Zero, *page, 1),
+        Frame::Run { first, pages } => (Kind::Page, *first, pages.len() as u32),
+        Frame::Discard { .. } => (Kind::Discard, 0, 0),
+        Frame::Package { .. } => (Kind::Package, 0, 0),
+        Frame::End { .. } => (Kind::Finish, 0, 0),
+        Frame::Resume => (Kind::Resume, 0, 0),
+        Frame::Request { page } => (Kind::Request, *page, 1),
+        Frame::Recv { .. } => (Kind::Received, 0, 0),
+        Frame::Done => (Kind::Done, 0, 0),
+    }
+}
+
 impl Recorder {
-    /// Notes a frame that was sent.
-    fn put(&mut self, wire: Wire, kind: Kind, page: PageNo, pages: u32) {
+    /// Notes a frame that was put on a wire.
+    fn put(&mut self, wire: WireName, frame: &Frame) {
+        let (kind, page, pages) = shown(frame);
         let flight = Flight {
             kind,
             page,
@@ -36,101 +56,67 @@ impl Recorder {
             ended: self.line,
             end: End::Open,
         };
-        let kept = match wire {
-            Wire::Forward => self.record.forward.flights.push(flight).is_ok(),
-            Wire::Urgent => self.record.urgent.flights.push(flight).is_ok(),
-            Wire::Back => self.record.back.flights.push(flight).is_ok(),
+        let lane = match wire {
+            WireName::Forward => &mut self.record.forward,
+            WireName::Urgent => &mut self.record.urgent,
+            WireName::Back => &mut self.record.back,
+        };
+        let kept = lane.flights.push(flight).is_ok();
+        self.keep(kept);
+        let kept = match frame {
+            Frame::Page { .. } | Frame::Zero { .. } => include(&mut self.flying, page),
+            Frame::Request { .. } => include(&mut self.asking, page),
+            _ => true,
         };
         self.keep(kept);
     }
 
-    /// Notes a frame without pages that was sent.
-    fn signal(&mut self, wire: Wire, kind: Kind) {
-        self.put(wire, kind, 0, 0);
-    }
-
-    /// Notes a frame with pages that a step sent.
-    fn send(&mut self, step: Step, kind: Kind, addr: Addr, pages: u32) {
-        let page = page_at(addr);
-        let wire = match step {
-            Step::PushUrgent(_) => Wire::Urgent,
-            _ => Wire::Forward,
+    /// Notes the frames on a wire after its first `known` bytes.
+    fn see_put_on(&mut self, wire: WireName, known: u64) {
+        let bytes = match wire {
+            WireName::Forward => self.world.forward(),
+            WireName::Urgent => self.world.urgent(),
+            WireName::Back => self.world.back(),
         };
-        if matches!(step, Step::Push(_) | Step::PushUrgent(_)) {
-            let kept = include(&mut self.flying, page);
-            self.keep(kept);
-        }
-        self.put(wire, kind, page, pages);
-    }
-
-    /// Notes a request.
-    fn request(&mut self, page: PageNo) {
-        self.put(Wire::Back, Kind::Request, page, 1);
-        let kept = include(&mut self.asking, page);
-        self.keep(kept);
-    }
-
-    /// Notes a request, if the wire back has grown by it.
-    fn ask(&mut self, before: Before, page: PageNo) {
-        if self.world.back_bytes() > before.back {
-            self.request(page);
-        }
-    }
-
-    /// Notes the Discard and the Package, if the wire to the destination has grown by them.
-    fn hand_over(&mut self, before: Before) {
-        if self.world.forward_bytes() > before.forward {
-            self.signal(Wire::Forward, Kind::Discard);
-            self.signal(Wire::Forward, Kind::Package);
-        }
-    }
-
-    /// Notes the Recv of a destination that goes on, and the requests that it repeats if it runs.
-    fn answer_resume(&mut self) {
-        self.signal(Wire::Back, Kind::Received);
-        if !matches!(self.world.phase(), WorldPhase::Postcopy) {
-            return;
-        }
-        for at in 0..self.world.requests().len() {
-            if let Some(page) = self.world.requests().get(at).copied() {
-                self.request(page);
+        match frames_after(self.alloc, bytes, known) {
+            Ok(frames) => {
+                for (_, frame) in &frames {
+                    self.put(wire, frame);
+                }
             }
+            Err(_) => self.whole = false,
         }
     }
 
-    /// Notes the frames that an effect has sent.
-    pub(super) fn see_sent(&mut self, before: Before, effect: Effect) {
-        let step = before.step;
-        match effect {
-            Effect::SentPage { addr } => self.send(step, Kind::Page, addr, 1),
-            Effect::SentZero { addr } => self.send(step, Kind::Zero, addr, 1),
-            Effect::SentRun { addr, pages } => self.send(step, Kind::Page, addr, pages),
-            Effect::Requested { origin, .. } => self.ask(before, page_at(origin)),
-            Effect::Started { .. } => self.signal(Wire::Forward, Kind::Advise),
-            Effect::EndSent => self.signal(Wire::Forward, Kind::Finish),
-            Effect::Resumed { .. } => self.signal(Wire::Forward, Kind::Resume),
-            Effect::Switched { .. } | Effect::TookRecv { .. } => self.hand_over(before),
-            Effect::TookResume => self.answer_resume(),
-            Effect::TookEnd => self.signal(Wire::Back, Kind::Done),
-            _ => {}
+    /// Notes the frames that a step has put on the wires.
+    pub(super) fn see_put(&mut self, before: InFlight) {
+        let now = InFlight::of(&self.world);
+        if now.forward > before.forward {
+            self.see_put_on(WireName::Forward, before.forward);
+        }
+        if now.urgent > before.urgent {
+            self.see_put_on(WireName::Urgent, before.urgent);
+        }
+        if now.back > before.back {
+            self.see_put_on(WireName::Back, before.back);
         }
     }
 
     /// Notes that the copy of a page of the source has come.
     fn land(&mut self, page: PageNo) {
         exclude(&mut self.flying, page);
-        if matches!(self.node(), Node::Destination) {
+        if matches!(self.node(), Side::Destination) {
             let kept = include(&mut self.came, page);
             self.keep(kept);
         }
     }
 
     /// The first frame in flight on a wire is taken.
-    fn take(&mut self, wire: Wire) {
+    fn take(&mut self, wire: WireName) {
         match wire {
-            Wire::Forward => take(&mut self.record.forward, self.line),
-            Wire::Urgent => take(&mut self.record.urgent, self.line),
-            Wire::Back => take(&mut self.record.back, self.line),
+            WireName::Forward => take(&mut self.record.forward, self.line),
+            WireName::Urgent => take(&mut self.record.urgent, self.line),
+            WireName::Back => take(&mut self.record.back, self.line),
         }
     }
 

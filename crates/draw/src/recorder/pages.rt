@@ -1,17 +1,17 @@
 //! Pages: what each is at the source and at the destination.
 
 use super::tracks::{note, state_of};
-use super::{Before, Node, Recorder, end_of, page_at, page_of};
+use super::{Before, Recorder, end_of, page_at, page_of};
 use area_map::AreaMap;
 use diagram::State;
 use diagram::record::{Change, Dot, Move};
 use mig_base::cpu_state::CpuState;
 use mig_base::effect::Effect;
 use mig_base::phase::SourcePhase;
-use mig_base::schedule::Step;
+use mig_base::schedule::{Side, Step};
 use mig_base::{Addr, Area, Command, HIGH_PAGE, Message, NoMemory, PageNo, Reply, WorldPhase};
 
-/// The page behind the last area.
+/// The page after the last area.
 fn end_of_areas(areas: &[Area]) -> PageNo {
     match areas.last() {
         Some(last) => last.first.saturating_add(last.count).min(HIGH_PAGE),
@@ -71,7 +71,7 @@ impl Recorder {
     /// What a page of the destination is.
     fn page_at_destination(&self, page: PageNo) -> State {
         let now = state_of(&self.record.destination, page);
-        if matches!(self.node(), Node::Source) {
+        if matches!(self.node(), Side::Source) {
             return now;
         }
         if self.world.destination_space().page(page).is_none() {
@@ -85,7 +85,7 @@ impl Recorder {
     }
 
     /// Notes the state of a page.
-    fn note(&mut self, node: Node, page: PageNo, state: State) {
+    fn note(&mut self, node: Side, page: PageNo, state: State) {
         let change = Change {
             line: self.line,
             row: page,
@@ -93,51 +93,51 @@ impl Recorder {
             about: 0,
         };
         let kept = match node {
-            Node::Source => note(&mut self.record.source, change).is_ok(),
-            Node::Destination => note(&mut self.record.destination, change).is_ok(),
+            Side::Source => note(&mut self.record.source, change).is_ok(),
+            Side::Destination => note(&mut self.record.destination, change).is_ok(),
         };
         self.keep(kept);
     }
 
     /// Asks the world for the pages from `first` on and before `end`, and notes what they are.
-    fn look(&mut self, node: Node, first: PageNo, end: PageNo) {
+    fn look(&mut self, node: Side, first: PageNo, end: PageNo) {
         for page in first..end.min(self.high) {
             let state = match node {
-                Node::Source => self.page_at_source(page),
-                Node::Destination => self.page_at_destination(page),
+                Side::Source => self.page_at_source(page),
+                Side::Destination => self.page_at_destination(page),
             };
             self.note(node, page, state);
         }
     }
 
     /// Asks for one page.
-    fn look_at(&mut self, node: Node, page: PageNo) {
+    fn look_at(&mut self, node: Side, page: PageNo) {
         self.look(node, page, page.saturating_add(1))
     }
 
     /// Asks for the pages of a range of bytes.
-    fn look_in(&mut self, node: Node, addr: Addr, len: u64) {
+    fn look_in(&mut self, node: Side, addr: Addr, len: u64) {
         self.look(node, page_at(addr), end_of(addr, len))
     }
 
     /// The mapped pages of a node.
-    fn areas_of(&self, node: Node) -> Result<AreaMap, NoMemory> {
+    fn areas_of(&self, node: Side) -> Result<AreaMap, NoMemory> {
         match node {
-            Node::Source => self.world.source_space().areas(),
-            Node::Destination => self.world.destination_space().areas(),
+            Side::Source => self.world.source_space().areas(),
+            Side::Destination => self.world.destination_space().areas(),
         }
     }
 
     /// Asks for the mapped pages of a node.
-    fn look_at_areas(&mut self, node: Node) {
+    fn look_at_areas(&mut self, node: Side) {
         let Ok(areas) = self.areas_of(node) else {
             self.whole = false;
             return;
         };
         self.high = self.high.max(end_of_areas(areas.areas()));
         match node {
-            Node::Source => self.source_areas = areas,
-            Node::Destination => self.destination_areas = areas,
+            Side::Source => self.source_areas = areas,
+            Side::Destination => self.destination_areas = areas,
         }
     }
 
@@ -145,7 +145,7 @@ impl Recorder {
     fn carry_page(&mut self, from: PageNo, to: PageNo) {
         let state = state_of(&self.record.destination, from);
         if matches!(state, State::InPlace | State::Installed) {
-            self.note(Node::Destination, to, state);
+            self.note(Side::Destination, to, state);
         }
     }
 
@@ -156,16 +156,16 @@ impl Recorder {
         }
         let (from, to) = (page_at(old), page_at(new));
         let count = end_of(old, len).saturating_sub(from);
-        let at_destination = matches!(self.node(), Node::Destination);
+        let side = self.node();
         let one = Move {
             line: self.line,
             from,
             to,
-            at_destination,
+            side,
         };
         let kept = self.record.moves.push(one).is_ok();
         self.keep(kept);
-        if !at_destination {
+        if side == Side::Source {
             return;
         }
         for at in 0..count {
@@ -174,7 +174,7 @@ impl Recorder {
     }
 
     /// Notes what a map call that gave a reply has done.
-    fn see_call(&mut self, node: Node, command: Command, reply: Reply) {
+    fn see_call(&mut self, node: Side, command: Command, reply: Reply) {
         self.look_at_areas(node);
         match (command, reply) {
             (Command::Mmap { addr_len, .. }, Reply::At(addr)) => self.look_in(node, addr, addr_len),
@@ -199,19 +199,19 @@ impl Recorder {
     }
 
     /// Notes that a processor went to sleep on a page.
-    fn see_asleep(&mut self, node: Node, cpu: u8, page: PageNo) {
+    fn see_asleep(&mut self, node: Side, cpu: u8, page: PageNo) {
         let dot = Dot {
             line: self.line,
             page,
             cpu,
-            at_destination: matches!(node, Node::Destination),
+            side: node,
         };
         let kept = self.record.dots.push(dot).is_ok();
         self.keep(kept);
         self.look_at(node, page);
     }
 
-    /// Notes what a command has done that was answered, or whose call goes on.
+    /// Notes what a command has done that was answered, or whose call continues.
     pub(super) fn see_commands(&mut self, before: Before, effect: Effect) {
         let node = self.node();
         let Some(command) = before.command else {
@@ -230,7 +230,7 @@ impl Recorder {
     }
 
     /// Notes what an event that was read has changed.
-    fn see_event(&mut self, node: Node, event: Message) {
+    fn see_event(&mut self, node: Side, event: Message) {
         match event {
             Message::PageFault { addr, .. } => self.look_at(node, page_at(addr)),
             Message::Remap { from, to, len } => {
@@ -246,8 +246,8 @@ impl Recorder {
     /// Notes what a handler has done.
     pub(super) fn see_handlers(&mut self, before: Before, effect: Effect) {
         let node = match before.step {
-            Step::SourceRead | Step::SourceAct => Node::Source,
-            _ => Node::Destination,
+            Step::SourceRead | Step::SourceAct => Side::Source,
+            _ => Side::Destination,
         };
         match effect {
             Effect::ReadEvent { event } | Effect::ReadLast { event, .. } => {
@@ -265,27 +265,27 @@ impl Recorder {
     pub(super) fn see_source(&mut self, effect: Effect) {
         match effect {
             Effect::SentPage { addr } | Effect::SentZero { addr } => {
-                self.look_at(Node::Source, page_at(addr))
+                self.look_at(Side::Source, page_at(addr))
             }
             Effect::SentRun { addr, pages } => {
                 let first = page_at(addr);
-                self.look(Node::Source, first, first.saturating_add(pages))
+                self.look(Side::Source, first, first.saturating_add(pages))
             }
             Effect::Switched { .. }
             | Effect::TookRecv { .. }
             | Effect::TookDone
-            | Effect::Resumed { .. } => self.look(Node::Source, 0, HIGH_PAGE),
+            | Effect::Resumed { .. } => self.look(Side::Source, 0, HIGH_PAGE),
             _ => {}
         }
     }
 
     /// The copy of a page of the source has come.
     fn copy_came(&mut self, page: PageNo) {
-        if matches!(self.node(), Node::Source) {
-            return self.note(Node::Destination, page, State::Kept);
+        if matches!(self.node(), Side::Source) {
+            return self.note(Side::Destination, page, State::Kept);
         }
         match self.world.owed().home(page) {
-            Some(home) => self.look_at(Node::Destination, home),
+            Some(home) => self.look_at(Side::Destination, home),
             None => {}
         }
     }
@@ -313,7 +313,7 @@ impl Recorder {
     fn discard(&mut self, all: bool) {
         for page in 0..self.high {
             if self.is_stale(page, all) {
-                self.note(Node::Destination, page, State::Blank);
+                self.note(Side::Destination, page, State::Blank);
                 self.note_drop(page);
             }
         }
@@ -327,13 +327,13 @@ impl Recorder {
             }
             Effect::TookRun { addr, pages } => self.copies_came(page_at(addr), pages),
             Effect::TookDiscard { .. } => self.discard(false),
-            Effect::TookResume if matches!(self.node(), Node::Source) => self.discard(true),
+            Effect::TookResume if matches!(self.node(), Side::Source) => self.discard(true),
             Effect::TookPackage { .. } => {
-                self.look_at_areas(Node::Destination);
-                self.look(Node::Destination, 0, HIGH_PAGE)
+                self.look_at_areas(Side::Destination);
+                self.look(Side::Destination, 0, HIGH_PAGE)
             }
             Effect::Installed { addr, .. } => {
-                self.note(Node::Destination, page_at(addr), State::Installed)
+                self.note(Side::Destination, page_at(addr), State::Installed)
             }
             Effect::Dropped { origin } => self.note_drop(page_at(origin)),
             _ => {}

@@ -1,11 +1,12 @@
 //! Processors: which of them wait, and who has to act.
 
 use super::tracks::note;
-use super::{Node, Recorder, include, page_of};
+use super::{Recorder, include, page_of};
 use diagram::State;
 use diagram::record::Change;
 use mig_base::cpu_state::CpuState;
 use mig_base::phase::{DestPhase, SourcePhase};
+use mig_base::schedule::Side;
 use mig_base::{PageNo, PageSet, WorldPhase};
 
 impl Recorder {
@@ -17,10 +18,10 @@ impl Recorder {
     }
 
     /// The node that runs the processors.
-    pub(super) fn node(&self) -> Node {
+    pub(super) fn node(&self) -> Side {
         match self.world.phase() {
-            WorldPhase::Postcopy | WorldPhase::Complete => Node::Destination,
-            _ => Node::Source,
+            WorldPhase::Postcopy | WorldPhase::Complete => Side::Destination,
+            _ => Side::Source,
         }
     }
 
@@ -29,7 +30,7 @@ impl Recorder {
         if matches!(self.world.phase(), WorldPhase::Switching) {
             return State::Stopped;
         }
-        if matches!(self.node(), Node::Source) {
+        if matches!(self.node(), Side::Source) {
             return State::Handler;
         }
         let Some(origin) = self.world.owed().origin(page) else {
@@ -75,7 +76,7 @@ impl Recorder {
         let kept = note(&mut self.record.processors, change).is_ok();
         self.keep(kept);
         let sleeps = !matches!(state, State::Blank | State::Woken | State::InCall);
-        if sleeps && matches!(self.node(), Node::Destination) {
+        if sleeps && matches!(self.node(), Side::Destination) {
             let kept = include(&mut self.sleeping, about);
             self.keep(kept);
         }
