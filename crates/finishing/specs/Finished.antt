@@ -7,9 +7,9 @@ use Rattle.grammar.specs.declared.line.Language.TheVariants.{Script}
 use Rattle.grammar.specs.declared.line.Line.{Line}
 use Rattle.grammar.specs.declared.line.Line.TheVariants.{Do}
 use Rattle.grammar.specs.declared.order.Order.{Order}
+use Rattle.grammar.specs.Fits.{CanBeSpelled}
 use Rattle.grammar.specs.Lines.{IsLine, Reads, BeginsWrong}
 use Rattle.grammar.specs.Orders.{HasStep, order_of}
-use Rattle.grammar.specs.Spelling.{HasSpelling}
 use Rattle.engine.specs.declared.line_runner.Mode.TheVariants.{Lines}
 use Rattle.engine.specs.declared.fault.RunFault.{RunFault}
 use Rattle.engine.specs.declared.fault.RunFault.TheVariants as faults
@@ -33,10 +33,10 @@ abbrev pub AreLines : List Step → List ℕ → Type 0
 AreLines [] text = text ≡ []
 AreLines (step ∷ steps) text = (raw : List ℕ) × (more : List ℕ) × IsStepLine raw step × (text ≡ (raw ++ 10 ∷ []) ++ more) × AreLines steps more
 
--- each step has a line
+-- a line can say each step
 abbrev pub HaveLines : List Step → Type 0
 HaveLines [] = Unit {0}
-HaveLines (step ∷ steps) = HasSpelling Script (Do (order_of step)) × HaveLines steps
+HaveLines (step ∷ steps) = CanBeSpelled (order_of step) × HaveLines steps
 
 -- the lines of the steps were added to a text
 abbrev pub Adds : List Step → List ℕ → List ℕ → Type 0

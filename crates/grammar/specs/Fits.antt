@@ -65,3 +65,18 @@ ReplyFits reply = Unit {0}
 -- the numbers of an entry
 abbrev pub EntryFits : Entry → Type 0
 EntryFits entry = (entry.cpu < 256) × CommandFits entry.command × ReplyFits entry.reply
+
+-- Where the numbers are of their types
+
+-- a line can say the step: a run has 1 to MAX_RUN pages, and a push is an order of its own
+abbrev pub IsSayable : Step → Type 0
+IsSayable (step.SendRun count) = (0 < count) × (count ≤ MAX_RUN)
+IsSayable (step.Push ticket) = ⊥
+IsSayable (step.PushUrgent ticket) = ⊥
+IsSayable made = Unit {0}
+
+-- a line can say the order: a page that is pushed lies in the address space
+abbrev pub CanBeSpelled : Order → Type 0
+CanBeSpelled (Make made) = IsSayable made
+CanBeSpelled (Push urgent page epoch) = page < HIGH_PAGE
+CanBeSpelled Progress = Unit {0}

@@ -3,8 +3,8 @@
 ghost use Rattle.std.specs.Prelude.{◌≡◌, ◌++◌, [], Some, true, OnOk, OnErr, string_bytes};
 ghost use Rattle.grammar.specs.declared.line.Language.TheVariants.{Script};
 ghost use Rattle.grammar.specs.declared.line.Line.TheVariants.{Do};
+ghost use Rattle.grammar.specs.Fits.{CanBeSpelled};
 ghost use Rattle.grammar.specs.Lines.{IsLine};
-ghost use Rattle.grammar.specs.Spelling.{HasSpelling};
 ghost use Rattle.grammar.specs.Texts.{bytes_text, push_word, epoch_text, push_text, step_text, order_text};
 
 use crate::order::Order;
@@ -162,14 +162,12 @@ impl fmt::Display for OrderText {
     }
 }
 
-/// Replaces a text by the line of an order, without a line feed. If any line of a script is that order, this one is.
-///
-/// No line is a push that is made as a step, a push of a page at or above `HIGH_PAGE`, or a `SendRun` of no page or of more than `MAX_RUN`.
-/// `NoMemory` leaves the text empty.
+/// Replaces a text by the line of an order, without a line feed. It is read as that order, if any line is: none is for a push that is made
+/// as a step, the push of a page at or above `HIGH_PAGE`, and a `SendRun` of no page or of more than `MAX_RUN`. `NoMemory` leaves the text
+/// empty.
 pub fn print_order(text: &mut String, order: Order) -> Result<(), NoMemory>
     ensures ok { OnOk result (string_bytes text.new ≡ order_text order) }
-    ensures line { OnOk result (HasSpelling Script (Do order)
-        → IsLine Script (string_bytes text.new) (Do order)) }
+    ensures line { OnOk result (CanBeSpelled order → IsLine Script (string_bytes text.new) (Do order)) }
     ensures err { OnErr result (string_bytes text.new ≡ []) }
 {
     text.clear();
