@@ -1,5 +1,5 @@
 -- Words as they are printed, and the line of several with a space between them.
-use Rattle.std.proofs.Common.{◌≡◌, ◌≢◌, ℕ, zero, suc, ◌+◌, ◌-◌, ◌*◌, ◌/◌, ◌%◌, ◌^◌, ◌<◌, ◌≤◌, ◌&&◌, Bool, true, false, cond, eqb, ltb, List, [], ◌∷◌, ◌++◌, length, take, get_or, refl, sym, ap, subst, ◌∙◌, append_assoc, append-nil, length-append, arith, inl, inr, lit<}
+use Rattle.std.proofs.Common.{◌≡◌, ◌≢◌, ℕ, zero, suc, ◌+◌, ◌-◌, ◌*◌, ◌/◌, ◌%◌, ◌^◌, ◌<◌, ◌≤◌, ◌&&◌, Bool, true, false, cond, eqb, ltb, List, [], ◌∷◌, ◌++◌, length, take, get_or, refl, sym, ap, subst, ◌∙◌, append_assoc, append-nil, length-append, arith, inl, inr, lit<, lit≤}
 use Rattle.std.specs.Fmt.{decimal, digits, digits_onto, digit_glyph}
 use Rattle.std.specs.Char.{digit_value}
 use Rattle.std.specs.List.{AllByRecursion}
@@ -13,11 +13,13 @@ use Rattle.mig_base.proofs.TestLemmas.{and_first, and_second}
 use Rattle.grammar.specs.declared.keyword.Keyword.{Keyword}
 use Rattle.grammar.specs.declared.keyword.Keyword.TheVariants as key
 use Rattle.grammar.specs.declared.line.Language.{Language}
+use Rattle.grammar.specs.declared.line.Language.TheVariants.{Script}
 use Rattle.grammar.specs.declared.line.Line.{Line}
+use Rattle.grammar.specs.declared.line.Line.TheVariants.{Skipped}
 use Rattle.grammar.specs.declared.token.Token.{Token}
 use Rattle.grammar.specs.declared.token.Token.TheVariants.{Key, Number}
 use Rattle.grammar.specs.Words.{HasNone, words_of, IsNumber, keyword_text, IsToken, AreTokens}
-use Rattle.grammar.specs.Spelling.{Spells}
+use Rattle.grammar.specs.Spelling.{IsNothing, Spells}
 use Rattle.grammar.specs.Lines.{IsLine}
 use Rattle.grammar.proofs.Spaces.{words_one, words_more}
 
@@ -28,7 +30,7 @@ abbrev IsVisible : List ℕ → Type 0
 IsVisible text = AllByRecursion (λ b. 32 < b) text
 
 -- each byte is a space, or comes after it
-abbrev IsPrinted : List ℕ → Type 0
+abbrev pub IsPrinted : List ℕ → Type 0
 IsPrinted text = AllByRecursion (λ b. 32 ≤ b) text
 
 -- 1 to 20 bytes that come after the space
@@ -45,9 +47,13 @@ no_feed : (text : List ℕ) → IsPrinted text → HasNone 10 text
 no_feed [] p = tt
 no_feed (b ∷ bs) p = (λ e. omega (arith, p.0, e), no_feed bs p.1)
 
-printed-append : (xs ys : List ℕ) → IsVisible xs → IsPrinted ys → IsPrinted (xs ++ ys)
-printed-append [] ys v p = p
-printed-append (x ∷ xs) ys v p = (omega (arith, v.0), printed-append xs ys v.1 p)
+printed_visible : (text : List ℕ) → IsVisible text → IsPrinted text
+printed_visible [] v = tt
+printed_visible (b ∷ bs) v = (omega (arith, v.0), printed_visible bs v.1)
+
+pub printed-append : (xs ys : List ℕ) → IsPrinted xs → IsPrinted ys → IsPrinted (xs ++ ys)
+printed-append [] ys p q = q
+printed-append (x ∷ xs) ys p q = (p.0, printed-append xs ys p.1 q)
 
 no_return : (text : List ℕ) (k : ℕ) → IsPrinted text → eqb (get_or text k 0) 13 ≡ false
 no_return [] k p = refl
@@ -129,6 +135,35 @@ hexadecimal_is n lt =
       record { some = omega arith; few = omega (arith, few); visible = (lit< tt, (lit< tt, digits_visible 16 text (omega arith) d.0.1)) },
     )
 
+-- ---- comments
+
+abbrev pub is_printed : List ℕ → Bool
+is_printed [] = true
+is_printed (b ∷ bs) = ltb 31 b && is_printed bs
+
+pub printed_from : (text : List ℕ) → is_printed text ≡ true → IsPrinted text
+printed_from [] e = tt
+printed_from (b ∷ bs) e =
+    let low = ltb-true 31 b (and_first (ltb 31 b) (is_printed bs) e) in
+    (omega (arith, low), printed_from bs (and_second (ltb 31 b) (is_printed bs) e))
+
+pub decimal_printed : (n : ℕ) → n < 2 ^ 64 → IsPrinted (decimal n) × (length (decimal n) ≤ 20)
+decimal_printed n lt = let d = (decimal_is n lt).1 in (printed_visible (decimal n) d.visible, d.few)
+
+no_space : (b : ℕ) → b ≡ 35 → b ≡ 32 → ⊥
+no_space b e f = omega (arith, e, f)
+
+-- # and a space begin a comment
+pub comment_line : (rest : List ℕ) → IsPrinted rest → length rest ≤ 254 → IsLine Script (35 ∷ 32 ∷ rest) Skipped
+comment_line rest printed few =
+    let all : IsPrinted (35 ∷ 32 ∷ rest) = (lit≤ tt, (lit≤ tt, printed)) in
+    let same = words_more (35 ∷ []) rest (omega arith) (no_space 35 refl, tt) in
+    record {
+      one = no_feed (35 ∷ 32 ∷ rest) all;
+      short = omega (arith, few);
+      spells = subst (λ (t : List ℕ). Spells Script t Skipped) (sym (stripped (35 ∷ 32 ∷ rest) all)) (subst IsNothing (sym same) refl);
+    }
+
 -- ---- words
 
 -- a word as it is printed: a keyword, or a number in decimal or hexadecimal digits
@@ -205,7 +240,7 @@ spaced_tokens (w ∷ ws) small = ((word_is w small.0).0, spaced_tokens ws small.
 
 spaced_printed : (ws : List Word) → AreSmall ws → IsPrinted (spaced ws)
 spaced_printed [] small = tt
-spaced_printed (w ∷ ws) small = (omega arith, printed-append (text_of w) (spaced ws) (word_is w small.0).1.visible (spaced_printed ws small.1))
+spaced_printed (w ∷ ws) small = (omega arith, printed-append (text_of w) (spaced ws) (printed_visible (text_of w) (word_is w small.0).1.visible) (spaced_printed ws small.1))
 
 spaced_few : (ws : List Word) → AreSmall ws → length (spaced ws) ≤ 21 * length ws
 spaced_few [] small = omega arith
