@@ -320,12 +320,7 @@ fn would_make(world: &World, order: Order) -> bool {
 }
 
 /// An order for the next line. The world would make it, or in about one of ten lines it would refuse it.
-pub(crate) fn draw_order<R: Rng>(
-    rng: &mut R,
-    course: &Course,
-    memo: &Memo,
-    world: &World,
-) -> Order
+pub(crate) fn draw_order<R: Rng>(rng: &mut R, course: &Course, memo: &Memo, world: &World) -> Order
     ensures { CanBeSpelled result }
 {
     if memo.line == 0 {

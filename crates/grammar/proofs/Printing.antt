@@ -5,11 +5,11 @@ use Rattle.std.specs.Fmt.{decimal}
 use Rattle.std.specs.Str.Lines.{strip_carriage_return}
 use Rattle.std.proofs.lemmas.Bool.{eqb-true}
 use Rattle.mig_base.specs.Texts.{errno_name, hexadecimal, reply_text}
-use Rattle.mig_base.specs.declared.TheConstants.{PAGE_SIZE, HIGH_PAGE, MAX_RUN}
+use Rattle.mig_base.specs.declared.TheConstants.{PAGE_SIZE}
 use Rattle.mig_base.specs.declared.Prot.{Prot}
 use Rattle.mig_base.specs.declared.Prot.TheVariants.{NoAccess, Read, ReadWrite}
 use Rattle.mig_base.specs.declared.command.Errno.{Errno}
-use Rattle.mig_base.specs.declared.command.Errno.TheVariants.{Eperm, Enoent, Eagain, Enomem, Efault, Eexist, Einval}
+use Rattle.mig_base.specs.declared.command.Errno.TheVariants.{Eperm}
 use Rattle.mig_base.specs.declared.command.Place.{Place}
 use Rattle.mig_base.specs.declared.command.Place.TheVariants.{Anywhere, Fixed, NoReplace}
 use Rattle.mig_base.specs.declared.command.Command.{Command}
@@ -305,7 +305,7 @@ entry_are e h =
         h.0,
         tokens_of (command_words e.command),
         ap (λ (ts : List Token). Number e.cpu ∷ ts) (tokens-append (command_words e.command) gives
-        ∙ ap (λ (ts : List Token). tokens_of (command_words e.command) ++ Key key.Gives ∷ ts) r.form),
+            ∙ ap (λ (ts : List Token). tokens_of (command_words e.command) ++ Key key.Gives ∷ ts) r.form),
         c.form,
       );
       small = (byte_small e.cpu h.0, small-append (command_words e.command) gives c.small (tt, r.small));

@@ -34,11 +34,14 @@ pub fn what_has_a_line()
     ensures order { (order : Order) → OrderFits order → HasSpelling Script (Do order) }
     ensures no_other { (order : Order) → HasSpelling Script (Do order) → OrderFits order }
     ensures entry { (entry : Entry) → EntryFits entry → HasSpelling Transcript (Enter entry) }
-    ensures no_other_entry { (entry : Entry) → HasSpelling Transcript (Enter entry) → EntryFits entry }
+    ensures no_other_entry { (entry : Entry) →
+        HasSpelling Transcript (Enter entry) → EntryFits entry }
 {}
 
 /// What is printed of an order or an entry is a line, and is read as that order or entry, if any line is.
 pub fn what_is_printed_is_read()
-    ensures order { (order : Order) → HasSpelling Script (Do order) → IsLine Script (order_text order) (Do order) }
-    ensures entry { (entry : Entry) → HasSpelling Transcript (Enter entry) → IsLine Transcript (entry_text entry) (Enter entry) }
+    ensures order { (order : Order) →
+        HasSpelling Script (Do order) → IsLine Script (order_text order) (Do order) }
+    ensures entry { (entry : Entry) →
+        HasSpelling Transcript (Enter entry) → IsLine Transcript (entry_text entry) (Enter entry) }
 {}

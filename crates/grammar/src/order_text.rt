@@ -167,7 +167,8 @@ impl fmt::Display for OrderText {
 /// empty.
 pub fn print_order(text: &mut String, order: Order) -> Result<(), NoMemory>
     ensures ok { OnOk result (string_bytes text.new ≡ order_text order) }
-    ensures line { OnOk result (CanBeSpelled order → IsLine Script (string_bytes text.new) (Do order)) }
+    ensures line { OnOk result (CanBeSpelled order
+        → IsLine Script (string_bytes text.new) (Do order)) }
     ensures err { OnErr result (string_bytes text.new ≡ []) }
 {
     text.clear();
