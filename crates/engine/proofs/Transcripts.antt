@@ -10,7 +10,7 @@ use Rattle.mig_model.specs.Runs.{Happens}
 use Rattle.mig_model.proofs.ReachedLemmas.{reached-next}
 use Rattle.mig_model.proofs.StepCases.{MakesWorld, made-next}
 use Rattle.world.proofs.HeadlineLemmas.{headline_reached}
-use Rattle.report.specs.Texts.{entry_line}
+use Rattle.grammar.specs.Texts.{entry_line}
 use Rattle.grammar.specs.declared.line.Line.{Line}
 use Rattle.grammar.specs.declared.line.Line.TheVariants.{Skipped, Do, Enter}
 use Rattle.grammar.specs.Orders.{step_of}

@@ -1,5 +1,4 @@
 pub mod Checking
 pub mod Engine
 pub mod Script
-pub mod Spelled
 pub mod Worlds

@@ -2,7 +2,7 @@
 use Rattle.std.specs.Prelude.{◌≡◌, ℕ, ◌+◌, ◌<◌, ◌⊎◌, List, [], ◌∷◌, ◌++◌, length, drop, Option, Some, None, IfSome}
 use Rattle.std.specs.Io.KnownBytes.{Appends}
 use Rattle.mig_base.specs.declared.command.Entry.{Entry}
-use Rattle.report.specs.Texts.{entry_line}
+use Rattle.grammar.specs.Texts.{entry_line}
 use Rattle.grammar.specs.declared.line.Language.{Language}
 use Rattle.grammar.specs.declared.line.Language.TheVariants as language
 use Rattle.grammar.specs.declared.line.Line.{Line}

@@ -3,9 +3,9 @@
 //! [`run_script`] reads a script and writes one line for each order, or one for each command that took effect, as its [`Mode`] says.
 //! [`check_script`] reads such a transcript, and says whether it is that of one flat memory. Both read and write in pieces.
 //! A [`RunFault`] says what ended a run early. [`progress`] says how far a world's migration has come. [`ScriptReader`] finds the lines in
-//! the bytes that are read, and [`LineRunner`] does each. [`spell`] has the line of a step, [`print_order`] that of any order, and
-//! [`read_back`] says what a line means. `specs/Script.antt` defines the output of a run, with the promises for the
-//! world in which it ends, and `specs/Checking.antt` that of a check; [`laws`] says that there is no other output.
+//! the bytes that are read, and [`LineRunner`] does each. [`spell`] prints the line of a step. `specs/Script.antt` defines the output of a run,
+//! with the promises for the world in which it ends, and `specs/Checking.antt` that of a check; [`laws`] says that there is no other
+//! output.
 //! `docs/SCRIPT.md` says what a script is.
 //!
 //! The crate names no file, no command line and no exit status: readers and writers are its callers'.
@@ -24,4 +24,4 @@ pub use crate::fault::RunFault;
 pub use crate::line_runner::{LineRunner, Mode, progress};
 pub use crate::run::run_script;
 pub use crate::script_reader::ScriptReader;
-pub use crate::spelling::{print_order, read_back, spell};
+pub use crate::spelling::spell;

@@ -12,11 +12,10 @@ ghost use Rattle.engine.specs.Worlds.{progress_in};
 
 use crate::fault::RunFault;
 use grammar::parse::parse;
-use grammar::{Language, Line, Order, Progress, Token, print_line, print_progress};
+use grammar::{Language, Line, Order, Progress, Token, print_entry, print_line, print_progress};
 use mig_base::refusal::Refusal;
 use mig_base::schedule::Step;
 use mig_base::{Entry, NoMemory};
-use report::print_entry;
 use std::alloc::Global;
 use std::io::Write;
 use std::marker::Model;

@@ -1,8 +1,8 @@
 //! A transcript that was read and replayed.
 
 use crate::wrong::Wrong;
+use grammar::EntryText;
 use mig_base::{Entry, NoMemory};
-use report::EntryText;
 use std::alloc::Global;
 
 /// The entries of a transcript, and the lines that they are in.

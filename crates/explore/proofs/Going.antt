@@ -14,7 +14,7 @@ use Rattle.engine.specs.Worlds.{epoch_in}
 use Rattle.mig_base.specs.declared.schedule.Step.{Step}
 use Rattle.mig_model.specs.Promises.{IsComplete}
 use Rattle.finish.specs.Finishing.{needs_epoch, IsDue, steps_left}
-use Rattle.engine.specs.Spelled.{HasStep}
+use Rattle.grammar.specs.Orders.{HasStep}
 use Rattle.explore.specs.Explorations.{IsComment, Adds, Explores, Explored, Gone, Going, GoesOn, StopsOn, IsCount, AreFew, IsScript, MakesIt, Writes, Stops, tail}
 
 -- ---- lines one after the other

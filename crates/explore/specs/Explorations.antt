@@ -8,11 +8,10 @@ use Rattle.grammar.specs.declared.line.Language.TheVariants.{Script}
 use Rattle.grammar.specs.declared.line.Line.{Line}
 use Rattle.grammar.specs.declared.line.Line.TheVariants.{Skipped, Do}
 use Rattle.grammar.specs.declared.order.Order.{Order}
-use Rattle.grammar.specs.Lines.{Reads}
+use Rattle.grammar.specs.Lines.{IsLine, Reads}
 use Rattle.engine.specs.declared.line_runner.Mode.TheVariants.{Lines}
 use Rattle.engine.specs.Script.{Obeys, Runs}
 use Rattle.finish.specs.Finishing.{needs_epoch}
-use Rattle.engine.specs.Spelled.{IsLine}
 
 -- what follows the text of a line: its line feed, or with answers => and the line that a run prints
 abbrev pub tail : Bool → List ℕ → List ℕ
@@ -22,7 +21,7 @@ tail true out = codes " => " ++ out
 -- a comment was added to a text
 pub record IsComment (before after : List ℕ) : Type 0 where
   pub raw : List ℕ
-  pub line : IsLine raw Skipped
+  pub line : IsLine Script raw Skipped
   pub whole : after ≡ before ++ (raw ++ 10 ∷ [])
 
 -- a line was added to a text: a world carried out what it says
@@ -30,7 +29,7 @@ pub record Adds (answers : Bool) (old new : World) (before after : List ℕ) : T
   pub raw : List ℕ
   pub order : Order
   pub out : List ℕ
-  pub line : IsLine raw (Do order)
+  pub line : IsLine Script raw (Do order)
   pub obeys : Obeys Lines old order new out
   pub whole : after ≡ before ++ (raw ++ tail answers out)
 
@@ -38,14 +37,14 @@ pub record Adds (answers : Bool) (old new : World) (before after : List ℕ) : T
 abbrev pub Explores : Bool → World → List (List ℕ) → World → List ℕ → Type 0
 Explores answers old [] new text = (new ≡ old) × (text ≡ [])
 Explores answers old (raw ∷ raws) new text = (mid : World) × (order : Order) × (out : List ℕ) × (more : List ℕ)
-    × IsLine raw (Do order) × Obeys Lines old order mid out × (text ≡ (raw ++ tail answers out) ++ more) × Explores answers mid raws new more
+    × IsLine Script raw (Do order) × Obeys Lines old order mid out × (text ≡ (raw ++ tail answers out) ++ more) × Explores answers mid raws new more
 
 -- the text is a comment and this number of lines, which lead from the first state to the last
 pub record Explored (answers : Bool) (start : World) (count : ℕ) (end : World) (text : List ℕ) : Type 0 where
   pub comment : List ℕ
   pub raws : List (List ℕ)
   pub more : List ℕ
-  pub first : IsLine comment Skipped
+  pub first : IsLine Script comment Skipped
   pub number : length raws ≡ count
   pub explores : Explores answers start raws end more
   pub whole : text ≡ (comment ++ 10 ∷ []) ++ more

@@ -1,1 +1,2 @@
 pub mod Explorations
+pub mod Plans

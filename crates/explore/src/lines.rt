@@ -1,14 +1,20 @@
 //! One line of a script after the other.
 
 ghost use Rattle.std.specs.Prelude.{◌≡◌, ◌<◌, ◌++◌, [], OnOk, string_bytes};
+ghost use Rattle.grammar.specs.declared.line.Language.TheVariants.{Script};
+ghost use Rattle.grammar.specs.declared.line.Line.TheVariants.{Skipped};
+ghost use Rattle.grammar.specs.Fits.{CanBeSpelled};
+ghost use Rattle.grammar.specs.Lines.{IsLine};
+ghost use Rattle.grammar.specs.Orders.{order_of};
 ghost use Rattle.engine.specs.declared.line_runner.Mode.TheVariants.{Lines};
 ghost use Rattle.engine.specs.Script.{Makes, Obeys, reported};
 ghost use Rattle.explore.specs.Explorations.{IsComment, Adds, MakesIt, tail};
+ghost use Rattle.explore.specs.Plans.{comment_text};
 
 use crate::course::Memo;
 use crate::plan::{Plan, VERSION};
-use engine::{RunFault, print_order, progress, read_back, spell};
-use grammar::{Line, Order, Token, print_line, print_progress};
+use engine::{RunFault, progress, spell};
+use grammar::{Order, print_line, print_order, print_progress};
 use mig_base::effect::Effect;
 use mig_base::refusal::Refusal;
 use mig_base::schedule::Step;
@@ -23,7 +29,6 @@ pub(crate) struct Sheet {
     line: String,
     /// The line that `postmig run` prints for it.
     answer: String,
-    tokens: Vec<Token>,
     /// The lines that are not written yet, each with its line feed.
     pub output: Vec<u8>,
 }
@@ -44,9 +49,12 @@ fn gather(output: &mut Vec<u8>, line: &str, answers: bool, answer: &str) -> Resu
 }
 
 /// Replaces a text by the comment that says how a script is made.
-fn print_comment(text: &mut String, plan: &Plan) -> Result<(), RunFault> {
+#[tactic(auto, unfolding(crate::specs::Plans::comment_text))]
+fn print_comment(text: &mut String, plan: Plan) -> Result<(), RunFault>
+    ensures text { OnOk result (string_bytes text.new ≡ comment_text plan) }
+    ensures line { OnOk result (IsLine Script (string_bytes text.new) Skipped) }
+{
     text.clear();
-    let plan = *plan;
     write!(text, "# postmig {VERSION} explore {plan}")?;
     Ok(())
 }
@@ -59,7 +67,6 @@ impl Sheet {
         Sheet {
             line: String::new(alloc),
             answer: String::new(alloc),
-            tokens: Vec::new(alloc),
             output: Vec::new(alloc),
         }
     }
@@ -68,14 +75,11 @@ impl Sheet {
     pub(crate) fn add_comment(&mut self, plan: &Plan) -> Result<(), RunFault>
         ensures { OnOk result (IsComment self.old.output.items self.new.output.items) }
     {
-        print_comment(&mut self.line, plan)?;
-        match read_back(&mut self.tokens, self.line.as_bytes(), 1)? {
-            Line::Skipped => gather(&mut self.output, &self.line, false, ""),
-            Line::Do(_) | Line::Enter(_) => Err(RunFault::Line(1)),
-        }
+        print_comment(&mut self.line, *plan)?;
+        gather(&mut self.output, &self.line, false, "")
     }
 
-    /// Prints an order as a line, makes what the line asks for, and gathers the line. What is remembered of the step goes to `memo`.
+    /// Prints an order as a line, carries it out, and gathers the line. What is remembered of the step goes to `memo`.
     pub(crate) fn add_order(
         &mut self,
         world: &mut World,
@@ -83,19 +87,14 @@ impl Sheet {
         order: Order,
         answers: bool,
     ) -> Result<(), RunFault>
+        requires { CanBeSpelled order }
         ensures { OnOk result (Adds answers world.old world.new self.old.output.items self.new.output.items) }
     {
-        let number = memo.number();
         print_order(&mut self.line, order)?;
-        match read_back(&mut self.tokens, self.line.as_bytes(), number)? {
-            Line::Do(order) => {
-                let effect = obey(world, order, &mut self.answer)?;
-                remember_store(memo, order, effect);
-                remember(memo, effect);
-                gather(&mut self.output, &self.line, answers, &self.answer)
-            }
-            Line::Skipped | Line::Enter(_) => Err(RunFault::Line(number)),
-        }
+        let effect = obey(world, order, &mut self.answer)?;
+        remember_store(memo, order, effect);
+        remember(memo, effect);
+        gather(&mut self.output, &self.line, answers, &self.answer)
     }
 
     /// Prints a step as a line, makes it, and gathers the line.
@@ -105,10 +104,11 @@ impl Sheet {
         step: Step,
         answers: bool,
     ) -> Result<(), RunFault>
+        requires { CanBeSpelled (order_of step) }
         ensures added { OnOk result (Adds answers world.old world.new self.old.output.items self.new.output.items) }
         ensures made { OnOk result (MakesIt world.old step world.new) }
     {
-        let order = spell(step, &mut self.line, &mut self.tokens)?;
+        let order = spell(step, &mut self.line)?;
         obey(world, order, &mut self.answer)?;
         gather(&mut self.output, &self.line, answers, &self.answer)
     }

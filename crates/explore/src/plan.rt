@@ -1,5 +1,8 @@
 //! What the caller of an exploration chooses.
 
+ghost use Rattle.std.specs.Prelude.{◌≡◌, ◌++◌, Some};
+ghost use Rattle.explore.specs.Plans.{profile_name, flag_text, numbers_text, guest_text, flags_text, plan_text};
+
 use std::fmt;
 
 /// The version that the first line of a script names.
@@ -43,7 +46,9 @@ impl Profile {
     ];
 
     /// The name on the command line.
-    pub fn name(self) -> &'static str {
+    pub fn name(self) -> &'static str
+        ensures { result.now ≡ profile_name self }
+    {
         match self {
             Profile::Commands => "commands",
             Profile::Precopy => "precopy",
@@ -88,18 +93,90 @@ pub struct Plan {
     pub answers: bool,
 }
 
-impl fmt::Display for Plan {
+/// A word that is there or not.
+fn flag(is: bool, word: &'static str) -> &'static str
+    ensures { result.now ≡ flag_text is word.now }
+{
+    if is { word } else { "" }
+}
+
+/// The options with the seed, the number of lines and that of processors.
+#[derive(Clone, Copy)]
+struct NumbersText {
+    seed: u64,
+    lines: u32,
+    cpus: u8,
+}
+
+impl fmt::Display for NumbersText {
+    ghost output = { λ x. Some (numbers_text x.seed x.lines x.cpus) };
+
+    #[tactic(auto, unfolding(crate::specs::Plans::numbers_text))]
     fn fmt<W: fmt::Write>(&self, f: &mut fmt::Formatter<W>) -> fmt::Result {
         let seed = self.seed;
-        let steps = self.steps;
+        let lines = self.lines;
         let cpus = self.cpus;
+        write!(f, "--seed {seed} --lines {lines} --cpus {cpus}")
+    }
+}
+
+/// The options with the profile and the number of pages.
+#[derive(Clone, Copy)]
+struct GuestText {
+    profile: Profile,
+    pages: u16,
+}
+
+impl fmt::Display for GuestText {
+    ghost output = { λ x. Some (guest_text x.profile x.pages) };
+
+    #[tactic(auto, unfolding(crate::specs::Plans::guest_text))]
+    fn fmt<W: fmt::Write>(&self, f: &mut fmt::Formatter<W>) -> fmt::Result {
         let profile = self.profile.name();
         let pages = self.pages;
-        let finish = if self.finish { " --finish" } else { "" };
-        let sweep = if self.sweep { " --sweep" } else { "" };
-        let answers = if self.answers { " --answers" } else { "" };
-        write!(f, "--seed {seed} --lines {steps} --cpus {cpus} ")?;
-        write!(f, "--profile {profile} --pages {pages}")?;
+        write!(f, "--profile {profile} --pages {pages}")
+    }
+}
+
+/// The options without a value.
+#[derive(Clone, Copy)]
+struct FlagsText {
+    finish: bool,
+    sweep: bool,
+    answers: bool,
+}
+
+impl fmt::Display for FlagsText {
+    ghost output = { λ x. Some (flags_text x.finish x.sweep x.answers) };
+
+    #[tactic(auto, unfolding(crate::specs::Plans::flags_text))]
+    fn fmt<W: fmt::Write>(&self, f: &mut fmt::Formatter<W>) -> fmt::Result {
+        let finish = flag(self.finish, " --finish");
+        let sweep = flag(self.sweep, " --sweep");
+        let answers = flag(self.answers, " --answers");
         write!(f, "{finish}{sweep}{answers}")
+    }
+}
+
+impl fmt::Display for Plan {
+    ghost output = { λ x. Some (plan_text x) };
+
+    #[tactic(auto, unfolding(crate::specs::Plans::plan_text))]
+    fn fmt<W: fmt::Write>(&self, f: &mut fmt::Formatter<W>) -> fmt::Result {
+        let numbers = NumbersText {
+            seed: self.seed,
+            lines: self.steps,
+            cpus: self.cpus,
+        };
+        let guest = GuestText {
+            profile: self.profile,
+            pages: self.pages,
+        };
+        let flags = FlagsText {
+            finish: self.finish,
+            sweep: self.sweep,
+            answers: self.answers,
+        };
+        write!(f, "{numbers} {guest}{flags}")
     }
 }

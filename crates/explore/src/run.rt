@@ -35,8 +35,7 @@ const PIECE: usize = 16_384;
 /// plan has a sweep, come loads of what was stored. The same plan has the same text.
 ///
 /// `WriteFault` comes if a write fails or takes no byte; the first part of the text is written then. `NoMemory` comes if an allocation
-/// fails; some lines from the first on are written then, each in full. `Line` would come for a line that `postmig run` does not read,
-/// and no plan is known that has one.
+/// fails; some lines from the first on are written then, each in full.
 pub fn run_explore<W: Write>(alloc: Global, writer: &mut W, plan: &Plan) -> Result<(), RunFault>
     requires low { 1 ≤ plan.now.cpus }
     requires high { plan.now.cpus ≤ 16 }

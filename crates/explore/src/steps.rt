@@ -1,6 +1,7 @@
 //! Draws of orders.
 
 ghost use Rattle.std.specs.Prelude.{◌≡◌, ◌<◌, ◌≤◌};
+ghost use Rattle.grammar.specs.Fits.{CanBeSpelled, IsSayable};
 
 use crate::commands::{draw_command, draw_of, draw_page};
 use crate::course::{Course, Memo};
@@ -69,7 +70,9 @@ fn draw_cpu<R: Rng>(rng: &mut R, course: &Course) -> u8 {
 }
 
 /// What a processor does: one that was woken tries again, and any other issues a command.
-fn draw_guest<R: Rng>(rng: &mut R, course: &Course, memo: &Memo, world: &World) -> Step {
+fn draw_guest<R: Rng>(rng: &mut R, course: &Course, memo: &Memo, world: &World) -> Step
+    ensures { IsSayable result }
+{
     let cpu = draw_cpu(rng, course);
     if let Ok(CpuState::Woken(_)) = world.cpu_state(cpu) {
         return Step::Retry { cpu };
@@ -78,7 +81,9 @@ fn draw_guest<R: Rng>(rng: &mut R, course: &Course, memo: &Memo, world: &World) 
 }
 
 /// A command of a processor.
-fn draw_issue<R: Rng>(rng: &mut R, course: &Course, memo: &Memo, world: &World, cpu: u8) -> Step {
+fn draw_issue<R: Rng>(rng: &mut R, course: &Course, memo: &Memo, world: &World, cpu: u8) -> Step
+    ensures { IsSayable result }
+{
     let maps = match world.phase() {
         WorldPhase::Idle | WorldPhase::Precopy => course.weights.maps,
         WorldPhase::Switching | WorldPhase::Postcopy => course.weights.moves,
@@ -91,7 +96,9 @@ fn draw_issue<R: Rng>(rng: &mut R, course: &Course, memo: &Memo, world: &World, 
 }
 
 /// A send of the round's first page, or of several.
-fn draw_send<R: Rng>(rng: &mut R, course: &Course) -> Step {
+fn draw_send<R: Rng>(rng: &mut R, course: &Course) -> Step
+    ensures { IsSayable result }
+{
     if in_share(rng, course.weights.runs) {
         let count = 1 + below(rng, u32::from(MAX_RUN));
         return Step::SendRun { count: count as u8 };
@@ -115,7 +122,9 @@ fn would_owe(course: &Course, world: &World) -> bool {
 }
 
 /// The switch, or what leads to one after which pages are owed: the guest stores on, and no page is sent.
-fn draw_switch<R: Rng>(rng: &mut R, course: &Course, memo: &Memo, world: &World) -> Step {
+fn draw_switch<R: Rng>(rng: &mut R, course: &Course, memo: &Memo, world: &World) -> Step
+    ensures { IsSayable result }
+{
     if memo.line < course.switch_by && !would_owe(course, world) {
         return draw_source_handler(rng);
     }
@@ -123,7 +132,9 @@ fn draw_switch<R: Rng>(rng: &mut R, course: &Course, memo: &Memo, world: &World)
 }
 
 /// What the source does before the switch. A migration starts and switches where its course says so.
-fn draw_sender<R: Rng>(rng: &mut R, course: &Course, memo: &Memo, world: &World) -> Step {
+fn draw_sender<R: Rng>(rng: &mut R, course: &Course, memo: &Memo, world: &World) -> Step
+    ensures { IsSayable result }
+{
     if world.phase() == WorldPhase::Idle && memo.line >= course.start {
         return Step::Start;
     }
@@ -138,7 +149,9 @@ fn draw_sender<R: Rng>(rng: &mut R, course: &Course, memo: &Memo, world: &World)
 
 /// A push of the page that was requested, or of one that is owed. Up to a line of its course the source pushes little that was not
 /// requested. It serves requests where its profile has it wait for them.
-fn draw_push<R: Rng>(rng: &mut R, course: &Course, memo: &Memo, world: &World) -> Order {
+fn draw_push<R: Rng>(rng: &mut R, course: &Course, memo: &Memo, world: &World) -> Order
+    ensures { CanBeSpelled result }
+{
     let background = if memo.line < course.rest {
         1
     } else {
@@ -157,7 +170,9 @@ fn draw_push<R: Rng>(rng: &mut R, course: &Course, memo: &Memo, world: &World) -
 }
 
 /// What the source does after the switch.
-fn draw_pusher<R: Rng>(rng: &mut R, course: &Course, memo: &Memo, world: &World) -> Order {
+fn draw_pusher<R: Rng>(rng: &mut R, course: &Course, memo: &Memo, world: &World) -> Order
+    ensures { CanBeSpelled result }
+{
     match below(rng, 8) {
         0 if memo.line >= course.rest => Order::Make(Step::End),
         0..=3 => Order::Make(Step::Serve),
@@ -178,7 +193,9 @@ fn draw_bytes<R: Rng>(rng: &mut R, course: &Course) -> u64 {
 }
 
 /// An arrival of bytes on one of the wires.
-fn draw_delivery<R: Rng>(rng: &mut R, course: &Course) -> Step {
+fn draw_delivery<R: Rng>(rng: &mut R, course: &Course) -> Step
+    ensures { IsSayable result }
+{
     let n = draw_bytes(rng, course);
     match below(rng, 8) {
         0..=2 => Step::Deliver { n },
@@ -188,7 +205,9 @@ fn draw_delivery<R: Rng>(rng: &mut R, course: &Course) -> Step {
 }
 
 /// What the destination's handler does.
-fn draw_dest_handler<R: Rng>(rng: &mut R) -> Step {
+fn draw_dest_handler<R: Rng>(rng: &mut R) -> Step
+    ensures { IsSayable result }
+{
     match below(rng, 3) {
         0 => Step::DestRead,
         1 => Step::DestAct,
@@ -197,7 +216,9 @@ fn draw_dest_handler<R: Rng>(rng: &mut R) -> Step {
 }
 
 /// What the source's handler does.
-fn draw_source_handler<R: Rng>(rng: &mut R) -> Step {
+fn draw_source_handler<R: Rng>(rng: &mut R) -> Step
+    ensures { IsSayable result }
+{
     match below(rng, 2) {
         0 => Step::SourceRead,
         _ => Step::SourceAct,
@@ -205,7 +226,9 @@ fn draw_source_handler<R: Rng>(rng: &mut R) -> Step {
 }
 
 /// The loss of the channel, or what follows it.
-fn draw_link<R: Rng>(rng: &mut R, is_up: bool) -> Step {
+fn draw_link<R: Rng>(rng: &mut R, is_up: bool) -> Step
+    ensures { IsSayable result }
+{
     if is_up {
         return Step::Break;
     }
@@ -217,7 +240,9 @@ fn draw_link<R: Rng>(rng: &mut R, is_up: bool) -> Step {
 }
 
 /// What the world may do next.
-fn draw_likely<R: Rng>(rng: &mut R, course: &Course, memo: &Memo, world: &World) -> Order {
+fn draw_likely<R: Rng>(rng: &mut R, course: &Course, memo: &Memo, world: &World) -> Order
+    ensures { CanBeSpelled result }
+{
     if memo.line == 0 {
         return Order::Make(draw_guest(rng, course, memo, world));
     }
@@ -234,7 +259,9 @@ fn draw_likely<R: Rng>(rng: &mut R, course: &Course, memo: &Memo, world: &World)
 }
 
 /// A step of any kind with one word.
-fn draw_word<R: Rng>(rng: &mut R) -> Step {
+fn draw_word<R: Rng>(rng: &mut R) -> Step
+    ensures { IsSayable result }
+{
     match below(rng, 15) {
         0 => Step::Start,
         1 => Step::Round,
@@ -265,7 +292,9 @@ fn draw_epoch<R: Rng>(rng: &mut R, present: u32) -> Option<u32> {
 }
 
 /// A step of any kind, whether or not it belongs here.
-fn draw_any<R: Rng>(rng: &mut R, course: &Course, memo: &Memo, world: &World) -> Order {
+fn draw_any<R: Rng>(rng: &mut R, course: &Course, memo: &Memo, world: &World) -> Order
+    ensures { CanBeSpelled result }
+{
     let cpu = below(rng, 1 + u32::from(course.cpus));
     let cpu = cpu as u8;
     match below(rng, 24) {
@@ -291,12 +320,9 @@ fn would_make(world: &World, order: Order) -> bool {
 }
 
 /// An order for the next line. The world would make it, or in about one of ten lines it would refuse it.
-pub(crate) fn draw_order<R: Rng>(
-    rng: &mut R,
-    course: &Course,
-    memo: &Memo,
-    world: &World,
-) -> Order {
+pub(crate) fn draw_order<R: Rng>(rng: &mut R, course: &Course, memo: &Memo, world: &World) -> Order
+    ensures { CanBeSpelled result }
+{
     if memo.line == 0 {
         return draw_made(rng, course, memo, world);
     }
@@ -308,7 +334,9 @@ pub(crate) fn draw_order<R: Rng>(
 }
 
 /// An order that the world would make, if one is found.
-fn draw_made<R: Rng>(rng: &mut R, course: &Course, memo: &Memo, world: &World) -> Order {
+fn draw_made<R: Rng>(rng: &mut R, course: &Course, memo: &Memo, world: &World) -> Order
+    ensures { CanBeSpelled result }
+{
     let mut order = draw_likely(rng, course, memo, world);
     for _ in 0..DRAWS {
         if would_make(world, order) {
@@ -320,7 +348,9 @@ fn draw_made<R: Rng>(rng: &mut R, course: &Course, memo: &Memo, world: &World) -
 }
 
 /// An order that the world would refuse, if one is found.
-fn draw_refused<R: Rng>(rng: &mut R, course: &Course, memo: &Memo, world: &World) -> Order {
+fn draw_refused<R: Rng>(rng: &mut R, course: &Course, memo: &Memo, world: &World) -> Order
+    ensures { CanBeSpelled result }
+{
     let mut order = draw_either(rng, course, memo, world);
     for _ in 0..DRAWS {
         if !would_make(world, order) {
@@ -332,7 +362,9 @@ fn draw_refused<R: Rng>(rng: &mut R, course: &Course, memo: &Memo, world: &World
 }
 
 /// What the world may do next, or a step of any kind.
-fn draw_either<R: Rng>(rng: &mut R, course: &Course, memo: &Memo, world: &World) -> Order {
+fn draw_either<R: Rng>(rng: &mut R, course: &Course, memo: &Memo, world: &World) -> Order
+    ensures { CanBeSpelled result }
+{
     match below(rng, 2) {
         0 => draw_any(rng, course, memo, world),
         _ => draw_likely(rng, course, memo, world),

@@ -1,5 +1,8 @@
 //! The sweep: loads of what the lines of a script have left in memory.
 
+ghost use Rattle.std.specs.Prelude.{IfSome};
+ghost use Rattle.grammar.specs.Fits.{IsSayable};
+
 use crate::commands::SLOTS;
 use crate::lines::page_at;
 use mig_base::{Addr, HIGH_PAGE, NoMemory, PAGE_SIZE, PageSet, Reply};
@@ -37,7 +40,9 @@ impl Sweep {
 
     /// The next step of the sweep: a load by a processor that is idle, or one that answers the commands before. `None` at the end, or
     /// where no processor can load.
-    pub(crate) fn next(&mut self, world: &World) -> Option<Step> {
+    pub(crate) fn next(&mut self, world: &World) -> Option<Step>
+        ensures { IfSome result (λ step. IsSayable step) }
+    {
         if self.steps > 0 {
             if let Some(step) = answering_step(world) {
                 self.steps -= 1;
@@ -81,28 +86,41 @@ fn add_stored(pages: &mut PageSet, world: &World) -> Result<(), NoMemory> {
 }
 
 /// A step towards the replies of commands that sleep or wait: a retry, or one of a handler.
-fn answering_step(world: &World) -> Option<Step> {
+fn answering_step(world: &World) -> Option<Step>
+    ensures { IfSome result (λ step. IsSayable step) }
+{
     for cpu in 0..world.cpus() {
         let retry = Step::Retry { cpu };
         if world.would(retry).is_ok() {
             return Some(retry);
         }
     }
-    for step in [
-        Step::SourceRead,
-        Step::SourceAct,
-        Step::DestRead,
-        Step::DestAct,
-    ] {
-        if world.would(step).is_ok() {
-            return Some(step);
-        }
+    handler_step(world)
+}
+
+/// A step of a handler.
+fn handler_step(world: &World) -> Option<Step>
+    ensures { IfSome result (λ step. IsSayable step) }
+{
+    if world.would(Step::SourceRead).is_ok() {
+        return Some(Step::SourceRead);
+    }
+    if world.would(Step::SourceAct).is_ok() {
+        return Some(Step::SourceAct);
+    }
+    if world.would(Step::DestRead).is_ok() {
+        return Some(Step::DestRead);
+    }
+    if world.would(Step::DestAct).is_ok() {
+        return Some(Step::DestAct);
     }
     None
 }
 
 /// A load of 8 bytes by the first processor that is idle.
-fn load_of(world: &World, addr: Addr) -> Option<Step> {
+fn load_of(world: &World, addr: Addr) -> Option<Step>
+    ensures { IfSome result (λ step. IsSayable step) }
+{
     for cpu in 0..world.cpus() {
         let load = Step::Issue {
             cpu,

@@ -9,13 +9,16 @@ use Rattle.mig_model.specs.Promises.{AreAccepted, IsComplete}
 use Rattle.grammar.specs.declared.line.Language.TheVariants.{Script}
 use Rattle.grammar.specs.declared.line.Line.{Line}
 use Rattle.grammar.specs.declared.line.Line.TheVariants.{Skipped, Do, Enter}
+use Rattle.grammar.specs.declared.order.Order.{Order}
+use Rattle.grammar.specs.Fits.{CanBeSpelled}
 use Rattle.grammar.specs.Lines.{HasNoFeed, Reads}
+use Rattle.grammar.specs.Orders.{HasStep, order_of}
 use Rattle.grammar.specs.Printed.{Outcome, outcome_line}
 use Rattle.grammar.proofs.Cuts.{feed_inside}
 use Rattle.engine.specs.declared.line_runner.Mode.TheVariants.{Lines}
 use Rattle.engine.specs.Script.{MakesAny, Runs}
 use Rattle.engine.specs.Worlds.{epoch_in}
-use Rattle.finishing.specs.Finished.{IsStepLine, AreLines, Adds, AreBehind, Completes, IsEnded, LeadsTo}
+use Rattle.finishing.specs.Finished.{IsStepLine, AreLines, HaveLines, Adds, AreBehind, Completes, IsEnded, LeadsTo}
 
 -- ---- one line more
 
@@ -33,6 +36,15 @@ adds_more xs n other start before mid after raw lt p q grown ended =
       ended ∙ ap (λ (t : List ℕ). t ++ 10 ∷ []) grown ∙ append_assoc before raw (10 ∷ []) ∙ ap (λ (t : List ℕ). t ++ tail) p.1 ∙ append_assoc start p.0 tail,
       rw add-one (lines_more xs n other p.0 raw lt p.2 q),
     )
+
+-- a line can say the step at a place
+said_at : (xs : List Step) (n : ℕ) (other : Step) → n < length xs → HaveLines xs → CanBeSpelled (order_of (get_or xs n other))
+said_at [] n other lt p = absurd (omega (arith, lt))
+said_at (x ∷ xs) zero other lt p = p.0
+said_at (x ∷ xs) (suc n) other lt p = said_at xs n other (omega (arith, lt)) p.1
+
+pub order_at : (xs : List Step) (n : ℕ) (other : Step) (order : Order) → HasStep order (get_or xs n other) → order ≡ order_of (get_or xs n other) → n < length xs → HaveLines xs → CanBeSpelled order
+order_at xs n other order has is lt p = subst CanBeSpelled (sym is) (said_at xs n other lt p)
 
 -- ---- a run of lines, and then of others
 

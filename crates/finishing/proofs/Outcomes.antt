@@ -46,7 +46,7 @@ read_leads mode start work input end unread before after is all =
 -- ---- endings
 
 pub fails : (start world : World) (input : List ℕ) (fault : RunFault) (before after : Option (List ℕ)) → LeadsTo start input world → Fails world fault before after → Stops start input fault before after
-fails start world input (faults.Line n) before after leads p = (inr p.0, p.1)
+fails start world input (faults.Line n) before after leads p = absurd p
 fails start world input faults.ReadFault before after leads p = absurd p
 fails start world input faults.WriteFault before after leads p = inr (world, leads, p)
 fails start world input faults.NoMemory before after leads p = p
@@ -54,7 +54,7 @@ fails start world input faults.NoMemory before after leads p = p
 pub stops_read : (mode : Mode) (start : World) (work : Work) (input : List ℕ) (unread : Option (List ℕ)) (fault : RunFault) (a b before : Option (List ℕ)) → work ≡ Running mode start
     → StopsBy Script (Outputs work) input unread fault a b → Stops start input fault before before
 stops_read mode start work input unread (faults.Line n) a b before is p =
-    (inl (record { lines = p.lines; rest = p.rest; reads = p.reads; number = p.number; wrong = p.wrong }), Appends-nil before)
+    (record { lines = p.lines; rest = p.rest; reads = p.reads; number = p.number; wrong = p.wrong }, Appends-nil before)
 stops_read mode start work input unread faults.ReadFault a b before is p = Appends-nil before
 stops_read mode start work input unread faults.WriteFault a b before is p = inl (Appends-nil before)
 stops_read mode start work input unread faults.NoMemory a b before is p = Appends-nil before

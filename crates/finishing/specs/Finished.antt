@@ -7,13 +7,14 @@ use Rattle.grammar.specs.declared.line.Language.TheVariants.{Script}
 use Rattle.grammar.specs.declared.line.Line.{Line}
 use Rattle.grammar.specs.declared.line.Line.TheVariants.{Do}
 use Rattle.grammar.specs.declared.order.Order.{Order}
-use Rattle.grammar.specs.Lines.{Reads, BeginsWrong}
+use Rattle.grammar.specs.Fits.{CanBeSpelled}
+use Rattle.grammar.specs.Lines.{IsLine, Reads, BeginsWrong}
+use Rattle.grammar.specs.Orders.{HasStep, order_of}
 use Rattle.engine.specs.declared.line_runner.Mode.TheVariants.{Lines}
 use Rattle.engine.specs.declared.fault.RunFault.{RunFault}
 use Rattle.engine.specs.declared.fault.RunFault.TheVariants as faults
 use Rattle.engine.specs.Engine.{Front}
 use Rattle.engine.specs.Script.{Runs}
-use Rattle.engine.specs.Spelled.{HasStep, IsLine}
 use Rattle.mig_model.specs.Migration.{World}
 use Rattle.finish.specs.Finishing.{AreDue, Leads, lacks_epoch}
 use Rattle.finishing.specs.declared.ending.Ending.{Ending}
@@ -24,13 +25,18 @@ use Rattle.finishing.specs.declared.ending.Ending.TheVariants.{Complete, NoEpoch
 -- the text is a line that spells this step
 pub record IsStepLine (raw : List ℕ) (step : Step) : Type 0 where
   pub order : Order
-  pub line : IsLine raw (Do order)
+  pub line : IsLine Script raw (Do order)
   pub makes : HasStep order step
 
 -- the text has a line for each step, with its line feed
 abbrev pub AreLines : List Step → List ℕ → Type 0
 AreLines [] text = text ≡ []
 AreLines (step ∷ steps) text = (raw : List ℕ) × (more : List ℕ) × IsStepLine raw step × (text ≡ (raw ++ 10 ∷ []) ++ more) × AreLines steps more
+
+-- a line can say each step
+abbrev pub HaveLines : List Step → Type 0
+HaveLines [] = Unit {0}
+HaveLines (step ∷ steps) = CanBeSpelled (order_of step) × HaveLines steps
 
 -- the lines of the steps were added to a text
 abbrev pub Adds : List Step → List ℕ → List ℕ → Type 0
@@ -58,7 +64,7 @@ Ends NoEpoch world before after = (lacks_epoch world ≡ true) × Appends before
 
 -- a fault behind the script. Only a write fault comes after a part of the lines was written
 abbrev pub Fails : World → RunFault → Option (List ℕ) → Option (List ℕ) → Type 0
-Fails world (faults.Line n) before after = (n ≡ 0) × Appends before after []
+Fails world (faults.Line n) before after = ⊥
 Fails world faults.ReadFault before after = ⊥
 Fails world faults.WriteFault before after = (text : List ℕ) × Completes world text × Front text before after
 Fails world faults.NoMemory before after = Appends before after []
@@ -88,7 +94,7 @@ pub record WrongAt (input : List ℕ) (n : ℕ) : Type 0 where
 
 -- how it ends with a fault: at a wrong line of the script, or behind the script
 abbrev pub Stops : World → List ℕ → RunFault → Option (List ℕ) → Option (List ℕ) → Type 0
-Stops start input (faults.Line n) before after = (WrongAt input n ⊎ (n ≡ 0)) × Appends before after []
+Stops start input (faults.Line n) before after = WrongAt input n × Appends before after []
 Stops start input faults.ReadFault before after = Appends before after []
 Stops start input faults.WriteFault before after = Appends before after [] ⊎ ((world : World) × LeadsTo start input world × Fails world faults.WriteFault before after)
 Stops start input faults.NoMemory before after = Appends before after []

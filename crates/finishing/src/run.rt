@@ -1,15 +1,15 @@
 //! Running a script, and writing what finishes it.
 
-ghost use Rattle.std.specs.Prelude.{◌≡◌, ◌≤◌, ◌⊎◌, IfOk, IfErr, IfSome, OnOk};
-ghost use Rattle.engine.specs.declared.fault.RunFault.TheVariants.{Line as AtLine, NoMemory as OutOfMemory};
+ghost use Rattle.std.specs.Prelude.{◌≡◌, ◌≤◌, IfOk, IfErr, IfSome, OnOk};
 ghost use Rattle.mig_model.specs.Migration.{first_world};
-ghost use Rattle.finishing.specs.Finished.{Adds, AreBehind, Ends, Finishes, Fails, Stops};
+ghost use Rattle.finishing.specs.Finished.{Adds, AreBehind, Ends, Finishes, Fails, HaveLines, Stops};
 
 use crate::ending::Ending;
 use engine::line_runner::write_out;
 use engine::run::read_lines;
 use engine::{LineRunner, Mode, RunFault, ScriptReader, spell};
 use finish::finish;
+use mig_base::NoMemory;
 use mig_base::refusal::Refusal;
 use mig_base::schedule::Step;
 use std::alloc::Global;
@@ -22,8 +22,7 @@ use world::World;
 /// refused.
 ///
 /// A wrong line of the script ends it as it ends [`run_script`](engine::run_script), and nothing is written; so does a read fault, and lack of
-/// memory. At a write fault a first part of the lines is written. `Line(0)`, which is not the number of a line, would come for a step that no line
-/// spells; none is known.
+/// memory. At a write fault a first part of the lines is written.
 pub fn finish_script<R: Read, W: Write>(
     alloc: Global,
     reader: &mut R,
@@ -72,9 +71,9 @@ fn finish_world<W: Write>(
 }
 
 /// The lines of steps, each with its line feed; before them a line feed, if the line before is open.
-fn lines_of(alloc: Global, steps: &[Step], is_open: bool) -> Result<Vec<u8>, RunFault>
-    ensures ok { IfOk result (λ text. AreBehind steps.now text.items) }
-    ensures fault { IfErr result (λ fault. (fault ≡ AtLine 0) ⊎ (fault ≡ OutOfMemory)) }
+fn lines_of(alloc: Global, steps: &[Step], is_open: bool) -> Result<Vec<u8>, NoMemory>
+    requires { HaveLines steps.now }
+    ensures { IfOk result (λ text. AreBehind steps.now text.items) }
 {
     let mut text = Vec::new(alloc);
     if is_open {
@@ -85,14 +84,13 @@ fn lines_of(alloc: Global, steps: &[Step], is_open: bool) -> Result<Vec<u8>, Run
 }
 
 /// Appends the lines of steps, each with its line feed.
-fn add_lines(alloc: Global, text: &mut Vec<u8>, steps: &[Step]) -> Result<(), RunFault>
-    ensures ok { OnOk result (Adds steps.now text.old.items text.new.items) }
-    ensures fault { IfErr result (λ fault. (fault ≡ AtLine 0) ⊎ (fault ≡ OutOfMemory)) }
+fn add_lines(alloc: Global, text: &mut Vec<u8>, steps: &[Step]) -> Result<(), NoMemory>
+    requires { HaveLines steps.now }
+    ensures { OnOk result (Adds steps.now text.old.items text.new.items) }
 {
     let mut line = String::new(alloc);
-    let mut tokens = Vec::new(alloc);
     for step in steps {
-        spell(*step, &mut line, &mut tokens)?;
+        spell(*step, &mut line)?;
         text.extend_from_slice(line.as_bytes())?;
         text.push(b'\n')?;
     }

@@ -6,5 +6,7 @@ pub mod Keywords
 pub mod Meaning
 pub mod Numbers
 pub mod Orders
+pub mod Printing
 pub mod Spaces
 pub mod Tokens
+pub mod Written

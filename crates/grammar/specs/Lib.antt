@@ -1,7 +1,9 @@
+pub mod Fits
 pub mod Kinds
 pub mod Lines
 pub mod Orders
 pub mod Parsing
 pub mod Printed
 pub mod Spelling
+pub mod Texts
 pub mod Words

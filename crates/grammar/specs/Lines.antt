@@ -10,6 +10,12 @@ use Rattle.grammar.specs.Spelling.{Spells}
 abbrev pub HasNoFeed : List ℕ → Type 0
 HasNoFeed bytes = HasNone 10 bytes
 
+-- the text, without a line feed, is a line that says this
+pub record IsLine (language : Language) (raw : List ℕ) (line : Line) : Type 0 where
+  pub one : HasNoFeed raw
+  pub short : length raw ≤ 256
+  pub spells : Spells language (strip_carriage_return raw) line
+
 -- the bytes begin with a line that spells `line`, and its line feed; `rest` comes after it
 pub record EndedLine (language : Language) (bytes : List ℕ) (line : Line) (rest : List ℕ) : Type 0 where
   pub raw : List ℕ

@@ -1,5 +1,5 @@
 -- The steps of orders.
-use Rattle.std.specs.Prelude.{ℕ, true, false, Option, Some, None}
+use Rattle.std.specs.Prelude.{◌≡◌, ℕ, true, false, Option, Some, None}
 use Rattle.mig_base.specs.declared.schedule.Step.{Step}
 use Rattle.mig_base.specs.declared.schedule.Step.TheVariants as step
 use Rattle.mig_base.specs.declared.schedule.Ticket.{Ticket}
@@ -21,3 +21,13 @@ step_of (Make made) present = Some made
 step_of (Push false page epoch) present = Some (step.Push (ticket (epoch_or epoch present) page))
 step_of (Push true page epoch) present = Some (step.PushUrgent (ticket (epoch_or epoch present) page))
 step_of Progress present = None
+
+-- the order makes this step, whatever the epoch of the world
+abbrev pub HasStep : Order → Step → Type 0
+HasStep order made = (epoch : ℕ) → step_of order epoch ≡ Some made
+
+-- the order of a step. A push names its epoch
+abbrev pub order_of : Step → Order
+order_of (step.Push pushed) = Push false pushed.page (Some pushed.epoch)
+order_of (step.PushUrgent pushed) = Push true pushed.page (Some pushed.epoch)
+order_of made = Make made

@@ -163,3 +163,7 @@ Spells Script text (Do order) = SpellsOrder (words_of text) order
 Spells Transcript text (Enter entry) = SpellsEntry (words_of text) entry
 Spells Script text (Enter entry) = ⊥
 Spells Transcript text (Do order) = ⊥
+
+-- some text spells this in the language
+abbrev pub HasSpelling : Language → Line → Type 0
+HasSpelling language line = (text : List ℕ) × Spells language text line

@@ -1,7 +1,7 @@
 //! Orders, the lines of a script.
 
 ghost use Rattle.std.specs.Prelude.{◌≡◌};
-ghost use Rattle.grammar.specs.Orders.{step_of};
+ghost use Rattle.grammar.specs.Orders.{HasStep, order_of, step_of};
 
 use mig_base::PageNo;
 use mig_base::schedule::{Step, Ticket};
@@ -42,6 +42,26 @@ impl Order {
                 }
             }
             Order::Progress => None,
+        }
+    }
+
+    /// The order that makes a step in every world: that of a push names its epoch.
+    pub fn of(step: Step) -> Order
+        ensures is { result ≡ order_of step }
+        ensures step { HasStep result step }
+    {
+        match step {
+            Step::Push(ticket) => Order::Push {
+                urgent: false,
+                page: ticket.page,
+                epoch: Some(ticket.epoch),
+            },
+            Step::PushUrgent(ticket) => Order::Push {
+                urgent: true,
+                page: ticket.page,
+                epoch: Some(ticket.epoch),
+            },
+            step => Order::Make(step),
         }
     }
 }

@@ -1,44 +1,83 @@
-//! An order as a line of a script.
+//! Printing orders.
+
+ghost use Rattle.std.specs.Prelude.{◌≡◌, ◌++◌, [], Some, true, OnOk, OnErr, string_bytes};
+ghost use Rattle.grammar.specs.declared.line.Language.TheVariants.{Script};
+ghost use Rattle.grammar.specs.declared.line.Line.TheVariants.{Do};
+ghost use Rattle.grammar.specs.Fits.{CanBeSpelled};
+ghost use Rattle.grammar.specs.Lines.{IsLine};
+ghost use Rattle.grammar.specs.Texts.{bytes_text, push_word, epoch_text, push_text, step_text, order_text};
 
 use crate::order::Order;
-use mig_base::schedule::{Side, Step};
-use mig_base::{Addr, Command, Place, Prot, page_address};
+use crate::texts::CommandText;
+use mig_base::schedule::Step;
+use mig_base::{NoMemory, PageNo, page_address};
 use std::fmt;
 
-/// An order, as a line of a script has it, without a line feed.
+/// A number of bytes, with a space before it; empty for the greatest, which a line may leave out.
 #[derive(Clone, Copy)]
-pub struct OrderText(pub Order);
+struct BytesText(u64);
 
-impl fmt::Display for OrderText {
+impl fmt::Display for BytesText {
+    ghost output = { λ x. Some (bytes_text x.0) };
+
     fn fmt<W: fmt::Write>(&self, f: &mut fmt::Formatter<W>) -> fmt::Result {
-        match self.0 {
-            Order::Make(step) => {
-                let step = StepText(step);
-                write!(f, "{step}")
-            }
-            Order::Push {
-                urgent,
-                page,
-                epoch,
-            } => {
-                let word = if urgent { "upush" } else { "push" };
-                let addr = page_address(page);
-                write!(f, "{word} 0x{addr:x}")?;
-                match epoch {
-                    None => Ok(()),
-                    Some(epoch) => write!(f, " {epoch}"),
-                }
-            }
-            Order::Progress => write!(f, "progress"),
+        let bytes = self.0;
+        if bytes == u64::MAX {
+            write!(f, "")
+        } else {
+            write!(f, " {bytes}")
         }
     }
 }
 
-/// A step, as a line of a script has it.
+/// The word of a push, by whether it goes on the urgent wire.
+fn word_of_push(urgent: bool) -> &'static str
+    ensures { result.now ≡ push_word urgent }
+{
+    if urgent { "upush" } else { "push" }
+}
+
+/// An epoch that is written, with a space before it; empty if none is.
+#[derive(Clone, Copy)]
+struct EpochText(Option<u32>);
+
+impl fmt::Display for EpochText {
+    ghost output = { λ x. Some (epoch_text x.0) };
+
+    fn fmt<W: fmt::Write>(&self, f: &mut fmt::Formatter<W>) -> fmt::Result {
+        match self.0 {
+            None => write!(f, ""),
+            Some(epoch) => write!(f, " {epoch}"),
+        }
+    }
+}
+
+/// The words of a push. A page is written as its first address.
+#[derive(Clone, Copy)]
+struct PushText {
+    urgent: bool,
+    page: PageNo,
+    epoch: Option<u32>,
+}
+
+impl fmt::Display for PushText {
+    ghost output = { λ x. Some (push_text x.urgent x.page x.epoch) };
+
+    fn fmt<W: fmt::Write>(&self, f: &mut fmt::Formatter<W>) -> fmt::Result {
+        let word = word_of_push(self.urgent);
+        let addr = page_address(self.page);
+        let epoch = EpochText(self.epoch);
+        write!(f, "{word} 0x{addr:x}{epoch}")
+    }
+}
+
+/// The words of a step, as a script has them.
 #[derive(Clone, Copy)]
 struct StepText(Step);
 
 impl fmt::Display for StepText {
+    ghost output = { λ x. Some (step_text x.0) };
+
     fn fmt<W: fmt::Write>(&self, f: &mut fmt::Formatter<W>) -> fmt::Result {
         match self.0 {
             Step::Issue { cpu, command } => {
@@ -59,125 +98,84 @@ impl fmt::Display for StepText {
                 let bytes = BytesText(n);
                 write!(f, "udeliver{bytes}")
             }
-            Step::Notice(Side::Source) => write!(f, "notice source"),
-            Step::Notice(Side::Destination) => write!(f, "notice dest"),
             Step::Push(ticket) => {
-                let addr = page_address(ticket.page);
-                let epoch = ticket.epoch;
-                write!(f, "push 0x{addr:x} {epoch}")
+                let push = PushText {
+                    urgent: false,
+                    page: ticket.page,
+                    epoch: Some(ticket.epoch),
+                };
+                write!(f, "{push}")
             }
             Step::PushUrgent(ticket) => {
-                let addr = page_address(ticket.page);
-                let epoch = ticket.epoch;
-                write!(f, "upush 0x{addr:x} {epoch}")
+                let push = PushText {
+                    urgent: true,
+                    page: ticket.page,
+                    epoch: Some(ticket.epoch),
+                };
+                write!(f, "{push}")
             }
-            step => f.write_str(word_of(step)),
+            Step::Notice(side) => write!(f, "notice {side}"),
+            Step::Start => write!(f, "start"),
+            Step::Round => write!(f, "round"),
+            Step::Send => write!(f, "send"),
+            Step::SourceRead => write!(f, "sread"),
+            Step::SourceAct => write!(f, "sact"),
+            Step::Switch => write!(f, "switch"),
+            Step::DestRead => write!(f, "dread"),
+            Step::DestAct => write!(f, "dact"),
+            Step::Install => write!(f, "install"),
+            Step::Serve => write!(f, "serve"),
+            Step::End => write!(f, "end"),
+            Step::Break => write!(f, "break"),
+            Step::Resume => write!(f, "resume"),
         }
     }
 }
 
-/// The word of a step that has no others.
-fn word_of(step: Step) -> &'static str {
-    match step {
-        Step::Start => "start",
-        Step::Round => "round",
-        Step::Send => "send",
-        Step::SourceRead => "sread",
-        Step::SourceAct => "sact",
-        Step::Switch => "switch",
-        Step::DestRead => "dread",
-        Step::DestAct => "dact",
-        Step::Install => "install",
-        Step::Serve => "serve",
-        Step::End => "end",
-        Step::Break => "break",
-        Step::Resume => "resume",
-        _ => "",
-    }
-}
-
-/// A number of bytes, with a space before it; nothing for the greatest, which a line may leave out.
+/// An order, as a line of a script has it, without a line feed.
 #[derive(Clone, Copy)]
-struct BytesText(u64);
+pub struct OrderText(pub Order);
 
-impl fmt::Display for BytesText {
+impl fmt::Display for OrderText {
+    ghost output = { λ x. Some (order_text x.0) };
+
     fn fmt<W: fmt::Write>(&self, f: &mut fmt::Formatter<W>) -> fmt::Result {
         match self.0 {
-            u64::MAX => write!(f, ""),
-            bytes => write!(f, " {bytes}"),
-        }
-    }
-}
-
-/// A command, as a line of a script has it.
-#[derive(Clone, Copy)]
-struct CommandText(Command);
-
-impl fmt::Display for CommandText {
-    fn fmt<W: fmt::Write>(&self, f: &mut fmt::Formatter<W>) -> fmt::Result {
-        match self.0 {
-            Command::Load { addr, width } => write!(f, "load 0x{addr:x} {width}"),
-            Command::Store { addr, width, value } => {
-                write!(f, "store 0x{addr:x} {width} 0x{value:x}")
+            Order::Make(step) => {
+                let step = StepText(step);
+                write!(f, "{step}")
             }
-            Command::Mmap {
-                addr_len,
-                prot,
-                place,
+            Order::Push {
+                urgent,
+                page,
+                epoch,
             } => {
-                let prot = word_of_prot(prot);
-                let place = PlaceText(place);
-                write!(f, "mmap {addr_len} {prot}{place}")
+                let push = PushText {
+                    urgent,
+                    page,
+                    epoch,
+                };
+                write!(f, "{push}")
             }
-            Command::Munmap { addr, len } => write!(f, "munmap 0x{addr:x} {len}"),
-            Command::Mremap {
-                addr,
-                old_len,
-                new_len,
-                may_move,
-                fixed,
-            } => {
-                let word = if may_move { " maymove" } else { "" };
-                let target = TargetText(fixed);
-                write!(f, "mremap 0x{addr:x} {old_len} {new_len}{word}{target}")
-            }
-            Command::DontNeed { addr, len } => write!(f, "dontneed 0x{addr:x} {len}"),
+            Order::Progress => write!(f, "progress"),
         }
     }
 }
 
-/// The word of a protection.
-fn word_of_prot(prot: Prot) -> &'static str {
-    match prot {
-        Prot::NoAccess => "none",
-        Prot::Read => "r",
-        Prot::ReadWrite => "rw",
+/// Replaces a text by the line of an order, without a line feed. It is read as that order, if any line is: none is for a push that is made
+/// as a step, the push of a page at or above `HIGH_PAGE`, and a `SendRun` of no page or of more than `MAX_RUN`. `NoMemory` leaves the text
+/// empty.
+pub fn print_order(text: &mut String, order: Order) -> Result<(), NoMemory>
+    ensures ok { OnOk result (string_bytes text.new ≡ order_text order) }
+    ensures line { OnOk result (CanBeSpelled order
+        → IsLine Script (string_bytes text.new) (Do order)) }
+    ensures err { OnErr result (string_bytes text.new ≡ []) }
+{
+    text.clear();
+    let order = OrderText(order);
+    if write!(text, "{order}").is_err() {
+        text.clear();
+        return Err(NoMemory);
     }
-}
-
-/// The words of a place, with a space before each.
-#[derive(Clone, Copy)]
-struct PlaceText(Place);
-
-impl fmt::Display for PlaceText {
-    fn fmt<W: fmt::Write>(&self, f: &mut fmt::Formatter<W>) -> fmt::Result {
-        match self.0 {
-            Place::Anywhere => write!(f, ""),
-            Place::Fixed(addr) => write!(f, " fixed 0x{addr:x}"),
-            Place::NoReplace(addr) => write!(f, " noreplace 0x{addr:x}"),
-        }
-    }
-}
-
-/// The words of a fixed target, with a space before each.
-#[derive(Clone, Copy)]
-struct TargetText(Option<Addr>);
-
-impl fmt::Display for TargetText {
-    fn fmt<W: fmt::Write>(&self, f: &mut fmt::Formatter<W>) -> fmt::Result {
-        match self.0 {
-            None => write!(f, ""),
-            Some(addr) => write!(f, " fixed 0x{addr:x}"),
-        }
-    }
+    Ok(())
 }

@@ -1,16 +1,14 @@
-//! Reporting on runs: printing the lines of a transcript, and checking that a transcript is that of one flat memory.
+//! Reporting on runs: checking that a transcript is that of one flat memory.
 //!
-//! [`texts`] prints entries, and [`EntryText`] prints an entry inside other texts, as `specs/Texts.antt` defines. [`check`] replays
-//! entries on a `hosts::Host`, and names the first whose reply is wrong; `specs/Checks.antt` defines the answer, over the flat memory of
-//! `mig_base`. [`laws`] says that there is only one.
+//! [`check`] replays entries on a `hosts::Host`, and names the first whose reply is wrong; `specs/Checks.antt` defines the answer, over the
+//! flat memory of `mig_base`. [`laws`] says that there is only one. The lines of a transcript are those of `grammar`, whose
+//! [`print_entry`] and [`EntryText`] have their names here too.
 //!
-//! The crate owns no state. It runs no world, knows no migration, and does no input or output: it appends texts to the caller's
-//! `String`.
+//! The crate owns no state. It runs no world, knows no migration, and does no input or output.
 #![tactic(auto)]
 
 pub mod check;
 pub mod laws;
-pub mod texts;
 
 pub use crate::check::CheckFault;
-pub use crate::texts::{EntryText, print_entry};
+pub use grammar::{EntryText, print_entry};

@@ -1,7 +1,7 @@
 //! Orders with their texts, which are read back.
 
 use grammar::parse::parse;
-use grammar::{Language, Line, Order, OrderText};
+use grammar::{Language, Line, Order, print_order};
 use mig_base::schedule::{Side, Step};
 use mig_base::{Command, NoMemory, Place, Prot};
 use std::alloc::{AllocError, Global};
@@ -152,8 +152,8 @@ const PUSHES: [(bool, u32, Option<u32>, &str); 4] = [
 
 /// The text of an order, and what it says read back.
 fn printed(alloc: Global, order: Order) -> Result<(String, Option<Line>), NoMemory> {
-    let order = OrderText(order);
-    let text = format!(in alloc; "{order}")?;
+    let mut text = String::new(alloc);
+    print_order(&mut text, order)?;
     let mut tokens = Vec::new(alloc);
     let line = parse(Language::Script, &mut tokens, text.as_bytes())?;
     Ok((text, line))

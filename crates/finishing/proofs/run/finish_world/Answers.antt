@@ -3,7 +3,8 @@ use Rattle.std.specs.Io.KnownBytes.{Appends}
 use Rattle.std.proofs.lemmas.Result.{err_from_is_err_and}
 use Rattle.mig_base.specs.declared.schedule.Step.{Step}
 use Rattle.engine.specs.Engine.{Front}
-use Rattle.finishing.specs.Finished.{AreBehind}
+use Rattle.finishing.specs.Finished.{AreBehind, HaveLines}
+use Rattle.finishing.proofs.Sayable.{have_lines}
 use Rattle.finishing.proofs.run.finish_world.Goals as goal
 
 pub returns-in_ok-write_out-in-Ok-clause-ok : goal.returns-in_ok-write_out-in-Ok-clause-ok
@@ -15,7 +16,7 @@ returns-in_ok-write_out-in-Ok-clause-ok g c = (
     leads = c.in-Ok.ensures.made;
     due = c.in-Ok.ensures.strategy;
     complete = c.in-Ok.ensures.complete;
-    lines = subst (λ (steps : List Step). AreBehind steps c.in_ok-text-in-Ok.text.items) c.deref.ensures.value c.in_ok-text-in-Ok.ensures.ok;
+    lines = subst (λ (steps : List Step). AreBehind steps c.in_ok-text-in-Ok.text.items) c.deref.ensures.value c.in_ok-text-in-Ok.ensures;
   },
   subst (λ (text : List ℕ). Appends (g.W.Write.contents c.args.writer.now) (g.W.Write.contents c.write_out.new.writer) text) c.deref-in-Ok.ensures.value c.in_ok-write_out-in-Ok.ensures.ok,
 )
@@ -31,7 +32,10 @@ returns-in_err-write_out-in-Ok-clause-fault g c =
         leads = c.in-Ok.ensures.made;
         due = c.in-Ok.ensures.strategy;
         complete = c.in-Ok.ensures.complete;
-        lines = subst (λ (steps : List Step). AreBehind steps c.in_ok-text-in-Ok.text.items) c.deref.ensures.value c.in_ok-text-in-Ok.ensures.ok;
+        lines = subst (λ (steps : List Step). AreBehind steps c.in_ok-text-in-Ok.text.items) c.deref.ensures.value c.in_ok-text-in-Ok.ensures;
       },
       subst (λ (text : List ℕ). Front text (g.W.Write.contents c.args.writer.now) (g.W.Write.contents c.write_out.new.writer)) c.deref-in-Ok.ensures.value c.in_err-write_out-in-Ok.ensures.front,
     )
+
+pub lines_of-text-requires-in-Ok : goal.lines_of-text-requires-in-Ok
+lines_of-text-requires-in-Ok g c = subst HaveLines c.deref.ensures.value (have_lines c.args.world.now c.in-Ok.steps.items c.in-Ok.ensures.strategy)

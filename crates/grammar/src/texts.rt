@@ -1,7 +1,7 @@
 //! Printing commands and entries.
 
 ghost use Rattle.std.specs.Prelude.{◌≡◌, ◌++◌, OnOk, OnErr, Some, string_bytes};
-ghost use Rattle.report.specs.Texts.{prot_text, place_text, may_move_text, target_text, mmap_text, mremap_text, command_text, entry_text, entry_line};
+ghost use Rattle.grammar.specs.Texts.{prot_text, place_text, may_move_text, target_text, mmap_text, mremap_text, command_text, entry_text, entry_line};
 
 use mig_base::{Addr, Command, Entry, NoMemory, Place, Prot};
 use std::fmt;
@@ -115,7 +115,7 @@ impl fmt::Display for MremapText {
 
 /// The words of a command, as a script has them.
 #[derive(Clone, Copy)]
-struct CommandText(Command);
+pub(crate) struct CommandText(pub Command);
 
 impl fmt::Display for CommandText {
     ghost output = { λ x. Some (command_text x.0) };
