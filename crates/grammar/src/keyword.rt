@@ -86,7 +86,8 @@ impl Keyword {
 /// A word of commands.
 fn of_command(word: &[u8]) -> Option<Keyword>
     ensures found { IfSome result (λ keyword. word.now ≡ keyword_text keyword) }
-    ensures none { IfNone result ((keyword : KeywordOf) → is_of_command keyword ≡ true → word.now ≡ keyword_text keyword → ⊥) }
+    ensures none { IfNone result ((keyword : KeywordOf) → is_of_command keyword ≡ true →
+        word.now ≡ keyword_text keyword → ⊥) }
 {
     match word {
         b"cpu" => Some(Keyword::Cpu),
@@ -109,7 +110,8 @@ fn of_command(word: &[u8]) -> Option<Keyword>
 /// A word of the other steps, or `progress`.
 fn of_step(word: &[u8]) -> Option<Keyword>
     ensures found { IfSome result (λ keyword. word.now ≡ keyword_text keyword) }
-    ensures none { IfNone result ((keyword : KeywordOf) → is_of_step keyword ≡ true → word.now ≡ keyword_text keyword → ⊥) }
+    ensures none { IfNone result ((keyword : KeywordOf) → is_of_step keyword ≡ true →
+        word.now ≡ keyword_text keyword → ⊥) }
 {
     match word {
         b"retry" => Some(Keyword::Retry),
@@ -143,7 +145,8 @@ fn of_step(word: &[u8]) -> Option<Keyword>
 /// A word of replies, or the arrow before them.
 fn of_reply(word: &[u8]) -> Option<Keyword>
     ensures found { IfSome result (λ keyword. word.now ≡ keyword_text keyword) }
-    ensures none { IfNone result ((keyword : KeywordOf) → is_of_reply keyword ≡ true → word.now ≡ keyword_text keyword → ⊥) }
+    ensures none { IfNone result ((keyword : KeywordOf) → is_of_reply keyword ≡ true →
+        word.now ≡ keyword_text keyword → ⊥) }
 {
     match word {
         b"=>" => Some(Keyword::Gives),

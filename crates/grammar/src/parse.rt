@@ -29,7 +29,8 @@ pub fn parse(
     text: &[u8],
 ) -> Result<Option<Line>, NoMemory>
     ensures found { IfOk result (λ found. IfSome found (λ line. Spells language text.now line)) }
-    ensures none { IfOk result (λ found. IfNone found ((line : LineOf) → Spells language text.now line → ⊥)) }
+    ensures none { IfOk result (λ found.
+        IfNone found ((line : LineOf) → Spells language text.now line → ⊥)) }
 {
     if is_nothing(text) {
         return Ok(Some(Line::Skipped));

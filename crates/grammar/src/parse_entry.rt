@@ -95,8 +95,10 @@ fn entry_of(tokens: &[Token]) -> Option<Entry>
 
 /// The entry that the words of a text spell, if any. The tokens are replaced. `NoMemory` comes if room for tokens is refused.
 pub fn entry_in(tokens: &mut Vec<Token>, text: &[u8]) -> Result<Option<Entry>, NoMemory>
-    ensures found { IfOk result (λ found. IfSome found (λ entry. SpellsEntry (words_of text.now) entry)) }
-    ensures none { IfOk result (λ found. IfNone found ((entry : EntryOf) → SpellsEntry (words_of text.now) entry → ⊥)) }
+    ensures found { IfOk result (λ found.
+        IfSome found (λ entry. SpellsEntry (words_of text.now) entry)) }
+    ensures none { IfOk result (λ found.
+        IfNone found ((entry : EntryOf) → SpellsEntry (words_of text.now) entry → ⊥)) }
 {
     if read_tokens(tokens, text)? {
         Ok(entry_of(tokens))

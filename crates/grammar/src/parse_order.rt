@@ -205,8 +205,10 @@ fn order_of(tokens: &[Token]) -> Option<Order>
 
 /// The order that the words of a text spell, if any. The tokens are replaced. `NoMemory` comes if room for tokens is refused.
 pub fn order_in(tokens: &mut Vec<Token>, text: &[u8]) -> Result<Option<Order>, NoMemory>
-    ensures found { IfOk result (λ found. IfSome found (λ order. SpellsOrder (words_of text.now) order)) }
-    ensures none { IfOk result (λ found. IfNone found ((order : OrderOf) → SpellsOrder (words_of text.now) order → ⊥)) }
+    ensures found { IfOk result (λ found.
+        IfSome found (λ order. SpellsOrder (words_of text.now) order)) }
+    ensures none { IfOk result (λ found.
+        IfNone found ((order : OrderOf) → SpellsOrder (words_of text.now) order → ⊥)) }
 {
     if read_tokens(tokens, text)? {
         Ok(order_of(tokens))

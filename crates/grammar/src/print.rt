@@ -15,14 +15,17 @@ const LINE: usize = 128;
 
 /// Writes the line of a value that was loaded.
 fn write_value(text: &mut String, cpu: u8, value: u64) -> Result<(), AllocError>
-    ensures { OnOk result (string_bytes text.new ≡ string_bytes text.old ++ outcome_text (Ok (effect.Answered cpu (reply.Value value))) ++ 10 ∷ []) }
+    ensures { OnOk result (string_bytes text.new ≡
+        string_bytes text.old ++ outcome_text (Ok (effect.Answered cpu (reply.Value value))) ++
+        10 ∷ []) }
 {
     write!(text, "cpu {cpu} value 0x{value:x}\n")
 }
 
 /// Writes the line of a command whose reply is `done`.
 fn write_done(text: &mut String, cpu: u8) -> Result<(), AllocError>
-    ensures { OnOk result (string_bytes text.new ≡ string_bytes text.old ++ outcome_text (Ok (effect.Answered cpu reply.Done)) ++ 10 ∷ []) }
+    ensures { OnOk result (string_bytes text.new ≡
+        string_bytes text.old ++ outcome_text (Ok (effect.Answered cpu reply.Done)) ++ 10 ∷ []) }
 {
     write!(text, "cpu {cpu} done\n")
 }
@@ -32,7 +35,8 @@ fn write_done(text: &mut String, cpu: u8) -> Result<(), AllocError>
 #[inline(always)]
 #[tactic(auto, unfolding(crate::specs::Printed::outcome_line))]
 fn write_line(text: &mut String, outcome: &Result<Effect, Refusal>) -> Result<(), AllocError>
-    ensures { OnOk result (string_bytes text.new ≡ string_bytes text.old ++ outcome_line outcome.now) }
+    ensures { OnOk result (string_bytes text.new ≡
+        string_bytes text.old ++ outcome_line outcome.now) }
 {
     match *outcome {
         Ok(
@@ -54,7 +58,8 @@ fn write_line(text: &mut String, outcome: &Result<Effect, Refusal>) -> Result<()
 
 /// Appends the line of an outcome, with its line feed, to a text. `NoMemory` leaves the text as it was.
 pub fn print_line(text: &mut String, outcome: &Result<Effect, Refusal>) -> Result<(), NoMemory>
-    ensures ok { OnOk result (string_bytes text.new ≡ string_bytes text.old ++ outcome_line outcome.now) }
+    ensures ok { OnOk result (string_bytes text.new ≡
+        string_bytes text.old ++ outcome_line outcome.now) }
     ensures err { OnErr result (string_bytes text.new ≡ string_bytes text.old) }
 {
     if text.is_empty() {

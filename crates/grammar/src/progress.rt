@@ -102,7 +102,8 @@ impl fmt::Display for Progress {
 /// Appends the line of a report, with its line feed, to a text. `NoMemory` leaves the text as it was.
 #[tactic(auto, unfolding(crate::specs::Printed::progress_line))]
 pub fn print_progress(text: &mut String, progress: Progress) -> Result<(), NoMemory>
-    ensures ok { OnOk result (string_bytes text.new ≡ string_bytes text.old ++ progress_line progress) }
+    ensures ok { OnOk result (string_bytes text.new ≡
+        string_bytes text.old ++ progress_line progress) }
     ensures err { OnErr result (string_bytes text.new ≡ string_bytes text.old) }
 {
     let mut line = String::with_capacity(*text.allocator(), LINE)?;

@@ -22,7 +22,8 @@ pub enum Token {
 fn digits(text: &[u8], radix: u32) -> Option<u64>
     requires low { 2 ≤ radix }
     requires high { radix ≤ 36 }
-    ensures { SomeIff result (AllDigits radix text.now × (digits_value radix text.now < 2 ^ 64)) (digits_value radix text.now) }
+    ensures { SomeIff result (AllDigits radix text.now ×
+        (digits_value radix text.now < 2 ^ 64)) (digits_value radix text.now) }
 {
     let mut value: u64 = 0;
     for byte in text {
@@ -88,8 +89,10 @@ pub fn next_word(text: &[u8]) -> Option<(&[u8], &[u8])>
 /// Replaces the tokens by those of the words of a text. Stops with false at a word that stands for none, and with `NoMemory` if room is
 /// refused; the tokens before it stay.
 pub fn read_tokens(tokens: &mut Vec<Token>, text: &[u8]) -> Result<bool, NoMemory>
-    ensures found { IfOk result (λ found. OnTrue found (AreTokens tokens.new.items (words_of text.now))) }
-    ensures none { IfOk result (λ found. OnFalse found ((tokens : List TokenOf) → AreTokens tokens (words_of text.now) → ⊥)) }
+    ensures found { IfOk result (λ found.
+        OnTrue found (AreTokens tokens.new.items (words_of text.now))) }
+    ensures none { IfOk result (λ found.
+        OnFalse found ((tokens : List TokenOf) → AreTokens tokens (words_of text.now) → ⊥)) }
 {
     tokens.clear();
     let mut rest = text;
