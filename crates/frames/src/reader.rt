@@ -80,7 +80,8 @@ impl FrameReader {
         requires counted { IsCounted self.old.decoder self.old.held }
         requires clean { self.old.taker.output.items ≡ [] }
         requires short { length piece.now < 2 ^ 32 }
-        ensures ok { OnOk result (Passes self.old piece.now self.new (W.contents writer.old) (W.contents writer.new)) }
+        ensures ok { OnOk result
+            (Passes self.old piece.now self.new (W.contents writer.old) (W.contents writer.new)) }
         ensures counted { OnOk result (IsCounted self.new.decoder self.new.held) }
         ensures clean { OnOk result (self.new.taker.output.items ≡ []) }
         ensures fault { IfErr result (λ fault.
@@ -96,7 +97,8 @@ impl FrameReader {
     pub(crate) fn finish<W: Write>(&mut self, writer: &mut W) -> Result<u64, FramesFault>
         requires counted { IsCounted self.old.decoder self.old.held }
         requires clean { self.old.taker.output.items ≡ [] }
-        ensures ok { OnOk result (EndsWhole self.old self.new (W.contents writer.old) (W.contents writer.new)) }
+        ensures ok { OnOk result
+            (EndsWhole self.old self.new (W.contents writer.old) (W.contents writer.new)) }
         ensures refused { IfOk result (λ refused. refused ≡ self.new.taker.refused) }
         ensures fault { IfErr result (λ fault.
             EndsBy self.old fault self.new (W.contents writer.old) (W.contents writer.new)) }

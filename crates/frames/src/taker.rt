@@ -96,7 +96,9 @@ impl FrameTaker {
             after self.old.destination (sent_of (epoch, frame))) }
         ensures line { OnOk result (self.new.output.items ≡
             self.old.output.items ++ answer_line self.old.destination (sent_of (epoch, frame))) }
-        ensures count { OnOk result (Adds self.old.refused (refusals_of self.old.destination (sent_of (epoch, frame))) self.new.refused) }
+        ensures count { OnOk result
+            (Adds self.old.refused (refusals_of self.old.destination (sent_of (epoch, frame)))
+            self.new.refused) }
         ensures err { OnErr result (self.new.output.items ≡ self.old.output.items) }
     {
         let taken = answer(&mut self.destination, epoch, frame, &mut self.line)?;
@@ -112,8 +114,12 @@ impl FrameTaker {
             behind self.old.destination (sents frames.items)) }
         ensures lines { OnOk result (self.new.output.items ≡
             self.old.output.items ++ answer_lines self.old.destination (sents frames.items)) }
-        ensures count { OnOk result (Adds self.old.refused (refusals self.old.destination (sents frames.items)) self.new.refused) }
-        ensures err { OnErr result (TakesSome self.old.destination (sents frames.items) self.old.output.items self.new.output.items) }
+        ensures count { OnOk result
+            (Adds self.old.refused (refusals self.old.destination (sents frames.items))
+            self.new.refused) }
+        ensures err { OnErr result
+            (TakesSome self.old.destination (sents frames.items) self.old.output.items
+            self.new.output.items) }
     {
         for (epoch, frame) in frames {
             self.take(epoch, frame)?;
@@ -123,12 +129,14 @@ impl FrameTaker {
 
     /// Writes the gathered lines. After a fault the first part of them was written.
     pub(crate) fn write_output<W: Write>(&mut self, writer: &mut W) -> Result<(), FramesFault>
-        ensures ok { OnOk result (Appends (W.contents writer.old) (W.contents writer.new) self.old.output.items) }
+        ensures ok { OnOk result
+            (Appends (W.contents writer.old) (W.contents writer.new) self.old.output.items) }
         ensures clean { OnOk result (self.new.output.items ≡ []) }
         ensures same { self.new.destination ≡ self.old.destination }
         ensures refused { self.new.refused ≡ self.old.refused }
         ensures fault { IfErr result (λ fault. fault ≡ WriteFault) }
-        ensures front { OnErr result (Front self.old.output.items (W.contents writer.old) (W.contents writer.new)) }
+        ensures front { OnErr result
+            (Front self.old.output.items (W.contents writer.old) (W.contents writer.new)) }
     {
         if write_out(writer, &self.output).is_err() {
             return Err(FramesFault::WriteFault);

@@ -78,7 +78,9 @@ fn run_lines<W: Write, T: Write + Drop>(
     requires open { HasNoFeed script.old.line }
     requires runs { IsRunning script.old.work }
     requires number { script.old.number + length bytes.now + 1 < 2 ^ 64 }
-    ensures ok { OnOk result (Moves T.contents script.old bytes.now script.new (W.contents writer.old) (W.contents writer.new) taps.old taps.new) }
+    ensures ok { OnOk result
+        (Moves T.contents script.old bytes.now script.new (W.contents writer.old)
+        (W.contents writer.new) taps.old taps.new) }
     ensures clean { OnOk result (script.new.output ≡ []) }
     ensures open { OnOk result (HasNoFeed script.new.line) }
     ensures runs { OnOk result (IsRunning script.new.work) }
@@ -105,7 +107,9 @@ fn run_bytes<W: Write, T: Write + Drop>(
     requires runs { IsRunning script.old.work }
     requires one { EndsOne bytes.now }
     requires number { script.old.number + length bytes.now + 1 < 2 ^ 64 }
-    ensures ok { OnOk result (Moves T.contents script.old bytes.now script.new (W.contents writer.old) (W.contents writer.new) taps.old taps.new) }
+    ensures ok { OnOk result
+        (Moves T.contents script.old bytes.now script.new (W.contents writer.old)
+        (W.contents writer.new) taps.old taps.new) }
     ensures clean { OnOk result (script.new.output ≡ []) }
     ensures open { OnOk result (HasNoFeed script.new.line) }
     ensures runs { OnOk result (IsRunning script.new.work) }
@@ -126,7 +130,9 @@ fn finish<W: Write, T: Write + Drop>(
     requires open { HasNoFeed script.old.line }
     requires runs { IsRunning script.old.work }
     requires number { script.old.number + 1 < 2 ^ 64 }
-    ensures { OnOk result (Ends T.contents script.old script.new.work (W.contents writer.old) (W.contents writer.new) taps.old taps.new) }
+    ensures { OnOk result
+        (Ends T.contents script.old script.new.work (W.contents writer.old) (W.contents writer.new)
+        taps.old taps.new) }
 {
     let before = marks_of(script)?;
     script.finish(writer)?;

@@ -29,7 +29,9 @@ pub struct Taps<T: Drop> {
 
 /// Writes the bytes in flight on a wire after the first `known`.
 fn write_behind<W: Write>(writer: &mut W, wire: &Wire, known: u64) -> Result<(), RunFault>
-    ensures { OnOk result (Appends (W.contents writer.old) (W.contents writer.new) (drop known (texts Two wire.now.wire.frames))) }
+    ensures { OnOk result
+        (Appends (W.contents writer.old) (W.contents writer.new)
+        (drop known (texts Two wire.now.wire.frames))) }
 {
     let mut left = known;
     for index in 0..wire.pieces() {
@@ -48,7 +50,9 @@ fn write_put<W: Write>(
     known: u64,
     channel: Channel,
 ) -> Result<(), TapFault>
-    ensures ok { OnOk result (Appends (W.contents writer.old) (W.contents writer.new) (drop known (texts Two wire.now.wire.frames))) }
+    ensures ok { OnOk result
+        (Appends (W.contents writer.old) (W.contents writer.new)
+        (drop known (texts Two wire.now.wire.frames))) }
     ensures fault { IfErr result (λ fault. fault ≡ OfWire channel) }
 {
     match write_behind(writer, wire, known) {

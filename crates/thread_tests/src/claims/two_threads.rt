@@ -15,7 +15,8 @@ fn claim_all(claims: &Claims, mut seat: ClaimSeat) -> ClaimSeat
     requires { IsSeatOf claims.now seat }
     ensures seat { IsSeatOf claims.now result }
     ensures share { result.share ≡ seat.share }
-    ensures known { (i : ℕ) → i < length claims.now.pages → Contains result.claimed i ⊎ Contains result.seen i }
+    ensures known { (i : ℕ) → i < length claims.now.pages →
+        Contains result.claimed i ⊎ Contains result.seen i }
 {
     for index in 0..claims.len() {
         let _ = claims.claim(&mut seat, index);
@@ -41,7 +42,8 @@ fn claim_by_two<R: Threads + Sync>(
             requires { IsSeatOf shared.now first }
             ensures seat { IsSeatOf shared.entry.now result }
             ensures share { result.share ≡ first.share }
-            ensures known { (i : ℕ) → i < length shared.entry.now.pages → Contains result.claimed i ⊎ Contains result.seen i }
+            ensures known { (i : ℕ) → i < length shared.entry.now.pages →
+                Contains result.claimed i ⊎ Contains result.seen i }
         { claim_all(shared, first) },
         move ||
             requires { IsSeatOf shared.now second }
