@@ -1,4 +1,4 @@
-use Rattle.std.proofs.Common.{List, ℕ, subst}
+use Rattle.std.proofs.Common.{List, ℕ, subst, sym}
 use Rattle.std.specs.Io.KnownBytes.{Appends}
 use Rattle.std.proofs.lemmas.Result.{err_from_is_err_and}
 use Rattle.mig_base.specs.declared.schedule.Step.{Step}
@@ -37,5 +37,5 @@ returns-in_err-write_out-in-Ok-clause-fault g c =
       subst (λ (text : List ℕ). Front text (g.W.Write.contents c.args.writer.now) (g.W.Write.contents c.write_out.new.writer)) c.deref-in-Ok.ensures.value c.in_err-write_out-in-Ok.ensures.front,
     )
 
-pub lines_of-text-requires-in-Ok : goal.lines_of-text-requires-in-Ok
-lines_of-text-requires-in-Ok g c = subst HaveLines c.deref.ensures.value (have_lines c.args.world.now c.in-Ok.steps.items c.in-Ok.ensures.strategy)
+pub lines_of-requires : goal.lines_of-requires
+lines_of-requires g c = subst HaveLines (sym c.deref.ensures.value) (have_lines c.args.world.now c.in-Ok.steps.items c.in-Ok.ensures.strategy)
