@@ -18,7 +18,7 @@ PICTURE = page.TOP / "docs" / "architecture.svg"
 # From the top: the height of each row, and its groups, each with what it is, its crates, and how many of the twelve columns it takes.
 # A group of the first row without a neighbour below it is as high as both rows.
 ROWS = (
-    (52, ("the program", "postmig", 10), ("library for C", "postmig_c frame_queue", 2)),
+    (52, ("the program", "postmig", 10), ("library for C", "postmig_c", 2)),
     (
         68,
         ("tools over scripts and frames", "wiretap host_calls frames explain lint expected explore finishing", 5),

@@ -1,9 +1,9 @@
 use Rattle.std.proofs.Common.{rules, refl, Ok, drop}
 use Rattle.frame_decoder.specs.Streams.{sents}
-use Rattle.frame_queue.specs.Queues.{Queue}
-use Rattle.frame_queue.proofs.Faults.{feeds_despite, same_despite}
-use Rattle.frame_queue.proofs.Waiting.{none_waits}
-use Rattle.frame_queue.proofs.queue.FrameQueue.feed.Goals as goal
+use Rattle.postmig_c.specs.Queues.{Queue}
+use Rattle.postmig_c.proofs.Faults.{feeds_despite, same_despite}
+use Rattle.postmig_c.proofs.Waiting.{none_waits}
+use Rattle.postmig_c.proofs.queue.FrameQueue.feed.Goals as goal
 
 pub returns-in-Ok-clause-ok : goal.returns-in-Ok-clause-ok
 returns-in-Ok-clause-ok c =

@@ -1,8 +1,8 @@
 use Rattle.std.proofs.Common.{ap, ◌∙◌, drop, refl}
 use Rattle.page_stream.specs.declared.frame.Frame.TheVariants.{Advise}
-use Rattle.frame_queue.specs.Queues.{Queue}
-use Rattle.frame_queue.proofs.Waiting.{is_behind, one_less}
-use Rattle.frame_queue.proofs.queue.FrameQueue.drop_first.Goals as goal
+use Rattle.postmig_c.specs.Queues.{Queue}
+use Rattle.postmig_c.proofs.Waiting.{is_behind, one_less}
+use Rattle.postmig_c.proofs.queue.FrameQueue.drop_first.Goals as goal
 
 pub returns-then-has_frame : goal.returns-then-has_frame
 returns-then-has_frame c =

@@ -1,7 +1,7 @@
 use Rattle.std.proofs.Common.{rules, ap}
-use Rattle.frame_queue.specs.Queues.{Queue}
-use Rattle.frame_queue.proofs.Waiting.{frame_at, is_behind}
-use Rattle.frame_queue.proofs.queue.FrameQueue.show.Goals as goal
+use Rattle.postmig_c.specs.Queues.{Queue}
+use Rattle.postmig_c.proofs.Waiting.{frame_at, is_behind}
+use Rattle.postmig_c.proofs.queue.FrameQueue.show.Goals as goal
 
 pub encode_into-requires : goal.encode_into-requires
 encode_into-requires c =

@@ -7,7 +7,7 @@ use Rattle.page_stream.specs.declared.frame.Frame.{Frame}
 use Rattle.page_stream.specs.Frames.{frame_of}
 use Rattle.frame_decoder.specs.Streams.{sent_of, sents}
 use Rattle.std.specs.Prelude.{Bool, true, false, T, not, IsTrue}
-use Rattle.frame_queue.specs.Queues.{AreFrames}
+use Rattle.postmig_c.specs.Queues.{AreFrames}
 
 -- as many wait as were not handed out
 pub waiting_len : (n : ℕ) (frames : List (ℕ × Frame)) → n ≤ length frames → length (sents (drop n frames)) + n ≡ length frames

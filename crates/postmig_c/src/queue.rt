@@ -2,7 +2,7 @@
 
 ghost use Rattle.std.specs.Prelude.{◌≡◌, ◌≢◌, ◌≤◌, ◌<◌, [], length, drop, IfOk, OnOk, OnErr, IfErr, IfSome, IfNone, IsTrue, ◌↔◌, Err};
 ghost use Rattle.frame_decoder.specs.Streams.{sents};
-ghost use Rattle.frame_queue.specs.Queues.{Queue, coded_queue, empty_queue, AreFrames, Feeds, Refills, Shows, IsFedUp, Stops, DropsFirst};
+ghost use Rattle.postmig_c.specs.Queues.{Queue, coded_queue, empty_queue, AreFrames, Feeds, Refills, Shows, IsFedUp, Stops, DropsFirst};
 
 use crate::numbers::{FrameNumbers, numbers_of};
 use frame_decoder::{Decoder, StreamFault};
@@ -10,16 +10,13 @@ use mig_base::NoMemory;
 use page_stream::{Frame, encode_into};
 use std::alloc::Global;
 use std::marker::Model;
-use thiserror::Error;
 
 /// Why a piece is not taken. Nothing changes then.
-#[derive(Clone, Copy, Debug, PartialEq, Eq, Drop, Error)]
+#[derive(Clone, Copy)]
 pub enum FeedFault {
     /// Frames of the pieces before it wait.
-    #[error("frames wait")]
     Waiting,
     /// An allocation failed.
-    #[error("no memory")]
     NoMemory,
 }
 

@@ -4,14 +4,14 @@ ghost use Rattle.std.specs.Prelude.{◌≡◌};
 ghost use Rattle.frame_texts.specs.Texts.{tag_code};
 ghost use Rattle.page_stream.specs.Frames.{frame_of};
 ghost use Rattle.frame_decoder.specs.Streams.{sent_of};
-ghost use Rattle.frame_queue.specs.Numbers.{address_in, count_in, numbers_of};
+ghost use Rattle.postmig_c.specs.Numbers.{address_in, count_in, numbers_of};
 
 use mig_base::page_address;
 use page_stream::Frame;
 
 /// A frame in numbers, without the bytes and the lists that it carries.
 #[repr(C)]
-#[derive(Clone, Copy, PartialEq, Eq, Drop)]
+#[derive(Clone, Copy)]
 pub struct FrameNumbers {
     /// The second byte of its header.
     pub tag: u32,
@@ -76,7 +76,7 @@ fn count_of(frame: &Frame) -> u64
 }
 
 /// The numbers of a frame that was sent in an epoch.
-pub(crate) fn numbers_of(epoch: u32, frame: &Frame) -> FrameNumbers
+pub fn numbers_of(epoch: u32, frame: &Frame) -> FrameNumbers
     ensures { result ≡ numbers_of (sent_of (epoch, frame.now)) }
 {
     FrameNumbers {

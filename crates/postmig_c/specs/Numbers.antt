@@ -5,7 +5,7 @@ use Rattle.mig_base.specs.declared.TheConstants.{PAGE_SIZE}
 use Rattle.mig_model.specs.Wire.{Frame, Sent}
 use Rattle.mig_model.specs.Wire.Frame.{Advise, Page, Zero, Run, Discard, Package, End, Resume, Request, Recv, Done}
 use Rattle.frame_texts.specs.Texts.{tag_code}
-use Rattle.frame_queue.specs.declared.numbers.FrameNumbers.{FrameNumbers}
+use Rattle.postmig_c.specs.declared.numbers.FrameNumbers.{FrameNumbers}
 
 -- the address of a frame's page, or of the first page of its run; 0 if it names no page
 abbrev pub address_in : Frame → ℕ

@@ -12,8 +12,8 @@ use Rattle.frame_decoder.specs.declared.fault.StreamFault.{StreamFault}
 use Rattle.frame_decoder.specs.declared.fault.StreamFault.TheVariants as faults
 use Rattle.frame_decoder.specs.Feeding.{Answer, Fed, fresh}
 use Rattle.frame_decoder.specs.Streams.{Held}
-use Rattle.frame_queue.specs.declared.numbers.FrameNumbers.{FrameNumbers}
-use Rattle.frame_queue.specs.Numbers.{numbers_of}
+use Rattle.postmig_c.specs.declared.numbers.FrameNumbers.{FrameNumbers}
+use Rattle.postmig_c.specs.Numbers.{numbers_of}
 
 -- a decoder, the frames that it returned and that wait, and the text of the frame that was shown last
 pub record Queue : Type 0 where

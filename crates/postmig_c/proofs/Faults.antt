@@ -5,9 +5,9 @@ use Rattle.frame_decoder.specs.declared.fault.StreamFault.{StreamFault}
 use Rattle.frame_decoder.specs.declared.fault.StreamFault.TheVariants as faults
 use Rattle.frame_decoder.specs.Feeding.{Answer, Fed}
 use Rattle.frame_decoder.specs.Streams.{Held}
-use Rattle.frame_queue.specs.declared.queue.FeedFault.{FeedFault}
-use Rattle.frame_queue.specs.declared.queue.FeedFault.TheVariants as refusals
-use Rattle.frame_queue.specs.Queues.{Queue, Feeds}
+use Rattle.postmig_c.specs.declared.queue.FeedFault.{FeedFault}
+use Rattle.postmig_c.specs.declared.queue.FeedFault.TheVariants as refusals
+use Rattle.postmig_c.specs.Queues.{Queue, Feeds}
 
 -- the fault of an answer, or another if it has frames
 abbrev fault_in : StreamFault → Answer → StreamFault
