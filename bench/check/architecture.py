@@ -18,12 +18,12 @@ PICTURE = page.TOP / "docs" / "architecture.svg"
 # From the top: the height of each row, and its groups, each with what it is, its crates, and how many of the twelve columns it takes.
 # A group of the first row without a neighbour below it is as high as both rows.
 ROWS = (
-    (52, ("the program", "postmig", 10), ("library for C", "postmig_c frame_queue", 2)),
+    (52, ("the program", "postmig", 10), ("library for C", "postmig_c", 2)),
     (
         68,
         ("tools over scripts and frames", "wiretap host_calls frames explain lint expected explore finishing", 5),
         ("threads and a lock", "threads rig pusher", 3),
-        ("pictures", "draw diagram svg", 2),
+        ("pictures", "draw diagram", 2),
     ),
     (52, ("the steps to completion", "finish", 4), ("scripts, transcripts and replies as text", "engine grammar report hosts", 8)),
     (52, ("a migration: both nodes, three wires, and its recovery", "world recovery", 12)),

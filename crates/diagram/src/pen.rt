@@ -1,14 +1,16 @@
 //! Drawing shapes and words on a sheet.
 
 ghost use Rattle.std.specs.Prelude.{IfOk};
-ghost use Rattle.svg.specs.Trees.{IsPicture};
+ghost use Rattle.diagram.specs.Trees.{IsPicture};
 
 use crate::class::Class;
 use crate::memory::Memory;
+use crate::name::{Key, Tag};
+use crate::sheet::Sheet;
+use crate::tags::Attribute;
 use crate::text::Part::{At, Length, Words};
 use crate::text::{Part, Place, width_of};
 use mig_base::NoMemory;
-use svg::{Attribute, Key, Sheet, Tag};
 
 /// A box: where it begins, and how large it is.
 #[derive(Clone, Copy)]

@@ -1,7 +1,7 @@
 //! Painting a picture.
 
 ghost use Rattle.std.specs.Prelude.{IfOk};
-ghost use Rattle.svg.specs.Trees.{IsPicture};
+ghost use Rattle.diagram.specs.Trees.{IsPicture};
 
 mod bands;
 mod head;
@@ -14,14 +14,16 @@ mod strands;
 
 use crate::class::Class;
 use crate::memory::Memory;
+use crate::name::{Key, Tag};
 use crate::pen::{Frame, Pen};
 use crate::plan::{Plan, RIGHT};
 use crate::record::Record;
+use crate::sheet::Sheet;
+use crate::tags::Attribute;
 use crate::text::Part::{At, Length, Words};
 use crate::waits::Wait;
 use mig_base::NoMemory;
 use std::alloc::Global;
-use svg::{Attribute, Key, Sheet, Tag};
 
 /// The style sheet. `h` to `f` are also the parts of waits.
 const STYLE: &str = "path{fill:none}text{font-family:sans-serif;fill:#222;font-size:10px}\

@@ -1,7 +1,7 @@
 -- What is written for a script.
 use Rattle.std.specs.Prelude.{ℕ, List, Option}
 use Rattle.std.specs.Io.KnownBytes.{Appends}
-use Rattle.svg.specs.Trees.{IsPicture}
+use Rattle.diagram.specs.Trees.{IsPicture}
 
 -- a picture is written: one `svg` element, whose elements are closed and whose texts are escaped
 abbrev pub Draws : Option (List ℕ) → Option (List ℕ) → Type 0

@@ -2,7 +2,7 @@
 
 ghost use Rattle.std.specs.Prelude.{◌≡◌, ◌≤◌, IfOk, OnOk};
 ghost use Rattle.draw.specs.Drawing.{Draws};
-ghost use Rattle.svg.specs.Trees.{IsPicture};
+ghost use Rattle.diagram.specs.Trees.{IsPicture};
 
 use crate::recorder::Recorder;
 use diagram::paint;

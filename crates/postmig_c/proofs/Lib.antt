@@ -1,3 +1,5 @@
 pub mod Words
 pub mod HandleWords
 pub mod Runners
+pub mod Waiting
+pub mod Faults

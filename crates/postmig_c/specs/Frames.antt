@@ -7,9 +7,9 @@ use Rattle.frame_texts.specs.Texts.{text}
 use Rattle.frame_texts.specs.Texts.Version.{Two}
 use Rattle.frame_decoder.specs.declared.fault.StreamFault.{StreamFault}
 use Rattle.frame_decoder.specs.declared.fault.StreamFault.TheVariants as faults
-use Rattle.frame_queue.specs.declared.numbers.FrameNumbers.{FrameNumbers}
-use Rattle.frame_queue.specs.Numbers.{numbers_of}
-use Rattle.frame_queue.specs.Queues.{Queue, Refills, IsFedUp, Stops}
+use Rattle.postmig_c.specs.declared.numbers.FrameNumbers.{FrameNumbers}
+use Rattle.postmig_c.specs.Numbers.{numbers_of}
+use Rattle.postmig_c.specs.Queues.{Queue, Refills, IsFedUp, Stops}
 use Rattle.postmig_c.specs.declared.handle.Content.{Content}
 use Rattle.postmig_c.specs.declared.handle.Content.TheVariants.{World, Frames}
 use Rattle.postmig_c.specs.Room.{Fills, IsTooLong}

@@ -2,18 +2,19 @@
 
 ghost use Rattle.std.specs.Prelude.{◌≡◌, ◌≢◌, ◌<◌, ◌⊎◌};
 ghost use Rattle.std.specs.declared.option.Option.TheVariants.{Some as Just};
-ghost use Rattle.frame_queue.specs.Queues.{empty_queue, Feeds};
+ghost use Rattle.postmig_c.specs.Queues.{empty_queue, Feeds};
 ghost use Rattle.postmig_c.specs.declared.handle.Content.TheVariants.{Frames};
 ghost use Rattle.postmig_c.specs.Frames.{HasNoDecoder, HasQueues, Takes, Waits, IsUp, IsFaulty, fault_number};
 
 use crate::handle::{Content, Handle};
+use crate::numbers::FrameNumbers;
+use crate::queue::{FeedFault, FrameQueue};
 use crate::room::hand_over;
 use crate::status::{
     BAD_FIELD, BAD_LENGTH, BAD_TAG, DONE, FRAMES_WAIT, NO_FRAME, NO_MEMORY, NO_ROOM, NOT_OPEN,
 };
 use crate::worlds::open;
 use frame_decoder::StreamFault;
-use frame_queue::{FeedFault, FrameNumbers, FrameQueue};
 use std::alloc::Global;
 
 /// Puts a new decoder into a handle. What it had is freed. It keeps that if the answer is not 0.

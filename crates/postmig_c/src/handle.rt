@@ -8,9 +8,9 @@ ghost use Rattle.std.specs.declared.option.Option.TheVariants.{None as Nothing, 
 ghost use Rattle.postmig_c.specs.declared.handle.Content.{Content as Contents};
 ghost use Rattle.postmig_c.specs.Held.{held, coded_content};
 
+use crate::queue::FrameQueue;
 use crate::unboxed::Unboxed;
 use engine::LineRunner;
-use frame_queue::FrameQueue;
 use std::alloc::Global;
 use std::marker::Model;
 use std::mem::replace;

@@ -1,14 +1,19 @@
 //! `postmig` for C: worlds and decoders behind handles, whole scripts and transcripts.
 //!
 //! A [`Handle`](handle::Handle) is a word that C sets to null before the first call, and leaves to these functions after that. `worlds` has
-//! the calls on a world, `frames` those on a decoder of frames, and `scripts` those on a whole script or transcript. Each answers a status
+//! the calls on a world, `frames` those on a decoder of frames, and `scripts` those on a whole script or transcript. Each returns a status
 //! of `status`. `include/postmig.h` declares them, and `docs/USING.md` says what a caller owes.
+//!
+//! A decoder is a [`FrameQueue`](queue::FrameQueue): C has none of the types of a frame, and takes one frame at a time, as the numbers of
+//! `numbers` and the bytes of its text. `specs/Queues.antt` defines the effect of its calls, and `specs/Numbers.antt` the numbers.
 //!
 //! Every export takes `&mut Handle`, so the raw pointer stays in the small functions of `handle` and `unboxed`, whose proofs are by hand.
 #![tactic(auto)]
 
 mod frames;
 mod handle;
+mod numbers;
+mod queue;
 mod room;
 mod scripts;
 mod status;

@@ -1,6 +1,0 @@
-use Rattle.svg.proofs.Drawn.{drawn_words}
-use Rattle.svg.proofs.sheet.Sheet.write.Goals as goal
-
-pub invariant_of-self-2 : goal.invariant_of-self-2
-invariant_of-self-2 c = rw c.in_ok-push_escaped.ensures (λ whole.
-    drawn_words c.self.inside.inner.items c.self.inside.bytes.items c.args.text.now (c.self.invariant whole))
