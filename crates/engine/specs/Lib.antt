@@ -1,5 +1,7 @@
 pub mod Checking
 pub mod Engine
+pub mod Lines
+pub mod Reading
 pub mod Script
 pub mod Spelled
 pub mod Worlds
