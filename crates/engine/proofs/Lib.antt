@@ -3,6 +3,8 @@ pub mod Lines
 pub mod OneRun
 pub mod Outcomes
 pub mod Pieces
+pub mod RawLines
+pub mod Reading
 pub mod Runs
 pub mod Transcripts
 pub mod Whole

@@ -313,10 +313,12 @@ impl LineRunner {
 
     /// Writes the gathered output. After a fault the first part of it was written.
     pub fn write_output<W: Write>(&mut self, writer: &mut W) -> Result<(), RunFault>
-        ensures ok { OnOk result (Appends (W.contents writer.old) (W.contents writer.new) self.old.output) }
+        ensures ok { OnOk result
+            (Appends (W.contents writer.old) (W.contents writer.new) self.old.output) }
         ensures none { OnOk result (self.new ≡ record self.old { output = [] }) }
         ensures fault { IfErr result (λ fault. fault ≡ WriteFault) }
-        ensures front { OnErr result (Front self.old.output (W.contents writer.old) (W.contents writer.new)) }
+        ensures front { OnErr result
+            (Front self.old.output (W.contents writer.old) (W.contents writer.new)) }
     {
         write_out(writer, &self.output)?;
         self.drop_output();

@@ -184,7 +184,8 @@ impl ScriptReader {
     pub fn run_piece<W: Write>(&mut self, writer: &mut W, bytes: &[u8]) -> Result<(), RunFault>
         requires clean { self.old.output ≡ [] }
         requires number { self.old.number + length bytes.now + 1 < 2 ^ 64 }
-        ensures ok { OnOk result (Passes self.old bytes.now self.new (W.contents writer.old) (W.contents writer.new)) }
+        ensures ok { OnOk result
+            (Passes self.old bytes.now self.new (W.contents writer.old) (W.contents writer.new)) }
         ensures clean { OnOk result (self.new.output ≡ []) }
         ensures number { OnOk result (self.new.number ≤ self.old.number + length bytes.now) }
         ensures fault { IfErr result (λ fault.
