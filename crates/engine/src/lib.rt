@@ -3,17 +3,10 @@
 //! [`run_script`] reads a script and writes one line for each order, or one for each command that took effect, as its [`Mode`] says.
 //! [`check_script`] reads such a transcript, and says whether it is that of one flat memory. Both read and write in pieces.
 //! A [`RunFault`] says what ended a run early. [`progress`] says how far a world's migration has come. [`ScriptReader`] finds the lines in
-<<<<<<< HEAD
-//! the bytes that are read, and [`LineRunner`] does each. [`spell`] prints the line of a step. `specs/Script.antt` defines the output of a run,
-//! with the promises for the world in which it ends, and `specs/Checking.antt` that of a check; [`laws`] says that there is no other
-//! output.
-//! `docs/SCRIPT.md` says what a script is.
-=======
 //! the bytes that are read, and [`LineRunner`] does each. [`line_reader`] reads the lines of any input, for other tools that work on lines.
-//! [`spell`] has the line of a step, [`print_order`] that of any order, and [`read_back`] says what a line means. `specs/Script.antt`
-//! defines the output of a run, with the promises for the world in which it ends, `specs/Checking.antt` that of a check, and
-//! `specs/Lines.antt` what is taken of an input; [`laws`] says that there is no other output. `docs/SCRIPT.md` says what a script is.
->>>>>>> 6ccf54b9eef2af51d69bdfc21b498b337d75116e
+//! [`spell`] prints the line of a step. `specs/Script.antt` defines the output of a run, with the promises for the world in which it ends,
+//! `specs/Checking.antt` that of a check, and `specs/Lines.antt` what is taken of an input; [`laws`] says that there is no other output.
+//! `docs/SCRIPT.md` says what a script is.
 //!
 //! The crate names no file, no command line and no exit status: readers and writers are its callers'.
 #![tactic(auto)]
