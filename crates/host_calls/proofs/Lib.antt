@@ -3,5 +3,5 @@ pub mod MadeCalls
 pub mod ReadSteps
 pub mod Woken
 pub mod ListedCalls
-pub mod Moving
+pub mod Lines
 pub mod StepLines

@@ -1,5 +1,5 @@
 -- The output of a run with the calls behind each line.
-use Rattle.std.specs.Prelude.{◌≡◌, ℕ, List, [], ◌∷◌, ◌++◌, Option, Some, None, ⊤}
+use Rattle.std.specs.Prelude.{◌≡◌, ℕ, List, [], ◌∷◌, ◌++◌, Option, Some, None}
 use Rattle.mig_base.specs.declared.schedule.Step.{Step}
 use Rattle.grammar.specs.declared.line.Language.TheVariants.{Script}
 use Rattle.grammar.specs.declared.line.Line.{Line}
@@ -8,8 +8,6 @@ use Rattle.grammar.specs.declared.order.Order.{Order}
 use Rattle.grammar.specs.Orders.{step_of}
 use Rattle.grammar.specs.Printed.{Outcome, outcome_line, progress_line}
 use Rattle.grammar.specs.Spelling.{Spells}
-use Rattle.engine.specs.declared.fault.RunFault.{RunFault}
-use Rattle.engine.specs.declared.fault.RunFault.TheVariants as faults
 use Rattle.engine.specs.Script.{Finishes}
 use Rattle.mig_model.specs.Migration.{World}
 use Rattle.world.specs.Headline.{Headline}
@@ -46,12 +44,9 @@ Does old (Enter entry) new text = ⊥
 abbrev pub IsLine : World → List ℕ → World → List ℕ → Type 0
 IsLine old text new out = (line : Line) × Spells Script text line × Does old line new out
 
--- the line with this number and text ended with a fault: it is not a line of a script, or memory ran out
-abbrev pub LineFault : ℕ → List ℕ → RunFault → Type 0
-LineFault number text (faults.Line n) = (n ≡ number) × ((line : Line) → Spells Script text line → ⊥)
-LineFault number text faults.ReadFault = ⊥
-LineFault number text faults.WriteFault = ⊥
-LineFault number text faults.NoMemory = ⊤
+-- a text spells no line of a script
+abbrev pub IsWrong : List ℕ → Type 0
+IsWrong text = (line : Line) → Spells Script text line → ⊥
 
 -- Runs
 

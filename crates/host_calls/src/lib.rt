@@ -4,12 +4,11 @@
 //! commands of the host protocol of `conformance/README.md`. [`list_calls`] lists them for one step. `specs/Calls.antt` defines them,
 //! `specs/Texts.antt` their lines, and `specs/Stepped.antt` the output of a run. [`laws`] says that they do what the step does.
 //!
-//! The modules: `call` (a call), `listing` (the calls of a step), `stepper` (doing a line), `lines` (finding the lines), `run` (reading).
+//! The modules: `call` (a call), `listing` (the calls of a step), `stepper` (doing a line), `run` (reading a script).
 #![tactic(auto)]
 
 pub mod call;
 pub mod laws;
-mod lines;
 pub mod listing;
 mod run;
 mod stepper;

@@ -1,14 +1,18 @@
-//! Doing one line of a script: its order is carried out, and printed with the calls behind it.
+//! Doing the lines of a script: the order of each is carried out, and printed with the calls behind it.
 
 ghost use Rattle.std.specs.Prelude.{◌≡◌, ◌≤◌, ◌++◌, [], Ok, OnOk, IfOk, IfErr, string_bytes};
 ghost use Rattle.engine.specs.declared.fault.RunFault.TheVariants.{NoMemory as OutOfMemory};
+ghost use Rattle.engine.specs.Lines.{LineFault};
 ghost use Rattle.mig_model.specs.Migration.{first_world};
 ghost use Rattle.host_calls.specs.Texts.{call_line, call_lines};
 ghost use Rattle.host_calls.specs.Calls.{IsWithin};
-ghost use Rattle.host_calls.specs.Stepped.{Makes, Obeys, IsLine, LineFault, step_lines};
+ghost use Rattle.host_calls.specs.Stepped.{Makes, Obeys, IsLine, IsWrong, step_lines};
+ghost use Rattle.host_calls.specs.Parts.{Takes, Refuses};
 
 use crate::call::Call;
 use crate::listing::{list_calls, node_of};
+use engine::line_reader::{LineSink, text_of};
+use engine::script_reader::MAX_LINE;
 use engine::{RunFault, progress};
 use grammar::parse::parse;
 use grammar::{Language, Line, Order, Token, print_line, print_progress};
@@ -47,7 +51,7 @@ pub(crate) struct Stepper {
     /// The calls of the last step, kept for their room.
     calls: Vec<Call>,
     /// The output of the last line.
-    pub(crate) printed: String,
+    printed: String,
 }
 
 impl Stepper {
@@ -120,9 +124,9 @@ impl Stepper {
     }
 
     /// Does the line with this number and text, and replaces what was printed by its output.
-    pub(crate) fn run_line(&mut self, number: u64, text: &[u8]) -> Result<(), RunFault>
+    fn run_line(&mut self, number: u64, text: &[u8]) -> Result<(), RunFault>
         ensures ok { OnOk result (IsLine self.old.world text.now self.new.world (string_bytes self.new.printed)) }
-        ensures fault { IfErr result (λ fault. LineFault number text.now fault) }
+        ensures fault { IfErr result (λ fault. LineFault (IsWrong text.now) number fault) }
     {
         self.printed.clear();
         match parse(Language::Script, &mut self.tokens, text)? {
@@ -131,5 +135,32 @@ impl Stepper {
             Some(Line::Do(order)) => self.obey(order),
             Some(Line::Enter(_)) => unreachable!(),
         }
+    }
+}
+
+impl LineSink for Stepper {
+    ghost takes = { Takes };
+
+    ghost refuses = { Refuses };
+
+    fn take_line(
+        &mut self,
+        number: u64,
+        front: &[u8],
+        len: u64,
+        ended: bool,
+        output: &mut Vec<u8>,
+    ) -> Result<(), RunFault> {
+        if len > MAX_LINE as u64 {
+            return Err(RunFault::Line(number));
+        }
+        self.run_line(number, text_of(front, ended))?;
+        output.extend_from_slice(self.printed.as_bytes())?;
+        Ok(())
+    }
+
+    /// A line of more than 256 bytes is wrong, whatever its end.
+    fn overrun(&self, number: u64) -> Result<(), RunFault> {
+        Err(RunFault::Line(number))
     }
 }

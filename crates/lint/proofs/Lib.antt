@@ -1,5 +1,2 @@
 pub mod Clean
-pub mod Fronts
 pub mod Lines
-pub mod Pieces
-pub mod Whole

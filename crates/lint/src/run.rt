@@ -5,12 +5,10 @@ ghost use Rattle.lint.specs.Listing.{ListsAll, Stops};
 
 use crate::linter::Linter;
 use engine::RunFault;
+use engine::line_reader::read_lines;
 use grammar::Language;
 use std::alloc::Global;
 use std::io::{Read, Write};
-
-/// The most bytes that are read at once.
-const PIECE: usize = 16_384;
 
 /// Reads a whole script or transcript, as the language says, and lists its wrong lines: for each, in order, it writes
 /// `NAME:LINE:COLUMN: reason` and a line feed. LINE is the number of the line and COLUMN that of the byte where the reason is,
@@ -32,14 +30,7 @@ pub fn lint_lines<R: Read, W: Write>(
     ensures fault { IfErr result (λ fault. IfSome (R.remaining reader.old) (λ input.
         Stops language name.now input (R.remaining reader.new) fault (W.contents writer.old) (W.contents writer.new))) }
 {
-    let mut linter = Linter::new(alloc, language);
-    let mut buffer = [0u8; PIECE];
-    for _ in 0..u32::MAX {
-        match reader.read(&mut buffer) {
-            Ok(0) => return linter.finish(writer, name),
-            Ok(count) => linter.run_piece(writer, name, &buffer[..count])?,
-            Err(_) => return Err(RunFault::ReadFault),
-        }
-    }
-    Err(RunFault::ReadFault)
+    let mut linter = Linter::new(alloc, name, language);
+    read_lines(alloc, reader, writer, &mut linter)?;
+    Ok(linter.clean)
 }
