@@ -3,7 +3,7 @@
 
 python3 bench/compare/takes.py PROGRAM [--runs N] [--calls N] [--seed N] [--jobs N] [--write INPUT OUTPUT]
 
-PROGRAM is that of the crate node_calls. It makes `Destination::take`, `take_urgent`, `install` and `pause`, and `Source::back` with what
+PROGRAM is that of the crate node_tests. It makes `Destination::take`, `take_urgent`, `install` and `pause`, and `Source::back` with what
 the source does in between, in any order: no wire joins the two nodes, so every well-formed frame comes in every phase, of the node's
 epoch and of others, in either version. About half of the calls are drawn from those that the node takes in its phase, so that all phases
 are reached.
@@ -50,7 +50,7 @@ def outcome(call, *arguments):
 
 
 class Destination(nodes.Destination):
-    """The destination, with what node_calls prints of it."""
+    """The destination, with what the program prints of it."""
 
     def state(self):
         return (
@@ -73,7 +73,7 @@ class Destination(nodes.Destination):
 
 
 class Source(nodes.Source):
-    """The source, with what node_calls prints of it. No processor does anything."""
+    """The source, with what the program prints of it. No processor does anything."""
 
     def __init__(self):
         super().__init__(dict.fromkeys(PRESENT))

@@ -12,15 +12,9 @@ pub enum Call {
     Store(u8, Addr, u8, u64),
     /// As many bytes at the least place that is free, to be read and written.
     Map(u8, u64),
-    /// Length, protection and place.
-    Mmap(u8, u64, Prot, Place),
     Munmap(u8, Addr, u64),
     DontNeed(u8, Addr, u64),
-    /// Address, old size and new size of a range that stays where it is.
-    Resize(u8, Addr, u64, u64),
-    /// So of one that may move.
-    Grow(u8, Addr, u64, u64),
-    /// So of one that moves to the last address.
+    /// Address, old size and new size of a range that moves to the last address.
     Move(u8, Addr, u64, u64, Addr),
     Retry(u8),
     Start,
@@ -35,7 +29,6 @@ pub enum Call {
     /// At most this number of bytes.
     DeliverPart(u64),
     Back,
-    BackPart(u64),
     DestRead,
     DestAct,
     Install,
@@ -44,9 +37,7 @@ pub enum Call {
     /// The epoch of the ticket, and the page.
     PushFor(u32, PageNo),
     PushUrgent(PageNo),
-    PushUrgentFor(u32, PageNo),
     DeliverUrgent,
-    UrgentPart(u64),
     Serve,
     End,
     Break,
@@ -65,27 +56,26 @@ pub enum Call {
 }
 
 use Call::{
-    Back, BackPart, Break, Deliver, DeliverPart, DeliverUrgent, DestAct, DestRead, DontNeed, End,
-    Grow, Install, Load, Map, Mmap, Move, Munmap, Notice, Push, PushFor, PushUrgent, PushUrgentFor,
-    Resize, Resume, Retry, Round, Send, SendRun, Serve, SourceAct, SourceRead, Start, Store,
-    Switch, UrgentPart,
+    Back, Break, Deliver, DeliverPart, DeliverUrgent, DestAct, DestRead, DontNeed, End, Install,
+    Load, Map, Move, Munmap, Notice, Push, PushFor, PushUrgent, Resume, Retry, Round, Send,
+    SendRun, Serve, SourceAct, SourceRead, Start, Store, Switch,
 };
 
-fn mremap(addr: Addr, old_len: u64, new_len: u64, may_move: bool, fixed: Option<Addr>) -> Command {
+fn mmap(addr_len: u64) -> Command {
+    Command::Mmap {
+        addr_len,
+        prot: Prot::ReadWrite,
+        place: Place::Anywhere,
+    }
+}
+
+fn mremap(addr: Addr, old_len: u64, new_len: u64, to: Addr) -> Command {
     Command::Mremap {
         addr,
         old_len,
         new_len,
-        may_move,
-        fixed,
-    }
-}
-
-fn mmap(addr_len: u64, prot: Prot, place: Place) -> Command {
-    Command::Mmap {
-        addr_len,
-        prot,
-        place,
+        may_move: true,
+        fixed: Some(to),
     }
 }
 
@@ -94,13 +84,10 @@ fn command_of(call: Call) -> Option<(u8, Command)> {
     match call {
         Load(cpu, addr, width) => Some((cpu, Command::Load { addr, width })),
         Store(cpu, addr, width, value) => Some((cpu, Command::Store { addr, width, value })),
-        Map(cpu, len) => Some((cpu, mmap(len, Prot::ReadWrite, Place::Anywhere))),
-        Mmap(cpu, len, prot, place) => Some((cpu, mmap(len, prot, place))),
+        Map(cpu, len) => Some((cpu, mmap(len))),
         Munmap(cpu, addr, len) => Some((cpu, Command::Munmap { addr, len })),
         DontNeed(cpu, addr, len) => Some((cpu, Command::DontNeed { addr, len })),
-        Resize(cpu, addr, old, new) => Some((cpu, mremap(addr, old, new, false, None))),
-        Grow(cpu, addr, old, new) => Some((cpu, mremap(addr, old, new, true, None))),
-        Move(cpu, addr, old, new, to) => Some((cpu, mremap(addr, old, new, true, Some(to)))),
+        Move(cpu, addr, old, new, to) => Some((cpu, mremap(addr, old, new, to))),
         _ => None,
     }
 }
@@ -122,7 +109,6 @@ pub fn step_of(call: Call, epoch: u32) -> Option<Step> {
         Push(page) => Some(Step::Push(Ticket { epoch, page })),
         PushFor(epoch, page) => Some(Step::Push(Ticket { epoch, page })),
         PushUrgent(page) => Some(Step::PushUrgent(Ticket { epoch, page })),
-        PushUrgentFor(epoch, page) => Some(Step::PushUrgent(Ticket { epoch, page })),
         Serve => Some(Step::Serve),
         End => Some(Step::End),
         _ => step_of_link(call),
@@ -135,9 +121,7 @@ fn step_of_link(call: Call) -> Option<Step> {
         Deliver => Some(Step::Deliver { n: u64::MAX }),
         DeliverPart(n) => Some(Step::Deliver { n }),
         Back => Some(Step::DeliverBack { n: u64::MAX }),
-        BackPart(n) => Some(Step::DeliverBack { n }),
         DeliverUrgent => Some(Step::DeliverUrgent { n: u64::MAX }),
-        UrgentPart(n) => Some(Step::DeliverUrgent { n }),
         DestRead => Some(Step::DestRead),
         DestAct => Some(Step::DestAct),
         Install => Some(Step::Install),

@@ -8,7 +8,7 @@ use crate::answers::Answer::{Broken, Noticed, Refused, Resumed, TookResume};
 use crate::calls::Call::{Break, Deliver, Notice, Resume};
 use crate::openings::{NOTHING, OWED, OWED_THREE, SENT};
 use crate::play::{Behind, Row, make, on_world, play};
-use crate::postcopy::{ASKED_FOR, MOVED, UNMAPPED, URGENT};
+use crate::scenes::{ASKED_FOR, MOVED, UNMAPPED, URGENT};
 use mig_base::cpu_state::CpuState;
 use mig_base::refusal::Refusal;
 use mig_base::schedule::{Side, Step, Ticket};

@@ -4,14 +4,13 @@
 //! transcript is checked.
 
 use crate::answers::Answer;
-use crate::breaks::{ALL_IS_OWED, IN_FLIGHT, PUSHED_ANEW, SWITCHED};
 use crate::calls::step_of;
-use crate::commands::ACCESSES;
 use crate::openings::{NOTHING, OWED, OWED_THREE, RESUMED, SENT};
 use crate::play::{Parts, Picture, Row, look};
-use crate::postcopy::{ASKED_FOR, MOVED};
-use crate::rounds::DISCARDED;
 use crate::same::same;
+use crate::scenes::{
+    ACCESSES, ALL_IS_OWED, ASKED_FOR, DISCARDED, IN_FLIGHT, MOVED, PUSHED_ANEW, SWITCHED,
+};
 use mig_base::refusal::Refusal;
 use mig_base::schedule::Step;
 use report::CheckFault;
@@ -21,14 +20,17 @@ use std::process::Abort;
 use std::test::Fail;
 use world::World;
 
-/// Makes a step, and once more where memory was refused. What comes of it, and how often memory was refused.
+/// Makes a step, and once more where memory was refused. What comes of it, and how often memory was refused. A step that is refused
+/// changes nothing.
 fn make(rt: &impl Abort, world: &mut World, step: Step, i: usize) -> (Answer, u32) {
     let before = Picture::of(world);
     let outcome = world.step(step);
+    if outcome.is_err() {
+        same(rt, &Picture::of(world), &before, "refused step", i);
+    }
     if outcome != Err(Refusal::NoMemory) {
         return (Answer::of(outcome), 0);
     }
-    same(rt, &Picture::of(world), &before, "refused memory", i);
     (Answer::of(world.step(step)), 1)
 }
 

@@ -2,21 +2,17 @@
 
 use crate::answers::Answer;
 use crate::answers::Answer::{
-    Asleep, Broken, Moved, ReadMissing, ReadProtected, Refused, Replied, RoundMade, SentPage,
-    SentRun, SentZero, Stands, Started, Switched, TookAdvise, TookDiscard, TookPackage, TookPage,
-    TookRecv, TookRun, TookZero, Unprotected, Zeroed,
+    Moved, Refused, Replied, RoundMade, SentRun, Stands, Started, Switched, TookAdvise, TookRun,
 };
 use crate::calls::Call::{
-    Back, Break, Deliver, DeliverPart, Load, Map, Mmap, Progress, Retry, Round, Send, SendRun,
-    SourceAct, SourceRead, Start, Store, Switch,
+    Deliver, DeliverPart, Load, Map, Progress, Round, SendRun, Start, Store, Switch,
 };
 use crate::calls::step_of;
-use crate::openings::{NOTHING, RESUMED};
-use crate::play::{Behind, Row, on_world, play, play_behind};
+use crate::openings::NOTHING;
+use crate::play::{Behind, Row, play, play_behind, play_new};
 use crate::same::same;
 use mig_base::Reply::{At, BadAccess, Done, Value};
 use mig_base::effect::Effect;
-use mig_base::phase::Received;
 use mig_base::refusal::Refusal;
 use mig_base::schedule::Step;
 use mig_base::{Command, Entry, Place, Prot, WorldPhase};
@@ -24,58 +20,15 @@ use std::alloc::Global;
 use std::process::Abort;
 use world::World;
 
-/// A run ends where a page is not to be sent. A count of 0 is one of 1, and 255 is 64. A Run of one page has 4116 bytes and one of two
-/// has 8212; the last one has not arrived whole as the channel breaks.
-static IN_RUNS: [Row; 18] = [
-    (Map(0, 20480), Replied(0, At(0x10000))),
+/// A count of 0 is one of 1, and 255 is 64. (No script has such a count.)
+static BEYOND: [Row; 7] = [
+    (Map(0, 12288), Replied(0, At(0x10000))),
     (Store(0, 0x10000, 8, 1), Replied(0, Done)),
     (Store(0, 0x11000, 8, 2), Replied(0, Done)),
-    (Store(0, 0x13000, 8, 4), Replied(0, Done)),
-    (Store(0, 0x14000, 8, 5), Replied(0, Done)),
     (Start, Started(1)),
-    (Round, RoundMade(1, 4)),
+    (Round, RoundMade(1, 2)),
     (SendRun(0), SentRun(0x10000, 1)),
     (SendRun(255), SentRun(0x11000, 1)),
-    (SendRun(64), SentRun(0x13000, 2)),
-    (SendRun(1), Refused(Refusal::NothingThere)),
-    (Deliver, TookAdvise),
-    (DeliverPart(4115), Moved(4115)),
-    (DeliverPart(1), TookRun(0x10000, 1)),
-    (DeliverPart(10_000), TookRun(0x11000, 1)),
-    (DeliverPart(8211), Moved(8211)),
-    (Break, Broken),
-    (Progress, Stands(WorldPhase::Precopy, [1, 4, 0, 0, 0, 0])),
-];
-
-/// All is sent anew, then a page that was stored to and one that was made zeros.
-static SENT_ANEW: [Row; 27] = [
-    (Back, TookRecv(Received::NotRun, 0)),
-    (Round, RoundMade(2, 4)),
-    (SendRun(64), SentRun(0x10000, 2)),
-    (SendRun(2), SentRun(0x13000, 2)),
-    (Deliver, TookRun(0x10000, 2)),
-    (Store(1, 0x11000, 8, 6), Asleep(1)),
-    (SourceRead, ReadProtected(0x11000)),
-    (SourceAct, Unprotected(0x11000)),
-    (Retry(1), Replied(1, Done)),
-    (Load(0, 0x12000, 8), Asleep(0)),
-    (SourceRead, ReadMissing(0x12000)),
-    (SourceAct, Zeroed(0x12000)),
-    (Retry(0), Replied(0, Value(0))),
-    (Round, RoundMade(3, 2)),
-    (Send, SentPage(0x11000)),
-    (Send, SentZero(0x12000)),
-    (Switch, Switched(0, 0)),
-    (Deliver, TookRun(0x13000, 2)),
-    (Deliver, TookPage(0x11000)),
-    (Deliver, TookZero(0x12000)),
-    (Deliver, TookDiscard(0)),
-    (Deliver, TookPackage(0)),
-    (Load(0, 0x10000, 8), Replied(0, Value(1))),
-    (Load(0, 0x11000, 8), Replied(0, Value(6))),
-    (Load(0, 0x12000, 8), Replied(0, Value(0))),
-    (Load(0, 0x14000, 8), Replied(0, Value(5))),
-    (Progress, Stands(WorldPhase::Postcopy, [3, 10, 0, 0, 0, 2])),
 ];
 
 /// A page for each of `count` stores, from 0x10000 on.
@@ -112,21 +65,7 @@ pub fn play_longest(rt: &impl Abort, world: &mut World) {
 
 #[test]
 fn pages_in_runs(rt: HostRuntime) {
-    let parts = (
-        IN_RUNS.as_slice(),
-        RESUMED.as_slice(),
-        SENT_ANEW.as_slice(),
-        NOTHING.as_slice(),
-    );
-    let told = on_world(
-        &rt,
-        rt.alloc(),
-        (2, 0, 0),
-        "in runs",
-        parts,
-        Behind::Nothing,
-    );
-    assert!(rt; told == Ok(true));
+    play_new(&rt, rt.alloc(), "beyond", &NOTHING, &BEYOND);
     let told = play_behind(&rt, rt.alloc(), 2, Behind::Longest);
     assert!(rt; told == Ok(true));
 }

@@ -1,13 +1,16 @@
-//! Plays stories: scripts and transcripts that lie in `data/`, each with what it must print beside it.
+//! Plays stories: scripts and transcripts that lie in `data/`, each with what it must print beside it, and tests, whose answers stand in
+//! their lines.
 //!
 //! The file `stories` names one a line, by a [`Kind`] and the name of its files. For each story one line goes to standard output,
-//! which says whether the story printed what is stored, and of a script also what a check says of its transcript, or after how many lines
-//! its migration was finished. The exit status is 1 where one did not pass, and 2 where a file cannot be read. A further story is a line
-//! and its files. Runs have two processors.
+//! which says whether the story printed what is stored, or how many answers of a test were compared; of a script and of a test also what a
+//! check says of its transcript, or after how many lines its migration was finished. The exit status is 1 where one did not pass, and 2
+//! where a file cannot be read. A further story is a line and its files. Runs have two processors.
 #![tactic(auto)]
 
+mod answered;
 mod finished;
 
+use crate::answered::{print_test, script_of};
 use crate::finished::finish_prefixes;
 use engine::{Mode, RunFault, check_script, run_script};
 use grammar::Language;
@@ -41,6 +44,8 @@ enum Kind {
     LintTranscript,
     /// The migration of `NAME.script` is finished from each of its prefixes.
     Finish,
+    /// `NAME.test` is run as `postmig test` runs it. Its transcript is checked, and its migration is finished from each of its prefixes.
+    Test,
 }
 
 impl Kind {
@@ -54,6 +59,7 @@ impl Kind {
             "lint" => Some(Kind::Lint),
             "lint-transcript" => Some(Kind::LintTranscript),
             "finish" => Some(Kind::Finish),
+            "test" => Some(Kind::Test),
             _ => None,
         }
     }
@@ -65,6 +71,7 @@ impl Kind {
             Kind::Check | Kind::LintTranscript => "transcript",
             Kind::Lines => "lines",
             Kind::Entries => "entries",
+            Kind::Test => "test",
         }
     }
 
@@ -128,7 +135,7 @@ fn printed(alloc: Global, kind: Kind, input: &[u8]) -> Result<Vec<u8>, AllocErro
         Kind::Run => print_run(alloc, &mut text, input, Mode::Lines)?,
         Kind::Print => print_run(alloc, &mut text, input, Mode::Transcript)?,
         Kind::Check => print_check(alloc, &mut text, input)?,
-        Kind::Finish => {}
+        Kind::Finish | Kind::Test => {}
         Kind::Lint => print_listing(alloc, &mut text, input, Language::Script)?,
         Kind::LintTranscript => print_listing(alloc, &mut text, input, Language::Transcript)?,
         Kind::Lines => {
@@ -171,17 +178,40 @@ fn play(rt: &HostRuntime, kind: Kind, name: &str) -> io::Result<bool> {
     Ok(printed(rt.alloc(), kind, &input)? == stored)
 }
 
-/// Finishes a script from each of its prefixes, and prints how it went.
-fn play_finish(rt: &HostRuntime, line: &str, name: &str) -> io::Result<bool> {
-    let script = read(rt, name, Kind::Finish.input())?;
-    match finish_prefixes(rt.alloc(), &script) {
-        Ok(lines) => println!(rt; "{line}: finished after 0 to {lines} lines")?,
+/// Finishes a script from each of its prefixes, and ends the line with how it went.
+fn print_finished(rt: &HostRuntime, script: &[u8]) -> io::Result<bool> {
+    match finish_prefixes(rt.alloc(), script) {
+        Ok(lines) => println!(rt; "finished after 0 to {lines} lines")?,
         Err(lines) => {
-            println!(rt; "{line}: NOT FINISHED after {lines} lines")?;
+            println!(rt; "NOT FINISHED after {lines} lines")?;
             return Ok(false);
         }
     }
     Ok(true)
+}
+
+/// Finishes the script of a story, and prints how it went.
+fn play_finish(rt: &HostRuntime, line: &str, name: &str) -> io::Result<bool> {
+    let script = read(rt, name, Kind::Finish.input())?;
+    print!(rt; "{line}: ")?;
+    print_finished(rt, &script)
+}
+
+/// Plays a test, and prints how many answers were compared, what a check says of its transcript, and after how many lines its migration
+/// was finished; or what the test says of an answer that differs.
+fn play_test(rt: &HostRuntime, line: &str, name: &str) -> io::Result<bool> {
+    let test = read(rt, name, Kind::Test.input())?;
+    let mut text = Vec::new(rt.alloc());
+    let answers = print_test(rt.alloc(), &mut text, &test, name)?;
+    if !text.is_empty() {
+        let text = String::from_utf8_lossy(rt.alloc(), &text)?;
+        println!(rt; "{line}: {}", text.trim_end())?;
+        return Ok(false);
+    }
+    let script = script_of(rt.alloc(), &test)?;
+    let verdict = verdict(rt.alloc(), &script)?;
+    print!(rt; "{line}: {answers} answers, transcript {verdict}, ")?;
+    print_finished(rt, &script)
 }
 
 /// Plays the story of a line, and prints how it went.
@@ -194,8 +224,10 @@ fn play_line(rt: &HostRuntime, line: &str) -> io::Result<bool> {
         println!(rt; "{line}: not a story")?;
         return Ok(false);
     };
-    if kind == Kind::Finish {
-        return play_finish(rt, line, name);
+    match kind {
+        Kind::Finish => return play_finish(rt, line, name),
+        Kind::Test => return play_test(rt, line, name),
+        _ => {}
     }
     let same = play(rt, kind, name)?;
     let says = if same { "as stored" } else { "DIFFERS" };

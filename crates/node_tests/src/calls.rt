@@ -1,5 +1,8 @@
 //! Calls as standard input spells them.
 
+pub mod on_destination;
+pub mod on_source;
+
 use frame_decoder::{front_len, read_text};
 use mig_base::PageNo;
 use page_stream::Frame;
