@@ -27,7 +27,8 @@ fn push_attribute(bytes: &mut Vec<u8>, key: Key, value: &[u8]) -> Result<(), NoM
 
 /// Appends attributes, each with a space before it.
 fn push_attributes(bytes: &mut Vec<u8>, attributes: &[Attribute]) -> Result<(), NoMemory>
-    ensures { OnOk result (bytes.new.items ≡ bytes.old.items ++ attributes_text (all_given attributes.now)) }
+    ensures { OnOk result (bytes.new.items ≡
+        bytes.old.items ++ attributes_text (all_given attributes.now)) }
 {
     for attribute in attributes {
         push_attribute(bytes, attribute.key, attribute.value)?;
@@ -41,7 +42,8 @@ pub(crate) fn push_start(
     tag: Tag,
     attributes: &[Attribute],
 ) -> Result<(), NoMemory>
-    ensures { OnOk result (bytes.new.items ≡ bytes.old.items ++ start_tag tag (all_given attributes.now)) }
+    ensures { OnOk result (bytes.new.items ≡
+        bytes.old.items ++ start_tag tag (all_given attributes.now)) }
 {
     bytes.extend_from_slice(tag.start())?;
     push_attributes(bytes, attributes)?;

@@ -91,7 +91,8 @@ impl Stepper {
     /// Makes a step, and prints the line of its outcome and those of its calls.
     fn make_step(&mut self, step: Step) -> Result<(), RunFault>
         requires { string_bytes self.old.printed ≡ [] }
-        ensures ok { OnOk result (Makes self.old.world step self.new.world (string_bytes self.new.printed)) }
+        ensures ok { OnOk result
+            (Makes self.old.world step self.new.world (string_bytes self.new.printed)) }
         ensures fault { IfErr result (λ fault. fault ≡ OutOfMemory) }
     {
         self.world.headline();
@@ -111,7 +112,8 @@ impl Stepper {
     /// Carries out an order, and prints it.
     fn obey(&mut self, order: Order) -> Result<(), RunFault>
         requires { string_bytes self.old.printed ≡ [] }
-        ensures ok { OnOk result (Obeys self.old.world order self.new.world (string_bytes self.new.printed)) }
+        ensures ok { OnOk result
+            (Obeys self.old.world order self.new.world (string_bytes self.new.printed)) }
         ensures fault { IfErr result (λ fault. fault ≡ OutOfMemory) }
     {
         match order.step(self.world.epoch()) {
@@ -125,7 +127,8 @@ impl Stepper {
 
     /// Does the line with this number and text, and replaces what was printed by its output.
     fn run_line(&mut self, number: u64, text: &[u8]) -> Result<(), RunFault>
-        ensures ok { OnOk result (IsLine self.old.world text.now self.new.world (string_bytes self.new.printed)) }
+        ensures ok { OnOk result
+            (IsLine self.old.world text.now self.new.world (string_bytes self.new.printed)) }
         ensures fault { IfErr result (λ fault. LineFault (IsWrong text.now) number fault) }
     {
         self.printed.clear();

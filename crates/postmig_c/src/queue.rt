@@ -45,7 +45,8 @@ impl Model for FrameQueue {
 /// Whether a piece was taken at which a decoder returned a fault: all but `NoMemory` are those of the stream.
 fn taken_despite(fault: StreamFault) -> Result<(), FeedFault>
     ensures ok { OnOk result (fault ≢ StreamFault.NoMemory) }
-    ensures err { IfErr result (λ refusal. (refusal ≡ FeedFault.NoMemory) × (fault ≡ StreamFault.NoMemory)) }
+    ensures err { IfErr result (λ refusal.
+        (refusal ≡ FeedFault.NoMemory) × (fault ≡ StreamFault.NoMemory)) }
 {
     match fault {
         StreamFault::NoMemory => Err(FeedFault::NoMemory),
@@ -109,7 +110,8 @@ impl FrameQueue {
     /// Shows the first frame that waits: its numbers, and its text in [`text`](FrameQueue::text). `None` comes if no frame waits and the
     /// stream has no fault there.
     pub fn show(&mut self) -> Result<Option<FrameNumbers>, StreamFault>
-        ensures some { IfOk result (λ shown. IfSome shown (λ numbers. Shows self.old numbers self.new)) }
+        ensures some { IfOk result (λ shown.
+            IfSome shown (λ numbers. Shows self.old numbers self.new)) }
         ensures none { IfOk result (λ shown. IfNone shown (IsFedUp self.old self.new)) }
         ensures fault { IfErr result (λ fault. Stops self.old fault self.new) }
     {
