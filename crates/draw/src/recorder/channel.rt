@@ -33,7 +33,10 @@ fn shown(frame: &Frame) -> (Kind, PageNo, u32) {
         Frame::Advise => (Kind::Advise, 0, 0),
         Frame::Page { page, .. } => (Kind::Page, *page, 1),
         Frame::Zero { page } => (Kind::Zero, *page, 1),
-        Frame::Run { first, pages } => (Kind::Page, *first, pages.len() as u32),
+        Frame::Run { first, pages } => {
+            let count = pages.len().min(u32::MAX as usize) as u32;
+            (Kind::Page, *first, count)
+        }
         Frame::Discard { .. } => (Kind::Discard, 0, 0),
         Frame::Package { .. } => (Kind::Package, 0, 0),
         Frame::End { .. } => (Kind::Finish, 0, 0),
