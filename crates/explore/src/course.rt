@@ -1,6 +1,7 @@
 //! What is fixed for one script, and what its draws remember.
 
-ghost use Rattle.std.specs.Prelude.{◌≡◌, ◌<◌, ◌≤◌, IfSome};
+ghost use Rattle.std.specs.Prelude.{◌≡◌, ◌<◌, ◌≤◌};
+ghost use Rattle.std.specs.Option.{ForSome};
 
 use crate::plan::Plan;
 use crate::random::below;
@@ -46,7 +47,7 @@ pub(crate) struct Memo {
     /// Slots that were stored to lately, each where the number of its line puts it.
     pub stored: [Addr; 8],
     ghost sent_below: { sent < 0x10_0000 },
-    ghost asked_below: { IfSome asked (λ page. page < 0x10_0000) },
+    ghost asked_below: { ForSome asked (λ page. page < 0x10_0000) },
 }
 
 /// The line at which `parts` sixteenths of a script are over.

@@ -88,7 +88,8 @@ impl Sheet {
         answers: bool,
     ) -> Result<(), RunFault>
         requires { CanBeSpelled order }
-        ensures { OnOk result (Adds answers world.old world.new self.old.output.items self.new.output.items) }
+        ensures { OnOk result
+            (Adds answers world.old world.new self.old.output.items self.new.output.items) }
     {
         print_order(&mut self.line, order)?;
         let effect = obey(world, order, &mut self.answer)?;
@@ -105,7 +106,8 @@ impl Sheet {
         answers: bool,
     ) -> Result<(), RunFault>
         requires { CanBeSpelled (order_of step) }
-        ensures added { OnOk result (Adds answers world.old world.new self.old.output.items self.new.output.items) }
+        ensures added { OnOk result
+            (Adds answers world.old world.new self.old.output.items self.new.output.items) }
         ensures made { OnOk result (MakesIt world.old step world.new) }
     {
         let order = spell(step, &mut self.line)?;

@@ -41,8 +41,12 @@ pub fn run_explore<W: Write>(alloc: Global, writer: &mut W, plan: &Plan) -> Resu
     requires high { plan.now.cpus ≤ 16 }
     requires some { 1 ≤ plan.now.pages }
     requires few { plan.now.pages ≤ 4096 }
-    ensures ok { OnOk result (Writes plan.now.answers plan.now.finish plan.now.sweep (first_world plan.now.cpus) plan.now.steps (W.contents writer.old) (W.contents writer.new)) }
-    ensures fault { OnErr result (Stops plan.now.answers (plan.now.finish || plan.now.sweep) (first_world plan.now.cpus) plan.now.steps (W.contents writer.old) (W.contents writer.new)) }
+    ensures ok { OnOk result
+        (Writes plan.now.answers plan.now.finish plan.now.sweep (first_world plan.now.cpus)
+        plan.now.steps (W.contents writer.old) (W.contents writer.new)) }
+    ensures fault { OnErr result
+        (Stops plan.now.answers (plan.now.finish || plan.now.sweep) (first_world plan.now.cpus)
+        plan.now.steps (W.contents writer.old) (W.contents writer.new)) }
 {
     let Ok(mut world) = World::new(alloc, plan.cpus) else {
         return Err(RunFault::NoMemory);
@@ -63,8 +67,12 @@ fn write_script<W: Write>(
     requires some { 1 ≤ plan.now.pages }
     requires few { plan.now.pages ≤ 4096 }
     requires start { Explored plan.now.answers world.old 0 world.old sheet.old.output.items }
-    ensures ok { OnOk result (Writes plan.now.answers plan.now.finish plan.now.sweep world.old plan.now.steps (W.contents writer.old) (W.contents writer.new)) }
-    ensures fault { OnErr result (Stops plan.now.answers (plan.now.finish || plan.now.sweep) world.old plan.now.steps (W.contents writer.old) (W.contents writer.new)) }
+    ensures ok { OnOk result
+        (Writes plan.now.answers plan.now.finish plan.now.sweep world.old plan.now.steps
+        (W.contents writer.old) (W.contents writer.new)) }
+    ensures fault { OnErr result
+        (Stops plan.now.answers (plan.now.finish || plan.now.sweep) world.old plan.now.steps
+        (W.contents writer.old) (W.contents writer.new)) }
 {
     let mut rng = Pcg32::new(plan.seed, STREAM);
     let course = draw_course(&mut rng, plan);
@@ -73,9 +81,11 @@ fn write_script<W: Write>(
 
 /// Writes what was gathered.
 fn flush<W: Write>(writer: &mut W, sheet: &mut Sheet) -> Result<(), RunFault>
-    ensures ok { OnOk result (Appends (W.contents writer.old) (W.contents writer.new) sheet.old.output.items) }
+    ensures ok { OnOk result
+        (Appends (W.contents writer.old) (W.contents writer.new) sheet.old.output.items) }
     ensures none { OnOk result (sheet.new.output.items ≡ []) }
-    ensures front { OnErr result (Front sheet.old.output.items (W.contents writer.old) (W.contents writer.new)) }
+    ensures front { OnErr result
+        (Front sheet.old.output.items (W.contents writer.old) (W.contents writer.new)) }
 {
     write_out(writer, &sheet.output)?;
     sheet.output.clear();
@@ -84,8 +94,11 @@ fn flush<W: Write>(writer: &mut W, sheet: &mut Sheet) -> Result<(), RunFault>
 
 /// Writes what was gathered if that is much.
 fn flush_much<W: Write>(writer: &mut W, sheet: &mut Sheet) -> Result<(), RunFault>
-    ensures ok { OnOk result (Gone sheet.old.output.items sheet.new.output.items (W.contents writer.old) (W.contents writer.new)) }
-    ensures front { OnErr result (Front sheet.old.output.items (W.contents writer.old) (W.contents writer.new)) }
+    ensures ok { OnOk result
+        (Gone sheet.old.output.items sheet.new.output.items (W.contents writer.old)
+        (W.contents writer.new)) }
+    ensures front { OnErr result
+        (Front sheet.old.output.items (W.contents writer.old) (W.contents writer.new)) }
 {
     if sheet.output.len() < PIECE {
         return Ok(());
@@ -103,8 +116,12 @@ fn write_lines<W: Write, R: Rng>(
     plan: &Plan,
 ) -> Result<(), RunFault>
     requires { Explored plan.now.answers world.old 0 world.old sheet.old.output.items }
-    ensures ok { OnOk result (Writes plan.now.answers plan.now.finish plan.now.sweep world.old plan.now.steps (W.contents writer.old) (W.contents writer.new)) }
-    ensures fault { OnErr result (Stops plan.now.answers (plan.now.finish || plan.now.sweep) world.old plan.now.steps (W.contents writer.old) (W.contents writer.new)) }
+    ensures ok { OnOk result
+        (Writes plan.now.answers plan.now.finish plan.now.sweep world.old plan.now.steps
+        (W.contents writer.old) (W.contents writer.new)) }
+    ensures fault { OnErr result
+        (Stops plan.now.answers (plan.now.finish || plan.now.sweep) world.old plan.now.steps
+        (W.contents writer.old) (W.contents writer.new)) }
 {
     let mut memo = Memo::new();
     for _ in 0..plan.steps {
@@ -149,9 +166,13 @@ fn write_whole<W: Write>(
     sheet: &mut Sheet,
     answers: bool,
 ) -> Result<(), RunFault>
-    ensures ok { OnOk result (GoesOn answers world.old (W.contents writer.old) sheet.old.output.items world.new (W.contents writer.new) sheet.new.output.items) }
+    ensures ok { OnOk result
+        (GoesOn answers world.old (W.contents writer.old) sheet.old.output.items world.new
+        (W.contents writer.new) sheet.new.output.items) }
     ensures ended { OnOk result (IsComplete world.new ⊎ (needs_epoch world.new ≡ true)) }
-    ensures fault { OnErr result (StopsOn answers world.old (W.contents writer.old) sheet.old.output.items (W.contents writer.new)) }
+    ensures fault { OnErr result
+        (StopsOn answers world.old (W.contents writer.old) sheet.old.output.items
+        (W.contents writer.new)) }
 {
     write_finish(writer, world, sheet, answers)?;
     write_sweep(writer, world, memo, sheet, answers)?;
@@ -165,9 +186,13 @@ fn write_finish<W: Write>(
     sheet: &mut Sheet,
     answers: bool,
 ) -> Result<(), RunFault>
-    ensures ok { OnOk result (GoesOn answers world.old (W.contents writer.old) sheet.old.output.items world.new (W.contents writer.new) sheet.new.output.items) }
+    ensures ok { OnOk result
+        (GoesOn answers world.old (W.contents writer.old) sheet.old.output.items world.new
+        (W.contents writer.new) sheet.new.output.items) }
     ensures ended { OnOk result (IsComplete world.new ⊎ (needs_epoch world.new ≡ true)) }
-    ensures fault { OnErr result (StopsOn answers world.old (W.contents writer.old) sheet.old.output.items (W.contents writer.new)) }
+    ensures fault { OnErr result
+        (StopsOn answers world.old (W.contents writer.old) sheet.old.output.items
+        (W.contents writer.new)) }
 {
     while let Some(step) = next_to_finish(world) {
         sheet.add_step(world, step, answers)?;
@@ -184,8 +209,12 @@ fn write_sweep<W: Write>(
     sheet: &mut Sheet,
     answers: bool,
 ) -> Result<(), RunFault>
-    ensures ok { OnOk result (GoesOn answers world.old (W.contents writer.old) sheet.old.output.items world.new (W.contents writer.new) sheet.new.output.items) }
-    ensures fault { OnErr result (StopsOn answers world.old (W.contents writer.old) sheet.old.output.items (W.contents writer.new)) }
+    ensures ok { OnOk result
+        (GoesOn answers world.old (W.contents writer.old) sheet.old.output.items world.new
+        (W.contents writer.new) sheet.new.output.items) }
+    ensures fault { OnErr result
+        (StopsOn answers world.old (W.contents writer.old) sheet.old.output.items
+        (W.contents writer.new)) }
 {
     let mut sweep = Sweep::new(world)?;
     for _ in 0..u32::MAX {

@@ -1,3 +1,8 @@
+use Rattle.std.proofs.Common.{subst, sym}
+use Rattle.std.specs.Option.{IfSome}
+use Rattle.grammar.specs.Fits.{CanBeSpelled}
+use Rattle.grammar.specs.Orders.{order_of}
+use Rattle.finishing.proofs.Sayable.{can_say}
 use Rattle.explore.proofs.Going.{goes_first, goes_line, goes_stops, goes_cut, fewer_left, on_err}
 use Rattle.explore.proofs.run.write_finish.Goals as goal
 
@@ -15,3 +20,6 @@ returns-in_err-add_step-clause-fault g c = on_err _ _ (goes_stops _ _ _ _ _ _ _ 
 
 pub returns-in_err-flush_much-clause-fault : goal.returns-in_err-flush_much-clause-fault
 returns-in_err-flush_much-clause-fault g c = on_err _ _ (goes_cut _ _ _ _ _ _ _ _ _ _ c.loop-step.invariant c.in_ok-add_step.ensures.added c.in_err-flush_much.ensures.front)
+
+pub add_step-requires : goal.add_step-requires
+add_step-requires g c = subst (λ o. IfSome o (λ made. CanBeSpelled (order_of made))) (sym c.in-Some.ensures.step) (can_say c.loop-step.world)
