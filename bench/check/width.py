@@ -19,7 +19,7 @@ import shared  # noqa: F401
 import page
 
 WIDE = 100
-MOST = 623
+MOST = 550
 
 CLAUSE = re.compile(r"(\s*)(requires|ensures)\*?\s")
 # What a line may end with, what binds least first, and the words before a function's body.
