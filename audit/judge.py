@@ -144,6 +144,9 @@ class Search:
         elif not call.done:
             self.settle(call)
         reason = self.kernel.may_return(call.key)
+        if reason:
+            self.settle_where(lambda it: it.word == "read" and any(kind != "fault" for kind, _ in it.messages))
+            reason = self.kernel.may_return(call.key)
         if reason and "cleared" in reason:
             self.step("clears", call.key)
             reason = None
@@ -232,8 +235,10 @@ class Search:
         if call.answer == "EEXIST" and places and places[0] in pages and pages[places[0]].presence == MISSING:
             self.settle_where(lambda it: it.word in INSTALLS and it.object == call.object and places[0] in self.places_of(it))
         elif call.answer == "ok":
-            if any(place in pages and pages[place].presence == PRESENT for place in places):
-                self.settle_where(lambda it: it.word in ("madvise", "mremap", "munmap", "mmap"))
+            for place in places:
+                self.make_missing(place)
+            if self.kernel.untold(call.object):
+                self.settle_where(lambda it: it.word == "read" and any(kind != "fault" for kind, _ in it.messages))
             for place in places:
                 self.foresee(call, place)
         elif call.answer == "EAGAIN" and not self.kernel.changing(call.object):
@@ -356,12 +361,20 @@ class Search:
     def touch(self, thread, me, place, flags):
         """The thread sees the page, if it has not yet, and queues its fault. Whether that was possible."""
         if thread not in self.kernel.faults:
-            page = self.kernel.pages.get(place)
-            if page and page.presence == PRESENT and not flags & FAULT_PROTECTED:
-                self.settle_where(lambda it: it.word == "madvise")
+            if not flags & FAULT_PROTECTED:
+                self.make_missing(place)
             if not self.step("sees", thread, me, place, flags):
                 return False
         return self.kernel.faults[thread].phase == SEEN and self.step("queues", thread)
+
+    def make_missing(self, place):
+        """A page that is present is cleared by a MADV_DONTNEED that is under way, where there is one."""
+        page = self.kernel.pages.get(place)
+        if page and page.presence == PRESENT:
+            self.settle_where(lambda it: it.word == "madvise")
+            for key, call in list(self.kernel.calls.items()):
+                if place in call.clear:
+                    self.step("clears", key)
 
     def announce(self, me, kind, values):
         if not any(self.kernel.is_next(of, me, kind, values) for of in self.kernel.calls.values()):

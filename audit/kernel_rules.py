@@ -94,10 +94,15 @@ class Kernel:
         return start % self.page == 0 and length % self.page == 0 and length > 0 and start + length <= 1 << 64
 
     def changing(self, found):
+        """The map calls that have told the object and have not returned: copy, zeropage and writeprotect may be EAGAIN."""
         return [key for key, call in self.calls.items() if found in call.told]
 
+    def untold(self, found):
+        """Those of them of which an event is unread: copy, zeropage and writeprotect are EAGAIN."""
+        return [key for key in self.changing(found) if self.calls[key].events.get(found) or self.calls[key].removes.get(found)]
+
     def has_unread(self, found):
-        return bool(self.queue.get(found)) or any(call.events.get(found) or call.removes.get(found) for call in self.calls.values())
+        return bool(self.queue.get(found)) or bool(self.untold(found))
 
     def may_fault(self, fault):
         """Whether the thread still has to wait: the page is missing, or write-protected, and registered for that."""
@@ -269,7 +274,7 @@ class Kernel:
         if call.answer == "ok":
             need(right and len(watched) == len(places) and not no_protect, "not registered, or wrong arguments")
             need(done == length, f"done, and {done} of {length} bytes")
-            need(not self.changing(me), "the space is changing")
+            need(not self.untold(me), "the space is changing")
             self.put(call, me, of, places, mode)
         elif call.answer == "EAGAIN" and done and 0 < done < length and done % self.page == 0:
             need(right and len(watched) == len(places) and not no_protect, "not registered, or wrong arguments")
@@ -277,7 +282,7 @@ class Kernel:
             self.is_present(places[done // self.page], call)
         elif call.answer == "EAGAIN":
             need(self.changing(me), "no map call is under way that an event tells of")
-            if not any(self.calls[key].events.get(me) or self.calls[key].removes.get(me) for key in self.changing(me)):
+            if not self.untold(me):
                 self.differs.append("changing-longer")
         elif call.answer == "EEXIST":
             need(right and watched[:1] == places[:1], "not registered, or wrong arguments")
@@ -319,7 +324,7 @@ class Kernel:
         watched = [it for it in places if it in self.pages and self.pages[it].modes & PROTECT_MODE]
         if call.answer == "ok":
             need(right and watched, "not registered for write-protect faults, or wrong arguments")
-            need(not self.changing(me), "the space is changing")
+            need(not self.untold(me), "the space is changing")
             if len(watched) < len(places):
                 self.differs.append("writeprotect-over-a-hole")
             for place in watched:
