@@ -379,6 +379,11 @@ class Search:
     def announce(self, me, kind, values):
         if not any(self.kernel.is_next(of, me, kind, values) for of in self.kernel.calls.values()):
             self.settle_where(lambda it: it.word in MAP_CALLS)
+        for key, of in list(self.kernel.calls.items()):
+            if self.kernel.is_next(of, me, kind, values):
+                if me not in of.queued:
+                    self.step("tells", key, me)
+                break
 
     # poll(2)
 

@@ -64,7 +64,8 @@ class MapCall:
     space: int
     events: dict = field(default_factory=dict)  # for each object the events that are not read
     removes: dict = field(default_factory=dict)  # for each object, [cursor, end) of the pages whose REMOVE is still to come
-    told: set = field(default_factory=set)  # objects that were told: changing until the call returns
+    told: set = field(default_factory=set)  # objects that have an event of it: changing until the call returns
+    queued: set = field(default_factory=set)  # objects in whose queue its next event waits: a kernel queues one at a time
     clear: tuple = ()  # the pages to be cleared
 
 
@@ -102,7 +103,7 @@ class Kernel:
         return [key for key in self.changing(found) if self.calls[key].events.get(found) or self.calls[key].removes.get(found)]
 
     def has_unread(self, found):
-        return bool(self.queue.get(found)) or bool(self.untold(found))
+        return bool(self.queue.get(found)) or any(found in call.queued for call in self.calls.values())
 
     def may_fault(self, fault):
         """Whether the thread still has to wait: the page is missing, or write-protected, and registered for that."""
@@ -170,6 +171,12 @@ class Kernel:
         if self.may_fault(fault):
             self.differs.append("left-by-a-signal")
         self.end_fault(thread, fault, False)
+
+    def tells(self, key, found):
+        """The next event of a map call is queued."""
+        call = self.calls.get(key)
+        need(call and (call.events.get(found) or call.removes.get(found)) and found not in call.queued, "no event is to be queued")
+        call.queued.add(found)
 
     def clears(self, key):
         call = self.calls.get(key)
@@ -382,6 +389,7 @@ class Kernel:
         for key in self.changing(me):
             self.calls[key].events.pop(me, None)
             self.calls[key].removes.pop(me, None)
+            self.calls[key].queued.discard(me)
 
     def take_poll(self, call, arguments):
         of, me = self.object_of(arguments), arguments["O"][0]
@@ -425,7 +433,7 @@ class Kernel:
             fault.phase, fault.call = ASLEEP, (call if self.may_fault(fault) else None)
             return
         need(not waiting, "a fault is read before events")
-        keys = [key for key, of in self.calls.items() if self.is_next(of, me, kind, values)]
+        keys = [key for key, of in self.calls.items() if me in of.queued and self.is_next(of, me, kind, values)]
         need(keys, "no map call has queued this event")
         if keys[0] != next(key for key, of in self.calls.items() if of.events.get(me) or of.removes.get(me)):
             self.differs.append("order-of-two-calls")
@@ -444,6 +452,7 @@ class Kernel:
         return any((space, page) in self.pages and self.pages[space, page].object == me for page in range(first, last))
 
     def read_event(self, of, me, kind, values):
+        of.queued.discard(me)
         if of.events.get(me):
             of.events[me].pop(0)
             return
@@ -514,7 +523,7 @@ class Kernel:
         told = self.told_by(call, places, REMOVE)
         if told and advice != MADV_FREE:
             ends = (places[0][1], places[-1][1] + 1)
-            self.calls[call.key] = MapCall(call.space, {}, {it: ends for it in told}, set(told), tuple(places))
+            self.calls[call.key] = MapCall(call.space, {}, {it: ends for it in told}, set(told), clear=tuple(places))
         else:
             self.clear(places, UNKNOWN if advice == MADV_FREE else MISSING)
 
