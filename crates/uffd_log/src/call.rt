@@ -13,42 +13,129 @@ pub struct Descriptor {
 #[derive(Clone, Copy, Debug, PartialEq, Eq)]
 pub enum Call {
     /// userfaultfd(2), or USERFAULTFD_IOC_NEW on the device.
-    Open { device: bool, flags: u64 },
+    Open {
+        device: bool,
+        flags: u64,
+    },
     /// UFFDIO_API.
-    Api { on: Descriptor, api: u64, features: u64 },
+    Api {
+        on: Descriptor,
+        api: u64,
+        features: u64,
+    },
     /// UFFDIO_REGISTER.
-    Register { on: Descriptor, start: u64, len: u64, mode: u64 },
+    Register {
+        on: Descriptor,
+        start: u64,
+        len: u64,
+        mode: u64,
+    },
     /// UFFDIO_UNREGISTER.
-    Unregister { on: Descriptor, start: u64, len: u64 },
+    Unregister {
+        on: Descriptor,
+        start: u64,
+        len: u64,
+    },
     /// UFFDIO_WAKE.
-    Wake { on: Descriptor, start: u64, len: u64 },
+    Wake {
+        on: Descriptor,
+        start: u64,
+        len: u64,
+    },
     /// UFFDIO_COPY: to the address `to` of the object's space, from `from` of the caller's.
-    Copy { on: Descriptor, to: u64, from: u64, len: u64, mode: u64 },
+    Copy {
+        on: Descriptor,
+        to: u64,
+        from: u64,
+        len: u64,
+        mode: u64,
+    },
     /// UFFDIO_MOVE.
-    Move { on: Descriptor, to: u64, from: u64, len: u64, mode: u64 },
+    Move {
+        on: Descriptor,
+        to: u64,
+        from: u64,
+        len: u64,
+        mode: u64,
+    },
     /// UFFDIO_ZEROPAGE.
-    ZeroPage { on: Descriptor, start: u64, len: u64, mode: u64 },
+    ZeroPage {
+        on: Descriptor,
+        start: u64,
+        len: u64,
+        mode: u64,
+    },
     /// UFFDIO_CONTINUE.
-    Continue { on: Descriptor, start: u64, len: u64, mode: u64 },
+    Continue {
+        on: Descriptor,
+        start: u64,
+        len: u64,
+        mode: u64,
+    },
     /// UFFDIO_POISON.
-    Poison { on: Descriptor, start: u64, len: u64, mode: u64 },
+    Poison {
+        on: Descriptor,
+        start: u64,
+        len: u64,
+        mode: u64,
+    },
     /// UFFDIO_WRITEPROTECT.
-    WriteProtect { on: Descriptor, start: u64, len: u64, mode: u64 },
+    WriteProtect {
+        on: Descriptor,
+        start: u64,
+        len: u64,
+        mode: u64,
+    },
     /// read(2) of `room` bytes; `None` where the log does not say how many.
-    Read { on: Descriptor, room: Option<u64> },
+    Read {
+        on: Descriptor,
+        room: Option<u64>,
+    },
     /// One descriptor of a poll(2).
-    Poll { on: Descriptor },
+    Poll {
+        on: Descriptor,
+    },
     /// O_NONBLOCK is set or cleared.
-    NonBlock { on: Descriptor, set: bool },
+    NonBlock {
+        on: Descriptor,
+        set: bool,
+    },
     /// dup(2), or dup2(2) to `target`.
-    Dup { on: Descriptor, target: Option<u32> },
-    Close { on: Descriptor },
+    Dup {
+        on: Descriptor,
+        target: Option<u32>,
+    },
+    Close {
+        on: Descriptor,
+    },
     /// The recorder reads which pages are present. No call of the program.
-    Scan { on: Descriptor, start: u64, len: u64 },
-    Mmap { addr: u64, len: u64, prot: u64, flags: u64 },
-    Munmap { addr: u64, len: u64 },
-    Mremap { addr: u64, old_len: u64, new_len: u64, flags: u64, target: u64 },
-    Madvise { addr: u64, len: u64, advice: u64 },
+    Scan {
+        on: Descriptor,
+        start: u64,
+        len: u64,
+    },
+    Mmap {
+        addr: u64,
+        len: u64,
+        prot: u64,
+        flags: u64,
+    },
+    Munmap {
+        addr: u64,
+        len: u64,
+    },
+    Mremap {
+        addr: u64,
+        old_len: u64,
+        new_len: u64,
+        flags: u64,
+        target: u64,
+    },
+    Madvise {
+        addr: u64,
+        len: u64,
+        advice: u64,
+    },
     Fork,
 }
 

@@ -1,9 +1,9 @@
 //! Keywords: the words of lines that are no numbers, descriptors or texts.
 
-ghost use Rattle.std.specs.Prelude.{◌≡◌, IfSome, IfNone, true};
+ghost use Rattle.std.specs.Prelude.{◌≡◌, ◌↔◌, IsTrue, IfSome, IfNone, true};
 ghost use Rattle.uffd_log.specs.declared.keyword.Keyword.{Keyword as KeywordOf};
 ghost use Rattle.uffd_log.specs.Words.{keyword_text};
-ghost use Rattle.uffd_log.specs.Kinds.{is_of_call, is_of_line, is_of_answer};
+ghost use Rattle.uffd_log.specs.Kinds.{is_of_call, is_of_line, is_of_answer, is_long};
 
 /// A word of a log.
 #[derive(Clone, Copy, Debug, PartialEq, Eq)]
@@ -78,8 +78,32 @@ impl Keyword {
         if let Some(keyword) = of_line(word) {
             return Some(keyword);
         }
-        of_answer(word)
+        if let Some(keyword) = of_answer(word) {
+            return Some(keyword);
+        }
+        of_long(word)
     }
+}
+
+/// Whether two words are the same.
+fn is_same(word: &[u8], other: &[u8]) -> bool
+    ensures { IsTrue result ↔ (word.now ≡ other.now) }
+{
+    word == other
+}
+
+/// A word of more than ten letters.
+fn of_long(word: &[u8]) -> Option<Keyword>
+    ensures found { IfSome result (λ keyword. word.now ≡ keyword_text keyword) }
+    ensures none { IfNone result ((keyword : KeywordOf) → is_long keyword ≡ true → word.now ≡ keyword_text keyword → ⊥) }
+{
+    if is_same(word, b"writeprotect") {
+        return Some(Keyword::WriteProtect);
+    }
+    if is_same(word, b"interrupted") {
+        return Some(Keyword::Interrupted);
+    }
+    None
 }
 
 /// A word of calls.
@@ -98,7 +122,6 @@ fn of_call(word: &[u8]) -> Option<Keyword>
         b"zeropage" => Some(Keyword::ZeroPage),
         b"continue" => Some(Keyword::Continue),
         b"poison" => Some(Keyword::Poison),
-        b"writeprotect" => Some(Keyword::WriteProtect),
         b"read" => Some(Keyword::Read),
         b"poll" => Some(Keyword::Poll),
         b"nonblock" => Some(Keyword::NonBlock),
@@ -148,7 +171,6 @@ fn of_answer(word: &[u8]) -> Option<Keyword>
 {
     match word {
         b"ok" => Some(Keyword::Ok),
-        b"interrupted" => Some(Keyword::Interrupted),
         b"EPERM" => Some(Keyword::Eperm),
         b"ENOENT" => Some(Keyword::Enoent),
         b"ESRCH" => Some(Keyword::Esrch),

@@ -34,21 +34,53 @@ pub enum Answer {
 /// What a line says. `number` names a call in its process.
 #[derive(Clone, Copy, Debug, PartialEq, Eq)]
 pub enum Line {
-    Begin { stamp: Stamp, number: u64, call: Call },
-    End { stamp: Stamp, number: u64, answer: Answer },
+    Begin {
+        stamp: Stamp,
+        number: u64,
+        call: Call,
+    },
+    End {
+        stamp: Stamp,
+        number: u64,
+        answer: Answer,
+    },
     /// Call `number`, a read, has read a message.
-    Read { stamp: Stamp, number: u64, message: Message },
+    Read {
+        stamp: Stamp,
+        number: u64,
+        message: Message,
+    },
     /// What call `number`, a scan, found in a run of pages. Bits: 1 present, 2 swapped out or a marker, 4 write-protected.
-    Have { stamp: Stamp, number: u64, start: u64, len: u64, bits: u64 },
+    Have {
+        stamp: Stamp,
+        number: u64,
+        start: u64,
+        len: u64,
+        bits: u64,
+    },
     /// A descriptor that the recorder meets first here.
-    Found { stamp: Stamp, on: Descriptor },
+    Found {
+        stamp: Stamp,
+        on: Descriptor,
+    },
     /// A descriptor that is closed or another file by a call that the recorder does not see.
-    Dropped { stamp: Stamp, on: Descriptor },
+    Dropped {
+        stamp: Stamp,
+        on: Descriptor,
+    },
     /// The process runs a program. The words of its command are not kept.
-    Started { stamp: Stamp, parent: u32 },
+    Started {
+        stamp: Stamp,
+        parent: u32,
+    },
     /// The process begins as a copy of its parent.
-    Forked { stamp: Stamp, parent: u32 },
-    Exit { stamp: Stamp },
+    Forked {
+        stamp: Stamp,
+        parent: u32,
+    },
+    Exit {
+        stamp: Stamp,
+    },
     /// So many lines which belong above this one were not written.
     Lost(u64),
 }

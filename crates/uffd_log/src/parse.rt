@@ -15,7 +15,11 @@ use mig_base::NoMemory;
 fn some_small_of(n: u64) -> Option<u32>
     ensures { result ≡ some_small n }
 {
-    if 0 < n && n < 1 << 31 { Some(n as u32) } else { None }
+    if 0 < n && n < 1 << 31 {
+        Some(n as u32)
+    } else {
+        None
+    }
 }
 
 fn bits_of(n: u64) -> Option<u64>
@@ -40,15 +44,27 @@ fn call_line_of(stamp: Stamp, tokens: &[Token]) -> Option<Line>
     match tokens {
         [Token::Key(Keyword::Begin), Token::Number(n), rest @ ..] => {
             let call = call_of(rest)?;
-            Some(Line::Begin { stamp, number: *n, call })
+            Some(Line::Begin {
+                stamp,
+                number: *n,
+                call,
+            })
         }
         [Token::Key(Keyword::End), Token::Number(n), rest @ ..] => {
             let answer = answer_of(rest)?;
-            Some(Line::End { stamp, number: *n, answer })
+            Some(Line::End {
+                stamp,
+                number: *n,
+                answer,
+            })
         }
         [Token::Key(Keyword::Message), Token::Number(n), rest @ ..] => {
             let message = message_of(rest)?;
-            Some(Line::Read { stamp, number: *n, message })
+            Some(Line::Read {
+                stamp,
+                number: *n,
+                message,
+            })
         }
         [
             Token::Key(Keyword::Have),
@@ -58,7 +74,13 @@ fn call_line_of(stamp: Stamp, tokens: &[Token]) -> Option<Line>
             Token::Number(bits),
         ] => {
             let bits = bits_of(*bits)?;
-            Some(Line::Have { stamp, number: *n, start: *start, len: *len, bits })
+            Some(Line::Have {
+                stamp,
+                number: *n,
+                start: *start,
+                len: *len,
+                bits,
+            })
         }
         _ => None,
     }
@@ -122,8 +144,8 @@ pub fn parse(tokens: &mut Vec<Token>, text: &[u8]) -> Result<Option<Line>, NoMem
     ensures found { IfOk result (λ found. IfSome found (λ line. Spells text.now line)) }
     ensures none { IfOk result (λ found. IfNone found ((line : LineOf) → Spells text.now line → ⊥)) }
 {
-    if !read_tokens(tokens, text)? {
-        return Ok(None);
+    if read_tokens(tokens, text)? {
+        return Ok(line_of(tokens));
     }
-    Ok(line_of(tokens))
+    Ok(None)
 }

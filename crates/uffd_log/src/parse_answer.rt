@@ -64,7 +64,10 @@ fn done_of(tokens: &[Token]) -> Option<Answer>
             Token::Key(Keyword::Ok),
             Token::Number(features),
             Token::Number(ioctls),
-        ] => Some(Answer::Features { features: *features, ioctls: *ioctls }),
+        ] => Some(Answer::Features {
+            features: *features,
+            ioctls: *ioctls,
+        }),
         [Token::Key(Keyword::Interrupted)] => Some(Answer::Interrupted),
         _ => None,
     }
@@ -96,7 +99,11 @@ pub fn message_of(tokens: &[Token]) -> Option<Message>
             Token::Number(thread),
         ] => {
             let thread = small_of(*thread)?;
-            Some(Message::Fault { addr: *addr, flags: *flags, thread })
+            Some(Message::Fault {
+                addr: *addr,
+                flags: *flags,
+                thread,
+            })
         }
         [Token::Key(Keyword::Fork), Token::On(child)] => Some(Message::Fork { child: *child }),
         [
@@ -104,17 +111,27 @@ pub fn message_of(tokens: &[Token]) -> Option<Message>
             Token::Number(from),
             Token::Number(to),
             Token::Number(len),
-        ] => Some(Message::Remap { from: *from, to: *to, len: *len }),
+        ] => Some(Message::Remap {
+            from: *from,
+            to: *to,
+            len: *len,
+        }),
         [
             Token::Key(Keyword::Remove),
             Token::Number(start),
             Token::Number(end),
-        ] => Some(Message::Remove { start: *start, end: *end }),
+        ] => Some(Message::Remove {
+            start: *start,
+            end: *end,
+        }),
         [
             Token::Key(Keyword::Unmap),
             Token::Number(start),
             Token::Number(end),
-        ] => Some(Message::Unmap { start: *start, end: *end }),
+        ] => Some(Message::Unmap {
+            start: *start,
+            end: *end,
+        }),
         _ => None,
     }
 }

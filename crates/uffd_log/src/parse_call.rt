@@ -23,23 +23,36 @@ fn object_call_of(tokens: &[Token]) -> Option<Call>
             Token::Key(Keyword::Open),
             Token::Key(Keyword::Syscall),
             Token::Number(flags),
-        ] => Some(Call::Open { device: false, flags: *flags }),
+        ] => Some(Call::Open {
+            device: false,
+            flags: *flags,
+        }),
         [
             Token::Key(Keyword::Open),
             Token::Key(Keyword::Device),
             Token::Number(flags),
-        ] => Some(Call::Open { device: true, flags: *flags }),
+        ] => Some(Call::Open {
+            device: true,
+            flags: *flags,
+        }),
         [
             Token::Key(Keyword::Api),
             Token::On(on),
             Token::Number(api),
             Token::Number(features),
-        ] => Some(Call::Api { on: *on, api: *api, features: *features }),
+        ] => Some(Call::Api {
+            on: *on,
+            api: *api,
+            features: *features,
+        }),
         [
             Token::Key(Keyword::NonBlock),
             Token::On(on),
             Token::Number(0),
-        ] => Some(Call::NonBlock { on: *on, set: false }),
+        ] => Some(Call::NonBlock {
+            on: *on,
+            set: false,
+        }),
         [
             Token::Key(Keyword::NonBlock),
             Token::On(on),
@@ -61,32 +74,54 @@ fn range_call_of(tokens: &[Token]) -> Option<Call>
             Token::Number(start),
             Token::Number(len),
             Token::Number(mode),
-        ] => Some(Call::Register { on: *on, start: *start, len: *len, mode: *mode }),
+        ] => Some(Call::Register {
+            on: *on,
+            start: *start,
+            len: *len,
+            mode: *mode,
+        }),
         [
             Token::Key(Keyword::Unregister),
             Token::On(on),
             Token::Number(start),
             Token::Number(len),
-        ] => Some(Call::Unregister { on: *on, start: *start, len: *len }),
+        ] => Some(Call::Unregister {
+            on: *on,
+            start: *start,
+            len: *len,
+        }),
         [
             Token::Key(Keyword::Wake),
             Token::On(on),
             Token::Number(start),
             Token::Number(len),
-        ] => Some(Call::Wake { on: *on, start: *start, len: *len }),
+        ] => Some(Call::Wake {
+            on: *on,
+            start: *start,
+            len: *len,
+        }),
         [
             Token::Key(Keyword::WriteProtect),
             Token::On(on),
             Token::Number(start),
             Token::Number(len),
             Token::Number(mode),
-        ] => Some(Call::WriteProtect { on: *on, start: *start, len: *len, mode: *mode }),
+        ] => Some(Call::WriteProtect {
+            on: *on,
+            start: *start,
+            len: *len,
+            mode: *mode,
+        }),
         [
             Token::Key(Keyword::Scan),
             Token::On(on),
             Token::Number(start),
             Token::Number(len),
-        ] => Some(Call::Scan { on: *on, start: *start, len: *len }),
+        ] => Some(Call::Scan {
+            on: *on,
+            start: *start,
+            len: *len,
+        }),
         _ => None,
     }
 }
@@ -103,7 +138,13 @@ fn put_call_of(tokens: &[Token]) -> Option<Call>
             Token::Number(from),
             Token::Number(len),
             Token::Number(mode),
-        ] => Some(Call::Copy { on: *on, to: *to, from: *from, len: *len, mode: *mode }),
+        ] => Some(Call::Copy {
+            on: *on,
+            to: *to,
+            from: *from,
+            len: *len,
+            mode: *mode,
+        }),
         [
             Token::Key(Keyword::Move),
             Token::On(on),
@@ -111,28 +152,49 @@ fn put_call_of(tokens: &[Token]) -> Option<Call>
             Token::Number(from),
             Token::Number(len),
             Token::Number(mode),
-        ] => Some(Call::Move { on: *on, to: *to, from: *from, len: *len, mode: *mode }),
+        ] => Some(Call::Move {
+            on: *on,
+            to: *to,
+            from: *from,
+            len: *len,
+            mode: *mode,
+        }),
         [
             Token::Key(Keyword::ZeroPage),
             Token::On(on),
             Token::Number(start),
             Token::Number(len),
             Token::Number(mode),
-        ] => Some(Call::ZeroPage { on: *on, start: *start, len: *len, mode: *mode }),
+        ] => Some(Call::ZeroPage {
+            on: *on,
+            start: *start,
+            len: *len,
+            mode: *mode,
+        }),
         [
             Token::Key(Keyword::Continue),
             Token::On(on),
             Token::Number(start),
             Token::Number(len),
             Token::Number(mode),
-        ] => Some(Call::Continue { on: *on, start: *start, len: *len, mode: *mode }),
+        ] => Some(Call::Continue {
+            on: *on,
+            start: *start,
+            len: *len,
+            mode: *mode,
+        }),
         [
             Token::Key(Keyword::Poison),
             Token::On(on),
             Token::Number(start),
             Token::Number(len),
             Token::Number(mode),
-        ] => Some(Call::Poison { on: *on, start: *start, len: *len, mode: *mode }),
+        ] => Some(Call::Poison {
+            on: *on,
+            start: *start,
+            len: *len,
+            mode: *mode,
+        }),
         _ => None,
     }
 }
@@ -146,25 +208,37 @@ fn read_call_of(tokens: &[Token]) -> Option<Call>
             Token::Key(Keyword::Read),
             Token::On(on),
             Token::Number(room),
-        ] => Some(Call::Read { on: *on, room: Some(*room) }),
+        ] => Some(Call::Read {
+            on: *on,
+            room: Some(*room),
+        }),
         [
             Token::Key(Keyword::Read),
             Token::On(on),
             Token::Key(Keyword::Dash),
-        ] => Some(Call::Read { on: *on, room: None }),
+        ] => Some(Call::Read {
+            on: *on,
+            room: None,
+        }),
         [Token::Key(Keyword::Poll), Token::On(on)] => Some(Call::Poll { on: *on }),
         [
             Token::Key(Keyword::Dup),
             Token::On(on),
             Token::Key(Keyword::Dash),
-        ] => Some(Call::Dup { on: *on, target: None }),
+        ] => Some(Call::Dup {
+            on: *on,
+            target: None,
+        }),
         [
             Token::Key(Keyword::Dup),
             Token::On(on),
             Token::Number(target),
         ] => {
             let target = small_of(*target)?;
-            Some(Call::Dup { on: *on, target: Some(target) })
+            Some(Call::Dup {
+                on: *on,
+                target: Some(target),
+            })
         }
         _ => None,
     }
@@ -181,12 +255,20 @@ fn map_call_of(tokens: &[Token]) -> Option<Call>
             Token::Number(len),
             Token::Number(prot),
             Token::Number(flags),
-        ] => Some(Call::Mmap { addr: *addr, len: *len, prot: *prot, flags: *flags }),
+        ] => Some(Call::Mmap {
+            addr: *addr,
+            len: *len,
+            prot: *prot,
+            flags: *flags,
+        }),
         [
             Token::Key(Keyword::Munmap),
             Token::Number(addr),
             Token::Number(len),
-        ] => Some(Call::Munmap { addr: *addr, len: *len }),
+        ] => Some(Call::Munmap {
+            addr: *addr,
+            len: *len,
+        }),
         [
             Token::Key(Keyword::Mremap),
             Token::Number(addr),
@@ -194,13 +276,23 @@ fn map_call_of(tokens: &[Token]) -> Option<Call>
             Token::Number(new_len),
             Token::Number(flags),
             Token::Number(target),
-        ] => Some(Call::Mremap { addr: *addr, old_len: *old_len, new_len: *new_len, flags: *flags, target: *target }),
+        ] => Some(Call::Mremap {
+            addr: *addr,
+            old_len: *old_len,
+            new_len: *new_len,
+            flags: *flags,
+            target: *target,
+        }),
         [
             Token::Key(Keyword::Madvise),
             Token::Number(addr),
             Token::Number(len),
             Token::Number(advice),
-        ] => Some(Call::Madvise { addr: *addr, len: *len, advice: *advice }),
+        ] => Some(Call::Madvise {
+            addr: *addr,
+            len: *len,
+            advice: *advice,
+        }),
         [Token::Key(Keyword::Fork)] => Some(Call::Fork),
         _ => None,
     }

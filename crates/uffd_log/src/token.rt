@@ -1,6 +1,6 @@
 //! The words of a line, and the tokens for which they stand.
 
-ghost use Rattle.std.specs.Prelude.{◌≡◌, ◌+◌, ◌<◌, ◌≤◌, ◌^◌, ℕ, List, length, IfOk, IfSome, IfNone};
+ghost use Rattle.std.specs.Prelude.{◌≡◌, ◌+◌, ◌<◌, ◌≤◌, ◌^◌, ℕ, List, length, take, drop, IfOk, IfSome, IfNone};
 ghost use Rattle.std.specs.Bool.{OnTrue, OnFalse};
 ghost use Rattle.std.specs.Option.{SomeIff};
 ghost use Rattle.std.specs.Str.Parse.{AllDigits, digits_value};
@@ -25,6 +25,15 @@ pub enum Token {
     Error,
     /// Any other word.
     Text,
+}
+
+/// The bytes before a place, and those after it.
+fn around(text: &[u8], at: usize) -> (&[u8], &[u8])
+    requires { at < length text.now }
+    ensures front { result.0.now ≡ take at text.now }
+    ensures back { result.1.now ≡ drop (at + 1) text.now }
+{
+    (&text[..at], &text[at + 1..])
 }
 
 /// The number that digits in a radix write, if it is below 2^64.
@@ -62,7 +71,7 @@ fn minus(word: &[u8]) -> Option<u64>
     ensures none { IfNone result ((n : ℕ) → IsMinus word.now n → ⊥) }
 {
     match word {
-        [b'-', text @ ..] => number(text),
+        [b'-', ..] => number(around(word, 0).1),
         _ => None,
     }
 }
@@ -73,10 +82,14 @@ fn descriptor(word: &[u8]) -> Option<Descriptor>
     ensures none { IfNone result ((on : DescriptorOf) → IsDescriptor word.now on → ⊥) }
 {
     let at = memchr(b':', word)?;
-    let object = number(&word[..at])?;
-    let fd = number(&word[at + 1..])?;
+    let (object, fd) = around(word, at);
+    let object = number(object)?;
+    let fd = number(fd)?;
     if fd < 1 << 31 {
-        return Some(Descriptor { object, fd: fd as u32 });
+        return Some(Descriptor {
+            object,
+            fd: fd as u32,
+        });
     }
     None
 }
@@ -116,13 +129,14 @@ pub fn read_tokens(tokens: &mut Vec<Token>, text: &[u8]) -> Result<bool, NoMemor
     tokens.clear();
     let mut rest = text;
     while let Some(end) = memchr(b' ', rest) {
-        let Some(token) = token_of(&rest[..end]) else {
+        let (word, behind) = around(rest, end);
+        let Some(token) = token_of(word) else {
             return Ok(false);
         };
         let Ok(()) = tokens.push(token) else {
             return Err(NoMemory);
         };
-        rest = &rest[end + 1..];
+        rest = behind;
     }
     let Some(token) = token_of(rest) else {
         return Ok(false);
