@@ -1,0 +1,21 @@
+//! What is known of pages and of faults.
+
+/// Whether a page is present. One that is not registered for missing faults may be touched at any time, so nothing is known of it until
+/// a call shows it.
+#[derive(Clone, Copy, Debug, PartialEq, Eq)]
+pub enum Presence {
+    Unknown,
+    Missing,
+    Present,
+}
+
+/// How far a thread's fault has come.
+#[derive(Clone, Copy, Debug, PartialEq, Eq)]
+pub enum Phase {
+    /// The thread has found the page missing or write-protected, and has queued no message yet. It cannot be woken.
+    Seen,
+    /// Its message waits to be read, and it sleeps.
+    Unread,
+    /// Its message was read, and it sleeps.
+    Asleep,
+}
