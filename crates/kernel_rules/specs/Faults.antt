@@ -3,11 +3,13 @@ use Rattle.std.specs.Prelude.{ℕ, ◌==◌, ◌&&◌, ◌||◌, not, Bool, true
 use Rattle.std.specs.List.{list_any}
 use Rattle.mig_base.specs.Bits.{is_one}
 use Rattle.mig_base.specs.Ranges.{in_range}
+use Rattle.kernel_rules.specs.Pages.{is_missing, may_be_missing, is_of_protection, shown}
 use Rattle.kernel_rules.specs.declared.difference.Difference.TheVariants.{FaultOfEachThread, FaultTakenAway, FaultOnItsWay, LeftByASignal}
 use Rattle.kernel_rules.specs.declared.known.Phase.{Phase}
 use Rattle.kernel_rules.specs.declared.known.Phase.TheVariants.{Seen, Unread, Asleep}
 use Rattle.kernel_rules.specs.declared.known.Presence.TheVariants.{Missing, Present}
-use Rattle.kernel_rules.specs.State.{Page, Object, Fault, Kernel, page_is, pages_changed, may_be_missing, is_missing, of_object, allowed, noted_if}
+use Rattle.kernel_rules.specs.declared.known.Page.{Page}
+use Rattle.kernel_rules.specs.State.{Object, Fault, Kernel, page_is, pages_changed, of_object, allowed, noted_if}
 
 abbrev pub is_seen : Phase → Bool
 is_seen Seen = true
@@ -19,27 +21,17 @@ is_unread Seen = false
 is_unread Unread = true
 is_unread Asleep = false
 
--- UFFD_PAGEFAULT_FLAG_WP
-abbrev pub is_of_protection : ℕ → Bool
-is_of_protection flags = is_one flags 1
-
 -- whether an access with these flags has to wait at a page that is registered with the object: it may be missing, and is registered for
 -- that; or it may be write-protected, and is registered for that
 abbrev pub stops_at : ℕ → ℕ → Page → Bool
 stops_at object flags page =
     page.object == object
-    && (if is_of_protection flags then page.mode.protect && page.guarded && not (is_missing page.presence)
-        else page.mode.missing && may_be_missing page)
+    && (if is_of_protection flags then page.protect && page.guarded && not (is_missing page.presence)
+    else page.missing && may_be_missing page)
 
 -- whether a thread still has to wait
 abbrev pub must_wait : Kernel → ℕ → Fault → Bool
 must_wait kernel space fault = page_is (stops_at fault.object fault.flags) (kernel.pages space fault.page)
-
--- what a fault shows of its page: a write-protected one is present, and another one missing, so that it is not protected
-abbrev pub shown_by : ℕ → Page → Page
-shown_by flags page =
-    if is_of_protection flags then record page { presence = Present }
-    else record page { presence = Missing; guarded = false }
 
 -- whether a thread waits
 abbrev pub waits : Kernel → ℕ → Bool
@@ -49,7 +41,7 @@ waits kernel thread = list_any (λ (fault : Fault). fault.thread == thread) kern
 abbrev pub sees : Kernel → ℕ → ℕ → ℕ → ℕ → Option Kernel
 sees kernel thread object page flags = of_object (kernel.objects object) (λ o.
     allowed (not (waits kernel thread) && page_is (stops_at object flags) (kernel.pages o.space page))
-    (record (pages_changed kernel o.space page 1 (shown_by flags)) {
+    (record (pages_changed kernel o.space page 1 (shown (is_of_protection flags))) {
       faults = kernel.faults ++ record { thread = thread; object = object; page = page; flags = flags; phase = Seen; read_by = None } ∷ [];
     }))
 

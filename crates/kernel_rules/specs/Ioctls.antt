@@ -10,9 +10,12 @@ use Rattle.uffd_log.specs.declared.line.Answer.{Answer}
 use Rattle.uffd_log.specs.declared.line.Answer.TheVariants.{Opened, Done, Value, Features, Minus, Failed, Interrupted}
 use Rattle.uffd_log.specs.declared.errno.Errno.{Errno}
 use Rattle.uffd_log.specs.declared.errno.Errno.TheVariants.{Eperm, Enoent, Esrch, Eintr, Eagain, Enomem, Efault, Ebusy, Eexist, Einval, Other}
+use Rattle.kernel_rules.specs.Pages.{is_missing, may_be_missing, may_be_there, mode_of, registered_page, without_object, put_page, protected_page, settled}
 use Rattle.kernel_rules.specs.declared.difference.Difference.TheVariants as differs
+use Rattle.kernel_rules.specs.declared.known.Presence.{Presence}
 use Rattle.kernel_rules.specs.declared.known.Presence.TheVariants.{Unknown, Missing, Present}
-use Rattle.kernel_rules.specs.State.{Page, Object, Fault, Calling, Kernel, is_range, mode_of, is_within, set_pages, page_is, page_may, each_page, some_page, is_missing, is_present, may_be_missing, may_be_there, pages_changed, with_object, of_object, allowed, asked_for, is_enabled, noted_if}
+use Rattle.kernel_rules.specs.declared.known.Page.{Page}
+use Rattle.kernel_rules.specs.State.{Object, Fault, Calling, Kernel, is_range, is_within, set_pages, page_is, page_may, each_page, some_page, pages_changed, with_object, of_object, allowed, asked_for, is_enabled, noted_if}
 use Rattle.kernel_rules.specs.Faults.{sleeps_in, sleeps_at, woken}
 
 -- O_NONBLOCK of open(2)
@@ -41,16 +44,6 @@ shaken kernel name object api features (Failed Efault bytes) = Some kernel
 shaken kernel name object api features _ = None
 
 -- UFFDIO_REGISTER and UFFDIO_UNREGISTER
-
--- a page once it is registered: one that has all modes asked for keeps its own
-abbrev pub with_mode : Mode → Page → Page
-with_mode mode page =
-    if (not mode.missing || page.mode.missing) && (not mode.protect || page.mode.protect) then page
-    else record page { mode = mode; guarded = page.guarded && mode.protect }
-
-abbrev pub registered_page : ℕ → Mode → Option Page → Option Page
-registered_page name mode None = Some (record { object = name; mode = mode; presence = Unknown; guarded = false; put = false })
-registered_page name mode (Some page) = Some (with_mode mode page)
 
 -- the kernel with a range registered, in pages
 abbrev pub with_registered : Kernel → ℕ → ℕ → ℕ → ℕ → Mode → Kernel
@@ -85,12 +78,7 @@ registered kernel name object start len bits _ = None
 
 -- whether a page is owed where its registration ends: its object puts pages, and this one, which it watches for missing faults, is missing
 abbrev pub is_owed : ℕ → Object → Page → Bool
-is_owed name object page = page.object == name && object.puts && page.mode.missing && is_missing page.presence
-
--- the page, unless it is registered with the object
-abbrev pub without_object : ℕ → Option Page → Option Page
-without_object name None = None
-without_object name (Some page) = if page.object == name then None else Some page
+is_owed name object page = page.object == name && object.puts && page.missing && is_missing page.presence
 
 -- the kernel once a range is no longer registered with the object, in pages
 abbrev pub unregistered_in : Kernel → ℕ → Object → ℕ → ℕ → Kernel
@@ -135,10 +123,6 @@ refused_while_changing kernel name = allowed (may_be_changing kernel name) (note
 
 -- UFFDIO_COPY and UFFDIO_ZEROPAGE
 
--- a page once it is put
-abbrev pub put_page : Bool → Page → Page
-put_page protect page = record page { presence = Present; guarded = protect; put = true }
-
 -- the kernel once `count` pages from `first` on are put, by a call with this word of modes: DONTWAKE is bit 0, and WP, which only
 -- UFFDIO_COPY has, bit 1
 abbrev pub with_put : Kernel → ℕ → Object → ℕ → ℕ → ℕ → Kernel
@@ -153,7 +137,7 @@ is_right object start len bits most = is_enabled object && is_range start len &&
 -- whether `count` pages may be put from `first` on
 abbrev pub may_be_put : Kernel → ℕ → ℕ → ℕ → ℕ → Bool
 may_be_put kernel space first count bits =
-    each_page kernel space first count (λ page. may_be_missing page && (not (is_one bits 1) || page.mode.protect))
+    each_page kernel space first count (λ page. may_be_missing page && (not (is_one bits 1) || page.protect))
 
 -- the kernel once a call has stopped at a page that is there
 abbrev pub stopped_at : Kernel → ℕ → ℕ → ℕ → Option Kernel
@@ -192,7 +176,7 @@ put_refused kernel key name object start len bits most Enoent =
 put_refused kernel key name object start len bits most Einval =
     allowed
     (not (is_right object start len bits most)
-    || is_one bits 1 && some_page kernel object.space (start / PAGE_SIZE) (len / PAGE_SIZE) (λ page. not page.mode.protect)) kernel
+    || is_one bits 1 && some_page kernel object.space (start / PAGE_SIZE) (len / PAGE_SIZE) (λ page. not page.protect)) kernel
 put_refused kernel key name object start len bits most Efault = Some kernel
 put_refused kernel key name object start len bits most Enomem = Some kernel
 put_refused kernel key name object start len bits most Esrch = Some kernel
@@ -213,29 +197,24 @@ put_with kernel key name object start len bits most _ = None
 
 -- UFFDIO_WRITEPROTECT: UFFDIO_WRITEPROTECT_MODE_WP is bit 0, UFFDIO_WRITEPROTECT_MODE_DONTWAKE bit 1
 
--- a page once it is protected, or no longer: one that is missing has no protection, unless UFFD_FEATURE_WP_UNPOPULATED was asked for
-abbrev pub protected_page : Bool → Bool → Page → Page
-protected_page protect unpopulated page =
-    if page.mode.protect then record page { guarded = protect && (unpopulated || not (is_missing page.presence)) } else page
-
 -- the kernel once the pages of a range that are registered for it are protected, or no longer
 abbrev pub with_protected : Kernel → Object → ℕ → ℕ → Bool → Kernel
 with_protected kernel object first count protect = pages_changed kernel object.space first count (protected_page protect (asked_for object 13))
 
 -- a page of a range that a refused call may have protected
 abbrev pub perhaps_protected : Bool → Page → Page
-perhaps_protected protect page = if protect && page.mode.protect then record page { guarded = true } else page
+perhaps_protected protect page = if protect && page.protect then record page { guarded = true } else page
 
 -- whether the pages of a range are registered for write-protect faults
 abbrev pub is_each_protected : Kernel → Object → ℕ → ℕ → Bool
-is_each_protected kernel object start len = each_page kernel object.space (start / PAGE_SIZE) (len / PAGE_SIZE) (λ page. page.mode.protect)
+is_each_protected kernel object start len = each_page kernel object.space (start / PAGE_SIZE) (len / PAGE_SIZE) (λ page. page.protect)
 
 abbrev pub protected_with : Kernel → ℕ → Object → ℕ → ℕ → ℕ → Answer → Option Kernel
 protected_with kernel name object start len bits Done =
     let first = start / PAGE_SIZE in
     let count = len / PAGE_SIZE in
     let after = noted_if (not (is_each_protected kernel object start len)) differs.WriteProtectOverAHole (with_protected kernel object first count (is_one bits 0)) in
-    allowed (is_right object start len bits 2 && not (is_changing kernel name) && some_page kernel object.space first count (λ page. page.mode.protect))
+    allowed (is_right object start len bits 2 && not (is_changing kernel name) && some_page kernel object.space first count (λ page. page.protect))
     (if bits == 0 then woken after (sleeps_in name first count) true else after)
 protected_with kernel name object start len bits (Failed Eagain bytes) = refused_while_changing kernel name
 protected_with kernel name object start len bits (Failed Enoent bytes) =
@@ -259,17 +238,13 @@ abbrev pub bits_at : List Run → ℕ → ℕ
 bits_at [] page = 0
 bits_at (run ∷ runs) page = if in_range (run.start / PAGE_SIZE) (run.len / PAGE_SIZE) page then run.bits else bits_at runs page
 
--- a page of which a recorder read these bits
-abbrev pub settled : ℕ → Page → Page
-settled bits page =
-    if is_missing page.presence || is_present page.presence then page
-    else if is_one bits 0 || is_one bits 1 then record page { presence = Present }
-    else if page.mode.missing && bits == 0 then record page { presence = Missing }
-    else page
+-- what a recorder's bits say of a page: one with none of them is missing, and one that is protected alone may be a marker
+abbrev pub presence_of : ℕ → Presence
+presence_of bits = if is_one bits 0 || is_one bits 1 then Present else if bits == 0 then Missing else Unknown
 
 abbrev pub page_settled : List Run → ℕ → Option Page → Option Page
 page_settled runs page None = None
-page_settled runs page (Some found) = Some (settled (bits_at runs page) found)
+page_settled runs page (Some found) = Some (settled (presence_of (bits_at runs page)) found)
 
 abbrev pub scanned : Kernel → Object → ℕ → ℕ → List Run → Answer → Option Kernel
 scanned kernel object start len runs (Value count) =

@@ -1,6 +1,9 @@
+pub mod Changes
 pub mod Faults
 pub mod Ioctls
 pub mod MapCalls
+pub mod Pages
 pub mod Reads
 pub mod Runs
 pub mod State
+pub mod Tables

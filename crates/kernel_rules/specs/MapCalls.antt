@@ -10,10 +10,12 @@ use Rattle.uffd_log.specs.declared.line.Answer.TheVariants.{Done, Value, Failed}
 use Rattle.uffd_log.specs.declared.errno.Errno.TheVariants.{Enomem}
 use Rattle.uffd_log.specs.declared.call.Message.{Message}
 use Rattle.uffd_log.specs.declared.call.Message.TheVariants.{Remap, Remove, Unmap}
+use Rattle.kernel_rules.specs.Pages.{cleared_page}
 use Rattle.kernel_rules.specs.declared.difference.Difference.TheVariants.{MessagesOfMremap}
 use Rattle.kernel_rules.specs.declared.known.Presence.{Presence}
 use Rattle.kernel_rules.specs.declared.known.Presence.TheVariants.{Unknown, Missing}
-use Rattle.kernel_rules.specs.State.{Page, Object, Calling, Kernel, set_pages, some_page, pages_changed, allowed, asked_for, noted_if}
+use Rattle.kernel_rules.specs.declared.known.Page.{Page}
+use Rattle.kernel_rules.specs.State.{Object, Calling, Kernel, set_pages, some_page, pages_changed, allowed, asked_for, noted_if}
 
 -- Whom a call tells
 
@@ -50,10 +52,10 @@ abbrev pub with_calling : Kernel → ℕ → ℕ → List (ℕ × Message) → K
 with_calling kernel key space events =
     if is_empty events then kernel
     else
-      record kernel {
-        calls = kernel.calls
+    record kernel {
+      calls = kernel.calls
           ++ record { key = key; space = space; events = events; queued = false; untold = (0, 0); clears = (0, 0); tells = λ name. list_any (λ event. event.0 == name) events } ∷ [];
-      }
+    }
 
 -- mmap(2) and munmap(2)
 
@@ -94,8 +96,8 @@ arrived kernel pages from count i stays =
 abbrev pub moved_pages : Kernel → (ℕ → Option Page) → ℕ → ℕ → ℕ → ℕ → ℕ → Option Page
 moved_pages kernel pages from count to new_count =
     λ page. if in_range to new_count page then arrived kernel pages from count (page - to) (to == from)
-      else if in_range from count page then None
-      else pages page
+    else if in_range from count page then None
+    else pages page
 
 -- the events of a kernel's mremap: UNMAP of the target, REMAP, UNMAP of the tail that is cut off, UNMAP of the old place of what moved
 abbrev pub mremap_events : Kernel → ℕ → ℕ → ℕ → ℕ → ℕ → List (ℕ × Message)
@@ -104,9 +106,9 @@ mremap_events kernel space from count to new_count =
     let tail = unmap_events kernel space (from + new_count) (count - new_count) in
     if to == from then tail
     else
-      unmap_events kernel space to new_count
-      ++ told_of kernel 2 space from count (Remap (PAGE_SIZE * from) (PAGE_SIZE * to) (PAGE_SIZE * kept))
-      ++ tail ++ unmap_events kernel space from kept
+    unmap_events kernel space to new_count
+    ++ told_of kernel 2 space from count (Remap (PAGE_SIZE * from) (PAGE_SIZE * to) (PAGE_SIZE * kept))
+    ++ tail ++ unmap_events kernel space from kept
 
 -- the kernel once a range has moved
 abbrev pub moved : Kernel → ℕ → ℕ → ℕ → ℕ → ℕ → ℕ → Kernel
@@ -129,10 +131,6 @@ mremapped kernel key space addr old_len new_len _ = None
 abbrev pub is_clearing : ℕ → Bool
 is_clearing advice = advice == 4 || advice == 9 || advice == 24
 
--- a page once it is cleared
-abbrev pub cleared_page : Presence → Page → Page
-cleared_page presence page = record page { presence = presence; guarded = false }
-
 abbrev pub cleared : Kernel → ℕ → ℕ → ℕ → Kernel
 cleared kernel space first count = pages_changed kernel space first count (cleared_page Missing)
 
@@ -142,10 +140,10 @@ clearing kernel key space first count =
     let told = filter (is_told kernel 3) (objects_in kernel space first count) in
     if is_empty told then cleared kernel space first count
     else
-      record kernel {
-        calls = kernel.calls
+    record kernel {
+      calls = kernel.calls
           ++ record { key = key; space = space; events = []; queued = false; untold = (first, count); clears = (first, count); tells = λ name. list_any (λ other. other == name) told } ∷ [];
-      }
+    }
 
 -- whether a call may have cleared pages: ENOMEM says that a part of its range is not mapped
 abbrev pub has_cleared : Answer → Bool

@@ -8,23 +8,13 @@ use Rattle.mig_base.specs.Ranges.{in_range, none_below}
 use Rattle.mig_base.specs.Tests.{is_every}
 use Rattle.mig_base.specs.Userfault.{Mode}
 use Rattle.uffd_log.specs.declared.call.Message.{Message}
+use Rattle.kernel_rules.specs.Changes.{page_with}
 use Rattle.kernel_rules.specs.declared.difference.Difference.{Difference}
+use Rattle.kernel_rules.specs.declared.known.Page.{Page}
 use Rattle.kernel_rules.specs.declared.known.Phase.{Phase}
 use Rattle.kernel_rules.specs.declared.known.Phase.TheVariants.{Seen, Unread, Asleep}
 use Rattle.kernel_rules.specs.declared.known.Presence.{Presence}
 use Rattle.kernel_rules.specs.declared.known.Presence.TheVariants.{Unknown, Missing, Present}
-
--- a registered page
-pub record Page : Type 0 where
-  -- the object with which it is registered, and how
-  pub object : ℕ
-  pub mode : Mode
-  -- whether it is present, as far as the log has shown it
-  pub presence : Presence
-  -- whether it is write-protected, if it is present
-  pub guarded : Bool
-  -- whether a call of the log has put it
-  pub put : Bool
 
 -- a userfault object
 pub record Object : Type 0 where
@@ -104,10 +94,6 @@ fresh_kernel =
 abbrev pub is_range : ℕ → ℕ → Bool
 is_range start len = start % PAGE_SIZE == 0 && len % PAGE_SIZE == 0 && nat_lt 0 len && nat_le (start + len) (2 ^ 64)
 
--- the modes of a word of UFFDIO_REGISTER
-abbrev pub mode_of : ℕ → Mode
-mode_of bits = record { missing = is_one bits 0; protect = is_one bits 1 }
-
 -- whether a word has no bit that another one lacks
 abbrev pub is_within : ℕ → ℕ → Bool
 is_within word other = none_below (λ i. is_one word i && not (is_one other i)) 64
@@ -128,11 +114,6 @@ abbrev pub page_may : (Page → Bool) → Option Page → Bool
 page_may test None = true
 page_may test (Some page) = test page
 
--- the page, changed if it is registered
-abbrev pub page_with : (Page → Page) → Option Page → Option Page
-page_with change None = None
-page_with change (Some page) = Some (change page)
-
 -- whether each page of a range is registered, and passes a test
 abbrev pub each_page : Kernel → ℕ → ℕ → ℕ → (Page → Bool) → Bool
 each_page kernel space first count test = is_every (λ page. page_is test (kernel.pages space page)) first count
@@ -140,24 +121,6 @@ each_page kernel space first count test = is_every (λ page. page_is test (kerne
 -- whether a page of a range is registered, and passes a test
 abbrev pub some_page : Kernel → ℕ → ℕ → ℕ → (Page → Bool) → Bool
 some_page kernel space first count test = not (is_every (λ page. not (page_is test (kernel.pages space page))) first count)
-
-abbrev pub is_missing : Presence → Bool
-is_missing Missing = true
-is_missing Unknown = false
-is_missing Present = false
-
-abbrev pub is_present : Presence → Bool
-is_present Missing = false
-is_present Unknown = false
-is_present Present = true
-
--- whether a page may be missing, as far as is known
-abbrev pub may_be_missing : Page → Bool
-may_be_missing page = not (is_present page.presence)
-
--- whether a page may be there. One that is not registered for missing faults may have been touched by anybody
-abbrev pub may_be_there : Page → Bool
-may_be_there page = not (is_missing page.presence) || not page.mode.missing
 
 -- the kernel with the pages of a range changed where they are registered
 abbrev pub pages_changed : Kernel → ℕ → ℕ → ℕ → (Page → Page) → Kernel

@@ -9,6 +9,23 @@ pub enum Presence {
     Present,
 }
 
+/// A page that is registered.
+#[derive(Clone, Copy, Debug, PartialEq, Eq)]
+pub struct Page {
+    /// The object with which it is registered.
+    pub object: u64,
+    /// Whether it is registered for missing faults.
+    pub missing: bool,
+    /// Whether it is registered for write-protect faults.
+    pub protect: bool,
+    /// Whether it is present, as far as the log has shown it.
+    pub presence: Presence,
+    /// Whether it is write-protected, if it is present.
+    pub guarded: bool,
+    /// Whether a call of the log has put it.
+    pub put: bool,
+}
+
 /// How far a thread's fault has come.
 #[derive(Clone, Copy, Debug, PartialEq, Eq)]
 pub enum Phase {

@@ -7,8 +7,12 @@
 //! what a run of a log is.
 #![tactic(auto)]
 
+pub mod change;
 pub mod difference;
 pub mod known;
+pub mod page_table;
 
+pub use crate::change::Change;
 pub use crate::difference::Difference;
-pub use crate::known::{Phase, Presence};
+pub use crate::known::{Page, Phase, Presence};
+pub use crate::page_table::PageTable;
