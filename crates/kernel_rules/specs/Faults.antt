@@ -3,13 +3,14 @@ use Rattle.std.specs.Prelude.{ℕ, ◌==◌, ◌&&◌, ◌||◌, not, Bool, true
 use Rattle.std.specs.List.{list_any}
 use Rattle.mig_base.specs.Bits.{is_one}
 use Rattle.mig_base.specs.Ranges.{in_range}
+use Rattle.kernel_rules.specs.declared.fault.Fault.{Fault}
 use Rattle.kernel_rules.specs.Pages.{is_missing, may_be_missing, is_of_protection, shown}
 use Rattle.kernel_rules.specs.declared.difference.Difference.TheVariants.{FaultOfEachThread, FaultTakenAway, FaultOnItsWay, LeftByASignal}
 use Rattle.kernel_rules.specs.declared.known.Phase.{Phase}
 use Rattle.kernel_rules.specs.declared.known.Phase.TheVariants.{Seen, Unread, Asleep}
 use Rattle.kernel_rules.specs.declared.known.Presence.TheVariants.{Missing, Present}
 use Rattle.kernel_rules.specs.declared.known.Page.{Page}
-use Rattle.kernel_rules.specs.State.{Object, Fault, Kernel, page_is, pages_changed, of_object, allowed, noted_if}
+use Rattle.kernel_rules.specs.State.{Object, Kernel, page_is, pages_changed, of_object, allowed, noted_if}
 
 abbrev pub is_seen : Phase → Bool
 is_seen Seen = true

@@ -10,12 +10,13 @@ use Rattle.uffd_log.specs.declared.line.Answer.{Answer}
 use Rattle.uffd_log.specs.declared.line.Answer.TheVariants.{Opened, Done, Value, Features, Minus, Failed, Interrupted}
 use Rattle.uffd_log.specs.declared.errno.Errno.{Errno}
 use Rattle.uffd_log.specs.declared.errno.Errno.TheVariants.{Eperm, Enoent, Esrch, Eintr, Eagain, Enomem, Efault, Ebusy, Eexist, Einval, Other}
+use Rattle.kernel_rules.specs.declared.fault.Fault.{Fault}
 use Rattle.kernel_rules.specs.Pages.{is_missing, may_be_missing, may_be_there, mode_of, registered_page, without_object, put_page, protected_page, settled}
 use Rattle.kernel_rules.specs.declared.difference.Difference.TheVariants as differs
 use Rattle.kernel_rules.specs.declared.known.Presence.{Presence}
 use Rattle.kernel_rules.specs.declared.known.Presence.TheVariants.{Unknown, Missing, Present}
 use Rattle.kernel_rules.specs.declared.known.Page.{Page}
-use Rattle.kernel_rules.specs.State.{Object, Fault, Calling, Kernel, is_range, is_within, set_pages, page_is, page_may, each_page, some_page, pages_changed, with_object, of_object, allowed, asked_for, is_enabled, noted_if}
+use Rattle.kernel_rules.specs.State.{Object, Calling, Kernel, is_range, is_within, set_pages, page_is, page_may, each_page, some_page, pages_changed, with_object, of_object, allowed, asked_for, is_enabled, noted_if}
 use Rattle.kernel_rules.specs.Faults.{sleeps_in, sleeps_at, woken}
 
 -- O_NONBLOCK of open(2)

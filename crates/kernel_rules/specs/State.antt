@@ -10,6 +10,7 @@ use Rattle.mig_base.specs.Userfault.{Mode}
 use Rattle.uffd_log.specs.declared.call.Message.{Message}
 use Rattle.kernel_rules.specs.Changes.{page_with}
 use Rattle.kernel_rules.specs.declared.difference.Difference.{Difference}
+use Rattle.kernel_rules.specs.declared.fault.Fault.{Fault}
 use Rattle.kernel_rules.specs.declared.known.Page.{Page}
 use Rattle.kernel_rules.specs.declared.known.Phase.{Phase}
 use Rattle.kernel_rules.specs.declared.known.Phase.TheVariants.{Seen, Unread, Asleep}
@@ -28,17 +29,6 @@ pub record Object : Type 0 where
   pub puts : Bool
   -- the ranges that were registered, first page and count
   pub ranges : List (ℕ × ℕ)
-
--- a thread that found a page missing or write-protected, until it is woken or leaves
-pub record Fault : Type 0 where
-  pub thread : ℕ
-  pub object : ℕ
-  pub page : ℕ
-  -- as in struct uffd_msg: bit 0 for a store, bit 1 for a page that is write-protected
-  pub flags : ℕ
-  pub phase : Phase
-  -- the call that read its message, if the page was not there then: it has to be answered
-  pub read_by : Option ℕ
 
 -- a map call that has changed the map and has not returned
 pub record Calling : Type 0 where
