@@ -10,7 +10,8 @@ use Rattle.kernel_rules.specs.declared.known.Phase.{Phase}
 use Rattle.kernel_rules.specs.declared.known.Phase.TheVariants.{Seen, Unread, Asleep}
 use Rattle.kernel_rules.specs.declared.known.Presence.TheVariants.{Missing, Present}
 use Rattle.kernel_rules.specs.declared.known.Page.{Page}
-use Rattle.kernel_rules.specs.State.{Object, Kernel, page_is, pages_changed, of_object, allowed, noted_if}
+use Rattle.kernel_rules.specs.declared.object.Object.{Object}
+use Rattle.kernel_rules.specs.State.{Kernel, page_is, pages_changed, of_object, allowed, noted_if}
 
 abbrev pub is_seen : Phase → Bool
 is_seen Seen = true

@@ -16,12 +16,14 @@ use Rattle.kernel_rules.specs.declared.difference.Difference.TheVariants as diff
 use Rattle.kernel_rules.specs.declared.known.Presence.{Presence}
 use Rattle.kernel_rules.specs.declared.known.Presence.TheVariants.{Unknown, Missing, Present}
 use Rattle.kernel_rules.specs.declared.known.Page.{Page}
-use Rattle.kernel_rules.specs.State.{Object, Calling, Kernel, is_range, is_within, set_pages, page_is, page_may, each_page, some_page, pages_changed, with_object, of_object, allowed, asked_for, is_enabled, noted_if}
+use Rattle.kernel_rules.specs.declared.object.Object.{Object}
+use Rattle.kernel_rules.specs.declared.object.Registration.{Registration}
+use Rattle.kernel_rules.specs.State.{Calling, Kernel, is_range, is_within, set_pages, page_is, page_may, each_page, some_page, pages_changed, with_object, of_object, allowed, asked_for, is_enabled, noted_if}
 use Rattle.kernel_rules.specs.Faults.{sleeps_in, sleeps_at, woken}
 
 -- O_NONBLOCK of open(2)
 abbrev pub opened : Kernel → ℕ → ℕ → Answer → Option Kernel
-opened kernel space flags (Opened on) = Some (with_object kernel on.object (record { space = space; waits = not (is_one flags 11); features = None; puts = false; ranges = [] }))
+opened kernel space flags (Opened on) = Some (with_object kernel on.object (record { space = space; waits = not (is_one flags 11); features = None; puts = false }))
 opened kernel space flags (Failed errno bytes) = Some kernel
 opened kernel space flags _ = None
 
@@ -51,8 +53,8 @@ abbrev pub with_registered : Kernel → ℕ → ℕ → ℕ → ℕ → Mode →
 with_registered kernel name space first count mode =
     record kernel { pages = set_pages kernel.pages space first count (λ page. registered_page name mode (kernel.pages space page)) }
 
-abbrev pub with_range : Object → ℕ → ℕ → Object
-with_range object first count = record object { ranges = object.ranges ++ (first, count) ∷ [] }
+abbrev pub with_range : Kernel → ℕ → ℕ → ℕ → Kernel
+with_range kernel name first count = record kernel { ranges = kernel.ranges ++ record { object = name; first = first; count = count } ∷ [] }
 
 -- whether a mode can be asked for: bits 0 to 2, of which this project judges the first two
 abbrev pub is_mode : ℕ → Bool
@@ -73,7 +75,7 @@ registered kernel name object start len bits (Value ioctls) =
     (is_enabled object && is_mode bits && is_range start len
     && not (some_page kernel object.space (start / PAGE_SIZE) (len / PAGE_SIZE) (λ page. not (page.object == name))))
     (noted_if (not (asked_for object 2 && asked_for object 3 && asked_for object 6)) differs.RegisterWithoutEvents
-    (with_object (with_registered kernel name object.space (start / PAGE_SIZE) (len / PAGE_SIZE) (mode_of bits)) name (with_range object (start / PAGE_SIZE) (len / PAGE_SIZE))))
+    (with_range (with_registered kernel name object.space (start / PAGE_SIZE) (len / PAGE_SIZE) (mode_of bits)) name (start / PAGE_SIZE) (len / PAGE_SIZE)))
 registered kernel name object start len bits (Failed errno bytes) = allowed (is_map_error errno) kernel
 registered kernel name object start len bits _ = None
 
@@ -266,7 +268,8 @@ without_events name calling =
 
 -- whether a page in the ranges of an object is registered with it
 abbrev pub is_watching : Kernel → ℕ → Object → Bool
-is_watching kernel name object = list_any (λ range. some_page kernel object.space range.0 range.1 (λ page. page.object == name)) object.ranges
+is_watching kernel name object =
+    list_any (λ (range : Registration). range.object == name && some_page kernel object.space range.first range.count (λ page. page.object == name)) kernel.ranges
 
 abbrev pub closed : Kernel → ℕ → Object → Kernel
 closed kernel name object =

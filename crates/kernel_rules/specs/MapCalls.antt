@@ -15,7 +15,8 @@ use Rattle.kernel_rules.specs.declared.difference.Difference.TheVariants.{Messag
 use Rattle.kernel_rules.specs.declared.known.Presence.{Presence}
 use Rattle.kernel_rules.specs.declared.known.Presence.TheVariants.{Unknown, Missing}
 use Rattle.kernel_rules.specs.declared.known.Page.{Page}
-use Rattle.kernel_rules.specs.State.{Object, Calling, Kernel, set_pages, some_page, pages_changed, allowed, asked_for, noted_if}
+use Rattle.kernel_rules.specs.declared.object.Object.{Object}
+use Rattle.kernel_rules.specs.State.{Calling, Kernel, set_pages, some_page, pages_changed, allowed, asked_for, noted_if}
 
 -- Whom a call tells
 

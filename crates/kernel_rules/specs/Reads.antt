@@ -13,7 +13,8 @@ use Rattle.kernel_rules.specs.declared.fault.Fault.{Fault}
 use Rattle.kernel_rules.specs.declared.difference.Difference.TheVariants as differs
 use Rattle.kernel_rules.specs.declared.known.Phase.TheVariants.{Asleep}
 use Rattle.kernel_rules.specs.declared.known.Page.{Page}
-use Rattle.kernel_rules.specs.State.{Object, Calling, Kernel, some_page, of_object, allowed, asked_for, is_enabled, noted_if}
+use Rattle.kernel_rules.specs.declared.object.Object.{Object}
+use Rattle.kernel_rules.specs.State.{Calling, Kernel, some_page, of_object, allowed, asked_for, is_enabled, noted_if}
 use Rattle.kernel_rules.specs.Faults.{is_unread, must_wait, of_fault, faults_without}
 use Rattle.kernel_rules.specs.Ioctls.{has_untold}
 use Rattle.kernel_rules.specs.MapCalls.{with_call}

@@ -11,7 +11,8 @@ use Rattle.uffd_log.specs.declared.line.Answer.{Answer}
 use Rattle.uffd_log.specs.declared.line.Answer.TheVariants.{Done, Failed, Interrupted}
 use Rattle.kernel_rules.specs.declared.fault.Fault.{Fault}
 use Rattle.kernel_rules.specs.declared.difference.Difference.{Difference}
-use Rattle.kernel_rules.specs.State.{Object, Kernel, fresh_kernel, with_object, of_object}
+use Rattle.kernel_rules.specs.declared.object.Object.{Object}
+use Rattle.kernel_rules.specs.State.{Kernel, fresh_kernel, with_object, of_object}
 use Rattle.kernel_rules.specs.Faults.{sees, queues, leaves, left_unanswered, faults_over}
 use Rattle.kernel_rules.specs.Ioctls.{Run, opened, shaken, registered, unregistered, waked, put_with, protected_with, scanned, closed}
 use Rattle.kernel_rules.specs.MapCalls.{mmapped, munmapped, mremapped, madvised, tells, clears, may_return, returned}

@@ -11,24 +11,13 @@ use Rattle.uffd_log.specs.declared.call.Message.{Message}
 use Rattle.kernel_rules.specs.Changes.{page_with}
 use Rattle.kernel_rules.specs.declared.difference.Difference.{Difference}
 use Rattle.kernel_rules.specs.declared.fault.Fault.{Fault}
+use Rattle.kernel_rules.specs.declared.object.Object.{Object}
+use Rattle.kernel_rules.specs.declared.object.Registration.{Registration}
 use Rattle.kernel_rules.specs.declared.known.Page.{Page}
 use Rattle.kernel_rules.specs.declared.known.Phase.{Phase}
 use Rattle.kernel_rules.specs.declared.known.Phase.TheVariants.{Seen, Unread, Asleep}
 use Rattle.kernel_rules.specs.declared.known.Presence.{Presence}
 use Rattle.kernel_rules.specs.declared.known.Presence.TheVariants.{Unknown, Missing, Present}
-
--- a userfault object
-pub record Object : Type 0 where
-  -- the address space that it watches
-  pub space : ℕ
-  -- whether read(2) waits for a message: it was opened without O_NONBLOCK
-  pub waits : Bool
-  -- what the handshake asked for, if it was made
-  pub features : Option ℕ
-  -- whether a call of the log has put a page by it
-  pub puts : Bool
-  -- the ranges that were registered, first page and count
-  pub ranges : List (ℕ × ℕ)
 
 -- a map call that has changed the map and has not returned
 pub record Calling : Type 0 where
@@ -45,6 +34,8 @@ pub record Calling : Type 0 where
 
 pub record Kernel : Type 0 where
   pub objects : ℕ → Option Object
+  -- the ranges that were registered, also those that no longer are
+  pub ranges : List Registration
   -- the registered pages of each address space
   pub pages : ℕ → ℕ → Option Page
   -- in the order in which the unread ones were queued
@@ -67,6 +58,7 @@ abbrev pub fresh_kernel : Kernel
 fresh_kernel =
     record {
       objects = λ object. None;
+      ranges = [];
       pages = λ space page. None;
       faults = [];
       calls = [];
