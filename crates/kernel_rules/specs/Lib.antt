@@ -1,5 +1,6 @@
 pub mod Changes
 pub mod Faults
+pub mod Held
 pub mod Ioctls
 pub mod MapCalls
 pub mod Pages

@@ -3,7 +3,7 @@
 ghost use Rattle.std.specs.Prelude.{◌≡◌};
 ghost use Rattle.std.specs.List.{list_any};
 ghost use Rattle.kernel_rules.specs.Pages.{is_of_protection};
-ghost use Rattle.kernel_rules.specs.Faults.{stops_at, fault_of, faults_without, is_twin, sleeps_in};
+ghost use Rattle.kernel_rules.specs.Faults.{is_seen, stops_at, fault_of, faults_without, is_twin, sleeps_in};
 ghost use Rattle.kernel_rules.specs.Reads.{first_unread};
 
 use crate::known::{Page, Phase, Presence};
@@ -98,6 +98,13 @@ pub fn is_asleep_in(object: u64, first: u64, count: u64, fault: Fault) -> bool
         && first <= fault.page
         && fault.page - first < count
         && !matches!(fault.phase, Phase::Seen)
+}
+
+/// Whether a thread has queued no message yet.
+pub fn has_seen(fault: Fault) -> bool
+    ensures { result ≡ is_seen fault.phase }
+{
+    matches!(fault.phase, Phase::Seen)
 }
 
 /// Takes the fault of a thread away.

@@ -10,6 +10,7 @@
 pub mod change;
 pub mod difference;
 pub mod fault;
+pub mod kernel_table;
 pub mod known;
 pub mod object;
 pub mod page_table;
@@ -17,6 +18,7 @@ pub mod page_table;
 pub use crate::change::Change;
 pub use crate::difference::Difference;
 pub use crate::fault::Fault;
+pub use crate::kernel_table::KernelTable;
 pub use crate::known::{Page, Phase, Presence};
 pub use crate::object::{Object, Registration};
 pub use crate::page_table::PageTable;
