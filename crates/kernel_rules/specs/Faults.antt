@@ -96,6 +96,10 @@ leaves kernel thread = of_fault (fault_of kernel.faults thread) (λ fault. of_ob
 abbrev pub sleeps_in : ℕ → ℕ → ℕ → Fault → Bool
 sleeps_in object first count fault = fault.object == object && in_range first count fault.page && not (is_seen fault.phase)
 
+-- whether an unread fault does
+abbrev pub is_unread_in : ℕ → ℕ → ℕ → Fault → Bool
+is_unread_in object first count fault = sleeps_in object first count fault && is_unread fault.phase
+
 -- whether a fault sleeps anywhere in the object's pages
 abbrev pub sleeps_at : ℕ → Fault → Bool
 sleeps_at object fault = fault.object == object && not (is_seen fault.phase)

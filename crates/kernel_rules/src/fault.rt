@@ -1,12 +1,13 @@
 //! The threads that wait at a page, which no line of a log shows.
 
-ghost use Rattle.std.specs.Prelude.{◌≡◌};
+ghost use Rattle.std.specs.Prelude.{◌≡◌, ◌++◌, OnOk, filter, filter_map, not};
 ghost use Rattle.std.specs.List.{list_any};
 ghost use Rattle.kernel_rules.specs.Pages.{is_of_protection};
-ghost use Rattle.kernel_rules.specs.Faults.{is_seen, stops_at, fault_of, faults_without, is_twin, sleeps_in};
+ghost use Rattle.kernel_rules.specs.Faults.{is_seen, stops_at, fault_of, faults_without, is_twin, sleeps_in, is_unread_in, left_unanswered};
 ghost use Rattle.kernel_rules.specs.Reads.{first_unread};
 
 use crate::known::{Page, Phase, Presence};
+use mig_base::NoMemory;
 use mig_base::flags::has_bit;
 
 /// A thread that found a page missing or write-protected, until it is woken or leaves.
@@ -112,4 +113,45 @@ pub fn remove(faults: &mut Vec<Fault>, thread: u64)
     ensures { faults.new.items ≡ faults_without faults.old.items thread }
 {
     faults.retain(|fault| fault.thread != thread);
+}
+
+/// Whether an unread fault sleeps in a range of the object's pages.
+pub fn has_unread_in(faults: &[Fault], object: u64, first: u64, count: u64) -> bool
+    ensures { result ≡ list_any (is_unread_in object first count) faults.now }
+{
+    for fault in faults {
+        if is_asleep_in(object, first, count, *fault) && matches!(fault.phase, Phase::Unread) {
+            return true;
+        }
+    }
+    false
+}
+
+/// Adds the reads of the faults that sleep in a range of the object's pages and are to be answered. After `NoMemory` some are added.
+pub fn note_unanswered(
+    unanswered: &mut Vec<u64>,
+    faults: &[Fault],
+    object: u64,
+    first: u64,
+    count: u64,
+) -> Result<(), NoMemory>
+    ensures { OnOk result (unanswered.new.items ≡ unanswered.old.items ++ filter_map (left_unanswered (sleeps_in object first count)) faults.now) }
+{
+    for fault in faults {
+        if is_asleep_in(object, first, count, *fault) {
+            if let Some(read) = fault.read_by {
+                let Ok(()) = unanswered.push(read) else {
+                    return Err(NoMemory);
+                };
+            }
+        }
+    }
+    Ok(())
+}
+
+/// Takes the faults away that sleep in a range of the object's pages.
+pub fn wake_in(faults: &mut Vec<Fault>, object: u64, first: u64, count: u64)
+    ensures { faults.new.items ≡ filter (λ fault. not (sleeps_in object first count fault)) faults.old.items }
+{
+    faults.retain(|fault| !is_asleep_in(object, first, count, *fault));
 }
