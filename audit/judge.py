@@ -183,7 +183,8 @@ class Search:
                 self.refuse(call, reason)
                 self.force(call)
             else:
-                may = call.word == "read" and call.messages or any(it[1][0] in ("sees", "leaves") for it in self.nodes[unseen:]) or self.kernel.resolved
+                put_in = any(it[1][0] in ("sees", "leaves") for it in self.nodes[unseen:])
+                may = put_in or call.messages or self.kernel.resolved
                 self.kind.setdefault(call.key, "may" if may else "must")
             call.node = len(self.nodes)
             self.nodes.append([[], ("effect", call.key)])

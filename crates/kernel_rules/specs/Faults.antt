@@ -87,10 +87,13 @@ faults_over kernel test answered =
       unanswered = kernel.unanswered ++ (if answered then [] else filter_map (left_unanswered test) kernel.faults);
     }
 
+abbrev pub is_of_thread : ℕ → Fault → Bool
+is_of_thread thread fault = fault.thread == thread
+
 -- a thread leaves its fault: it looks once more before it sleeps, and need not wait; or a signal comes
 abbrev pub leaves : Kernel → ℕ → Option Kernel
 leaves kernel thread = of_fault (fault_of kernel.faults thread) (λ fault. of_object (kernel.objects fault.object) (λ o.
-    Some (noted_if (must_wait kernel o.space fault) LeftByASignal (faults_over kernel (λ (other : Fault). other.thread == thread) false))))
+    Some (noted_if (must_wait kernel o.space fault) LeftByASignal (faults_over kernel (is_of_thread thread) false))))
 
 -- whether a fault sleeps in a range of the object's pages
 abbrev pub sleeps_in : ℕ → ℕ → ℕ → Fault → Bool

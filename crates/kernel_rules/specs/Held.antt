@@ -27,3 +27,7 @@ pub record Holds (table : KernelTable) (kernel : Kernel) : Type 0 where
 -- whether a step was made: the table then holds a kernel to which the rule leads
 abbrev pub Makes : KernelTable → KernelTable → (Kernel → Option Kernel) → Type 0
 Makes old new rule = (kernel : Kernel) → Holds old kernel → (after : Kernel) × (rule kernel ≡ Some after) × Holds new after
+
+-- the table holds what a kernel becomes
+abbrev pub Becomes : KernelTable → KernelTable → (Kernel → Kernel) → Type 0
+Becomes old new change = (kernel : Kernel) → Holds old kernel → Holds new (change kernel)

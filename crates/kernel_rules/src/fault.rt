@@ -1,9 +1,9 @@
 //! The threads that wait at a page, which no line of a log shows.
 
-ghost use Rattle.std.specs.Prelude.{◌≡◌, ◌++◌, OnOk, filter, filter_map, not};
+ghost use Rattle.std.specs.Prelude.{◌≡◌, ◌++◌, [], OnOk, filter, filter_map, if◌then◌else◌, not};
 ghost use Rattle.std.specs.List.{list_any};
 ghost use Rattle.kernel_rules.specs.Pages.{is_of_protection};
-ghost use Rattle.kernel_rules.specs.Faults.{is_seen, stops_at, fault_of, faults_without, is_twin, sleeps_in, is_unread_in, left_unanswered};
+ghost use Rattle.kernel_rules.specs.Faults.{is_seen, stops_at, fault_of, faults_without, is_twin, sleeps_in, is_unread_in, is_of_thread, left_unanswered};
 ghost use Rattle.kernel_rules.specs.Reads.{first_unread};
 
 use crate::known::{Page, Phase, Presence};
@@ -147,6 +147,39 @@ pub fn note_unanswered(
         }
     }
     Ok(())
+}
+
+/// Adds the read of the fault of a thread, where it is to be answered. After `NoMemory` it may be missing.
+pub fn note_thread(unanswered: &mut Vec<u64>, faults: &[Fault], thread: u64) -> Result<(), NoMemory>
+    ensures { OnOk result (unanswered.new.items ≡ unanswered.old.items ++ filter_map (left_unanswered (is_of_thread thread)) faults.now) }
+{
+    for fault in faults {
+        if fault.thread == thread {
+            if let Some(read) = fault.read_by {
+                let Ok(()) = unanswered.push(read) else {
+                    return Err(NoMemory);
+                };
+            }
+        }
+    }
+    Ok(())
+}
+
+/// Adds the reads of a range as `note_unanswered` does, unless a call of the handler answers them.
+pub fn note_left(
+    unanswered: &mut Vec<u64>,
+    faults: &[Fault],
+    object: u64,
+    first: u64,
+    count: u64,
+    answered: bool,
+) -> Result<(), NoMemory>
+    ensures { OnOk result (unanswered.new.items ≡ unanswered.old.items ++ (if answered then [] else filter_map (left_unanswered (sleeps_in object first count)) faults.now)) }
+{
+    if answered {
+        return Ok(());
+    }
+    note_unanswered(unanswered, faults, object, first, count)
 }
 
 /// Takes the faults away that sleep in a range of the object's pages.

@@ -4,11 +4,13 @@ ghost use Rattle.std.specs.Prelude.{◌≡◌, ◌++◌, ◌∷◌, [], if◌the
 ghost use Rattle.std.specs.Bool.{OnTrue};
 ghost use Rattle.indexmap.specs.IndexMap.{get};
 ghost use Rattle.kernel_rules.specs.State.{page_is};
-ghost use Rattle.kernel_rules.specs.Faults.{stops_at, queues};
-ghost use Rattle.kernel_rules.specs.Held.{pages_by, AreTables, Makes};
+ghost use Rattle.kernel_rules.specs.Faults.{stops_at, sleeps_in, queues, leaves, woken};
+ghost use Rattle.kernel_rules.specs.Held.{pages_by, AreTables, Makes, Becomes};
 
 use crate::difference::Difference;
-use crate::fault::{Fault, find, has_seen, has_twin, remove, stops};
+use crate::fault::{
+    Fault, find, has_seen, has_twin, has_unread_in, note_left, note_thread, remove, stops, wake_in,
+};
 use crate::known::{Page, Phase};
 use crate::object::Object;
 use crate::page_table::PageTable;
@@ -84,9 +86,58 @@ impl KernelTable {
         let twin = has_twin(&self.faults, fault);
         self.note_if(twin, Difference::FaultOfEachThread)?;
         remove(&mut self.faults, thread);
-        match self.faults.push(Fault { phase: Phase::Unread, ..fault }) {
+        match self.faults.push(Fault {
+            phase: Phase::Unread,
+            ..fault
+        }) {
             Ok(()) => Ok(true),
             Err(_) => Err(NoMemory),
         }
+    }
+
+    /// The threads that sleep in a range of an object's pages are woken; `answered` says whether a call of the handler wakes them. After
+    /// `NoMemory` the table is not to be used.
+    pub fn wake(
+        &mut self,
+        object: u64,
+        first: u64,
+        count: u64,
+        answered: bool,
+    ) -> Result<(), NoMemory>
+        requires { AreTables self.old }
+        ensures tables { AreTables self.new }
+        ensures woken { OnOk result (Becomes self.old self.new (λ kernel. woken kernel (sleeps_in object first count) answered)) }
+    {
+        let unread = has_unread_in(&self.faults, object, first, count);
+        note_left(
+            &mut self.unanswered,
+            &self.faults,
+            object,
+            first,
+            count,
+            answered,
+        )?;
+        wake_in(&mut self.faults, object, first, count);
+        self.note_if(unread, Difference::FaultTakenAway)?;
+        Ok(())
+    }
+
+    /// A thread leaves its fault. False where it does not wait, and nothing has changed then. After `NoMemory` the table is not to be used.
+    pub fn leaves(&mut self, thread: u64) -> Result<bool, NoMemory>
+        requires { AreTables self.old }
+        ensures tables { AreTables self.new }
+        ensures made { IfOk result (λ made. OnTrue made (Makes self.old self.new (λ kernel. leaves kernel thread))) }
+    {
+        let Some(fault) = find(&self.faults, thread) else {
+            return Ok(false);
+        };
+        let Some(object) = self.objects.get(&fault.object).copied() else {
+            return Ok(false);
+        };
+        let waits = self.must_wait(object.space, fault);
+        note_thread(&mut self.unanswered, &self.faults, thread)?;
+        remove(&mut self.faults, thread);
+        self.note_if(waits, Difference::LeftByASignal)?;
+        Ok(true)
     }
 }
