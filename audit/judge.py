@@ -1,0 +1,528 @@
+"""Judges a log of userfaultfd calls: finds a run of the kernel's rules that has exactly the log's answers, or says which call has none.
+
+A run is the lines of the log in their order, with two kinds of steps put in between: `effect CALL`, once between the begin and the end of each call,
+and what the log does not show: a thread `sees` a page, `queues` its fault, `leaves` it; a map call `clears` its pages. `replay` checks a run, step by
+step, on a kernel of its own; how `Search` found it does not matter then.
+"""
+
+import bisect
+from collections import Counter, defaultdict
+from dataclasses import dataclass, field
+from typing import Optional
+
+import uffdlog
+from kernel_rules import (ASLEEP, DONTWAKE, FAULT_PROTECTED, INSTALLS, Kernel, MAP_CALLS, MISSING, NOT_JUDGED, POLLIN, POLLNVAL, PRESENT, SEEN,
+                          THREAD_ID, UNKNOWN, UNREAD)
+
+
+@dataclass(eq=False)
+class Call:
+    """A call of the log with its answer, which is None where it never returned."""
+
+    key: int
+    word: str
+    arguments: dict
+    begin: int
+    space: int
+    tid: int
+    end: Optional[int] = None
+    answer: Optional[str] = None
+    values: dict = field(default_factory=dict)
+    messages: list = field(default_factory=list)
+    runs: list = field(default_factory=list)
+    last: bool = False  # of close: no descriptor of the object is left
+    judged: bool = True
+    done: bool = False
+    node: Optional[int] = None
+
+    @property
+    def object(self):
+        return self.arguments["O"][0] if "O" in self.arguments else None
+
+    def range(self):
+        """The bytes that the call is of, as (start, length)."""
+        arguments = self.arguments
+        start = arguments.get("START", arguments.get("DESTINATION", arguments.get("ADDRESS")))
+        if self.word == "mmap":
+            start = self.values.get("ADDRESS")
+        return (start, arguments.get("LENGTH", arguments.get("OLD", 0))) if start is not None else None
+
+
+class Log:
+    """The calls of a log, and its lines: a list of (line, 'begin' or 'end', call)."""
+
+    def __init__(self, name):
+        self.calls, self.lines, self.wrong, self.page = [], [], [], 4096
+        self.own, self.spaces = set(), {}
+        by_call, reader = {}, None
+        for entry, reader in uffdlog.entries(name, lambda line, reason: self.wrong.append((line, reason))):
+            self.page = reader.page
+            if entry.kind in ("started", "forked"):
+                self.own.add(entry.pid)
+            elif entry.kind == "begin":
+                call = Call(len(self.calls), entry.word, entry.values, entry.line, entry.pid, entry.tid)
+                by_call[id(entry.call)] = (call, entry.call)
+                self.calls.append(call)
+                self.lines.append((entry.line, "begin", call))
+            elif entry.kind == "end" and id(entry.call) in by_call:
+                self.end(entry, reader, by_call.pop(id(entry.call))[0])
+        self.reader = reader
+        self.set_spaces()
+        self.set_unjudged()
+
+    def end(self, entry, reader, call):
+        call.end, call.answer, call.values = entry.line, entry.word, entry.values
+        call.messages = [(message.word, message.values) for message in entry.call.messages]
+        call.runs = [run.values for run in entry.call.runs if run.values] if hasattr(entry.call, "runs") else []
+        if call.word == "close":
+            call.last = not any(process.is_bound(call.object, fd) for process in reader.processes.values() for fd in process.bound)
+        self.lines.append((entry.line, "end", call))
+
+    def set_spaces(self):
+        """A process that the log has not seen begin may share an address space: that whose registered pages its map calls meet."""
+        ranges = [(call.space, *call.range()) for call in self.calls if call.word == "register" and call.answer == "ok"]
+        for call in self.calls:
+            found = call.range() if call.word in MAP_CALLS else None
+            if found and call.space not in self.own:
+                meets = {space for space, start, length in ranges if start < found[0] + found[1] and found[0] < start + length}
+                if len(meets) == 1:
+                    call.space = meets.pop()
+
+
+    def set_unjudged(self):
+        """Calls on an object that the log has not seen open, nor make its handshake, cannot be judged: what it watches is not known."""
+        opened = {call.values["O"][0] for call in self.calls if call.word == "open" and call.answer == "ok"}
+        shaken = {call.object for call in self.calls if call.word == "api" and call.answer == "ok"}
+        self.found = {call.object: call.space for call in reversed(self.calls) if call.object is not None and call.object in shaken - opened}
+        for call in self.calls:
+            call.judged = call.word in MAP_CALLS + ("open", "fork") or call.object in opened | shaken
+
+
+class Search:
+    """Puts each call's effect somewhere between its begin and its end: as late as that, unless another call's answer needs it earlier."""
+
+    def __init__(self, log):
+        self.log, self.kernel = log, Kernel(log.page, log.found)
+        self.nodes = []  # [steps before, the step]
+        self.begun = {}  # for each call the place of its begin line among the nodes
+        self.open = {}  # the calls that have begun and have not taken effect
+        self.readers = defaultdict(list)  # the open reads of an object's page
+        self.faults = defaultdict(list)  # for each object and page, the reads that return its missing faults, by their ends
+        self.reads = defaultdict(list)  # the reads of each object, by their ends
+        self.put = defaultdict(list)  # for each object, the installs that took effect, in order
+        self.gone = sorted((call.end or 1 << 62, call.begin, call.space, *call.range()) for call in log.calls
+                           if call.word in MAP_CALLS + ("unregister",) and call.answer == "ok" and call.range())
+        self.impossible, self.kind, self.strangers, self.settling = [], {}, 0, set()
+        for call in sorted((call for call in log.calls if call.word == "read" and call.end), key=lambda call: call.end):
+            self.reads[call.object].append(call)
+            for place, values in self.fault_places(call):
+                self.faults[call.object, place].append((call, values))
+
+    def fault_places(self, call):
+        return [(values["ADDRESS"] // self.log.page, values) for kind, values in call.messages if kind == "fault"]
+
+    def run(self):
+        for line, what, call in self.log.lines:
+            if what == "begin":
+                self.begin(call)
+            else:
+                self.end(call)
+            self.nodes.append([[], ("line", line)])
+        self.kernel.finish()
+        return [step for before, step in self.nodes for step in (*before, step)]
+
+    def begin(self, call):
+        self.open[call.key] = call
+        self.begun[call.key] = len(self.nodes)
+        if call.word == "read" and call.answer == "ok":
+            for place, _ in self.fault_places(call):
+                self.readers[call.object, place].append(call)
+
+    def end(self, call):
+        if call.answer == "interrupted" or call.word in NOT_JUDGED or not call.judged:
+            self.open.pop(call.key, None)
+        elif not call.done:
+            self.settle(call)
+        reason = self.kernel.may_return(call.key)
+        if reason:
+            self.settle_where(lambda it: it.word == "read" and any(kind != "fault" for kind, _ in it.messages))
+            reason = self.kernel.may_return(call.key)
+        if reason and "cleared" in reason:
+            self.step("clears", call.key)
+            reason = None
+        if reason:
+            self.refuse(call, reason)
+        self.kernel.returns(call.key)
+
+    def step(self, word, *values):
+        """A step that the log does not show. Whether the kernel allows it."""
+        self.kernel.differs = []
+        try:
+            getattr(self.kernel, word)(*values)
+        except Exception as reason:  # noqa: a search may try what is not allowed
+            if type(reason).__name__ != "Refused":
+                raise
+            return False
+        self.nodes.append([[], (word, *values)])
+        return True
+
+    def refuse(self, call, reason):
+        self.impossible.append((call, reason))
+        self.kind[call.key] = "impossible"
+
+    def settle(self, call):
+        """The call takes effect now, after what its answer needs."""
+        if call.done or call.key in self.settling:
+            return
+        self.settling.add(call.key)
+        unseen = len(self.nodes)
+        placed = getattr(self, "prepare_" + call.word, self.prepare_other)(call)
+        if not placed:
+            reason = self.kernel.takes(call)
+            if reason:
+                self.refuse(call, reason)
+                self.force(call)
+            else:
+                put_in = any(it[1][0] in ("sees", "leaves") for it in self.nodes[unseen:])
+                may = put_in or call.messages or self.kernel.resolved
+                self.kind.setdefault(call.key, "may" if may else "must")
+            call.node = len(self.nodes)
+            self.nodes.append([[], ("effect", call.key)])
+        self.finish(call)
+
+    def finish(self, call):
+        call.done = True
+        self.open.pop(call.key, None)
+        self.settling.discard(call.key)
+        for place, _ in self.fault_places(call):
+            reads = self.readers.get((call.object, place), [])
+            if call in reads:
+                reads.remove(call)
+            if not reads:
+                self.readers.pop((call.object, place), None)
+        if call.word in INSTALLS and (call.answer == "ok" or call.values.get("BYTES", 0) > 0):
+            self.put[call.object].append(call)
+
+    def force(self, call):
+        """After an impossible call: what it says of pages is taken for true, so that later calls are judged on their own."""
+        if call.word in INSTALLS and call.answer in ("ok", "EEXIST"):
+            of = self.kernel.objects.get(call.object)
+            for place in self.kernel.places(of.space, *call.range())[:None if call.answer == "ok" else 1] if of else ():
+                if place in self.kernel.pages:
+                    self.kernel.pages[place].presence = PRESENT
+
+    # What a call's answer needs
+
+    def prepare_other(self, call):
+        return False
+
+    def places_of(self, call):
+        of = self.kernel.objects.get(call.object)
+        return self.kernel.places(of.space, *call.range()) if of else []
+
+    def read_first(self, found, places):
+        """The open reads that return a fault of these pages take effect before the page changes."""
+        if len(places) > len(self.readers):
+            within = set(places)
+            places = [(None, page) for (of, page) in list(self.readers) if of == found and any(place[1] == page for place in within)]
+        for _, page in places:
+            for read in list(self.readers.get((found, page), ())):
+                self.settle(read)
+
+    def prepare_copy(self, call):
+        places = self.places_of(call)
+        self.read_first(call.object, places)
+        pages = self.kernel.pages
+        if call.answer == "EEXIST" and places and places[0] in pages and pages[places[0]].presence == MISSING:
+            self.settle_where(lambda it: it.word in INSTALLS and it.object == call.object and places[0] in self.places_of(it))
+        elif call.answer == "ok":
+            for place in places:
+                self.make_missing(place)
+            if self.kernel.untold(call.object):
+                self.settle_where(lambda it: it.word == "read" and any(kind != "fault" for kind, _ in it.messages))
+            for place in places:
+                self.foresee(call, place)
+        elif call.answer == "EAGAIN" and not self.kernel.changing(call.object):
+            self.settle_where(lambda it: it.word in MAP_CALLS)
+        return False
+
+    prepare_zeropage = prepare_copy
+
+    def foresee(self, call, place):
+        """A fault of the page that is read after it was put, while it stays: a thread has seen the page missing before."""
+        later = self.faults.get((call.object, place[1]))
+        if not later:
+            return
+        for read, values in later:
+            if read.done or read.begin < call.end:
+                continue
+            if self.is_discarded(place, call, read):
+                break
+            thread = self.thread_of(call.object, values)
+            if values["FLAGS"] & FAULT_PROTECTED == 0 and thread not in self.kernel.faults:
+                self.step("sees", thread, call.object, place, values["FLAGS"])
+
+    def is_discarded(self, place, call, read):
+        """Whether a map call may have taken the page away between the two."""
+        at = bisect.bisect_left(self.gone, (call.begin,))
+        address = place[1] * self.log.page
+        return any(begin < read.end and space == place[0] and start <= address < start + length for _, begin, space, start, length in self.gone[at:])
+
+    def settle_where(self, test):
+        for it in list(self.open.values()):
+            if it.answer not in (None, "interrupted") and test(it):
+                self.settle(it)
+
+    def prepare_writeprotect(self, call):
+        if call.answer == "ok" and call.arguments["MODE"] != 1:
+            self.read_first(call.object, self.places_of(call))
+        return False
+
+    def prepare_wake(self, call):
+        self.read_first(call.object, self.places_of(call))
+        return False
+
+    def prepare_unregister(self, call):
+        self.read_first(call.object, self.places_of(call))
+        return False
+
+    def prepare_close(self, call):
+        if call.last:
+            self.settle_where(lambda it: it.object == call.object)
+        return False
+
+    def prepare_mmap(self, call):
+        found = call.range()
+        if call.answer == "ok" and found:
+            for me in {page.object for page in self.kernel.pages.values()} if self.readers else ():
+                self.read_first(me, self.kernel.places(call.space, *found))
+        return False
+
+    prepare_munmap = prepare_madvise = prepare_mremap = prepare_mmap
+
+    def thread_of(self, found, values):
+        """The thread of a fault. Where the object names none it is one that the log has not seen."""
+        of = self.kernel.objects.get(found)
+        if of and (of.features or 0) & THREAD_ID:
+            return values["THREAD"]
+        return ("page", values["ADDRESS"] // self.log.page, values["FLAGS"])
+
+    def prepare_read(self, call):
+        me = call.object
+        if call.answer == "EAGAIN":
+            self.drain(me)
+        if call.answer == "ok":
+            for kind, values in call.messages:
+                if kind == "fault":
+                    self.show(me, values)
+                else:
+                    self.drain(me)
+                    self.announce(me, kind, values)
+        return False
+
+    def drain(self, me):
+        """The unread faults go with a wake that is under way, or for no reason that the log has."""
+        for thread in list(self.kernel.queue.get(me, ())):
+            fault = self.kernel.faults.get(thread)
+            if fault and fault.phase == UNREAD:
+                self.settle_where(lambda it: self.wakes(it, fault))
+            if self.kernel.faults.get(thread) is fault and fault.phase == UNREAD:
+                self.step("leaves", thread)
+
+    def wakes(self, call, fault):
+        if call.object != fault.object or call.answer != "ok" or call.word not in (*INSTALLS, "wake", "writeprotect", "unregister"):
+            return False
+        if call.word in INSTALLS and call.arguments["MODE"] & DONTWAKE or call.word == "writeprotect" and call.arguments["MODE"]:
+            return False
+        start, length = call.range()
+        return start <= fault.place[1] * self.log.page < start + length
+
+    def show(self, me, values):
+        """A fault is to be the first that is read."""
+        thread, of = self.thread_of(me, values), self.kernel.objects.get(me)
+        if not of:
+            return
+        place = (of.space, values["ADDRESS"] // self.log.page)
+        queue = self.kernel.queue.get(me, [])
+        held = self.kernel.faults.get(thread)
+        if held and held.phase == UNREAD and held.place == place and queue[:1] == [thread]:
+            return
+        for other in list(queue):
+            if other != thread:
+                fault = self.kernel.faults[other]
+                self.settle_where(lambda it: self.wakes(it, fault))
+                if self.kernel.faults.get(other) is fault and fault.phase == UNREAD:
+                    self.step("leaves", other)
+        if held and (held.place != place or held.phase == ASLEEP):
+            self.settle_where(lambda it: self.wakes(it, held))
+            if self.kernel.faults.get(thread) is held:
+                self.step("leaves", thread)
+        self.touch(thread, me, place, values["FLAGS"])
+
+    def touch(self, thread, me, place, flags):
+        """The thread sees the page, if it has not yet, and queues its fault. Whether that was possible."""
+        if thread not in self.kernel.faults:
+            if not flags & FAULT_PROTECTED:
+                self.make_missing(place)
+            if not self.step("sees", thread, me, place, flags):
+                return False
+        return self.kernel.faults[thread].phase == SEEN and self.step("queues", thread)
+
+    def make_missing(self, place):
+        """A page that is present is cleared by a MADV_DONTNEED that is under way, where there is one."""
+        page = self.kernel.pages.get(place)
+        if page and page.presence == PRESENT:
+            self.settle_where(lambda it: it.word == "madvise")
+            for key, call in list(self.kernel.calls.items()):
+                if place in call.clear:
+                    self.step("clears", key)
+
+    def announce(self, me, kind, values):
+        if not any(self.kernel.is_next(of, me, kind, values) for of in self.kernel.calls.values()):
+            self.settle_where(lambda it: it.word in MAP_CALLS)
+        for key, of in list(self.kernel.calls.items()):
+            if self.kernel.is_next(of, me, kind, values):
+                if me not in of.queued:
+                    self.step("tells", key, me)
+                break
+
+    # poll(2)
+
+    def prepare_poll(self, call):
+        """A poll that found a message: the next read returns it, or it went with a wake, before or after the poll ended."""
+        me = call.object
+        if call.answer != "ok" or call.values["EVENTS"] & ~POLLIN:
+            return False
+        if not call.values["EVENTS"]:
+            self.drain(me)
+            return False
+        if self.kernel.has_unread(me):
+            return False
+        read = self.next_read(call)
+        if read and read.answer == "ok" and self.show_early(me, read):
+            self.kind[call.key] = "must"
+            return False
+        if self.vanishing_now(call, read):
+            return False
+        return self.vanished(call)
+
+    def next_read(self, call):
+        reads = self.reads[call.object]
+        at = bisect.bisect_left([0] if not reads else self.ends(reads), call.end)
+        while at < len(reads) and reads[at].done:
+            at += 1
+        return reads[at] if at < len(reads) else None
+
+    def ends(self, reads):
+        if not hasattr(self, "ends_of"):
+            self.ends_of = {}
+        if id(reads) not in self.ends_of:
+            self.ends_of[id(reads)] = [read.end for read in reads]
+        return self.ends_of[id(reads)]
+
+    def show_early(self, me, read):
+        kind, values = read.messages[0]
+        if kind != "fault":
+            self.announce(me, kind, values)
+            return self.kernel.has_unread(me)
+        thread, of = self.thread_of(me, values), self.kernel.objects[me]
+        held = self.kernel.faults.get(thread)
+        place = (of.space, values["ADDRESS"] // self.log.page)
+        if held and held.phase == ASLEEP:
+            self.settle_where(lambda it: self.wakes(it, held))
+        return self.touch(thread, me, place, values["FLAGS"])
+
+    def vanishing_now(self, call, read):
+        """A page that is about to be put, while the poll or the read after it lasts: a thread had queued its fault, and was woken unread."""
+        until = read.end if read else 1 << 62
+        at, lines = self.position(call.end), self.log.lines
+        waiting = [it for it in self.open.values()]
+        for line, what, it in lines[at:at + 400]:
+            if line > until:
+                break
+            if what == "begin":
+                waiting.append(it)
+        for it in waiting:
+            if it.word in INSTALLS and it.object == call.object and it.answer == "ok" and not it.arguments["MODE"] & DONTWAKE:
+                if self.touch(self.stranger(), call.object, self.places_of(it)[0], 0):
+                    self.kind[call.key] = "differs"
+                    return True
+        return False
+
+    def position(self, line):
+        if not hasattr(self, "numbers"):
+            self.numbers = [number for number, _, _ in self.log.lines]
+        return bisect.bisect_right(self.numbers, line)
+
+    def stranger(self):
+        self.strangers += 1
+        return ("stranger", self.strangers)
+
+    def vanished(self, call):
+        """The same, of a page that was put while the poll lasted: the poll took effect before that."""
+        for it in reversed(self.put[call.object]):
+            place, thread = self.places_of(it)[0], self.stranger()
+            if it.node < self.begun[call.key]:
+                break
+            if it.arguments["MODE"] & DONTWAKE or it.answer != "ok":
+                continue
+            self.nodes[it.node][0] += [("sees", thread, call.object, place, 0), ("queues", thread), ("effect", call.key)]
+            self.kind[call.key] = "differs"
+            return True
+        return False
+
+
+class Broken(Exception):
+    """A step of a run that the rules do not allow."""
+
+
+def replay(log, run):
+    """Checks a run: it has the log's lines in their order, each call takes effect once between its begin and its end, and the rules of a kernel
+    allow each step with exactly the log's answer. Returns the kernel at its end, and how often each difference was used."""
+    kernel, calls, used = Kernel(log.page, log.found), {call.key: call for call in log.calls}, Counter()
+    lines, begun, taken = iter(log.lines), set(), set()
+    for step in run:
+        word, *values = step
+        kernel.differs = []
+        if word == "line":
+            line, what, call = next(lines)
+            if line != values[0]:
+                raise Broken(f"line {values[0]} is not the next one")
+            if what == "begin":
+                begun.add(call.key)
+                continue
+            begun.discard(call.key)
+            free = call.answer == "interrupted" or call.word in NOT_JUDGED or not call.judged
+            reason = None if call.key in taken or free else "it returns without an effect"
+            reason = reason or kernel.may_return(call.key)
+            kernel.returns(call.key)
+        elif word == "effect":
+            call = calls[values[0]]
+            reason = None if call.key in begun and call.key not in taken else "its effect is not in its time"
+            taken.add(call.key)
+            reason = reason or kernel.takes(call)
+        else:
+            call = None
+            reason = None
+            getattr(kernel, word)(*values)
+        if reason:
+            raise Broken(f"line {call.begin}: {reason}")
+        used.update(kernel.differs)
+    if next(lines, None):
+        raise Broken("the run ends before the log")
+    kernel.finish()
+    return kernel, used
+
+
+def judge(name):
+    log = Log(name)
+    search = Search(log)
+    run = search.run()
+    kernel, used = search.kernel, Counter()
+    broken = None
+    if not search.impossible:
+        try:
+            kernel, used = replay(log, run)
+        except Exception as reason:  # noqa: what does not replay is not certified
+            broken = f"{type(reason).__name__}: {reason}"
+    return log, search, run, kernel, used, broken

@@ -1,0 +1,194 @@
+"""Faults that are planted in a clean log: each takes the calls of a log and a source of random numbers, and changes the calls."""
+
+import copy
+
+from judge import Call, Log
+
+INSTALLS = ("copy", "zeropage")
+
+
+def calls_of(log):
+    """Copies of a log's calls, with room between their lines."""
+    calls = []
+    for call in log.calls:
+        it = copy.copy(call)
+        it.arguments, it.values = dict(call.arguments), dict(call.values)
+        it.messages = [(kind, dict(values)) for kind, values in call.messages]
+        it.begin, it.end, it.done, it.node = 10 * call.begin, call.end and 10 * call.end, False, None
+        calls.append(it)
+    return calls
+
+
+def log_of(calls, page=4096):
+    """A log of calls, whose lines are numbered anew in their order."""
+    log = Log.__new__(Log)
+    log.page, log.wrong, log.own, log.lines, log.calls = page, [], set(), [], sorted(calls, key=lambda call: call.begin)
+    ends = [(call.end, 1, "end", call) for call in calls if call.end is not None]
+    lines = sorted([(call.begin, 0, "begin", call) for call in calls] + ends, key=lambda line: line[:2])
+    for key, call in enumerate(log.calls):
+        call.key = key
+    for number, (_, _, what, call) in enumerate(lines, 1):
+        setattr(call, what, number)
+        log.lines.append((number, what, call))
+    log.set_unjudged()
+    return log
+
+
+def start(call):
+    return call.range()[0]
+
+
+def installs(calls):
+    return [call for call in calls if call.word in INSTALLS and call.answer == "ok"]
+
+
+def fault_reads(calls):
+    return [call for call in calls if call.word == "read" and call.messages and call.messages[0][0] == "fault"]
+
+
+def faulted(calls):
+    """The pages of faults, with the first read of each."""
+    found = {}
+    for call in fault_reads(calls):
+        found.setdefault(call.messages[0][1]["ADDRESS"], call)
+    return found
+
+
+def after(call, like, places=1, **changes):
+    """A call like another one, right after a call."""
+    it = copy.copy(like)
+    it.arguments, it.values, it.messages = dict(like.arguments), dict(like.values), list(like.messages)
+    it.begin, it.end = call.end + places, call.end + places + 0.5
+    for name, value in changes.items():
+        setattr(it, name, value)
+    return it
+
+
+def answer(call, errno, number):
+    call.answer, call.values = errno, {"BYTES": -number}
+
+
+def of_a_fault(calls, rng):
+    pages = faulted(calls)
+    return rng.choice([call for call in installs(calls) if start(call) in pages and pages[start(call)].end < call.begin])
+
+
+def of_no_fault(calls, rng):
+    pages = faulted(calls)
+    return rng.choice([call for call in installs(calls) if start(call) not in pages])
+
+
+def install_left_out(calls, rng):
+    calls.remove(of_a_fault(calls, rng))
+
+
+def no_wake(calls, rng):
+    of_a_fault(calls, rng).arguments["MODE"] = 1
+
+
+def ok_on_a_present_page(calls, rng):
+    call = rng.choice(installs(calls))
+    calls.append(after(call, call))
+
+
+def installed_twice(calls, rng):
+    call = rng.choice(installs(calls))
+    calls.append(after(call, call, answer="EEXIST", values={"BYTES": -17}))
+
+
+def wrong_length(calls, rng):
+    rng.choice(installs(calls)).values["BYTES"] = 2048
+
+
+def exists_on_a_missing_page(calls, rng):
+    answer(of_a_fault(calls, rng), "EEXIST", 17)
+
+
+def touched_before(calls, rng):
+    answer(of_no_fault(calls, rng), "EEXIST", 17)
+
+
+def not_registered(calls, rng):
+    answer(rng.choice(installs(calls)), "ENOENT", 2)
+
+
+def changing_for_no_reason(calls, rng):
+    answer(rng.choice(installs(calls)), "EAGAIN", 11)
+
+
+def registered_late(calls, rng):
+    call, then = [call for call in calls if call.word == "register"][-6], installs(calls)[rng.randrange(50, 1200)]
+    call.begin, call.end = then.end + 1, then.end + 2
+
+
+def unregistered_early(calls, rng):
+    call, then = [call for call in calls if call.word == "unregister"][-6], installs(calls)[-rng.randrange(50, 1200)]
+    call.begin, call.end = then.end + 1, then.end + 2
+
+
+def outside(calls, rng):
+    call = rng.choice(installs(calls))
+    it = after(call, call)
+    it.arguments["START" if "START" in it.arguments else "DESTINATION"] += 1 << 32
+    calls.append(it)
+    return it
+
+
+def refused_outside(calls, rng):
+    answer(outside(calls, rng), "ENOENT", 2)
+
+
+def never_installed(calls, rng):
+    for _ in range(5):
+        calls.remove(of_no_fault(calls, rng))
+
+
+def two_stale_faults(calls, rng):
+    read = rng.choice(fault_reads(calls))
+    last = max((call for call in installs(calls) if start(call) == read.messages[0][1]["ADDRESS"]), key=lambda call: call.end)
+    calls += [after(last, read, 1), after(last, read, 3)]
+
+
+def fault_outside(calls, rng):
+    read = rng.choice(fault_reads(calls))
+    values = dict(read.messages[0][1])
+    values["ADDRESS"] += 1 << 33
+    calls.append(after(read, read, messages=[("fault", values)]))
+
+
+def event_not_asked_for(calls, rng):
+    call = rng.choice(installs(calls))
+    read = next(it for it in fault_reads(calls) if it.object == call.object)
+    calls.append(after(call, read, messages=[("remove", {"START": start(call), "END": start(call) + 4096})]))
+
+
+def installed_page_discarded(calls, rng):
+    call = rng.choice(installs(calls))
+    arguments = {"ADDRESS": start(call), "LENGTH": 4096, "ADVICE": 4}
+    calls.append(Call(0, "madvise", arguments, call.end + 1, call.space, call.tid, call.end + 2, "ok"))
+
+
+def message_that_nobody_read(calls, rng):
+    call = [call for call in calls if call.word == "unregister"][-6]
+    where = {"O": call.arguments["O"]}
+    calls.append(Call(0, "poll", where, call.begin - 8, call.space, 9, call.begin - 7, "ok", {"EVENTS": 1}))
+    calls.append(Call(0, "read", {**where, "ROOM": 32}, call.begin - 6, call.space, 9, call.begin - 5, "EAGAIN"))
+
+
+def fault_of_an_unprotected_page(calls, rng):
+    call = rng.choice([it for it in calls if it.word == "writeprotect" and it.arguments["MODE"] == 0 and it.arguments["LENGTH"] == 4096])
+    read, values = fault_reads(calls)[0], {"ADDRESS": start(call), "FLAGS": 3, "THREAD": 0}
+    calls += [after(call, read, places, messages=[("fault", values)]) for places in (1, 3)]
+
+
+# Each with the log that it is planted in, and what the judge has to name.
+PLANTED = (
+    ("qemu-strace", touched_before, "there before"), ("qemu-push", install_left_out, "unanswered"), ("qemu-push", no_wake, "unanswered"),
+    ("qemu-push", ok_on_a_present_page, "impossible"), ("qemu-push", installed_twice, "twice"), ("qemu-push", wrong_length, "impossible"),
+    ("qemu-push", exists_on_a_missing_page, "impossible"), ("qemu-push", not_registered, "impossible"),
+    ("qemu-push", changing_for_no_reason, "impossible"), ("qemu-push", registered_late, "impossible"), ("qemu-push", touched_before, "impossible"),
+    ("qemu-push", outside, "impossible"), ("qemu-push", refused_outside, "outside"), ("qemu-push", never_installed, "owed"),
+    ("qemu-push", two_stale_faults, "impossible"), ("qemu-push", fault_outside, "impossible"), ("qemu-push", event_not_asked_for, "impossible"),
+    ("qemu-push", installed_page_discarded, "owed"), ("qemu-push", unregistered_early, "owed"),
+    ("qemu-push", message_that_nobody_read, "impossible"), ("qemu-snapshot", fault_of_an_unprotected_page, "impossible"),
+)

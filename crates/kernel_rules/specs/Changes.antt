@@ -1,0 +1,29 @@
+-- The changes of a page as values, which a table can keep: each is one of the functions of Pages.antt.
+use Rattle.std.specs.Prelude.{◌≡◌, ℕ, ◌&&◌, Bool, true, if◌then◌else◌, Option, Some, None, List, [], ◌∷◌}
+use Rattle.mig_base.specs.Ranges.{in_range}
+use Rattle.kernel_rules.specs.Pages.{registered_page, without_object, put_page, protected_page, settled, shown, cleared_page}
+use Rattle.kernel_rules.specs.declared.change.Change.{Change}
+use Rattle.kernel_rules.specs.declared.change.Change.TheVariants as change
+use Rattle.kernel_rules.specs.declared.known.Page.{Page}
+use Rattle.kernel_rules.specs.declared.known.Presence.TheVariants.{Present}
+
+-- the page, changed if it is registered
+abbrev pub page_with : (Page → Page) → Option Page → Option Page
+page_with change None = None
+page_with change (Some page) = Some (change page)
+
+-- what a change makes of a page
+unfoldable pub changed : Change → Option Page → Option Page
+changed (change.Register object missing protect) page = registered_page object (record { missing = missing; protect = protect }) page
+changed change.Forget page = None
+changed (change.ForgetObject object) page = without_object object page
+changed (change.Put protect) page = page_with (put_page protect) page
+changed change.Shown page = page_with (λ p. record p { presence = Present }) page
+changed (change.Protect protect unpopulated) page = page_with (protected_page protect unpopulated) page
+changed (change.Clear presence) page = page_with (cleared_page presence) page
+changed (change.Fault protected) page = page_with (shown protected) page
+changed (change.Settle presence) page = page_with (settled presence) page
+
+-- the pages once those of a range are changed
+abbrev pub range_changed : (ℕ → Option Page) → ℕ → ℕ → Change → ℕ → Option Page
+range_changed pages first count change page = if in_range first count page then changed change (pages page) else pages page

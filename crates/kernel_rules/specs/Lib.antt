@@ -1,0 +1,10 @@
+pub mod Changes
+pub mod Faults
+pub mod Held
+pub mod Ioctls
+pub mod MapCalls
+pub mod Pages
+pub mod Reads
+pub mod Runs
+pub mod State
+pub mod Tables

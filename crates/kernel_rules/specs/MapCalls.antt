@@ -1,0 +1,202 @@
+-- The calls that change an address space: what becomes of registered pages, and what the objects are told. mmap(2), munmap(2), mremap(2),
+-- madvise(2); userfaultfd(2), UFFD_EVENT_UNMAP, UFFD_EVENT_REMAP and UFFD_EVENT_REMOVE. Whether such a call succeeds is not judged.
+use Rattle.std.specs.Prelude.{ℕ, zero, suc, ◌+◌, ◌-◌, ◌*◌, ◌/◌, ◌==◌, ◌&&◌, ◌||◌, not, nat_le, nat_lt, Bool, true, false, if◌then◌else◌, Option, Some, None, List, [], ◌∷◌, ◌++◌, filter, map, length}
+use Rattle.std.specs.List.{list_any}
+use Rattle.mig_base.specs.declared.TheConstants.{PAGE_SIZE}
+use Rattle.mig_base.specs.Ranges.{in_range, lesser, pages_of}
+use Rattle.mig_base.specs.Tests.{is_empty}
+use Rattle.uffd_log.specs.declared.line.Answer.{Answer}
+use Rattle.uffd_log.specs.declared.line.Answer.TheVariants.{Done, Value, Failed}
+use Rattle.uffd_log.specs.declared.errno.Errno.TheVariants.{Enomem}
+use Rattle.uffd_log.specs.declared.call.Message.{Message}
+use Rattle.uffd_log.specs.declared.call.Message.TheVariants.{Remap, Remove, Unmap}
+use Rattle.kernel_rules.specs.Pages.{cleared_page}
+use Rattle.kernel_rules.specs.declared.difference.Difference.TheVariants.{MessagesOfMremap}
+use Rattle.kernel_rules.specs.declared.known.Presence.{Presence}
+use Rattle.kernel_rules.specs.declared.known.Presence.TheVariants.{Unknown, Missing}
+use Rattle.kernel_rules.specs.declared.known.Page.{Page}
+use Rattle.kernel_rules.specs.declared.object.Object.{Object}
+use Rattle.kernel_rules.specs.State.{Calling, Kernel, set_pages, some_page, pages_changed, allowed, asked_for, noted_if}
+
+-- Whom a call tells
+
+-- a list with a number that it does not have yet at its end
+abbrev pub with_name : List ℕ → ℕ → List ℕ
+with_name names name = if list_any (λ other. other == name) names then names else names ++ name ∷ []
+
+-- the objects with which pages of a range are registered, each once, by their first page
+unfoldable pub objects_in : Kernel → ℕ → ℕ → ℕ → List ℕ
+objects_in kernel space first zero = []
+objects_in kernel space first (suc count) = with_page (objects_in kernel space first count) (kernel.pages space (first + count)) where
+  with_page : List ℕ → Option Page → List ℕ
+  with_page names None = names
+  with_page names (Some page) = with_name names page.object
+
+-- whether an object is open, and asked to be told: by the bit of the feature
+abbrev pub is_told : Kernel → ℕ → ℕ → Bool
+is_told kernel bit name = told_by (kernel.objects name) where
+  told_by : Option Object → Bool
+  told_by None = false
+  told_by (Some object) = asked_for object bit
+
+-- a message to each object that watches a page of the range and asked for it
+abbrev pub told_of : Kernel → ℕ → ℕ → ℕ → ℕ → Message → List (ℕ × Message)
+told_of kernel bit space first count message = map (λ name. (name, message)) (filter (is_told kernel bit) (objects_in kernel space first count))
+
+-- UFFD_FEATURE_EVENT_UNMAP is bit 6, UFFD_FEATURE_EVENT_REMAP bit 2, UFFD_FEATURE_EVENT_REMOVE bit 3
+abbrev pub unmap_events : Kernel → ℕ → ℕ → ℕ → List (ℕ × Message)
+unmap_events kernel space first count =
+    if count == 0 then [] else told_of kernel 6 space first count (Unmap (PAGE_SIZE * first) (PAGE_SIZE * (first + count)))
+
+-- the kernel with a call that has events to tell. One that has none is over
+abbrev pub with_calling : Kernel → ℕ → ℕ → List (ℕ × Message) → Kernel
+with_calling kernel key space events =
+    if is_empty events then kernel
+    else
+    record kernel {
+      calls = kernel.calls
+          ++ record { key = key; space = space; events = events; queued = false; untold = (0, 0); clears = (0, 0); tells = λ name. list_any (λ event. event.0 == name) events } ∷ [];
+    }
+
+-- mmap(2) and munmap(2)
+
+-- the kernel once a range of pages is unmapped or replaced: nothing there is registered, and nothing is owed
+abbrev pub unmapped : Kernel → ℕ → ℕ → ℕ → ℕ → Kernel
+unmapped kernel key space first count =
+    with_calling (record kernel { pages = set_pages kernel.pages space first count (λ page. None) }) key space (unmap_events kernel space first count)
+
+abbrev pub mmapped : Kernel → ℕ → ℕ → ℕ → Answer → Option Kernel
+mmapped kernel key space len (Value start) = Some (unmapped kernel key space (start / PAGE_SIZE) (pages_of len))
+mmapped kernel key space len (Failed errno bytes) = Some kernel
+mmapped kernel key space len _ = None
+
+abbrev pub munmapped : Kernel → ℕ → ℕ → ℕ → ℕ → Answer → Option Kernel
+munmapped kernel key space addr len Done = Some (unmapped kernel key space (addr / PAGE_SIZE) (pages_of len))
+munmapped kernel key space addr len (Failed errno bytes) = Some kernel
+munmapped kernel key space addr len _ = None
+
+-- mremap(2)
+
+-- a page at its new place: its registration goes with it where its object asked for UFFD_EVENT_REMAP
+abbrev pub moved_page : Kernel → Option Page → Option Page
+moved_page kernel None = None
+moved_page kernel (Some page) = if is_told kernel 2 page.object then Some page else None
+
+-- a page by which a range grows: registered as its last page is, and missing
+abbrev pub grown_page : Option Page → Option Page
+grown_page None = None
+grown_page (Some page) = Some (record page { presence = Missing; guarded = false; put = false })
+
+-- what is at a place of the new range, by the pages of the old one
+abbrev pub arrived : Kernel → (ℕ → Option Page) → ℕ → ℕ → ℕ → Bool → Option Page
+arrived kernel pages from count i stays =
+    let page = if nat_lt i count then pages (from + i) else grown_page (pages (from + (count - 1))) in
+    if stays then page else moved_page kernel page
+
+-- the pages of the space once `count` pages from `from` on are `new_count` pages from `to` on
+abbrev pub moved_pages : Kernel → (ℕ → Option Page) → ℕ → ℕ → ℕ → ℕ → ℕ → Option Page
+moved_pages kernel pages from count to new_count =
+    λ page. if in_range to new_count page then arrived kernel pages from count (page - to) (to == from)
+    else if in_range from count page then None
+    else pages page
+
+-- the events of a kernel's mremap: UNMAP of the target, REMAP, UNMAP of the tail that is cut off, UNMAP of the old place of what moved
+abbrev pub mremap_events : Kernel → ℕ → ℕ → ℕ → ℕ → ℕ → List (ℕ × Message)
+mremap_events kernel space from count to new_count =
+    let kept = lesser count new_count in
+    let tail = unmap_events kernel space (from + new_count) (count - new_count) in
+    if to == from then tail
+    else
+    unmap_events kernel space to new_count
+    ++ told_of kernel 2 space from count (Remap (PAGE_SIZE * from) (PAGE_SIZE * to) (PAGE_SIZE * kept))
+    ++ tail ++ unmap_events kernel space from kept
+
+-- the kernel once a range has moved
+abbrev pub moved : Kernel → ℕ → ℕ → ℕ → ℕ → ℕ → ℕ → Kernel
+moved kernel key space from count to new_count =
+    let events = mremap_events kernel space from count to new_count in
+    noted_if (not (to == from) && not (is_empty events)) MessagesOfMremap
+    (with_calling
+    (record kernel { pages = λ other page. if other == space then moved_pages kernel (kernel.pages space) from count to new_count page else kernel.pages other page })
+    key space events)
+
+abbrev pub mremapped : Kernel → ℕ → ℕ → ℕ → ℕ → ℕ → Answer → Option Kernel
+mremapped kernel key space addr old_len new_len (Value target) =
+    Some (moved kernel key space (addr / PAGE_SIZE) (pages_of old_len) (target / PAGE_SIZE) (pages_of new_len))
+mremapped kernel key space addr old_len new_len (Failed errno bytes) = Some kernel
+mremapped kernel key space addr old_len new_len _ = None
+
+-- madvise(2)
+
+-- MADV_DONTNEED, MADV_REMOVE and MADV_DONTNEED_LOCKED clear pages; after MADV_FREE a page may be cleared at any time
+abbrev pub is_clearing : ℕ → Bool
+is_clearing advice = advice == 4 || advice == 9 || advice == 24
+
+abbrev pub cleared : Kernel → ℕ → ℕ → ℕ → Kernel
+cleared kernel space first count = pages_changed kernel space first count (cleared_page Missing)
+
+-- the kernel once a call has begun to clear a range: where an object is told, a kernel clears it only after its REMOVE was read
+abbrev pub clearing : Kernel → ℕ → ℕ → ℕ → ℕ → Kernel
+clearing kernel key space first count =
+    let told = filter (is_told kernel 3) (objects_in kernel space first count) in
+    if is_empty told then cleared kernel space first count
+    else
+    record kernel {
+      calls = kernel.calls
+          ++ record { key = key; space = space; events = []; queued = false; untold = (first, count); clears = (first, count); tells = λ name. list_any (λ other. other == name) told } ∷ [];
+    }
+
+-- whether a call may have cleared pages: ENOMEM says that a part of its range is not mapped
+abbrev pub has_cleared : Answer → Bool
+has_cleared Done = true
+has_cleared (Failed Enomem bytes) = true
+has_cleared _ = false
+
+abbrev pub madvised : Kernel → ℕ → ℕ → ℕ → ℕ → ℕ → Answer → Option Kernel
+madvised kernel key space addr len advice answer =
+    if not (has_cleared answer) then Some kernel
+    else if is_clearing advice then Some (clearing kernel key space (addr / PAGE_SIZE) (pages_of len))
+    else if advice == 8 then Some (pages_changed kernel space (addr / PAGE_SIZE) (pages_of len) (cleared_page Unknown))
+    else Some kernel
+
+-- What a map call under way does, which no line shows
+
+-- the map calls with one of them changed
+abbrev pub with_call : List Calling → ℕ → (Calling → Calling) → List Calling
+with_call calls key change = map (λ (calling : Calling). if calling.key == key then change calling else calling) calls
+
+abbrev pub call_of : List Calling → ℕ → Option Calling
+call_of [] key = None
+call_of (calling ∷ calls) key = if calling.key == key then Some calling else call_of calls key
+
+-- whether all its events are read
+abbrev pub is_told_all : Calling → Bool
+is_told_all calling = is_empty calling.events && calling.untold.1 == 0
+
+-- what a rule says of a map call under way
+abbrev pub of_call : Option Calling → (Calling → Option Kernel) → Option Kernel
+of_call None rule = None
+of_call (Some calling) rule = rule calling
+
+-- the next event of a call is queued: a kernel queues one at a time, and the next when that is read
+abbrev pub tells : Kernel → ℕ → Option Kernel
+tells kernel key = of_call (call_of kernel.calls key) (λ calling.
+    allowed (not calling.queued && not (is_told_all calling))
+    (record kernel { calls = with_call kernel.calls key (λ (calling : Calling). record calling { queued = true }) }))
+
+-- a call clears its pages, once its events are read
+abbrev pub clears : Kernel → ℕ → Option Kernel
+clears kernel key = of_call (call_of kernel.calls key) (λ calling.
+    allowed (is_told_all calling && nat_lt 0 calling.clears.1)
+    (cleared (record kernel { calls = with_call kernel.calls key (λ (calling : Calling). record calling { clears = (0, 0) }) }) calling.space calling.clears.0 calling.clears.1))
+
+-- whether a call may return: its events are read, and its pages cleared
+abbrev pub may_return : Kernel → ℕ → Bool
+may_return kernel key = returns (call_of kernel.calls key) where
+  returns : Option Calling → Bool
+  returns None = true
+  returns (Some calling) = is_told_all calling && calling.clears.1 == 0
+
+-- the kernel once a call has returned
+abbrev pub returned : Kernel → ℕ → Kernel
+returned kernel key = record kernel { calls = filter (λ (calling : Calling). not (calling.key == key)) kernel.calls }

@@ -1,0 +1,182 @@
+-- What a run of a log is: the lines of the log in their order, with steps put in between. A call takes effect once, between the line where
+-- it begins and the one where it ends; so a call that ended before another began took effect first. The rules of a kernel allow each step
+-- with exactly the answer of the log.
+use Rattle.std.specs.Prelude.{◌≡◌, ℕ, ◌==◌, ◌&&◌, ◌||◌, not, nat_lt, Bool, true, false, if◌then◌else◌, Option, Some, None, is_some, is_none, List, [], ◌∷◌, ◌++◌, filter, filter_map, map}
+use Rattle.std.specs.List.{list_any}
+use Rattle.mig_base.specs.Tests.{is_empty}
+use Rattle.uffd_log.specs.declared.call.Call.{Call}
+use Rattle.uffd_log.specs.declared.call.Call.TheVariants as call
+use Rattle.uffd_log.specs.declared.call.Message.{Message}
+use Rattle.uffd_log.specs.declared.line.Answer.{Answer}
+use Rattle.uffd_log.specs.declared.line.Answer.TheVariants.{Done, Failed, Interrupted}
+use Rattle.kernel_rules.specs.declared.fault.Fault.{Fault}
+use Rattle.kernel_rules.specs.declared.difference.Difference.{Difference}
+use Rattle.kernel_rules.specs.declared.object.Object.{Object}
+use Rattle.kernel_rules.specs.State.{Kernel, fresh_kernel, with_object, of_object}
+use Rattle.kernel_rules.specs.Faults.{sees, queues, leaves, left_unanswered, faults_over}
+use Rattle.kernel_rules.specs.Ioctls.{Run, opened, shaken, registered, unregistered, waked, put_with, protected_with, scanned, closed}
+use Rattle.kernel_rules.specs.MapCalls.{mmapped, munmapped, mremapped, madvised, tells, clears, may_return, returned}
+use Rattle.kernel_rules.specs.Reads.{read, polled, then_taken}
+
+-- The lines of a log that a judge reads
+
+-- a call: its number in the log, the address space that it changes, and whether it closes the last descriptor of its object
+pub record Made : Type 0 where
+  pub key : ℕ
+  pub space : ℕ
+  pub call : Call
+  pub last : Bool
+
+-- how it ended: its answer, the messages that it has read, and the runs of pages that a scan found
+pub record Outcome : Type 0 where
+  pub answer : Answer
+  pub messages : List Message
+  pub runs : List Run
+
+pub data Event : Type 0 where
+  begins : Made → Event
+  ends : ℕ → Outcome → Event
+
+-- What a call may answer, and what follows from it
+
+abbrev pub is_done : Answer → Bool
+is_done Done = true
+is_done _ = false
+
+abbrev pub is_failed : Answer → Bool
+is_failed (Failed errno bytes) = true
+is_failed _ = false
+
+-- O_NONBLOCK is set or cleared
+abbrev pub unblocked : Kernel → ℕ → Object → Bool → Answer → Option Kernel
+unblocked kernel name object set answer =
+    if is_done answer then Some (with_object kernel name (record object { waits = not set })) else if is_failed answer then Some kernel else None
+
+abbrev pub close_taken : Kernel → ℕ → Object → Bool → Answer → Option Kernel
+close_taken kernel name object last answer =
+    if is_done answer then Some (if last then closed kernel name object else kernel) else if is_failed answer then Some kernel else None
+
+-- a call on an object. UFFDIO_MOVE, UFFDIO_CONTINUE and UFFDIO_POISON are not judged
+unfoldable pub object_call_taken : Kernel → ℕ → Bool → Call → Outcome → Option Kernel
+object_call_taken kernel key last (call.Api on api features) out = of_object (kernel.objects on.object) (λ o. shaken kernel on.object o api features out.answer)
+object_call_taken kernel key last (call.Register on start len mode) out = of_object (kernel.objects on.object) (λ o. registered kernel on.object o start len mode out.answer)
+object_call_taken kernel key last (call.Unregister on start len) out = of_object (kernel.objects on.object) (λ o. unregistered kernel on.object o start len out.answer)
+object_call_taken kernel key last (call.Wake on start len) out = of_object (kernel.objects on.object) (λ o. waked kernel on.object o start len out.answer)
+object_call_taken kernel key last (call.Copy on to from len mode) out = of_object (kernel.objects on.object) (λ o. put_with kernel key on.object o to len mode 3 out.answer)
+object_call_taken kernel key last (call.ZeroPage on start len mode) out = of_object (kernel.objects on.object) (λ o. put_with kernel key on.object o start len mode 1 out.answer)
+object_call_taken kernel key last (call.WriteProtect on start len mode) out = of_object (kernel.objects on.object) (λ o. protected_with kernel on.object o start len mode out.answer)
+object_call_taken kernel key last (call.Read on room) out = of_object (kernel.objects on.object) (λ o. read kernel key on.object o room out.messages out.answer)
+object_call_taken kernel key last (call.Poll on) out = of_object (kernel.objects on.object) (λ o. polled kernel on.object o out.answer)
+object_call_taken kernel key last (call.NonBlock on set) out = of_object (kernel.objects on.object) (λ o. unblocked kernel on.object o set out.answer)
+object_call_taken kernel key last (call.Dup on target) out = Some kernel
+object_call_taken kernel key last (call.Close on) out = of_object (kernel.objects on.object) (λ o. close_taken kernel on.object o last out.answer)
+object_call_taken kernel key last (call.Scan on start len) out = of_object (kernel.objects on.object) (λ o. scanned kernel o start len out.runs out.answer)
+object_call_taken kernel key last _ out = None
+
+-- a call of a log takes effect with its outcome; None where no kernel has it
+unfoldable pub takes : Kernel → Made → Outcome → Option Kernel
+takes kernel made out = taken made.call where
+  taken : Call → Option Kernel
+  taken (call.Open device flags) = opened kernel made.space flags out.answer
+  taken (call.Mmap addr len prot flags) = mmapped kernel made.key made.space len out.answer
+  taken (call.Munmap addr len) = munmapped kernel made.key made.space addr len out.answer
+  taken (call.Mremap addr old_len new_len flags target) = mremapped kernel made.key made.space addr old_len new_len out.answer
+  taken (call.Madvise addr len advice) = madvised kernel made.key made.space addr len advice out.answer
+  taken call.Fork = Some kernel
+  taken other = object_call_taken kernel made.key made.last other out
+
+-- Runs
+
+-- a step of a run: the next line of the log; the effect of a call that has begun; and what no line shows
+pub data Step : Type 0 where
+  line : Event → Step
+  effect : ℕ → Outcome → Step
+  thread_sees : ℕ → ℕ → ℕ → ℕ → Step
+  thread_queues : ℕ → Step
+  thread_leaves : ℕ → Step
+  call_tells : ℕ → Step
+  call_clears : ℕ → Step
+
+-- a call that has begun, with its outcome once it has taken effect
+pub record Begun : Type 0 where
+  pub made : Made
+  pub out : Option Outcome
+
+-- the kernel, and the calls that have begun and not ended
+pub record World : Type 0 where
+  pub kernel : Kernel
+  pub begun : List Begun
+
+abbrev pub fresh_world : World
+fresh_world = record { kernel = fresh_kernel; begun = [] }
+
+-- a call by its number
+abbrev pub begun_of : List Begun → ℕ → Option Begun
+begun_of [] key = None
+begun_of (one ∷ others) key = if one.made.key == key then Some one else begun_of others key
+
+abbrev pub without_begun : List Begun → ℕ → List Begun
+without_begun calls key = filter (λ (one : Begun). not (one.made.key == key)) calls
+
+-- the world with another kernel, if a rule has one
+abbrev pub world_with : World → Option Kernel → Option World
+world_with world None = None
+world_with world (Some kernel) = Some (record world { kernel = kernel })
+
+-- a call takes effect, if it has begun and has not taken effect
+abbrev pub effect_of : World → Option Begun → ℕ → Outcome → Option World
+effect_of world None key out = None
+effect_of world (Some one) key out =
+    if is_some one.out then None
+    else world_with (record world { begun = record one { out = Some out } ∷ without_begun world.begun key }) (takes world.kernel one.made out)
+
+-- the effect that a call must have had at its end: one that was interrupted had none
+abbrev pub effect_at_end : Answer → Outcome → Option Outcome
+effect_at_end Interrupted out = None
+effect_at_end _ out = Some out
+
+-- the step leads from a world to another. At its end a call has taken effect with the outcome of that line, and its events are read
+abbrev pub IsStep : World → Step → World → Type 0
+IsStep world (line (begins made)) after = (begun_of world.begun made.key ≡ None) × (after ≡ record world { begun = record { made = made; out = None } ∷ world.begun })
+IsStep world (line (ends key out)) after =
+    (one : Begun) × (begun_of world.begun key ≡ Some one) × (may_return world.kernel key ≡ true) × (one.out ≡ effect_at_end out.answer out)
+    × (after ≡ record { kernel = returned world.kernel key; begun = without_begun world.begun key })
+IsStep world (effect key out) after = effect_of world (begun_of world.begun key) key out ≡ Some after
+IsStep world (thread_sees thread object page flags) after = world_with world (sees world.kernel thread object page flags) ≡ Some after
+IsStep world (thread_queues thread) after = world_with world (queues world.kernel thread) ≡ Some after
+IsStep world (thread_leaves thread) after = world_with world (leaves world.kernel thread) ≡ Some after
+IsStep world (call_tells key) after = world_with world (tells world.kernel key) ≡ Some after
+IsStep world (call_clears key) after = world_with world (clears world.kernel key) ≡ Some after
+
+-- the steps lead from one world to another
+abbrev pub Leads : World → List Step → World → Type 0
+Leads world [] last = world ≡ last
+Leads world (step ∷ steps) last = (next : World) × IsStep world step next × Leads next steps last
+
+-- the line of a step, if it is one
+abbrev pub line_of : Step → Option Event
+line_of (line event) = Some event
+line_of _ = None
+
+-- the lines of a run
+abbrev pub lines_of : List Step → List Event
+lines_of steps = filter_map line_of steps
+
+-- a run of a log, and the world at its end
+pub record IsRun (log : List Event) (steps : List Step) (last : World) : Type 0 where
+  pub whole : lines_of steps ≡ log
+  pub leads : Leads fresh_world steps last
+
+-- a log that a kernel may have written, with the differences from the model that a run of it has
+abbrev pub IsClean : List Event → List Difference → Type 0
+IsClean log differs = (steps : List Step) × (last : World) × IsRun log steps last × (last.kernel.differs ≡ differs)
+
+-- Findings of a run: what the last kernel has
+
+-- a page is owed: it was missing when its registration ended, or is at the end of the log
+abbrev pub IsOwed : Kernel → ℕ → ℕ → Type 0
+IsOwed kernel space page = kernel.owed space page ≡ true
+
+-- the reads whose fault nobody has answered, also those of threads that sleep at the end of the log
+abbrev pub unanswered_at_end : Kernel → List ℕ
+unanswered_at_end kernel = (faults_over kernel (λ fault. true) false).unanswered

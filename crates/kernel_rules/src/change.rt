@@ -1,0 +1,165 @@
+//! What calls do to a page. `specs/Changes.antt` says what each is.
+
+ghost use Rattle.std.specs.Prelude.{◌≡◌, Some};
+ghost use Rattle.kernel_rules.specs.Changes.{changed};
+ghost use Rattle.kernel_rules.specs.Pages.{registered_page, protected_page, settled};
+
+use crate::known::{Page, Presence};
+
+/// A change of a page, which may be registered or not.
+#[derive(Clone, Copy, Debug, PartialEq, Eq)]
+pub enum Change {
+    /// UFFDIO_REGISTER with an object, in these modes.
+    Register {
+        object: u64,
+        missing: bool,
+        protect: bool,
+    },
+    /// It is unmapped.
+    Forget,
+    /// It is no longer registered with the object.
+    ForgetObject {
+        object: u64,
+    },
+    /// UFFDIO_COPY or UFFDIO_ZEROPAGE puts it.
+    Put {
+        protect: bool,
+    },
+    /// A call shows that it is present.
+    Shown,
+    /// UFFDIO_WRITEPROTECT. `unpopulated` says whether missing pages are protected too.
+    Protect {
+        protect: bool,
+        unpopulated: bool,
+    },
+    /// It is cleared, or may be.
+    Clear {
+        presence: Presence,
+    },
+    /// A fault shows it: of a write-protected page, or of a missing one.
+    Fault {
+        protected: bool,
+    },
+    /// A recorder has found this.
+    Settle {
+        presence: Presence,
+    },
+}
+
+/// A page that is registered in these modes; one that has all of them keeps its own.
+fn registered(page: Option<Page>, object: u64, missing: bool, protect: bool) -> Page
+    ensures { Some result ≡ registered_page object (record { missing = missing; protect = protect }) page }
+{
+    match page {
+        None => Page {
+            object,
+            missing,
+            protect,
+            presence: Presence::Unknown,
+            guarded: false,
+            put: false,
+        },
+        Some(page) => {
+            if (!missing || page.missing) && (!protect || page.protect) {
+                page
+            } else {
+                Page {
+                    missing,
+                    protect,
+                    guarded: page.guarded && protect,
+                    ..page
+                }
+            }
+        }
+    }
+}
+
+/// A page of which a recorder has found this: it settles what is not known.
+fn settled_by(page: Page, found: Presence) -> Page
+    ensures { result ≡ settled found page }
+{
+    match (page.presence, found) {
+        (Presence::Unknown, Presence::Missing) => if page.missing {
+            Page {
+                presence: found,
+                ..page
+            }
+        } else {
+            page
+        },
+        (Presence::Unknown, _) => Page {
+            presence: found,
+            ..page
+        },
+        _ => page,
+    }
+}
+
+impl Change {
+    /// What becomes of a page.
+    #[tactic(auto, unfolding(crate::specs::Changes::changed))]
+    pub fn apply(self, page: Option<Page>) -> Option<Page>
+        ensures { result ≡ changed self page }
+    {
+        if let Change::Register {
+            object,
+            missing,
+            protect,
+        } = self
+        {
+            return Some(registered(page, object, missing, protect));
+        }
+        let page = page?;
+        match self {
+            Change::Register { .. } | Change::Forget => None,
+            Change::ForgetObject { object } => if page.object == object {
+                None
+            } else {
+                Some(page)
+            },
+            Change::Put { protect } => Some(Page {
+                presence: Presence::Present,
+                guarded: protect,
+                put: true,
+                ..page
+            }),
+            Change::Shown => Some(Page {
+                presence: Presence::Present,
+                ..page
+            }),
+            Change::Protect {
+                protect,
+                unpopulated,
+            } => Some(protected(page, protect, unpopulated)),
+            Change::Clear { presence } => Some(Page {
+                presence,
+                guarded: false,
+                ..page
+            }),
+            Change::Fault { protected: true } => Some(Page {
+                presence: Presence::Present,
+                ..page
+            }),
+            Change::Fault { protected: false } => Some(Page {
+                presence: Presence::Missing,
+                guarded: false,
+                ..page
+            }),
+            Change::Settle { presence } => Some(settled_by(page, presence)),
+        }
+    }
+}
+
+/// A page that is write-protected, or no longer, if it is registered for that.
+fn protected(page: Page, protect: bool, unpopulated: bool) -> Page
+    ensures { result ≡ protected_page protect unpopulated page }
+{
+    if page.protect {
+        Page {
+            guarded: protect && (unpopulated || !matches!(page.presence, Presence::Missing)),
+            ..page
+        }
+    } else {
+        page
+    }
+}

@@ -1,0 +1,38 @@
+//! What is known of pages and of faults.
+
+/// Whether a page is present. One that is not registered for missing faults may be touched at any time, so nothing is known of it until
+/// a call shows it.
+#[derive(Clone, Copy, Debug, PartialEq, Eq)]
+pub enum Presence {
+    Unknown,
+    Missing,
+    Present,
+}
+
+/// A page that is registered.
+#[derive(Clone, Copy, Debug, PartialEq, Eq)]
+pub struct Page {
+    /// The object with which it is registered.
+    pub object: u64,
+    /// Whether it is registered for missing faults.
+    pub missing: bool,
+    /// Whether it is registered for write-protect faults.
+    pub protect: bool,
+    /// Whether it is present, as far as the log has shown it.
+    pub presence: Presence,
+    /// Whether it is write-protected, if it is present.
+    pub guarded: bool,
+    /// Whether a call of the log has put it.
+    pub put: bool,
+}
+
+/// How far a thread's fault has come.
+#[derive(Clone, Copy, Debug, PartialEq, Eq)]
+pub enum Phase {
+    /// The thread has found the page missing or write-protected, and has queued no message yet. It cannot be woken.
+    Seen,
+    /// Its message waits to be read, and it sleeps.
+    Unread,
+    /// Its message was read, and it sleeps.
+    Asleep,
+}

@@ -1,0 +1,8 @@
+//! Tests of logs of userfaultfd calls: what their lines say (`uffd_log`).
+//!
+//! A test is a table of texts with what is wanted of them, and one loop plays it. Where memory is refused the call is made again, so a test
+//! passes whichever allocation is refused.
+#![tactic(auto)]
+
+#[cfg(test)]
+mod lines;

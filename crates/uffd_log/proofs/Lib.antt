@@ -1,0 +1,6 @@
+pub mod Bytes
+pub mod Keywords
+pub mod Numbers
+pub mod OneToken
+pub mod Tokens
+pub mod Words
