@@ -48,7 +48,8 @@ pub enum Change {
 
 /// A page that is registered in these modes; one that has all of them keeps its own.
 fn registered(page: Option<Page>, object: u64, missing: bool, protect: bool) -> Page
-    ensures { Some result ≡ registered_page object (record { missing = missing; protect = protect }) page }
+    ensures { Some result ≡
+        registered_page object (record { missing = missing; protect = protect }) page }
 {
     match page {
         None => Page {

@@ -135,7 +135,9 @@ pub fn note_unanswered(
     first: u64,
     count: u64,
 ) -> Result<(), NoMemory>
-    ensures { OnOk result (unanswered.new.items ≡ unanswered.old.items ++ filter_map (left_unanswered (sleeps_in object first count)) faults.now) }
+    ensures { OnOk result (unanswered.new.items ≡
+        unanswered.old.items ++
+        filter_map (left_unanswered (sleeps_in object first count)) faults.now) }
 {
     for fault in faults {
         if is_asleep_in(object, first, count, *fault) {
@@ -151,7 +153,8 @@ pub fn note_unanswered(
 
 /// Adds the read of the fault of a thread, where it is to be answered. After `NoMemory` it may be missing.
 pub fn note_thread(unanswered: &mut Vec<u64>, faults: &[Fault], thread: u64) -> Result<(), NoMemory>
-    ensures { OnOk result (unanswered.new.items ≡ unanswered.old.items ++ filter_map (left_unanswered (is_of_thread thread)) faults.now) }
+    ensures { OnOk result (unanswered.new.items ≡
+        unanswered.old.items ++ filter_map (left_unanswered (is_of_thread thread)) faults.now) }
 {
     for fault in faults {
         if fault.thread == thread {
@@ -174,7 +177,10 @@ pub fn note_left(
     count: u64,
     answered: bool,
 ) -> Result<(), NoMemory>
-    ensures { OnOk result (unanswered.new.items ≡ unanswered.old.items ++ (if answered then [] else filter_map (left_unanswered (sleeps_in object first count)) faults.now)) }
+    ensures { OnOk result (unanswered.new.items ≡
+        unanswered.old.items ++
+        (if answered then [] else filter_map (left_unanswered (sleeps_in object first count))
+        faults.now)) }
 {
     if answered {
         return Ok(());
@@ -184,7 +190,8 @@ pub fn note_left(
 
 /// Takes the faults away that sleep in a range of the object's pages.
 pub fn wake_in(faults: &mut Vec<Fault>, object: u64, first: u64, count: u64)
-    ensures { faults.new.items ≡ filter (λ fault. not (sleeps_in object first count fault)) faults.old.items }
+    ensures { faults.new.items ≡
+        filter (λ fault. not (sleeps_in object first count fault)) faults.old.items }
 {
     faults.retain(|fault| !is_asleep_in(object, first, count, *fault));
 }

@@ -42,7 +42,8 @@ impl KernelTable {
     /// Whether a thread still has to wait. Its object watches this space.
     fn must_wait(&self, space: u64, fault: Fault) -> bool
         requires { AreTables self.now }
-        ensures { result ≡ page_is (stops_at fault.object fault.flags) (pages_by (get nat_eq self.now.spaces space) fault.page) }
+        ensures { result ≡ page_is (stops_at fault.object fault.flags)
+            (pages_by (get nat_eq self.now.spaces space) fault.page) }
     {
         match self.page(space, fault.page) {
             Some(page) => stops(fault.object, fault.flags, page),
@@ -54,7 +55,9 @@ impl KernelTable {
     fn note_if(&mut self, differs: bool, difference: Difference) -> Result<(), NoMemory>
         requires { AreTables self.old }
         ensures same { self.new ≡ record self.old { differs = self.new.differs } }
-        ensures noted { OnOk result (self.new.differs.items ≡ (if differs then self.old.differs.items ++ difference ∷ [] else self.old.differs.items)) }
+        ensures noted { OnOk result (self.new.differs.items ≡
+            (if differs then self.old.differs.items ++
+            difference ∷ [] else self.old.differs.items)) }
     {
         if !differs {
             return Ok(());
@@ -70,7 +73,8 @@ impl KernelTable {
     pub fn queues(&mut self, thread: u64) -> Result<bool, NoMemory>
         requires { AreTables self.old }
         ensures tables { AreTables self.new }
-        ensures made { IfOk result (λ made. OnTrue made (Makes self.old self.new (λ kernel. queues kernel thread))) }
+        ensures made { IfOk result (λ made.
+            OnTrue made (Makes self.old self.new (λ kernel. queues kernel thread))) }
     {
         let Some(fault) = find(&self.faults, thread) else {
             return Ok(false);
@@ -106,7 +110,8 @@ impl KernelTable {
     ) -> Result<(), NoMemory>
         requires { AreTables self.old }
         ensures tables { AreTables self.new }
-        ensures woken { OnOk result (Becomes self.old self.new (λ kernel. woken kernel (sleeps_in object first count) answered)) }
+        ensures woken { OnOk result (Becomes self.old self.new (λ kernel.
+            woken kernel (sleeps_in object first count) answered)) }
     {
         let unread = has_unread_in(&self.faults, object, first, count);
         note_left(
@@ -126,7 +131,8 @@ impl KernelTable {
     pub fn leaves(&mut self, thread: u64) -> Result<bool, NoMemory>
         requires { AreTables self.old }
         ensures tables { AreTables self.new }
-        ensures made { IfOk result (λ made. OnTrue made (Makes self.old self.new (λ kernel. leaves kernel thread))) }
+        ensures made { IfOk result (λ made.
+            OnTrue made (Makes self.old self.new (λ kernel. leaves kernel thread))) }
     {
         let Some(fault) = find(&self.faults, thread) else {
             return Ok(false);

@@ -36,7 +36,8 @@ pub struct PageTable {
 impl Layer {
     /// What the change makes of a page.
     fn apply(self, page: u64, found: Option<Page>) -> Option<Page>
-        ensures { result ≡ (if in_range self.first self.count page then changed self.change found else found) }
+        ensures { result ≡ (if in_range self.first self.count page then changed self.change found
+            else found) }
     {
         if self.first <= page && page - self.first < self.count {
             self.change.apply(found)
@@ -77,7 +78,8 @@ impl PageTable {
     pub fn change_one(&mut self, page: u64, change: Change) -> Result<(), NoMemory>
         requires { IsTable self.old }
         ensures table { IsTable self.new }
-        ensures ok { OnOk result ((n : ℕ) → pages_of self.new n ≡ range_changed (pages_of self.old) page 1 change n) }
+        ensures ok { OnOk result ((n : ℕ) →
+            pages_of self.new n ≡ range_changed (pages_of self.old) page 1 change n) }
         ensures err { OnErr result ((n : ℕ) → pages_of self.new n ≡ pages_of self.old n) }
     {
         let found = change.apply(self.look(page));
@@ -92,7 +94,8 @@ impl PageTable {
     pub fn change_range(&mut self, first: u64, count: u64, change: Change) -> Result<(), NoMemory>
         requires { IsTable self.old }
         ensures table { IsTable self.new }
-        ensures ok { OnOk result ((n : ℕ) → pages_of self.new n ≡ range_changed (pages_of self.old) first count change n) }
+        ensures ok { OnOk result ((n : ℕ) →
+            pages_of self.new n ≡ range_changed (pages_of self.old) first count change n) }
         ensures err { OnErr result ((n : ℕ) → pages_of self.new n ≡ pages_of self.old n) }
     {
         match self.layers.push(Layer {

@@ -95,7 +95,8 @@ fn is_same(word: &[u8], other: &[u8]) -> bool
 /// A word of more than ten letters.
 fn of_long(word: &[u8]) -> Option<Keyword>
     ensures found { IfSome result (λ keyword. word.now ≡ keyword_text keyword) }
-    ensures none { IfNone result ((keyword : KeywordOf) → is_long keyword ≡ true → word.now ≡ keyword_text keyword → ⊥) }
+    ensures none { IfNone result ((keyword : KeywordOf) → is_long keyword ≡ true →
+        word.now ≡ keyword_text keyword → ⊥) }
 {
     if is_same(word, b"writeprotect") {
         return Some(Keyword::WriteProtect);
@@ -109,7 +110,8 @@ fn of_long(word: &[u8]) -> Option<Keyword>
 /// A word of calls.
 fn of_call(word: &[u8]) -> Option<Keyword>
     ensures found { IfSome result (λ keyword. word.now ≡ keyword_text keyword) }
-    ensures none { IfNone result ((keyword : KeywordOf) → is_of_call keyword ≡ true → word.now ≡ keyword_text keyword → ⊥) }
+    ensures none { IfNone result ((keyword : KeywordOf) → is_of_call keyword ≡ true →
+        word.now ≡ keyword_text keyword → ⊥) }
 {
     match word {
         b"open" => Some(Keyword::Open),
@@ -143,7 +145,8 @@ fn of_call(word: &[u8]) -> Option<Keyword>
 /// A word of lines or messages.
 fn of_line(word: &[u8]) -> Option<Keyword>
     ensures found { IfSome result (λ keyword. word.now ≡ keyword_text keyword) }
-    ensures none { IfNone result ((keyword : KeywordOf) → is_of_line keyword ≡ true → word.now ≡ keyword_text keyword → ⊥) }
+    ensures none { IfNone result ((keyword : KeywordOf) → is_of_line keyword ≡ true →
+        word.now ≡ keyword_text keyword → ⊥) }
 {
     match word {
         b"begin" => Some(Keyword::Begin),
@@ -167,7 +170,8 @@ fn of_line(word: &[u8]) -> Option<Keyword>
 /// A word of answers.
 fn of_answer(word: &[u8]) -> Option<Keyword>
     ensures found { IfSome result (λ keyword. word.now ≡ keyword_text keyword) }
-    ensures none { IfNone result ((keyword : KeywordOf) → is_of_answer keyword ≡ true → word.now ≡ keyword_text keyword → ⊥) }
+    ensures none { IfNone result ((keyword : KeywordOf) → is_of_answer keyword ≡ true →
+        word.now ≡ keyword_text keyword → ⊥) }
 {
     match word {
         b"ok" => Some(Keyword::Ok),

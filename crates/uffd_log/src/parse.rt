@@ -142,7 +142,8 @@ fn line_of(tokens: &[Token]) -> Option<Line>
 /// they only keep their room from line to line. `NoMemory` comes if room for tokens is refused.
 pub fn parse(tokens: &mut Vec<Token>, text: &[u8]) -> Result<Option<Line>, NoMemory>
     ensures found { IfOk result (λ found. IfSome found (λ line. Spells text.now line)) }
-    ensures none { IfOk result (λ found. IfNone found ((line : LineOf) → Spells text.now line → ⊥)) }
+    ensures none { IfOk result (λ found.
+        IfNone found ((line : LineOf) → Spells text.now line → ⊥)) }
 {
     if read_tokens(tokens, text)? {
         return Ok(line_of(tokens));

@@ -40,7 +40,8 @@ fn around(text: &[u8], at: usize) -> (&[u8], &[u8])
 fn digits(text: &[u8], radix: u32) -> Option<u64>
     requires low { 2 ≤ radix }
     requires high { radix ≤ 36 }
-    ensures { SomeIff result (AllDigits radix text.now × (digits_value radix text.now < 2 ^ 64)) (digits_value radix text.now) }
+    ensures { SomeIff result (AllDigits radix text.now ×
+        (digits_value radix text.now < 2 ^ 64)) (digits_value radix text.now) }
 {
     let mut value: u64 = 0;
     for byte in text {
@@ -123,8 +124,10 @@ fn token_of(word: &[u8]) -> Option<Token>
 /// Replaces the tokens by those of the words of a text. Stops with false at an empty word, and with `NoMemory` if room is refused; the
 /// tokens before it stay.
 pub fn read_tokens(tokens: &mut Vec<Token>, text: &[u8]) -> Result<bool, NoMemory>
-    ensures found { IfOk result (λ found. OnTrue found (AreTokens tokens.new.items (words_of text.now))) }
-    ensures none { IfOk result (λ found. OnFalse found ((tokens : List TokenOf) → AreTokens tokens (words_of text.now) → ⊥)) }
+    ensures found { IfOk result (λ found.
+        OnTrue found (AreTokens tokens.new.items (words_of text.now))) }
+    ensures none { IfOk result (λ found.
+        OnFalse found ((tokens : List TokenOf) → AreTokens tokens (words_of text.now) → ⊥)) }
 {
     tokens.clear();
     let mut rest = text;
