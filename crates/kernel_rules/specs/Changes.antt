@@ -12,7 +12,7 @@ abbrev pub page_with : (Page → Page) → Option Page → Option Page
 page_with change None = None
 page_with change (Some page) = Some (change page)
 
--- what a change makes of a page
+-- what is known of a page after a change
 unfoldable pub changed : Change → Option Page → Option Page
 changed (change.Register object missing protect) page = registered_page object (record { missing = missing; protect = protect }) page
 changed change.Forget page = None

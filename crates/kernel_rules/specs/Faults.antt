@@ -13,11 +13,13 @@ use Rattle.kernel_rules.specs.declared.known.Page.{Page}
 use Rattle.kernel_rules.specs.declared.object.Object.{Object}
 use Rattle.kernel_rules.specs.State.{Kernel, page_is, pages_changed, of_object, allowed, noted_if}
 
+-- the thread has looked at its page, and has queued nothing yet
 abbrev pub is_seen : Phase → Bool
 is_seen Seen = true
 is_seen Unread = false
 is_seen Asleep = false
 
+-- the message of the fault is queued and unread
 abbrev pub is_unread : Phase → Bool
 is_unread Seen = false
 is_unread Unread = true
@@ -87,6 +89,7 @@ faults_over kernel test answered =
       unanswered = kernel.unanswered ++ (if answered then [] else filter_map (left_unanswered test) kernel.faults);
     }
 
+-- the fault is this thread's
 abbrev pub is_of_thread : ℕ → Fault → Bool
 is_of_thread thread fault = fault.thread == thread
 

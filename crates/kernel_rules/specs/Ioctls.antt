@@ -37,6 +37,7 @@ is_model_feature i = i == 0 || i == 2 || i == 3 || i == 6 || i == 8
 abbrev pub taken_features : ℕ → ℕ
 taken_features features = if is_one features 15 && not (is_one features 13) then features + 0x2000 else features
 
+-- UFFDIO_API: the kernel has offered these features, or it has refused
 abbrev pub shaken : Kernel → ℕ → Object → ℕ → ℕ → Answer → Option Kernel
 shaken kernel name object api features (Features offered ioctls) =
     allowed (not (is_enabled object) && api == 0xaa && is_within features offered)
@@ -53,6 +54,7 @@ abbrev pub with_registered : Kernel → ℕ → ℕ → ℕ → ℕ → Mode →
 with_registered kernel name space first count mode =
     record kernel { pages = set_pages kernel.pages space first count (λ page. registered_page name mode (kernel.pages space page)) }
 
+-- the kernel once an object has registered a range, for good
 abbrev pub with_range : Kernel → ℕ → ℕ → ℕ → Kernel
 with_range kernel name first count = record kernel { ranges = kernel.ranges ++ record { object = name; first = first; count = count } ∷ [] }
 
@@ -69,6 +71,7 @@ is_map_error Enomem = true
 is_map_error Efault = true
 is_map_error _ = false
 
+-- UFFDIO_REGISTER of a range that no other object has
 abbrev pub registered : Kernel → ℕ → Object → ℕ → ℕ → ℕ → Answer → Option Kernel
 registered kernel name object start len bits (Value ioctls) =
     allowed
@@ -91,6 +94,7 @@ unregistered_in kernel name object first count =
       owed = set_pages kernel.owed object.space first count (λ page. kernel.owed object.space page || page_is (is_owed name object) (kernel.pages object.space page));
     }
 
+-- UFFDIO_UNREGISTER, which wakes those that sleep in the range
 abbrev pub unregistered : Kernel → ℕ → Object → ℕ → ℕ → Answer → Option Kernel
 unregistered kernel name object start len Done =
     allowed (is_enabled object && is_range start len)
@@ -163,6 +167,7 @@ abbrev pub is_part : ℕ → Option ℕ → Bool
 is_part len None = false
 is_part len (Some bytes) = nat_lt 0 bytes && nat_lt bytes len && bytes % PAGE_SIZE == 0
 
+-- the bytes that were put before a call failed
 abbrev pub bytes_or_none : Option ℕ → ℕ
 bytes_or_none None = 0
 bytes_or_none (Some bytes) = bytes
@@ -212,6 +217,7 @@ perhaps_protected protect page = if protect && page.protect then record page { g
 abbrev pub is_each_protected : Kernel → Object → ℕ → ℕ → Bool
 is_each_protected kernel object start len = each_page kernel object.space (start / PAGE_SIZE) (len / PAGE_SIZE) (λ page. page.protect)
 
+-- UFFDIO_WRITEPROTECT: it sets the protection of a range, or clears it and wakes those that sleep there
 abbrev pub protected_with : Kernel → ℕ → Object → ℕ → ℕ → ℕ → Answer → Option Kernel
 protected_with kernel name object start len bits Done =
     let first = start / PAGE_SIZE in
@@ -237,6 +243,7 @@ pub record Run : Type 0 where
   pub len : ℕ
   pub bits : ℕ
 
+-- the bits that a scan found for a page, 0 if it found none
 abbrev pub bits_at : List Run → ℕ → ℕ
 bits_at [] page = 0
 bits_at (run ∷ runs) page = if in_range (run.start / PAGE_SIZE) (run.len / PAGE_SIZE) page then run.bits else bits_at runs page
@@ -245,10 +252,12 @@ bits_at (run ∷ runs) page = if in_range (run.start / PAGE_SIZE) (run.len / PAG
 abbrev pub presence_of : ℕ → Presence
 presence_of bits = if is_one bits 0 || is_one bits 1 then Present else if bits == 0 then Missing else Unknown
 
+-- what is known of a page after a scan: its presence, if it is registered
 abbrev pub page_settled : List Run → ℕ → Option Page → Option Page
 page_settled runs page None = None
 page_settled runs page (Some found) = Some (settled (presence_of (bits_at runs page)) found)
 
+-- a scan settles which pages of its range are present
 abbrev pub scanned : Kernel → Object → ℕ → ℕ → List Run → Answer → Option Kernel
 scanned kernel object start len runs (Value count) =
     Some (record kernel { pages = set_pages kernel.pages object.space (start / PAGE_SIZE) (len / PAGE_SIZE) (λ page. page_settled runs page (kernel.pages object.space page)) })
@@ -271,6 +280,7 @@ abbrev pub is_watching : Kernel → ℕ → Object → Bool
 is_watching kernel name object =
     list_any (λ (range : Registration). range.object == name && some_page kernel object.space range.first range.count (λ page. page.object == name)) kernel.ranges
 
+-- the kernel once the last descriptor of an object is closed: its registrations end, and its sleepers wake
 abbrev pub closed : Kernel → ℕ → Object → Kernel
 closed kernel name object =
     noted_if (is_watching kernel name object) differs.Close

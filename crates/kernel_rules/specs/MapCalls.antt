@@ -1,4 +1,4 @@
--- The calls that change an address space: what becomes of registered pages, and what the objects are told. mmap(2), munmap(2), mremap(2),
+-- The calls that change an address space: what becomes of registered pages, and which events the objects get. mmap(2), munmap(2), mremap(2),
 -- madvise(2); userfaultfd(2), UFFD_EVENT_UNMAP, UFFD_EVENT_REMAP and UFFD_EVENT_REMOVE. Whether such a call succeeds is not judged.
 use Rattle.std.specs.Prelude.{ℕ, zero, suc, ◌+◌, ◌-◌, ◌*◌, ◌/◌, ◌==◌, ◌&&◌, ◌||◌, not, nat_le, nat_lt, Bool, true, false, if◌then◌else◌, Option, Some, None, List, [], ◌∷◌, ◌++◌, filter, map, length}
 use Rattle.std.specs.List.{list_any}
@@ -32,7 +32,7 @@ objects_in kernel space first (suc count) = with_page (objects_in kernel space f
   with_page names None = names
   with_page names (Some page) = with_name names page.object
 
--- whether an object is open, and asked to be told: by the bit of the feature
+-- whether an object is open, and asked for these events: by the bit of the feature
 abbrev pub is_told : Kernel → ℕ → ℕ → Bool
 is_told kernel bit name = told_by (kernel.objects name) where
   told_by : Option Object → Bool
@@ -65,11 +65,13 @@ abbrev pub unmapped : Kernel → ℕ → ℕ → ℕ → ℕ → Kernel
 unmapped kernel key space first count =
     with_calling (record kernel { pages = set_pages kernel.pages space first count (λ page. None) }) key space (unmap_events kernel space first count)
 
+-- mmap(2) replaces what was mapped where it maps
 abbrev pub mmapped : Kernel → ℕ → ℕ → ℕ → Answer → Option Kernel
 mmapped kernel key space len (Value start) = Some (unmapped kernel key space (start / PAGE_SIZE) (pages_of len))
 mmapped kernel key space len (Failed errno bytes) = Some kernel
 mmapped kernel key space len _ = None
 
+-- munmap(2)
 abbrev pub munmapped : Kernel → ℕ → ℕ → ℕ → ℕ → Answer → Option Kernel
 munmapped kernel key space addr len Done = Some (unmapped kernel key space (addr / PAGE_SIZE) (pages_of len))
 munmapped kernel key space addr len (Failed errno bytes) = Some kernel
@@ -120,6 +122,7 @@ moved kernel key space from count to new_count =
     (record kernel { pages = λ other page. if other == space then moved_pages kernel (kernel.pages space) from count to new_count page else kernel.pages other page })
     key space events)
 
+-- mremap(2) moves the pages, and unmaps what it replaces
 abbrev pub mremapped : Kernel → ℕ → ℕ → ℕ → ℕ → ℕ → Answer → Option Kernel
 mremapped kernel key space addr old_len new_len (Value target) =
     Some (moved kernel key space (addr / PAGE_SIZE) (pages_of old_len) (target / PAGE_SIZE) (pages_of new_len))
@@ -132,10 +135,11 @@ mremapped kernel key space addr old_len new_len _ = None
 abbrev pub is_clearing : ℕ → Bool
 is_clearing advice = advice == 4 || advice == 9 || advice == 24
 
+-- the kernel once the pages of a range are cleared: those that are registered are missing
 abbrev pub cleared : Kernel → ℕ → ℕ → ℕ → Kernel
 cleared kernel space first count = pages_changed kernel space first count (cleared_page Missing)
 
--- the kernel once a call has begun to clear a range: where an object is told, a kernel clears it only after its REMOVE was read
+-- the kernel once a call has begun to clear a range: where an object gets a REMOVE, a kernel clears it only after that was read
 abbrev pub clearing : Kernel → ℕ → ℕ → ℕ → ℕ → Kernel
 clearing kernel key space first count =
     let told = filter (is_told kernel 3) (objects_in kernel space first count) in
@@ -152,6 +156,7 @@ has_cleared Done = true
 has_cleared (Failed Enomem bytes) = true
 has_cleared _ = false
 
+-- madvise(2), of the advices that clear pages
 abbrev pub madvised : Kernel → ℕ → ℕ → ℕ → ℕ → ℕ → Answer → Option Kernel
 madvised kernel key space addr len advice answer =
     if not (has_cleared answer) then Some kernel
@@ -165,6 +170,7 @@ madvised kernel key space addr len advice answer =
 abbrev pub with_call : List Calling → ℕ → (Calling → Calling) → List Calling
 with_call calls key change = map (λ (calling : Calling). if calling.key == key then change calling else calling) calls
 
+-- the map call with this number, if it is under way
 abbrev pub call_of : List Calling → ℕ → Option Calling
 call_of [] key = None
 call_of (calling ∷ calls) key = if calling.key == key then Some calling else call_of calls key

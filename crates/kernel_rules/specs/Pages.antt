@@ -6,11 +6,13 @@ use Rattle.kernel_rules.specs.declared.known.Page.{Page}
 use Rattle.kernel_rules.specs.declared.known.Presence.{Presence}
 use Rattle.kernel_rules.specs.declared.known.Presence.TheVariants.{Unknown, Missing, Present}
 
+-- the page is known to be missing
 abbrev pub is_missing : Presence → Bool
 is_missing Missing = true
 is_missing Unknown = false
 is_missing Present = false
 
+-- the page is known to be present
 abbrev pub is_present : Presence → Bool
 is_present Missing = false
 is_present Unknown = false
@@ -34,6 +36,7 @@ with_mode mode page =
     if (not mode.missing || page.missing) && (not mode.protect || page.protect) then page
     else record page { missing = mode.missing; protect = mode.protect; guarded = page.guarded && mode.protect }
 
+-- a page once an object has registered it in this mode: nothing is known of its presence, if it was not registered before
 abbrev pub registered_page : ℕ → Mode → Option Page → Option Page
 registered_page name mode None = Some (record { object = name; missing = mode.missing; protect = mode.protect; presence = Unknown; guarded = false; put = false })
 registered_page name mode (Some page) = Some (with_mode mode page)
@@ -52,6 +55,7 @@ abbrev pub protected_page : Bool → Bool → Page → Page
 protected_page protect unpopulated page =
     if page.protect then record page { guarded = protect && (unpopulated || not (is_missing page.presence)) } else page
 
+-- nothing is known of the page's presence
 abbrev pub is_unknown : Presence → Bool
 is_unknown Missing = false
 is_unknown Unknown = true

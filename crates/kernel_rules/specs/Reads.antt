@@ -90,6 +90,7 @@ teller kernel name event [] late = None
 teller kernel name event (calling ∷ calls) late =
     if is_next_of kernel name event calling then Some (calling, late) else teller kernel name event calls (late || has_untold name calling)
 
+-- the kernel once an event was read of a map call that was found to have it; the flag says whether an older call had one
 abbrev pub event_taken : Kernel → Message → Option (Calling × Bool) → Option Kernel
 event_taken kernel event None = None
 event_taken kernel event (Some found) =
@@ -100,6 +101,7 @@ event_taken kernel event (Some found) =
 
 -- One message, and several
 
+-- the kernel once the first unread fault of an object was read, if the message is that fault's
 abbrev pub fault_taken : Kernel → ℕ → ℕ → Object → ℕ → ℕ → ℕ → Option Kernel
 fault_taken kernel key name object addr flags thread = of_fault (first_unread kernel.faults name) (λ fault.
     allowed (is_message object fault addr flags thread) (record kernel { faults = fault_read kernel object key fault }))
@@ -115,10 +117,12 @@ message_taken kernel key name object (message.Fork child) = None
 message_taken kernel key name object event =
     if has_unread_fault kernel name then None else event_taken kernel event (teller kernel name event kernel.calls false)
 
+-- one rule after another, if the first allows its step
 abbrev pub then_taken : Option Kernel → (Kernel → Option Kernel) → Option Kernel
 then_taken None rule = None
 then_taken (Some kernel) rule = rule kernel
 
+-- the kernel once these messages were read in turn
 abbrev pub messages_taken : Kernel → ℕ → ℕ → Object → List Message → Option Kernel
 messages_taken kernel key name object [] = Some kernel
 messages_taken kernel key name object (event ∷ events) =
@@ -142,6 +146,7 @@ abbrev pub has_room : Option ℕ → Bool
 has_room None = true
 has_room (Some room) = nat_le 32 room
 
+-- read(2): it returns messages, or an error that the state allows
 abbrev pub read : Kernel → ℕ → ℕ → Object → Option ℕ → List Message → Answer → Option Kernel
 read kernel key name object room messages (Value count) =
     if is_enabled object && count == length messages && nat_lt 0 count then messages_taken kernel key name object messages else None

@@ -33,16 +33,19 @@ pub record Outcome : Type 0 where
   pub messages : List Message
   pub runs : List Run
 
+-- a line of a log: a call begins, or the call with this number ends so
 pub data Event : Type 0 where
   begins : Made → Event
   ends : ℕ → Outcome → Event
 
 -- What a call may answer, and what follows from it
 
+-- the call has succeeded, and returned nothing else
 abbrev pub is_done : Answer → Bool
 is_done Done = true
 is_done _ = false
 
+-- the call has failed
 abbrev pub is_failed : Answer → Bool
 is_failed (Failed errno bytes) = true
 is_failed _ = false
@@ -52,6 +55,7 @@ abbrev pub unblocked : Kernel → ℕ → Object → Bool → Answer → Option 
 unblocked kernel name object set answer =
     if is_done answer then Some (with_object kernel name (record object { waits = not set })) else if is_failed answer then Some kernel else None
 
+-- close(2): it ends the object if the descriptor was its last
 abbrev pub close_taken : Kernel → ℕ → Object → Bool → Answer → Option Kernel
 close_taken kernel name object last answer =
     if is_done answer then Some (if last then closed kernel name object else kernel) else if is_failed answer then Some kernel else None
@@ -107,6 +111,7 @@ pub record World : Type 0 where
   pub kernel : Kernel
   pub begun : List Begun
 
+-- nothing has happened
 abbrev pub fresh_world : World
 fresh_world = record { kernel = fresh_kernel; begun = [] }
 
@@ -115,6 +120,7 @@ abbrev pub begun_of : List Begun → ℕ → Option Begun
 begun_of [] key = None
 begun_of (one ∷ others) key = if one.made.key == key then Some one else begun_of others key
 
+-- the calls under way but this one
 abbrev pub without_begun : List Begun → ℕ → List Begun
 without_begun calls key = filter (λ (one : Begun). not (one.made.key == key)) calls
 

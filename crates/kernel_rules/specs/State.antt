@@ -32,6 +32,7 @@ pub record Calling : Type 0 where
   -- the objects to which it has anything to tell
   pub tells : ℕ → Bool
 
+-- what a kernel has, as far as userfault objects are concerned
 pub record Kernel : Type 0 where
   pub objects : ℕ → Option Object
   -- the ranges that were registered, also those that no longer are

@@ -34,7 +34,7 @@ pub struct PageTable {
 }
 
 impl Layer {
-    /// What the change makes of a page.
+    /// What is known of a page once the change is made.
     fn apply(self, page: u64, found: Option<Page>) -> Option<Page>
         ensures { result ≡ (if in_range self.first self.count page then changed self.change found
             else found) }

@@ -106,7 +106,7 @@ pub record IsOther (word : List ℕ) : Type 0 where
 abbrev pub BeginsWithE : List ℕ → Type 0
 BeginsWithE word = (rest : List ℕ) × (word ≡ 69 ∷ rest)
 
--- the word stands for the token. The name of an error that is no keyword begins with E
+-- the word stands for the token. The name of an error without a keyword begins with E
 abbrev pub IsToken : Token → List ℕ → Type 0
 IsToken (Key keyword) word = word ≡ keyword_text keyword
 IsToken (Number n) word = IsNumber word n

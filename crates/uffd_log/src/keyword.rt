@@ -1,4 +1,4 @@
-//! Keywords: the words of lines that are no numbers, descriptors or texts.
+//! Keywords: the words of lines other than numbers, descriptors and texts.
 
 ghost use Rattle.std.specs.Prelude.{◌≡◌, ◌↔◌, IsTrue, IfSome, IfNone, true};
 ghost use Rattle.uffd_log.specs.declared.keyword.Keyword.{Keyword as KeywordOf};

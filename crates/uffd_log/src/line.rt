@@ -81,6 +81,6 @@ pub enum Line {
     Exit {
         stamp: Stamp,
     },
-    /// So many lines which belong above this one were not written.
+    /// The number of lines that belong above this one and were not written.
     Lost(u64),
 }

@@ -21,7 +21,7 @@ pub enum Token {
     /// A minus sign, and a number.
     Minus(u64),
     On(Descriptor),
-    /// The name of an error that is no keyword: a word that begins with E.
+    /// The name of an error without a keyword: a word that begins with E.
     Error,
     /// Any other word.
     Text,
