@@ -1,5 +1,9 @@
-// A right handler of the destination, as right.py, with the structures of the kernel.
+// A right handler of the destination, as right.py, with the structures of the kernel: by calls, or with -DDESCRIPTOR on a descriptor.
+#ifdef DESCRIPTOR
+#include "descriptor.h"
+#else
 #include "calls.h"
+#endif
 
 #define PAGE 4096ull
 #define MOST_OWED (1 << 16)
@@ -165,9 +169,8 @@ static void take_waiting(void) {
   }
 }
 
-// Events first: they change which pages are owed, and a kernel lets the ioctls through once they are read.
-static void take_messages(struct uffd_msg *messages) {
-  size_t count = 1;
+// Events first: they change which pages are owed, and once they are read a kernel lets ioctls through that are by the old table.
+static void take_messages(struct uffd_msg *messages, size_t count) {
   while (count < MOST_MESSAGES && handler_read(&messages[count]) > 0)
     count++;
   for (size_t i = 0; i < count; i++)
@@ -249,8 +252,11 @@ int main(void) {
   static unsigned char frame[1 << 20];
   size_t length;
   for (;;)
-    if (handler_next(messages, frame, sizeof frame, &length) == MESSAGE)
-      take_messages(messages);
+    if (waiting_count)
+      // (EAGAIN: an event is unread, or the call that had one has not gone on yet; so nothing may come that could be waited for)
+      take_messages(messages, 0);
+    else if (handler_next(messages, frame, sizeof frame, &length) == MESSAGE)
+      take_messages(messages, 1);
     else
       take_frame(frame);
 }

@@ -1,30 +1,23 @@
 #!/usr/bin/env python3
 """A right handler of the destination, for conformance/handler: README.md, Your own handler.
 
-conformance/handlers/right.py [--bug NAME | --way NAME]
+conformance/handlers/right.py [--bug NAME | --way NAME] [--descriptor]
 
-It makes calls, each a line on standard output with one line as its answer: `next` and `read` for poll(2) and read(2), `copy`, `zeropage` and
-`wake` for the three ioctls, `send` for send(2). With --bug it has one of the bugs of wrong.py, with --way it is right in one of the ways of ways.py.
+It makes the calls of calls.py: `next` and `read` for poll(2) and read(2), `copy`, `zeropage` and `wake` for the three ioctls, `send` for send(2).
+With --bug it has one of the bugs of wrong.py, with --way it is right in one of the ways of ways.py.
 """
 
 import importlib
 import struct
 import sys
 
+from calls import call
+
 PAGE = 4096
 # The messages of userfaultfd(2), and the frames of docs/FORMATS.md.
 FAULT, REMAP, REMOVE, UNMAP = 0x12, 0x14, 0x15, 0x16
 COPY, ZERO, PACKAGE, END, RESUME, REQUEST, RECV, DONE = 2, 3, 5, 6, 7, 0x81, 0x82, 0x83
 RUNNING, ENDED = 1, 2
-
-
-def call(*words):
-    """Makes a call: the words of its answer."""
-    print(*words, flush=True)
-    answer = sys.stdin.readline()
-    if not answer:
-        sys.exit(0)
-    return answer.split()
 
 
 def runs_of(body, at, size):
@@ -47,7 +40,9 @@ def runs_text(pages):
 
 class Handler:
     """owed: for each owed page, as it lies now, its number at the source. requested: those asked for, by that number. again: what was refused with
-    EAGAIN, to be tried once the event was read. moved: the old places of which an UNMAP is still to come."""
+    EAGAIN, to be tried again. moved: the old places of which an UNMAP is still to come."""
+
+    ROOM = 16
 
     def __init__(self):
         self.owed, self.requested, self.again, self.moved = {}, set(), [], []
@@ -55,21 +50,28 @@ class Handler:
 
     def run(self):
         while True:
+            if self.again:
+                # (EAGAIN: an event is unread, or the call that had one has not gone on yet; so nothing may come that could be waited for)
+                self.take_messages([*self.read(self.ROOM)])
+                continue
             kind, text = call("next")
             if kind == "frame":
                 self.take_frame(bytes.fromhex(text))
             else:
-                self.take_messages([bytes.fromhex(text), *self.rest_of_messages()])
+                self.take_messages([bytes.fromhex(text), *self.read(self.ROOM - 1)])
 
-    def rest_of_messages(self):
-        """One read(2) of a program takes all that wait, if it has room for them."""
-        while (answer := call("read")) != ["none"]:
+    def read(self, most):
+        """The messages that wait, at most this many: one read(2) with room for them."""
+        for _ in range(most):
+            answer = call("read")
+            if answer == ["none"]:
+                return
             yield bytes.fromhex(answer[1])
 
     # ---- messages ----
 
     def take_messages(self, messages):
-        """Events first: they change which pages are owed. (A kernel lets the ioctls through once they are read.)"""
+        """Events first: they change which pages are owed, and once they are read a kernel lets ioctls through that are by the old table."""
         faults = []
         for message in messages:
             kind, *numbers = struct.unpack("<B7x3Q", message)
@@ -118,7 +120,7 @@ class Handler:
     # ---- pages ----
 
     def put(self, page, data, act):
-        """Makes a page present, and wakes who sleeps on it: whether that is done. `act` is what to do again where an event is unread."""
+        """Makes a page present, and wakes who sleeps on it: whether that is done. `act` is what to do again after EAGAIN."""
         said = call("copy", hex(page * PAGE), 0, data.hex()) if data else call("zeropage", hex(page * PAGE), PAGE, 0)
         if said == ["refused", "EAGAIN"]:
             self.again.append(act)
@@ -173,7 +175,7 @@ class Handler:
 
 def main():
     handler = Handler
-    if len(sys.argv) > 2:
+    if sys.argv[1:2] in (["--bug"], ["--way"]):
         others = importlib.import_module({"--bug": "wrong", "--way": "ways"}[sys.argv[1]])
         handler = others.HANDLERS[sys.argv[2]]
     handler().run()

@@ -2,6 +2,7 @@
 
 import sys
 
+from calls import call
 from right import FAULT, PAGE, REMAP, REMOVE, UNMAP, Handler
 
 
@@ -84,6 +85,18 @@ class AgainIsDropped(Handler):
         super().take_messages(messages)
 
 
+class AgainIsLate(Handler):
+    """What is refused with EAGAIN is tried again when the next message or frame has come."""
+
+    def run(self):
+        while True:
+            kind, text = call("next")
+            if kind == "frame":
+                self.take_frame(bytes.fromhex(text))
+            else:
+                self.take_messages([bytes.fromhex(text), *self.read(self.ROOM)])
+
+
 class FaultIsForgotten(Handler):
     """Of the faults that are read together only the last is resolved."""
 
@@ -103,5 +116,6 @@ HANDLERS = {
     "eexist-fatal": ExistsIsFatal,
     "eexist-no-wake": ExistsIsNotWoken,
     "eagain": AgainIsDropped,
+    "eagain-late": AgainIsLate,
     "forgotten": FaultIsForgotten,
 }

@@ -57,6 +57,8 @@ def parsed(line):
 class Handling:
     """arrivals: the copies that the destination has taken and the model has not installed, as [origin, frame, whether the handler has it]."""
 
+    guest_class = TestedGuest
+
     def __init__(self, job):
         self.job, self.record, self.duties = job, Record(), Duties()
         self.result = Result(job.name)
@@ -72,6 +74,7 @@ class Handling:
         try:
             for self.line in lines_of(self.job.program, self.job.settings.cpus, self.job.data):
                 self.take(self.line)
+            self.line = None
             if self.guest:
                 self.finish()
         except Wrong as wrong:
@@ -82,7 +85,7 @@ class Handling:
             self.result.differing.append((f"line {wrong}: not a script line",))
         finally:
             self.close()
-        self.result.totals["scripts with something unexpected"] += bool(self.result.differing)
+        self.result.totals["scripts with something wrong"] += bool(self.result.differing)
         self.result.checks.update(self.record.checks)
         return self.result
 
@@ -98,7 +101,7 @@ class Handling:
     def take(self, line):
         self.record.tags, self.duties.line = [], line.number
         if line.frame:
-            self.take_frame(line.step.word, *line.frame)
+            self.take_frame(*line.frame)
         elif self.guest and not line.answer.startswith("refused"):
             self.words.get(line.step.word, lambda _: None)(line)
         self.result.totals["lines"] += bool(self.guest)
@@ -114,7 +117,7 @@ class Handling:
 
     # ---- frames ----
 
-    def take_frame(self, word, epoch, kind_of_frame, fields):
+    def take_frame(self, epoch, kind_of_frame, fields):
         if kind_of_frame == "package":
             self.begin(epoch, fields)
         elif not self.guest:
@@ -140,13 +143,16 @@ class Handling:
             self.kept.clear()
 
     def begin(self, epoch, fields):
-        self.guest = TestedGuest(self.job.settings, self.record, self.give_arrival, self.give_message)
+        self.guest = self.guest_class(self.job.settings, self.record, self.give_arrival, self.give_message)
         self.guest.begin(fields["areas"], fields["commands"], self.kept)
-        self.program = TestedProgram(self.job.implementation, self.job.settings)
         self.result.totals["scripts in which the handler ran"] += 1
-        self.serve()
+        self.start_program()
         self.duties.begin(epoch, fields["owed"])
         self.give_frame(epoch, "package", fields)
+
+    def start_program(self):
+        self.program = TestedProgram(self.job.implementation, self.job.settings)
+        self.serve()
 
     def give_frame(self, epoch, kind_of_frame, fields):
         self.record.check(f"frames given: {kind_of_frame}")
@@ -154,9 +160,8 @@ class Handling:
 
     def give_arrival(self):
         """The oldest copy that the handler does not have, if there is one."""
-        for arrival in self.arrivals:
-            if not arrival[2]:
-                return self.give(arrival)
+        for arrival in [arrival for arrival in self.arrivals if not arrival[2]][:1]:
+            self.give(arrival)
 
     def give_arrivals(self):
         for arrival in self.arrivals:
@@ -338,8 +343,3 @@ class Handling:
         wrong = checked(self.job.program, run(words, self.job.data)[0].splitlines() + sweep(memory, areas))
         if wrong:
             raise Wrong(wrong[0], f"memory at the end: {wrong[1]}", FLAT)
-
-
-def judge(job):
-    """A script with a handler: what is wrong, and what was looked at."""
-    return Handling(job).run()

@@ -86,7 +86,7 @@ def require_program(arguments):
 def settings_of(arguments, cpus):
     host = shlex.split(arguments.host) if arguments.host else [str(HOST)]
     settings = Settings(cpus=arguments.cpus or cpus, host=host, trace=arguments.trace)
-    for name in ("eager", "late", "serial", "skip_old"):
+    for name in ("eager", "late", "serial", "skip_old", "descriptor"):
         setattr(settings, name, getattr(arguments, name, False))
     return settings
 

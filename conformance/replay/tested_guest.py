@@ -34,9 +34,10 @@ class Waiting:
 
 
 class TestedGuest:
-    """waiting: by processor. before_events, give_message: what happens while a map call sleeps on an event."""
+    """waiting: by processor. before_events, give_message: what happens while a map call sleeps on an event. is_ending: the last event of a call
+    was read, and nothing was put since."""
 
-    mode = MODE
+    mode, is_ending = MODE, False
 
     def __init__(self, settings, record, before_events, give_message):
         self.settings, self.record = settings, record
@@ -99,6 +100,7 @@ class TestedGuest:
             raise Finding(f"message {' '.join(words)} without a call")
         self.record.check(f"{event.kind} messages read")
         self.said = self.not_stuck(self.host.ask(f"await {self.calling}"), f"a call of cpu {self.calling}")
+        self.is_ending = self.said != "blocked"
         self.events.append(event)
         return event
 
@@ -125,7 +127,11 @@ class TestedGuest:
                 waiting.is_asleep, waiting.is_read = said == "blocked", False
 
     def put(self, page, data, mode):
-        """UFFDIO_COPY, or UFFDIO_ZEROPAGE where there are no bytes: what the kernel says."""
+        """UFFDIO_COPY, or UFFDIO_ZEROPAGE where there are no bytes: what the kernel says. Once the last event of a call was read it says EAGAIN
+        until the call has gone on; here that is once."""
+        if self.is_ending:
+            self.is_ending = False
+            return "refused EAGAIN"
         said = self.host.ask(f"copy {name(page)} {mode} {data.hex()}" if data else f"zeropage {name(page)} {PAGE} {mode}")
         if said == "ok" and not mode & 1:
             self.see_woken(page * PAGE, page * PAGE + PAGE)
@@ -147,7 +153,7 @@ class TestedGuest:
             self.before_events()
         while self.said == "blocked":
             self.give_message()
-        self.calling = None
+        self.calling, self.is_ending = None, False
         return int(self.not_stuck(self.said, command.text()).split()[1]), self.events
 
     def call(self, cpu, command, wanted, in_order=True):
