@@ -33,13 +33,17 @@ def receive(count):
     return data
 
 
+def frame():
+    header = receive(12)
+    return header + receive(int.from_bytes(header[8:], "big"))
+
+
 def wait():
     """A frame or a message, whichever is there, and the frame first."""
     while True:
         ready, _, _ = select.select([CHANNEL, DESCRIPTOR], [], [])
         if CHANNEL in ready:
-            header = receive(12)
-            return ["frame", (header + receive(int.from_bytes(header[8:], "big"))).hex()]
+            return ["frame", frame().hex()]
         answer = read()
         if answer != ["none"]:
             return answer

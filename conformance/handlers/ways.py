@@ -1,5 +1,9 @@
 """Other right handlers: in each, one thing that right.py does is done in another way that the rules allow. conformance/handler has to take them."""
 
+import os
+import select
+import threading
+
 from calls import call
 from right import PAGE, Handler
 
@@ -53,6 +57,33 @@ class WakesMore(Handler):
         call("wake", "0x10000", 0x100000 * PAGE - 0x10000)
 
 
+class TwoThreads(Handler):
+    """One thread takes the frames, and another one the messages, and what was refused with EAGAIN."""
+
+    def run(self):
+        import descriptor
+
+        self.lock, (self.bell, self.button) = threading.Lock(), os.pipe()
+        threading.Thread(target=self.take_frames, args=[descriptor], daemon=True).start()
+        while True:
+            if not self.again:
+                ready, _, _ = select.select([descriptor.DESCRIPTOR, self.bell], [], [])
+                if self.bell in ready:
+                    os.read(self.bell, 1)
+            with self.lock:
+                self.take_messages([*self.read(self.ROOM)])
+
+    def take_frames(self, descriptor):
+        try:
+            while True:
+                frame = descriptor.frame()
+                with self.lock:
+                    self.take_frame(frame)
+                os.write(self.button, b"!")
+        except SystemExit:
+            os._exit(0)
+
+
 # By the name that --way takes.
 HANDLERS = {
     "one-message": OneMessage,
@@ -61,4 +92,6 @@ HANDLERS = {
     "wakes-later": WakesLater,
     "asks-again": AsksAgain,
     "wakes-more": WakesMore,
+    "two-threads": TwoThreads,
 }
+WITH_DESCRIPTOR = ("two-threads",)

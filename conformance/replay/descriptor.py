@@ -196,8 +196,10 @@ class DescriptorHandling(Handling):
             self.duties.see_put(page, "ok")
 
     def take_frames(self):
+        """What was sent while the channel was lost is lost with it, and so is what one thread still sends as another one takes Resume."""
         for frame in self.program.frames():
-            if self.is_up:
+            is_late = self.duties.owes_report and frame[0] < self.duties.epoch
+            if self.is_up and not is_late:
                 self.record.check(f"frames sent: {frame[1]}")
                 self.duties.take_back(*frame)
 

@@ -223,18 +223,16 @@ class Handling:
 
     def copy(self, addr, mode, data):
         pages = [data[at : at + PAGE] for at in range(0, len(data), PAGE)]
-        if not data or len(data) % PAGE:
-            raise Wrong("bytes of whole pages", f"copy of {len(data)} bytes", CALLS)
-        return self.put("copy", addr, mode, [page if any(page) else None for page in pages])
+        return self.put("copy", addr, len(data), mode, [page if any(page) else None for page in pages])
 
     def zeropage(self, addr, length, mode):
-        return self.put("zeropage", addr, mode, [None] * (length // PAGE))
+        return self.put("zeropage", addr, length, mode, [None] * (length // PAGE))
 
-    def put(self, call, addr, mode, pages):
+    def put(self, call, addr, length, mode, pages):
         """Page by page, as a kernel does: it stops at the first page that is refused."""
+        if addr % PAGE or length % PAGE or not length or addr + length > HIGH or mode > 1:
+            raise Wrong("an ioctl that a kernel takes", f"{call} {addr:#x}, {length} bytes, mode {mode}: EINVAL", CALLS)
         for page, data in enumerate(pages, addr // PAGE):
-            if addr % PAGE or mode > 1 or page >= HIGH // PAGE:
-                raise Wrong("an ioctl that a kernel takes", f"{call} {addr:#x}, mode {mode}: EINVAL", CALLS)
             self.duties.judge_put(f"{call} {name(page)}", page, data)
             said = self.guest.put(page, data, mode)
             self.record.check(f"{call} of the handler: {said.removeprefix('refused ')}")
@@ -246,8 +244,9 @@ class Handling:
     def wake(self, addr, length):
         said = self.guest.wake(addr, length)
         self.record.check(f"wake of the handler: {said.removeprefix('refused ')}")
-        if said == "ok":
-            self.duties.see_wake(addr, length)
+        if said != "ok":
+            raise Wrong("an ioctl that a kernel takes", f"wake {addr:#x}, {length} bytes: {said}", CALLS)
+        self.duties.see_wake(addr, length)
         return said
 
     def send(self, data):
