@@ -5,12 +5,12 @@ import sys
 
 def call(*words):
     """Makes a call: the words of its answer."""
+    if "--descriptor" in sys.argv:
+        import descriptor
+
+        return descriptor.call(*words)
     print(*words, flush=True)
     answer = sys.stdin.readline()
     if not answer:
         sys.exit(0)
     return answer.split()
-
-
-if "--descriptor" in sys.argv:
-    from descriptor import call  # noqa: F811, F401

@@ -16,7 +16,7 @@ def how_it_ended(status):
 
 class TestedProgram:
     def __init__(self, words, settings):
-        self.settings, self.unread = settings, b""
+        self.settings, self.unread, self.last = settings, b"", ("", "")
         self.process = subprocess.Popen(words, stdin=subprocess.PIPE, stdout=subprocess.PIPE)
 
     def line(self):
@@ -26,14 +26,21 @@ class TestedProgram:
                 raise Wrong("a call", f"no line for {self.settings.patience} seconds", CALLS)
             piece = os.read(self.process.stdout.fileno(), 1 << 16)
             if not piece:
-                raise Wrong("a call", how_it_ended(self.wait()), CALLS)
+                raise Wrong("a call", how_it_ended(self.wait()) + self.last_call(), CALLS)
             self.unread += piece
         line, _, self.unread = self.unread.partition(b"\n")
         self.trace("handler:", line)
-        return line.decode(errors="replace").strip()
+        self.last = line.decode(errors="replace").strip(), ""
+        return self.last[0]
+
+    def last_call(self):
+        """Its last call with the answer, for a handler that has ended."""
+        line, answer = self.last
+        return f", after {line[:40]} -> {answer[:40]}" if line else ""
 
     def answer(self, text):
         self.trace("      ->", text.encode())
+        self.last = self.last[0], text
         try:
             self.process.stdin.write(text.encode() + b"\n")
             self.process.stdin.flush()
