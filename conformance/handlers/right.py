@@ -175,9 +175,9 @@ class Handler:
 
 def main():
     handler = Handler
-    if sys.argv[1:2] in (["--bug"], ["--way"]):
-        others = importlib.import_module({"--bug": "wrong", "--way": "ways"}[sys.argv[1]])
-        handler = others.HANDLERS[sys.argv[2]]
+    for option, module in ("--bug", "wrong"), ("--way", "ways"):
+        if option in sys.argv:
+            handler = importlib.import_module(module).HANDLERS[sys.argv[sys.argv.index(option) + 1]]
     handler().run()
 
 

@@ -119,3 +119,5 @@ HANDLERS = {
     "eagain-late": AgainIsLate,
     "forgotten": FaultIsForgotten,
 }
+# A duty of which nothing is seen but the call.
+BY_CALLS_ALONE = ("eexist-no-wake",)
