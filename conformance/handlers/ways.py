@@ -94,4 +94,6 @@ HANDLERS = {
     "wakes-more": WakesMore,
     "two-threads": TwoThreads,
 }
-WITH_DESCRIPTOR = ("two-threads",)
+BY_DESCRIPTOR_ALONE = ("two-threads",)
+# On a descriptor those whom it wakes for nothing fault again at once, so that it never waits.
+BY_CALLS_ALONE = ("wakes-more",)
