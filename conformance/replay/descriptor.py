@@ -28,6 +28,8 @@ from .tested_guest import TestedGuest
 from .tested_program import CALLS, how_it_ended
 
 SIOCOUTQ = 0x5411
+# The bytes that a socket takes although nobody reads them.
+MOST_AT_REST = 1 << 16
 # Where a thread waits for a time, and not for something to read.
 TIMERS = ("nanosleep",)
 
@@ -63,9 +65,10 @@ class DescriptorProgram:
             self.process = subprocess.Popen(words, stdin=theirs, stdout=sys.stderr)
         self.channel.setblocking(False)
         socket.send_fds(self.channel, [b"\0"], [descriptor])
-        self.has_stopped = False
 
     def send(self, data):
+        if len(data) > MOST_AT_REST:
+            self.process.send_signal(signal.SIGCONT)
         self.channel.setblocking(True)
         try:
             self.channel.sendall(data)
