@@ -17,10 +17,10 @@ import time
 
 from model import frames
 
-from .duties import FRAMES
+from .duties import FRAMES, RESOLVE
 from .errors import Finding, Wrong
 from .guest import Event
-from .handling import Handling
+from .handling import MOST_SLEEPS, Handling
 from .host import number_range
 from .pages import HIGH, PAGE, name
 from .simulated import Memory
@@ -177,12 +177,17 @@ class DescriptorHandling(Handling):
         self.give_message()
 
     def give_message(self):
-        """A turn: the program reads all that waits."""
+        """A turn: the program reads all that waits, also what comes as it wakes processors, which may fault anew."""
         before = self.guest.host.present()
-        self.program.run()
-        self.guest.see_processors()
-        if self.guest.has_unread_event():
-            return
+        for _ in range(MOST_SLEEPS):
+            self.program.run()
+            self.guest.see_processors()
+            if self.guest.has_unread_event():
+                return
+            if not self.program.has_unread():
+                break
+        else:
+            raise Wrong("faults that are resolved", "processors are woken, and sleep at once again", RESOLVE)
         for event in self.guest.coming:
             self.record.check(f"{event.kind} messages read")
             self.duties.follow(event)
