@@ -30,6 +30,8 @@ from .tested_program import CALLS, how_it_ended
 SIOCOUTQ = 0x5411
 # The bytes that a socket takes although nobody reads them.
 MOST_AT_REST = 1 << 16
+# Seconds between two looks at the threads, in which they may have the processor.
+BETWEEN_LOOKS = 0.0002
 # Where a thread waits for a time, and not for something to read.
 TIMERS = ("nanosleep",)
 
@@ -95,6 +97,7 @@ class DescriptorProgram:
             if time.monotonic() > end:
                 raise Wrong("all that waits is read", f"it is not, after {self.settings.patience} seconds", CALLS)
             before = now
+            time.sleep(BETWEEN_LOOKS)
         self.process.send_signal(signal.SIGSTOP)
 
     def frames(self):
