@@ -29,7 +29,7 @@ FILE = re.compile(r"`([\w.-]+)`:$")
 # Lines that are not run, by words in them, with the reason.
 LEFT_OUT = {
     "rt ci": "it is the gate",
-    "conformance/": "they need userfaultfd(2); .ci/run has one of them",
+    "conformance/": "they need userfaultfd(2); .ci/run has two of them",
     "library --build": "it proves the library, which takes minutes",
     "tar -x": "it compares what the line before it builds",
     "rustc": "a machine of the gate may have none; bench/compare/embed.py runs it",

@@ -37,6 +37,7 @@ void start_processors(int count);
 void make_command(int processor, const struct call *call);
 void await_processor(int processor);
 void kick_processor(int processor);
+void answer_asleep(int processor);
 void answer_states(void);
 void answer_threads(void);
 
@@ -53,6 +54,7 @@ void answer_present(void);
 int is_readable(void); // a message waits
 int userfault_fd(void);
 void open_userfault(uint64_t features);
+void lend_userfault(const char *path);
 void answer_message(void);
 void answer_copy(uint64_t addr, uint64_t mode, const char *bytes);
 void answer_range_call(const char *name, uint64_t addr, uint64_t length, uint64_t mode);

@@ -83,6 +83,8 @@ static int take_processor_command(char **words, int count) {
     await_processor(k);
   else if (!strcmp(words[0], "kick"))
     kick_processor(k);
+  else if (!strcmp(words[0], "asleep"))
+    answer_asleep(k);
   else if (!strcmp(words[0], "cpu") && parse_call(words + 2, count - 2, &call))
     make_command(k, &call);
   else
@@ -115,6 +117,10 @@ static int take_handler_command(char **words, int count) {
   struct call call;
   if (!strcmp(words[0], "read")) {
     answer_message();
+    return 1;
+  }
+  if (!strcmp(words[0], "lend") && count == 2) {
+    lend_userfault(words[1]);
     return 1;
   }
   if (!strcmp(words[0], "open") && count == 2) {

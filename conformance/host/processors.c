@@ -290,6 +290,14 @@ void kick_processor(int k) {
   answer("%s", state_of(processor) == DONE ? outcome(processor, 1) : "stuck");
 }
 
+// Whether a processor that was blocked sleeps still or again, or is done; messages of others do not matter here.
+void answer_asleep(int k) {
+  double end = now() + patience;
+  while (state_of(&processors[k]) == RUNNING && !is_in_userfault(&processors[k]) && now() < end)
+    usleep(10);
+  answer(state_of(&processors[k]) != RUNNING ? "done" : is_in_userfault(&processors[k]) ? "asleep" : "stuck");
+}
+
 void answer_states(void) {
   char text[MOST_PROCESSORS + 1] = "";
   for (int k = 0; k < processor_count; k++)

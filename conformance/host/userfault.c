@@ -7,7 +7,9 @@
 #include <poll.h>
 #include <string.h>
 #include <sys/ioctl.h>
+#include <sys/socket.h>
 #include <sys/syscall.h>
+#include <sys/un.h>
 #include <unistd.h>
 
 #define FLAGS (O_CLOEXEC | O_NONBLOCK)
@@ -69,6 +71,28 @@ void answer_message(void) {
   default:
     answer("event 0x%x", message.event);
   }
+}
+
+static int send_descriptor(int peer) {
+  union {
+    struct cmsghdr header;
+    char room[CMSG_SPACE(sizeof(int))];
+  } control = {.header = {.cmsg_len = CMSG_LEN(sizeof fd), .cmsg_level = SOL_SOCKET, .cmsg_type = SCM_RIGHTS}};
+  char byte = 0;
+  struct iovec part = {&byte, 1};
+  struct msghdr message = {.msg_iov = &part, .msg_iovlen = 1, .msg_control = &control, .msg_controllen = sizeof control};
+  memcpy(CMSG_DATA(&control.header), &fd, sizeof fd);
+  return sendmsg(peer, &message, MSG_NOSIGNAL) == 1 ? 0 : -1;
+}
+
+// Gives the descriptor to a program that listens at a Unix socket.
+void lend_userfault(const char *path) {
+  struct sockaddr_un address = {.sun_family = AF_UNIX};
+  int peer = socket(AF_UNIX, SOCK_STREAM | SOCK_CLOEXEC, 0), result;
+  strncpy(address.sun_path, path, sizeof address.sun_path - 1);
+  result = connect(peer, (struct sockaddr *)&address, sizeof address);
+  answer_result(result ? result : send_descriptor(peer));
+  close(peer);
 }
 
 static int digit(char c) { return c <= '9' ? c - '0' : (c | 32) - 'a' + 10; }

@@ -9,3 +9,7 @@ class NotAScript(Exception):
 
 class Finding(Exception):
     """The kernel did what neither the model nor docs/LINUX.md says. The replay of this script ends."""
+
+
+class Wrong(Exception):
+    """A handler under test broke a rule. The arguments: what was expected, what it did, and where the rule is written."""

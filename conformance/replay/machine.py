@@ -42,14 +42,14 @@ def lack(any_kernel):
     return None
 
 
-def compile_program(sources, program):
+def compile_program(sources, program, *flags):
     """Compiles a program into out/ where it is older than its sources."""
     newest = max(source.stat().st_mtime for source in sources)
     if program.exists() and program.stat().st_mtime >= newest:
         return
     program.parent.mkdir(exist_ok=True)
     compiled = [source for source in sources if source.suffix == ".c"]
-    subprocess.run(["cc", *FLAGS, "-o", program, *compiled], check=True)
+    subprocess.run(["cc", *FLAGS, *flags, "-o", program, *compiled], check=True)
 
 
 def build_host():

@@ -28,8 +28,11 @@ QUICK = 3
 CPUS = (2, 1, 3, 4, 2, 16, 2, 8)
 
 
-def options(description):
+def options(description, tested=None):
+    """tested: what the first argument says of a program under test, if there is one."""
     parser = argparse.ArgumentParser(description=description)
+    if tested:
+        parser.add_argument("tested", metavar="PROGRAM", help=tested)
     parser.add_argument("scripts", nargs="*", metavar="SCRIPT", type=pathlib.Path)
     parser.add_argument("--program", metavar="PATH", help="the postmig that answers (the launcher, once ./postmig prove has built it)")
     parser.add_argument("--host", metavar="PROGRAM", help="a program that takes the host protocol, instead of the one of this folder")
@@ -64,6 +67,15 @@ def program_of(arguments):
     return [str(LAUNCHER)] if has_proved() else None
 
 
+def started_by(program):
+    """The words that start what a launcher starts, which ends as it: so its checks are made once, and not at each call."""
+    with subprocess.Popen([*program, "run"], stdin=subprocess.PIPE, stdout=subprocess.PIPE) as process:
+        process.stdin.write(b"progress\n")
+        process.stdin.flush()
+        process.stdout.readline()
+        return [os.readlink(f"/proc/{process.pid}/exe")]
+
+
 def require_program(arguments):
     program = program_of(arguments)
     if not program:
@@ -74,7 +86,7 @@ def require_program(arguments):
 def settings_of(arguments, cpus):
     host = shlex.split(arguments.host) if arguments.host else [str(HOST)]
     settings = Settings(cpus=arguments.cpus or cpus, host=host, trace=arguments.trace)
-    for name in ("eager", "late", "serial", "skip_old"):
+    for name in ("eager", "late", "serial", "skip_old", "descriptor"):
         setattr(settings, name, getattr(arguments, name, False))
     return settings
 

@@ -12,7 +12,7 @@ HOST = FOLDER / "out" / "host"
 class Settings:
     """host: the words that start a host. eager: each fault is read as soon as its thread sleeps. late: a dontneed is left asleep
     on its message. trace: each command of a host is printed. patience: the seconds that a host may take for an answer.
-    serial, skip_old: of raw.py."""
+    serial, skip_old: of raw.py. descriptor: of handler, whose program gets a descriptor."""
 
     cpus: int = 2
     host: list = field(default_factory=lambda: [str(HOST)])
@@ -22,6 +22,7 @@ class Settings:
     patience: float = 20
     serial: bool = False
     skip_old: bool = False
+    descriptor: bool = False
 
 
 class Record:
