@@ -155,7 +155,7 @@ class WatchedGuest(TestedGuest):
         return returned, events
 
     def see_processors(self):
-        """After a turn: a call goes on, and each sleeper is woken or has its message read."""
+        """After a turn: a call continues, and each sleeper is woken or has its message read."""
         if self.has_unread_event():
             self.said = self.not_stuck(self.host.ask(f"await {self.calling}"), f"a call of cpu {self.calling}")
         for cpu, waiting in self.waiting.items():

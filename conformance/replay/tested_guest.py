@@ -94,7 +94,7 @@ class TestedGuest:
         return words, None
 
     def see_event(self, words):
-        """A map call goes on once its event is read: to its next event, or to its end."""
+        """A map call continues once its event is read: to its next event, or to its end."""
         event = event_of(words)
         if self.calling is None:
             raise Finding(f"message {' '.join(words)} without a call")

@@ -65,7 +65,7 @@ is_next_of kernel name event calling = calling.queued && is_next calling.events 
   is_next [] event = is_remove event
   is_next (first ∷ events) event = first.0 == name && is_same_event first.1 event
 
--- what is left to announce behind a page: nothing, if nothing is watched there
+-- what is left to announce after a page: nothing, if nothing is watched there
 abbrev pub untold_from : Kernel → Calling → ℕ → ℕ × ℕ
 untold_from kernel calling last =
     let count = calling.untold.0 + calling.untold.1 - last in

@@ -2,7 +2,7 @@
 
 ghost use Rattle.std.specs.Prelude.{◌≡◌, Some};
 ghost use Rattle.kernel_rules.specs.Changes.{changed};
-ghost use Rattle.kernel_rules.specs.Pages.{registered_page, protected_page, settled};
+ghost use Rattle.kernel_rules.specs.Pages.{cleared_page, protected_page, put_page, registered_page, settled, shown};
 
 use crate::known::{Page, Presence};
 
@@ -96,6 +96,43 @@ fn settled_by(page: Page, found: Presence) -> Page
     }
 }
 
+/// A page once it is put.
+fn put(page: Page, protect: bool) -> Page
+    ensures { result ≡ put_page protect page }
+{
+    Page {
+        presence: Presence::Present,
+        guarded: protect,
+        put: true,
+        ..page
+    }
+}
+
+/// A page once it is cleared, or may be.
+fn cleared(page: Page, presence: Presence) -> Page
+    ensures { result ≡ cleared_page presence page }
+{
+    Page {
+        presence,
+        guarded: false,
+        ..page
+    }
+}
+
+/// A page of which a fault shows that it is write-protected, or missing.
+fn faulted(page: Page, protected: bool) -> Page
+    ensures { result ≡ shown protected page }
+{
+    if protected {
+        Page {
+            presence: Presence::Present,
+            ..page
+        }
+    } else {
+        cleared(page, Presence::Missing)
+    }
+}
+
 impl Change {
     /// What becomes of a page.
     #[tactic(auto, unfolding(crate::specs::Changes::changed))]
@@ -113,17 +150,9 @@ impl Change {
         let page = page?;
         match self {
             Change::Register { .. } | Change::Forget => None,
-            Change::ForgetObject { object } => if page.object == object {
-                None
-            } else {
-                Some(page)
-            },
-            Change::Put { protect } => Some(Page {
-                presence: Presence::Present,
-                guarded: protect,
-                put: true,
-                ..page
-            }),
+            Change::ForgetObject { object } if page.object == object => None,
+            Change::ForgetObject { .. } => Some(page),
+            Change::Put { protect } => Some(put(page, protect)),
             Change::Shown => Some(Page {
                 presence: Presence::Present,
                 ..page
@@ -132,20 +161,8 @@ impl Change {
                 protect,
                 unpopulated,
             } => Some(protected(page, protect, unpopulated)),
-            Change::Clear { presence } => Some(Page {
-                presence,
-                guarded: false,
-                ..page
-            }),
-            Change::Fault { protected: true } => Some(Page {
-                presence: Presence::Present,
-                ..page
-            }),
-            Change::Fault { protected: false } => Some(Page {
-                presence: Presence::Missing,
-                guarded: false,
-                ..page
-            }),
+            Change::Clear { presence } => Some(cleared(page, presence)),
+            Change::Fault { protected } => Some(faulted(page, protected)),
             Change::Settle { presence } => Some(settled_by(page, presence)),
         }
     }

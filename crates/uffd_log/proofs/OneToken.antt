@@ -1,4 +1,4 @@
--- A word stands for one token, and so the words of a line for one list of tokens.
+-- A word has one token, and so the words of a line one list of tokens.
 use Rattle.std.proofs.Common.{◌≡◌, ◌≢◌, ℕ, ◌<◌, ◌≤◌, ◌^◌, true, List, [], ◌∷◌, ◌++◌, length, arith, refl, ap, ◌∙◌, sym, subst, inl, inr, lit≤, Some, None, Option, suc, ◌+◌, take, drop, IfNone}
 use Rattle.std.specs.Prelude.{nat_lt, ◌==◌, ◌&&◌, ◌||◌, not}
 use Rattle.std.proofs.lemmas.Bool.Decides.{nat_tests}

@@ -19,7 +19,7 @@ use Rattle.uffd_log.specs.declared.token.Token.TheVariants.{Key, Number, Minus, 
 use Rattle.uffd_log.specs.Words.{words_of, AreTokens}
 
 infixl 10 ◌>>=◌
--- reading goes on with the value, if there is one
+-- reading continues with the value, if there is one
 abbrev pub ◌>>=◌ : {A B : Type 0} → Option A → (A → Option B) → Option B
 (Some x) >>= f = f x
 None >>= f = None
@@ -50,19 +50,27 @@ object_call_from (Key key.NonBlock ∷ On on ∷ Number (suc zero) ∷ []) = Som
 object_call_from (Key key.Close ∷ On on ∷ []) = Some (call.Close on)
 object_call_from _ = None
 
--- the calls on a range of the object's address space
+-- the calls that set the mode of a range of the object's address space
+unfoldable pub mode_call_from : List Token → Option Call
+mode_call_from (Key key.Register ∷ On on ∷ Number start ∷ Number len ∷ Number mode ∷ []) = Some (call.Register on start len mode)
+mode_call_from (Key key.WriteProtect ∷ On on ∷ Number start ∷ Number len ∷ Number mode ∷ []) = Some (call.WriteProtect on start len mode)
+mode_call_from _ = None
+
+-- the other calls on such a range
 unfoldable pub range_call_from : List Token → Option Call
-range_call_from (Key key.Register ∷ On on ∷ Number start ∷ Number len ∷ Number mode ∷ []) = Some (call.Register on start len mode)
 range_call_from (Key key.Unregister ∷ On on ∷ Number start ∷ Number len ∷ []) = Some (call.Unregister on start len)
 range_call_from (Key key.Wake ∷ On on ∷ Number start ∷ Number len ∷ []) = Some (call.Wake on start len)
-range_call_from (Key key.WriteProtect ∷ On on ∷ Number start ∷ Number len ∷ Number mode ∷ []) = Some (call.WriteProtect on start len mode)
 range_call_from (Key key.Scan ∷ On on ∷ Number start ∷ Number len ∷ []) = Some (call.Scan on start len)
 range_call_from _ = None
 
--- the calls that put pages
+-- the calls that put pages with contents from elsewhere
+unfoldable pub copy_call_from : List Token → Option Call
+copy_call_from (Key key.Copy ∷ On on ∷ Number to ∷ Number from ∷ Number len ∷ Number mode ∷ []) = Some (call.Copy on to from len mode)
+copy_call_from (Key key.Move ∷ On on ∷ Number to ∷ Number from ∷ Number len ∷ Number mode ∷ []) = Some (call.Move on to from len mode)
+copy_call_from _ = None
+
+-- the other calls that put pages
 unfoldable pub put_call_from : List Token → Option Call
-put_call_from (Key key.Copy ∷ On on ∷ Number to ∷ Number from ∷ Number len ∷ Number mode ∷ []) = Some (call.Copy on to from len mode)
-put_call_from (Key key.Move ∷ On on ∷ Number to ∷ Number from ∷ Number len ∷ Number mode ∷ []) = Some (call.Move on to from len mode)
 put_call_from (Key key.ZeroPage ∷ On on ∷ Number start ∷ Number len ∷ Number mode ∷ []) = Some (call.ZeroPage on start len mode)
 put_call_from (Key key.Continue ∷ On on ∷ Number start ∷ Number len ∷ Number mode ∷ []) = Some (call.Continue on start len mode)
 put_call_from (Key key.Poison ∷ On on ∷ Number start ∷ Number len ∷ Number mode ∷ []) = Some (call.Poison on start len mode)
@@ -77,18 +85,24 @@ read_call_from (Key key.Dup ∷ On on ∷ Key key.Dash ∷ []) = Some (call.Dup 
 read_call_from (Key key.Dup ∷ On on ∷ Number target ∷ []) = small target >>= λ fd. Some (call.Dup on (Some fd))
 read_call_from _ = None
 
--- the calls on the caller's address space
+-- the calls that map, unmap or copy the caller's address space
 unfoldable pub map_call_from : List Token → Option Call
 map_call_from (Key key.Mmap ∷ Number addr ∷ Number len ∷ Number prot ∷ Number flags ∷ []) = Some (call.Mmap addr len prot flags)
 map_call_from (Key key.Munmap ∷ Number addr ∷ Number len ∷ []) = Some (call.Munmap addr len)
-map_call_from (Key key.Mremap ∷ Number addr ∷ Number old_len ∷ Number new_len ∷ Number flags ∷ Number target ∷ []) = Some (call.Mremap addr old_len new_len flags target)
-map_call_from (Key key.Madvise ∷ Number addr ∷ Number len ∷ Number advice ∷ []) = Some (call.Madvise addr len advice)
 map_call_from (Key key.Fork ∷ []) = Some call.Fork
 map_call_from _ = None
 
+-- the calls that move or clear pages of it
+unfoldable pub page_call_from : List Token → Option Call
+page_call_from (Key key.Mremap ∷ Number addr ∷ Number old_len ∷ Number new_len ∷ Number flags ∷ Number target ∷ []) = Some (call.Mremap addr old_len new_len flags target)
+page_call_from (Key key.Madvise ∷ Number addr ∷ Number len ∷ Number advice ∷ []) = Some (call.Madvise addr len advice)
+page_call_from _ = None
+
 -- the call that tokens stand for
 abbrev pub call_from : List Token → Option Call
-call_from tokens = object_call_from tokens orelse range_call_from tokens orelse put_call_from tokens orelse read_call_from tokens orelse map_call_from tokens
+call_from tokens =
+    object_call_from tokens orelse mode_call_from tokens orelse range_call_from tokens orelse copy_call_from tokens
+    orelse put_call_from tokens orelse read_call_from tokens orelse map_call_from tokens orelse page_call_from tokens
 
 -- Answers and messages
 

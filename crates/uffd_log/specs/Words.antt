@@ -106,7 +106,7 @@ pub record IsOther (word : List ℕ) : Type 0 where
 abbrev pub BeginsWithE : List ℕ → Type 0
 BeginsWithE word = (rest : List ℕ) × (word ≡ 69 ∷ rest)
 
--- the word stands for the token. The name of an error without a keyword begins with E
+-- the word is one for the token. The name of an error without a keyword begins with E
 abbrev pub IsToken : Token → List ℕ → Type 0
 IsToken (Key keyword) word = word ≡ keyword_text keyword
 IsToken (Number n) word = IsNumber word n
@@ -115,7 +115,7 @@ IsToken (On on) word = IsDescriptor word on
 IsToken Error word = IsOther word × BeginsWithE word
 IsToken Text word = IsOther word × ¬ BeginsWithE word
 
--- each word stands for the token in its place
+-- each word is one for the token in its place
 abbrev pub AreTokens : List Token → List (List ℕ) → Type 0
 AreTokens [] [] = Unit {0}
 AreTokens [] (word ∷ words) = ⊥

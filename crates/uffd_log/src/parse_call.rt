@@ -1,7 +1,7 @@
 //! Reading the call of a line. `specs/Lines.antt` repeats these functions.
 
 ghost use Rattle.std.specs.Prelude.{◌≡◌};
-ghost use Rattle.uffd_log.specs.Lines.{small, object_call_from, range_call_from, put_call_from, read_call_from, map_call_from, call_from};
+ghost use Rattle.uffd_log.specs.Lines.{small, object_call_from, mode_call_from, range_call_from, copy_call_from, put_call_from, read_call_from, map_call_from, page_call_from, call_from};
 
 use crate::call::Call;
 use crate::keyword::Keyword;
@@ -63,9 +63,9 @@ fn object_call_of(tokens: &[Token]) -> Option<Call>
     }
 }
 
-#[tactic(auto, unfolding(crate::specs::Lines::range_call_from))]
-fn range_call_of(tokens: &[Token]) -> Option<Call>
-    ensures { result ≡ range_call_from tokens.now }
+#[tactic(auto, unfolding(crate::specs::Lines::mode_call_from))]
+fn mode_call_of(tokens: &[Token]) -> Option<Call>
+    ensures { result ≡ mode_call_from tokens.now }
 {
     match tokens {
         [
@@ -80,6 +80,27 @@ fn range_call_of(tokens: &[Token]) -> Option<Call>
             len: *len,
             mode: *mode,
         }),
+        [
+            Token::Key(Keyword::WriteProtect),
+            Token::On(on),
+            Token::Number(start),
+            Token::Number(len),
+            Token::Number(mode),
+        ] => Some(Call::WriteProtect {
+            on: *on,
+            start: *start,
+            len: *len,
+            mode: *mode,
+        }),
+        _ => None,
+    }
+}
+
+#[tactic(auto, unfolding(crate::specs::Lines::range_call_from))]
+fn range_call_of(tokens: &[Token]) -> Option<Call>
+    ensures { result ≡ range_call_from tokens.now }
+{
+    match tokens {
         [
             Token::Key(Keyword::Unregister),
             Token::On(on),
@@ -101,18 +122,6 @@ fn range_call_of(tokens: &[Token]) -> Option<Call>
             len: *len,
         }),
         [
-            Token::Key(Keyword::WriteProtect),
-            Token::On(on),
-            Token::Number(start),
-            Token::Number(len),
-            Token::Number(mode),
-        ] => Some(Call::WriteProtect {
-            on: *on,
-            start: *start,
-            len: *len,
-            mode: *mode,
-        }),
-        [
             Token::Key(Keyword::Scan),
             Token::On(on),
             Token::Number(start),
@@ -126,9 +135,9 @@ fn range_call_of(tokens: &[Token]) -> Option<Call>
     }
 }
 
-#[tactic(auto, unfolding(crate::specs::Lines::put_call_from))]
-fn put_call_of(tokens: &[Token]) -> Option<Call>
-    ensures { result ≡ put_call_from tokens.now }
+#[tactic(auto, unfolding(crate::specs::Lines::copy_call_from))]
+fn copy_call_of(tokens: &[Token]) -> Option<Call>
+    ensures { result ≡ copy_call_from tokens.now }
 {
     match tokens {
         [
@@ -159,6 +168,15 @@ fn put_call_of(tokens: &[Token]) -> Option<Call>
             len: *len,
             mode: *mode,
         }),
+        _ => None,
+    }
+}
+
+#[tactic(auto, unfolding(crate::specs::Lines::put_call_from))]
+fn put_call_of(tokens: &[Token]) -> Option<Call>
+    ensures { result ≡ put_call_from tokens.now }
+{
+    match tokens {
         [
             Token::Key(Keyword::ZeroPage),
             Token::On(on),
@@ -269,6 +287,16 @@ fn map_call_of(tokens: &[Token]) -> Option<Call>
             addr: *addr,
             len: *len,
         }),
+        [Token::Key(Keyword::Fork)] => Some(Call::Fork),
+        _ => None,
+    }
+}
+
+#[tactic(auto, unfolding(crate::specs::Lines::page_call_from))]
+fn page_call_of(tokens: &[Token]) -> Option<Call>
+    ensures { result ≡ page_call_from tokens.now }
+{
+    match tokens {
         [
             Token::Key(Keyword::Mremap),
             Token::Number(addr),
@@ -293,26 +321,34 @@ fn map_call_of(tokens: &[Token]) -> Option<Call>
             len: *len,
             advice: *advice,
         }),
-        [Token::Key(Keyword::Fork)] => Some(Call::Fork),
         _ => None,
     }
 }
 
-/// The call that tokens stand for.
+/// The call of some tokens.
 pub fn call_of(tokens: &[Token]) -> Option<Call>
     ensures { result ≡ call_from tokens.now }
 {
     if let Some(call) = object_call_of(tokens) {
         return Some(call);
     }
+    if let Some(call) = mode_call_of(tokens) {
+        return Some(call);
+    }
     if let Some(call) = range_call_of(tokens) {
+        return Some(call);
+    }
+    if let Some(call) = copy_call_of(tokens) {
         return Some(call);
     }
     if let Some(call) = put_call_of(tokens) {
         return Some(call);
     }
-    match read_call_of(tokens) {
+    if let Some(call) = read_call_of(tokens) {
+        return Some(call);
+    }
+    match map_call_of(tokens) {
         Some(call) => Some(call),
-        None => map_call_of(tokens),
+        None => page_call_of(tokens),
     }
 }

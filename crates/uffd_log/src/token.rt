@@ -13,7 +13,7 @@ use crate::keyword::Keyword;
 use memchr::memchr;
 use mig_base::NoMemory;
 
-/// A token: what a word of a line stands for.
+/// A token: the meaning of a word of a line.
 #[derive(Clone, Copy, Debug, PartialEq, Eq)]
 pub enum Token {
     Key(Keyword),
@@ -95,7 +95,7 @@ fn descriptor(word: &[u8]) -> Option<Descriptor>
     None
 }
 
-/// The token for which a word stands; `None` if it is empty.
+/// The token of a word; `None` if it is empty.
 fn token_of(word: &[u8]) -> Option<Token>
     ensures found { IfSome result (λ token. IsToken token word.now) }
     ensures none { IfNone result ((token : TokenOf) → IsToken token word.now → ⊥) }
