@@ -28,6 +28,10 @@ pub record Holds (table : KernelTable) (kernel : Kernel) : Type 0 where
 abbrev pub Makes : KernelTable → KernelTable → (Kernel → Option Kernel) → Type 0
 Makes old new rule = (kernel : Kernel) → Holds old kernel → (after : Kernel) × (rule kernel ≡ Some after) × Holds new after
 
+-- the rule allows no step of the kernel that the table holds
+abbrev pub Forbids : KernelTable → (Kernel → Option Kernel) → Type 0
+Forbids table rule = (kernel : Kernel) → Holds table kernel → rule kernel ≡ None
+
 -- the table holds what a kernel becomes
 abbrev pub Becomes : KernelTable → KernelTable → (Kernel → Kernel) → Type 0
 Becomes old new change = (kernel : Kernel) → Holds old kernel → Holds new (change kernel)

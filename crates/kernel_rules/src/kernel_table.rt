@@ -1,11 +1,11 @@
 //! A kernel, in tables.
 
 ghost use Rattle.std.specs.Prelude.{◌≡◌, ◌++◌, ◌∷◌, [], if◌then◌else◌, IfOk, OnOk, nat_eq};
-ghost use Rattle.std.specs.Bool.{OnTrue};
+ghost use Rattle.std.specs.Bool.{OnFalse, OnTrue};
 ghost use Rattle.indexmap.specs.IndexMap.{get};
 ghost use Rattle.kernel_rules.specs.State.{page_is};
 ghost use Rattle.kernel_rules.specs.Faults.{stops_at, sleeps_in, queues, leaves, woken};
-ghost use Rattle.kernel_rules.specs.Held.{pages_by, AreTables, Makes, Becomes};
+ghost use Rattle.kernel_rules.specs.Held.{pages_by, AreTables, Becomes, Forbids, Makes};
 
 use crate::difference::Difference;
 use crate::fault::{
@@ -75,6 +75,9 @@ impl KernelTable {
         ensures tables { AreTables self.new }
         ensures made { IfOk result (λ made.
             OnTrue made (Makes self.old self.new (λ kernel. queues kernel thread))) }
+        ensures same { IfOk result (λ made. OnFalse made (self.new ≡ self.old)) }
+        ensures refused { IfOk result (λ made.
+            OnFalse made (Forbids self.old (λ kernel. queues kernel thread))) }
     {
         let Some(fault) = find(&self.faults, thread) else {
             return Ok(false);
@@ -127,12 +130,15 @@ impl KernelTable {
         Ok(())
     }
 
-    /// A thread leaves its fault. False where it does not wait, and nothing has changed then. After `NoMemory` the table is not to be used.
+    /// A thread leaves its fault. False where no rule allows that, and nothing has changed then. After `NoMemory` the table is not to be used.
     pub fn leaves(&mut self, thread: u64) -> Result<bool, NoMemory>
         requires { AreTables self.old }
         ensures tables { AreTables self.new }
         ensures made { IfOk result (λ made.
             OnTrue made (Makes self.old self.new (λ kernel. leaves kernel thread))) }
+        ensures same { IfOk result (λ made. OnFalse made (self.new ≡ self.old)) }
+        ensures refused { IfOk result (λ made.
+            OnFalse made (Forbids self.old (λ kernel. leaves kernel thread))) }
     {
         let Some(fault) = find(&self.faults, thread) else {
             return Ok(false);
