@@ -1,5 +1,5 @@
 -- Steps of a kernel, and what a table holds after them.
-use Rattle.std.proofs.Common.{◌≡◌, ℕ, true, false, Bool, List, [], ◌∷◌, ◌++◌, Option, Some, None, refl, ap, ◌∙◌, sym}
+use Rattle.std.proofs.Common.{◌≡◌, ℕ, true, false, Bool, List, [], ◌∷◌, ◌++◌, Option, Some, refl, ap, ◌∙◌, sym}
 use Rattle.std.specs.Prelude.{if◌then◌else◌, not, nat_eq, filter_map}
 use Rattle.std.specs.List.{list_any}
 use Rattle.indexmap.specs.IndexMap.{get}
@@ -12,7 +12,7 @@ use Rattle.kernel_rules.specs.declared.known.Phase.TheVariants.{Unread}
 use Rattle.kernel_rules.specs.declared.object.Object.{Object}
 use Rattle.kernel_rules.specs.State.{Kernel, page_is, noted_if}
 use Rattle.kernel_rules.specs.Faults.{is_seen, stops_at, must_wait, fault_of, faults_without, is_twin, queues, leaves, is_of_thread, left_unanswered, faults_over}
-use Rattle.kernel_rules.specs.Held.{pages_by, Holds, Makes}
+use Rattle.kernel_rules.specs.Held.{pages_by, Makes}
 
 -- what noting a difference leaves as it is, and what it does
 

@@ -1,5 +1,5 @@
 -- The changes of a page as values, which a table can keep: each is one of the functions of Pages.antt.
-use Rattle.std.specs.Prelude.{◌≡◌, ℕ, ◌&&◌, Bool, true, if◌then◌else◌, Option, Some, None, List, [], ◌∷◌}
+use Rattle.std.specs.Prelude.{ℕ, if◌then◌else◌, Option, Some, None}
 use Rattle.mig_base.specs.Ranges.{in_range}
 use Rattle.kernel_rules.specs.Pages.{registered_page, without_object, put_page, protected_page, settled, shown, cleared_page}
 use Rattle.kernel_rules.specs.declared.change.Change.{Change}

@@ -1,16 +1,13 @@
 -- What threads do that no line of a log shows: they find a page missing or write-protected, queue a fault, sleep, and leave it.
-use Rattle.std.specs.Prelude.{ℕ, ◌==◌, ◌&&◌, ◌||◌, not, Bool, true, false, if◌then◌else◌, Option, Some, None, is_some, List, [], ◌∷◌, ◌++◌, filter, filter_map}
+use Rattle.std.specs.Prelude.{ℕ, ◌==◌, ◌&&◌, ◌||◌, not, Bool, true, false, if◌then◌else◌, Option, Some, None, List, [], ◌∷◌, ◌++◌, filter, filter_map}
 use Rattle.std.specs.List.{list_any}
-use Rattle.mig_base.specs.Bits.{is_one}
 use Rattle.mig_base.specs.Ranges.{in_range}
 use Rattle.kernel_rules.specs.declared.fault.Fault.{Fault}
 use Rattle.kernel_rules.specs.Pages.{is_missing, may_be_missing, is_of_protection, shown}
 use Rattle.kernel_rules.specs.declared.difference.Difference.TheVariants.{FaultOfEachThread, FaultTakenAway, FaultOnItsWay, LeftByASignal}
 use Rattle.kernel_rules.specs.declared.known.Phase.{Phase}
 use Rattle.kernel_rules.specs.declared.known.Phase.TheVariants.{Seen, Unread, Asleep}
-use Rattle.kernel_rules.specs.declared.known.Presence.TheVariants.{Missing, Present}
 use Rattle.kernel_rules.specs.declared.known.Page.{Page}
-use Rattle.kernel_rules.specs.declared.object.Object.{Object}
 use Rattle.kernel_rules.specs.State.{Kernel, page_is, pages_changed, of_object, allowed, noted_if}
 
 -- the thread has looked at its page, and has queued nothing yet

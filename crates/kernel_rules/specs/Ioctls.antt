@@ -1,16 +1,15 @@
 -- The calls of a userfault object: which answers a kernel may give, and what follows from each. ioctl_userfaultfd(2).
 -- A rule has the kernel, the call and its answer; None says that no kernel answers so.
-use Rattle.std.specs.Prelude.{ℕ, ◌+◌, ◌*◌, ◌/◌, ◌%◌, ◌==◌, ◌&&◌, ◌||◌, not, nat_le, nat_lt, Bool, true, false, if◌then◌else◌, Option, Some, None, is_some, List, [], ◌∷◌, ◌++◌, filter, map}
+use Rattle.std.specs.Prelude.{ℕ, ◌+◌, ◌/◌, ◌%◌, ◌==◌, ◌&&◌, ◌||◌, not, nat_le, nat_lt, Bool, true, false, if◌then◌else◌, Option, Some, None, List, [], ◌∷◌, ◌++◌, filter, map}
 use Rattle.std.specs.List.{list_any}
 use Rattle.mig_base.specs.declared.TheConstants.{PAGE_SIZE}
 use Rattle.mig_base.specs.Bits.{is_one}
 use Rattle.mig_base.specs.Ranges.{in_range}
 use Rattle.mig_base.specs.Userfault.{Mode}
 use Rattle.uffd_log.specs.declared.line.Answer.{Answer}
-use Rattle.uffd_log.specs.declared.line.Answer.TheVariants.{Opened, Done, Value, Features, Minus, Failed, Interrupted}
+use Rattle.uffd_log.specs.declared.line.Answer.TheVariants.{Opened, Done, Value, Features, Failed}
 use Rattle.uffd_log.specs.declared.errno.Errno.{Errno}
-use Rattle.uffd_log.specs.declared.errno.Errno.TheVariants.{Eperm, Enoent, Esrch, Eintr, Eagain, Enomem, Efault, Ebusy, Eexist, Einval, Other}
-use Rattle.kernel_rules.specs.declared.fault.Fault.{Fault}
+use Rattle.uffd_log.specs.declared.errno.Errno.TheVariants.{Eperm, Enoent, Esrch, Eagain, Enomem, Efault, Ebusy, Eexist, Einval}
 use Rattle.kernel_rules.specs.Pages.{is_missing, may_be_missing, may_be_there, mode_of, registered_page, without_object, put_page, protected_page, settled}
 use Rattle.kernel_rules.specs.declared.difference.Difference.TheVariants as differs
 use Rattle.kernel_rules.specs.declared.known.Presence.{Presence}
@@ -18,7 +17,7 @@ use Rattle.kernel_rules.specs.declared.known.Presence.TheVariants.{Unknown, Miss
 use Rattle.kernel_rules.specs.declared.known.Page.{Page}
 use Rattle.kernel_rules.specs.declared.object.Object.{Object}
 use Rattle.kernel_rules.specs.declared.object.Registration.{Registration}
-use Rattle.kernel_rules.specs.State.{Calling, Kernel, is_range, is_within, set_pages, page_is, page_may, each_page, some_page, pages_changed, with_object, of_object, allowed, asked_for, is_enabled, noted_if}
+use Rattle.kernel_rules.specs.State.{Calling, Kernel, is_range, is_within, set_pages, page_is, each_page, some_page, pages_changed, with_object, allowed, asked_for, is_enabled, noted_if}
 use Rattle.kernel_rules.specs.Faults.{sleeps_in, sleeps_at, woken}
 
 -- O_NONBLOCK of open(2)

@@ -1,6 +1,6 @@
 -- The calls that change an address space: what becomes of registered pages, and which events the objects get. mmap(2), munmap(2), mremap(2),
 -- madvise(2); userfaultfd(2), UFFD_EVENT_UNMAP, UFFD_EVENT_REMAP and UFFD_EVENT_REMOVE. Whether such a call succeeds is not judged.
-use Rattle.std.specs.Prelude.{ℕ, zero, suc, ◌+◌, ◌-◌, ◌*◌, ◌/◌, ◌==◌, ◌&&◌, ◌||◌, not, nat_le, nat_lt, Bool, true, false, if◌then◌else◌, Option, Some, None, List, [], ◌∷◌, ◌++◌, filter, map, length}
+use Rattle.std.specs.Prelude.{ℕ, zero, suc, ◌+◌, ◌-◌, ◌*◌, ◌/◌, ◌==◌, ◌&&◌, ◌||◌, not, nat_lt, Bool, true, false, if◌then◌else◌, Option, Some, None, List, [], ◌∷◌, ◌++◌, filter, map}
 use Rattle.std.specs.List.{list_any}
 use Rattle.mig_base.specs.declared.TheConstants.{PAGE_SIZE}
 use Rattle.mig_base.specs.Ranges.{in_range, lesser, pages_of}
@@ -9,14 +9,13 @@ use Rattle.uffd_log.specs.declared.line.Answer.{Answer}
 use Rattle.uffd_log.specs.declared.line.Answer.TheVariants.{Done, Value, Failed}
 use Rattle.uffd_log.specs.declared.errno.Errno.TheVariants.{Enomem}
 use Rattle.uffd_log.specs.declared.call.Message.{Message}
-use Rattle.uffd_log.specs.declared.call.Message.TheVariants.{Remap, Remove, Unmap}
+use Rattle.uffd_log.specs.declared.call.Message.TheVariants.{Remap, Unmap}
 use Rattle.kernel_rules.specs.Pages.{cleared_page}
 use Rattle.kernel_rules.specs.declared.difference.Difference.TheVariants.{MessagesOfMremap}
-use Rattle.kernel_rules.specs.declared.known.Presence.{Presence}
 use Rattle.kernel_rules.specs.declared.known.Presence.TheVariants.{Unknown, Missing}
 use Rattle.kernel_rules.specs.declared.known.Page.{Page}
 use Rattle.kernel_rules.specs.declared.object.Object.{Object}
-use Rattle.kernel_rules.specs.State.{Calling, Kernel, set_pages, some_page, pages_changed, allowed, asked_for, noted_if}
+use Rattle.kernel_rules.specs.State.{Calling, Kernel, set_pages, pages_changed, allowed, asked_for, noted_if}
 
 -- Whom a call tells
 

@@ -1,5 +1,5 @@
 -- read(2) and poll(2) of a userfault object. userfaultfd(2).
-use Rattle.std.specs.Prelude.{ℕ, ◌+◌, ◌-◌, ◌*◌, ◌/◌, ◌==◌, ◌&&◌, ◌||◌, not, nat_le, nat_lt, Bool, true, false, if◌then◌else◌, Option, Some, None, List, [], ◌∷◌, ◌++◌, length}
+use Rattle.std.specs.Prelude.{ℕ, ◌+◌, ◌-◌, ◌/◌, ◌==◌, ◌&&◌, ◌||◌, not, nat_le, nat_lt, Bool, true, false, if◌then◌else◌, Option, Some, None, List, [], ◌∷◌, ◌++◌, length}
 use Rattle.std.specs.List.{list_any}
 use Rattle.mig_base.specs.declared.TheConstants.{PAGE_SIZE}
 use Rattle.mig_base.specs.Bits.{is_one}
@@ -12,9 +12,8 @@ use Rattle.uffd_log.specs.declared.call.Message.TheVariants as message
 use Rattle.kernel_rules.specs.declared.fault.Fault.{Fault}
 use Rattle.kernel_rules.specs.declared.difference.Difference.TheVariants as differs
 use Rattle.kernel_rules.specs.declared.known.Phase.TheVariants.{Asleep}
-use Rattle.kernel_rules.specs.declared.known.Page.{Page}
 use Rattle.kernel_rules.specs.declared.object.Object.{Object}
-use Rattle.kernel_rules.specs.State.{Calling, Kernel, some_page, of_object, allowed, asked_for, is_enabled, noted_if}
+use Rattle.kernel_rules.specs.State.{Calling, Kernel, some_page, allowed, asked_for, is_enabled, noted_if}
 use Rattle.kernel_rules.specs.Faults.{is_unread, must_wait, of_fault, faults_without}
 use Rattle.kernel_rules.specs.Ioctls.{has_untold}
 use Rattle.kernel_rules.specs.MapCalls.{with_call}

@@ -1,22 +1,19 @@
 -- What a run of a log is: the lines of the log in their order, with steps put in between. A call takes effect once, between the line where
 -- it begins and the one where it ends; so a call that ended before another began took effect first. The rules of a kernel allow each step
 -- with exactly the answer of the log.
-use Rattle.std.specs.Prelude.{◌≡◌, ℕ, ◌==◌, ◌&&◌, ◌||◌, not, nat_lt, Bool, true, false, if◌then◌else◌, Option, Some, None, is_some, is_none, List, [], ◌∷◌, ◌++◌, filter, filter_map, map}
-use Rattle.std.specs.List.{list_any}
-use Rattle.mig_base.specs.Tests.{is_empty}
+use Rattle.std.specs.Prelude.{◌≡◌, ℕ, ◌==◌, not, Bool, true, false, if◌then◌else◌, Option, Some, None, is_some, List, [], ◌∷◌, filter, filter_map}
 use Rattle.uffd_log.specs.declared.call.Call.{Call}
 use Rattle.uffd_log.specs.declared.call.Call.TheVariants as call
 use Rattle.uffd_log.specs.declared.call.Message.{Message}
 use Rattle.uffd_log.specs.declared.line.Answer.{Answer}
 use Rattle.uffd_log.specs.declared.line.Answer.TheVariants.{Done, Failed, Interrupted}
-use Rattle.kernel_rules.specs.declared.fault.Fault.{Fault}
 use Rattle.kernel_rules.specs.declared.difference.Difference.{Difference}
 use Rattle.kernel_rules.specs.declared.object.Object.{Object}
 use Rattle.kernel_rules.specs.State.{Kernel, fresh_kernel, with_object, of_object}
-use Rattle.kernel_rules.specs.Faults.{sees, queues, leaves, left_unanswered, faults_over}
+use Rattle.kernel_rules.specs.Faults.{sees, queues, leaves, faults_over}
 use Rattle.kernel_rules.specs.Ioctls.{Run, opened, shaken, registered, unregistered, waked, put_with, protected_with, scanned, closed}
 use Rattle.kernel_rules.specs.MapCalls.{mmapped, munmapped, mremapped, madvised, tells, clears, may_return, returned}
-use Rattle.kernel_rules.specs.Reads.{read, polled, then_taken}
+use Rattle.kernel_rules.specs.Reads.{read, polled}
 
 -- The lines of a log that a judge reads
 

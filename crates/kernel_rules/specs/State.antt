@@ -1,12 +1,10 @@
 -- What a kernel has: userfault objects, the pages that are registered with them, the threads that sleep, and the map calls under way.
 -- Address spaces, objects and threads are numbers; a page is the number of its first byte divided by the page size, without a bound.
-use Rattle.std.specs.Prelude.{ℕ, ◌+◌, ◌*◌, ◌/◌, ◌%◌, ◌^◌, ◌==◌, ◌&&◌, ◌||◌, not, nat_le, nat_lt, Bool, true, false, if◌then◌else◌, Option, Some, None, is_some, List, [], ◌∷◌, ◌++◌, filter}
-use Rattle.std.specs.List.{list_any, list_all}
+use Rattle.std.specs.Prelude.{ℕ, ◌+◌, ◌%◌, ◌^◌, ◌==◌, ◌&&◌, not, nat_le, nat_lt, Bool, true, false, if◌then◌else◌, Option, Some, None, is_some, List, [], ◌∷◌, ◌++◌}
 use Rattle.mig_base.specs.declared.TheConstants.{PAGE_SIZE}
 use Rattle.mig_base.specs.Bits.{is_one}
 use Rattle.mig_base.specs.Ranges.{in_range, none_below}
 use Rattle.mig_base.specs.Tests.{is_every}
-use Rattle.mig_base.specs.Userfault.{Mode}
 use Rattle.uffd_log.specs.declared.call.Message.{Message}
 use Rattle.kernel_rules.specs.Changes.{page_with}
 use Rattle.kernel_rules.specs.declared.difference.Difference.{Difference}
@@ -14,10 +12,6 @@ use Rattle.kernel_rules.specs.declared.fault.Fault.{Fault}
 use Rattle.kernel_rules.specs.declared.object.Object.{Object}
 use Rattle.kernel_rules.specs.declared.object.Registration.{Registration}
 use Rattle.kernel_rules.specs.declared.known.Page.{Page}
-use Rattle.kernel_rules.specs.declared.known.Phase.{Phase}
-use Rattle.kernel_rules.specs.declared.known.Phase.TheVariants.{Seen, Unread, Asleep}
-use Rattle.kernel_rules.specs.declared.known.Presence.{Presence}
-use Rattle.kernel_rules.specs.declared.known.Presence.TheVariants.{Unknown, Missing, Present}
 
 -- a map call that has changed the map and has not returned
 pub record Calling : Type 0 where

@@ -1,5 +1,5 @@
 -- What a table of pages has: changes of ranges in their order, and single pages with the number of changes that were made before them.
-use Rattle.std.specs.Prelude.{ℕ, ◌≤◌, ◌==◌, if◌then◌else◌, Option, Some, None, List, [], ◌∷◌, drop, length, nat_eq, IfSome, vec_len}
+use Rattle.std.specs.Prelude.{ℕ, ◌≤◌, if◌then◌else◌, Option, Some, None, List, [], ◌∷◌, drop, length, nat_eq, IfSome}
 use Rattle.indexmap.specs.IndexMap.{get}
 use Rattle.mig_base.specs.Ranges.{in_range}
 use Rattle.kernel_rules.specs.Changes.{changed}

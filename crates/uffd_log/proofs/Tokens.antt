@@ -1,5 +1,5 @@
 -- The tokens of a list of words.
-use Rattle.std.proofs.Common.{◌≡◌, ℕ, ◌<◌, List, [], ◌∷◌, ◌++◌, ap, ◌∙◌, sym, subst, append_assoc}
+use Rattle.std.proofs.Common.{◌≡◌, ℕ, List, [], ◌∷◌, ◌++◌, ap, ◌∙◌, sym, subst, append_assoc}
 use Rattle.uffd_log.specs.declared.token.Token.{Token}
 use Rattle.uffd_log.specs.Words.{IsToken, AreTokens, words_of}
 

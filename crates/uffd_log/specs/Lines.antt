@@ -1,13 +1,11 @@
 -- The lines of a log below its head, form by form: which line the tokens of a text are. docs/UFFDLOG.md has the same tables in words.
-use Rattle.std.specs.Prelude.{◌≡◌, ℕ, zero, suc, ◌^◌, ◌&&◌, Bool, true, false, List, [], ◌∷◌, Option, Some, None, nat_lt, if◌then◌else◌}
-use Rattle.uffd_log.specs.declared.call.Descriptor.{Descriptor}
+use Rattle.std.specs.Prelude.{◌≡◌, ℕ, zero, suc, ◌^◌, ◌&&◌, true, false, List, [], ◌∷◌, Option, Some, None, nat_lt, if◌then◌else◌}
 use Rattle.uffd_log.specs.declared.call.Call.{Call}
 use Rattle.uffd_log.specs.declared.call.Call.TheVariants as call
 use Rattle.uffd_log.specs.declared.call.Message.{Message}
 use Rattle.uffd_log.specs.declared.call.Message.TheVariants as message
 use Rattle.uffd_log.specs.declared.errno.Errno.{Errno}
 use Rattle.uffd_log.specs.declared.errno.Errno.TheVariants as errno
-use Rattle.uffd_log.specs.declared.keyword.Keyword.{Keyword}
 use Rattle.uffd_log.specs.declared.keyword.Keyword.TheVariants as key
 use Rattle.uffd_log.specs.declared.line.Answer.{Answer}
 use Rattle.uffd_log.specs.declared.line.Answer.TheVariants as answer
@@ -15,7 +13,7 @@ use Rattle.uffd_log.specs.declared.line.Line.{Line}
 use Rattle.uffd_log.specs.declared.line.Line.TheVariants as line
 use Rattle.uffd_log.specs.declared.line.Stamp.{Stamp}
 use Rattle.uffd_log.specs.declared.token.Token.{Token}
-use Rattle.uffd_log.specs.declared.token.Token.TheVariants.{Key, Number, Minus, On, Error, Text}
+use Rattle.uffd_log.specs.declared.token.Token.TheVariants.{Key, Number, Minus, On, Error}
 use Rattle.uffd_log.specs.Words.{words_of, AreTokens}
 
 infixl 10 ◌>>=◌

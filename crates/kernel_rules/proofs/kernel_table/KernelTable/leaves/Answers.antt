@@ -1,4 +1,4 @@
-use Rattle.std.proofs.Common.{ap, sym, ◌∙◌, List, ℕ}
+use Rattle.std.proofs.Common.{ap, sym, ◌∙◌, List}
 use Rattle.std.specs.Prelude.{◌++◌, filter_map}
 use Rattle.kernel_rules.specs.declared.fault.Fault.{Fault}
 use Rattle.kernel_rules.specs.declared.kernel_table.KernelTable.{KernelTable}

@@ -1,4 +1,4 @@
-use Rattle.std.proofs.Common.{ap, sym, ◌∙◌, Bool, List}
+use Rattle.std.proofs.Common.{ap, sym, ◌∙◌, List}
 use Rattle.std.specs.Prelude.{not, ◌++◌, ◌∷◌, [], if◌then◌else◌}
 use Rattle.std.specs.List.{list_any}
 use Rattle.kernel_rules.specs.declared.difference.Difference.{Difference}
