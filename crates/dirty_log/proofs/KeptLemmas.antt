@@ -21,12 +21,12 @@ use Rattle.mig_model.specs.Whereabouts.{is_unread}
 use Rattle.mig_model.specs.Ioctls.{protected_in}
 use Rattle.mig_model.specs.Log.{Log, log_read, log_run_sent, no_pages}
 use Rattle.mig_model.specs.Source.{Source, all_registered, source_acted_by, space_of}
-use Rattle.mig_model.proofs.Facts.{modes_events}
-use Rattle.mig_model.proofs.SourceCalls.{untouched}
-use Rattle.mig_model.proofs.SourceKept.{no_page_absurd}
-use Rattle.mig_model.proofs.SourceMessages.{events_queued, is_unread-append, noted_all, tells}
-use Rattle.mig_model.proofs.SourceRounds.{watched_below, present_mapped}
-use Rattle.mig_model.proofs.SourceSending.{protected_now}
+use Rattle.mig_model.proofs.memory.Facts.{modes_events}
+use Rattle.mig_model.proofs.owed.SourceCalls.{untouched}
+use Rattle.mig_model.proofs.invariant.SourceKept.{no_page_absurd}
+use Rattle.mig_model.proofs.owed.SourceMessages.{events_queued, is_unread-append, noted_all, tells}
+use Rattle.mig_model.proofs.invariant.SourceRounds.{watched_below, present_mapped}
+use Rattle.mig_model.proofs.invariant.SourceSending.{protected_now}
 use Rattle.uffd_ioctl.proofs.LentLemmas.{read_space}
 use Rattle.uffd_ioctl.proofs.LentPages.{below_high}
 use Rattle.dirty_log.specs.Answers.{send_refusal}

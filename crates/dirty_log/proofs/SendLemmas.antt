@@ -25,9 +25,9 @@ use Rattle.mig_model.specs.Ioctls.{protected_in}
 use Rattle.mig_model.specs.Log.{Log, log_run_sent, log_sent}
 use Rattle.mig_model.specs.Source.{Source, bytes_of, run_of}
 use Rattle.mig_model.specs.Wire.{Frame, is_zeros, page_frame}
-use Rattle.mig_model.proofs.Facts.{zero_bytes}
-use Rattle.mig_model.proofs.IoctlLemmas.{every_page}
-use Rattle.mig_model.proofs.SourceSending.{present_bytes, protected_now, whole_bytes}
+use Rattle.mig_model.proofs.memory.Facts.{zero_bytes}
+use Rattle.mig_model.proofs.memory.IoctlLemmas.{every_page}
+use Rattle.mig_model.proofs.invariant.SourceSending.{present_bytes, protected_now, whole_bytes}
 use Rattle.uffd_ioctl.specs.Lent.{IsLent}
 use Rattle.dirty_log.specs.Answers.{send_refusal}
 use Rattle.dirty_log.specs.Sending.{frame_sent}

@@ -9,7 +9,7 @@ use Rattle.mig_base.proofs.SetLemmas.{member_with_range}
 use Rattle.mig_model.specs.Bounds.{ArePages}
 use Rattle.mig_model.specs.Log.{no_pages}
 use Rattle.mig_model.specs.Space.{Space, IsSoundSpace}
-use Rattle.mig_model.proofs.SourceKept.{no_page_absurd}
+use Rattle.mig_model.proofs.invariant.SourceKept.{no_page_absurd}
 use Rattle.uffd_ioctl.specs.Lent.{IsLent}
 use Rattle.dirty_log.specs.Answers.{send_refusal}
 use Rattle.dirty_log.specs.Rounds.{HasComeTo}

@@ -20,8 +20,8 @@ use Rattle.mig_model.specs.Guest.{is_present}
 use Rattle.mig_model.specs.Ioctls.{answered_by, has_events, is_bad_range, is_bare, is_mapped_in, left_by, mode_of, protected_in, register_error, registered, registered_in, write_protected, writeprotect_answer, writeprotect_error}
 use Rattle.mig_model.specs.Log.{present}
 use Rattle.mig_model.specs.Source.{all_registered, for_both}
-use Rattle.mig_model.proofs.Facts.{and_true}
-use Rattle.mig_model.proofs.IoctlLemmas.{every_page}
+use Rattle.mig_model.proofs.memory.Facts.{and_true}
+use Rattle.mig_model.proofs.memory.IoctlLemmas.{every_page}
 use Rattle.userfault.proofs.ModeLemmas.{is_pages_where}
 use Rattle.uffd_ioctl.specs.Spaces.{ioctl_result}
 use Rattle.uffd_ioctl.specs.declared.fault.IoctlFault.{IoctlFault}
@@ -30,9 +30,9 @@ use Rattle.uffd_ioctl.proofs.RegisterLemmas.{nothing_where, sound_low}
 use Rattle.uffd_ioctl.specs.Lent.{IsLent}
 use Rattle.uffd_ioctl.proofs.LentPages.{below_high, five_none, from_low, ok_no_err, protected_past, right_range, some_no_none}
 use Rattle.dirty_log.specs.Spaces.{is_sendable}
-use Rattle.mig_model.proofs.SourceRounds.{present_mapped}
-use Rattle.mig_model.proofs.FrameFaults.{no_fewer}
-use Rattle.mig_model.proofs.PageCalls.{every_one}
+use Rattle.mig_model.proofs.invariant.SourceRounds.{present_mapped}
+use Rattle.mig_model.proofs.delivery.FrameFaults.{no_fewer}
+use Rattle.mig_model.proofs.memory.PageCalls.{every_one}
 use Rattle.uffd_ioctl.proofs.InstallLemmas.{quiet_tested}
 
 -- Pages of a space

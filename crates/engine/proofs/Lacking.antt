@@ -3,7 +3,7 @@ use Rattle.std.proofs.Common.{◌≡◌, ◌∙◌, ℕ, List, refl, sym, ap, su
 use Rattle.std.specs.Prelude.{OnErr, Result, Ok, Err}
 use Rattle.mig_base.specs.declared.schedule.Step.{Step}
 use Rattle.mig_model.specs.Runs.{Happens}
-use Rattle.mig_model.proofs.Runs.{never_lacking}
+use Rattle.mig_model.proofs.steps.Runs.{never_lacking}
 use Rattle.grammar.specs.Printed.{Outcome}
 use Rattle.grammar.specs.declared.line.Line.TheVariants.{Do}
 use Rattle.grammar.specs.declared.order.Order.{Order}

@@ -7,8 +7,8 @@ use Rattle.mig_base.specs.Flat.{IsFlatRun}
 use Rattle.mig_model.specs.Migration.{first_world, World, next}
 use Rattle.mig_model.specs.Promises.{IsReached}
 use Rattle.mig_model.specs.Runs.{Happens}
-use Rattle.mig_model.proofs.ReachedLemmas.{reached-next}
-use Rattle.mig_model.proofs.StepCases.{MakesWorld, made-next}
+use Rattle.mig_model.proofs.steps.ReachedLemmas.{reached-next}
+use Rattle.mig_model.proofs.steps.StepCases.{MakesWorld, made-next}
 use Rattle.world.proofs.HeadlineLemmas.{headline_reached}
 use Rattle.grammar.specs.Texts.{entry_line}
 use Rattle.grammar.specs.declared.line.Line.{Line}

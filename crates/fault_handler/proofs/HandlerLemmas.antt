@@ -23,7 +23,7 @@ use Rattle.mig_model.specs.Wire.{Frame}
 use Rattle.guest.specs.Guests.{guest_with}
 use Rattle.uffd_ioctl.specs.Lent.{IsLent}
 use Rattle.fault_handler.specs.Order.{HasPages, IsInOrder}
-use Rattle.mig_model.proofs.Facts.{counted_is}
+use Rattle.mig_model.proofs.memory.Facts.{counted_is}
 use Rattle.fault_handler.proofs.PageLemmas.{read_paged}
 use Rattle.fault_handler.proofs.ReadyLemmas.{ready_read, ready_zeroed, settled_now, settled_read}
 

@@ -19,13 +19,13 @@ use Rattle.mig_base.proofs.ReplyLemmas.{done_passed, mmap_inside, mremap_told}
 use Rattle.mig_model.specs.Host.{Host, IsSound, memory}
 use Rattle.mig_model.specs.Space.{IsSoundSpace, Space, all_queued, call_messages, message_if}
 use Rattle.mig_base.specs.Userfault.{Noted, Object, is_registered, is_watched}
-use Rattle.mig_model.proofs.CalledLemmas.{IsLaid, remapped_laid}
-use Rattle.mig_model.proofs.CommandLemmas.{remapped_place}
-use Rattle.mig_model.proofs.Facts.{lesser_left, lesser_right, low_or}
-use Rattle.mig_model.proofs.HostLemmas.{memory-none}
-use Rattle.mig_model.proofs.SourceMessages.{events_queued, noted_all}
+use Rattle.mig_model.proofs.owed.CalledLemmas.{IsLaid, remapped_laid}
+use Rattle.mig_model.proofs.memory.CommandLemmas.{remapped_place}
+use Rattle.mig_model.proofs.memory.Facts.{lesser_left, lesser_right, low_or}
+use Rattle.mig_model.proofs.memory.HostLemmas.{memory-none}
+use Rattle.mig_model.proofs.owed.SourceMessages.{events_queued, noted_all}
 use Rattle.fault_handler.specs.Order.{AreInside, LiesInside}
-use Rattle.mig_model.proofs.EventLemmas.{away_not}
+use Rattle.mig_model.proofs.owed.EventLemmas.{away_not}
 
 -- Messages
 

@@ -20,7 +20,7 @@ use Rattle.mig_model.specs.Owed.{Owed, home, without_request}
 use Rattle.mig_model.specs.Space.{IsSoundSpace, Space}
 use Rattle.mig_base.specs.Userfault.{changing}
 use Rattle.mig_model.specs.Wire.{Copy}
-use Rattle.mig_model.proofs.Facts.{eqb-self}
+use Rattle.mig_model.proofs.memory.Facts.{eqb-self}
 use Rattle.fault_handler.specs.Order.{IsInOrder, IsReady}
 use Rattle.fault_handler.proofs.ReadyLemmas.{pairs_now, ready_installed, settled_now}
 

@@ -13,7 +13,7 @@ use Rattle.mig_model.specs.Faults.{is_torn}
 use Rattle.mig_model.specs.Ioctls.{has_events}
 use Rattle.mig_model.specs.Owed.{Owed, own_places}
 use Rattle.mig_model.specs.Space.{Space}
-use Rattle.mig_model.proofs.PackageTaken.{assembled_missing, assembled_protect, own_place}
+use Rattle.mig_model.proofs.invariant.PackageTaken.{assembled_missing, assembled_protect, own_place}
 use Rattle.uffd_ioctl.specs.Lent.{IsLent}
 use Rattle.fault_handler.specs.Order.{IsInOrder, IsReady}
 use Rattle.fault_handler.proofs.TornLemmas.{owed_whole}

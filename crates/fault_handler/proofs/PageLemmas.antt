@@ -15,12 +15,12 @@ use Rattle.mig_model.specs.Destination.{destination_act_by}
 use Rattle.mig_model.specs.Guest.{Act}
 use Rattle.mig_model.specs.Log.{no_pages}
 use Rattle.mig_model.specs.Owed.{Owed, is_requested, origins, own_places, owed_table_after, requesting, without_request}
-use Rattle.mig_model.proofs.Delivery.{pair-origins}
-use Rattle.mig_model.proofs.PackageTaken.{own_place}
+use Rattle.mig_model.proofs.invariant.Delivery.{pair-origins}
+use Rattle.mig_model.proofs.invariant.PackageTaken.{own_place}
 use Rattle.mig_base.proofs.SetSizes.{len-part}
-use Rattle.mig_model.proofs.SettledLemmas.{get-owed_table_after, values-after}
+use Rattle.mig_model.proofs.owed.SettledLemmas.{get-owed_table_after, values-after}
 use Rattle.fault_handler.specs.Order.{HasPages}
-use Rattle.mig_model.proofs.PageLists.{few_none, listed-without, listed_or_more}
+use Rattle.mig_model.proofs.memory.PageLists.{few_none, listed-without, listed_or_more}
 
 pub none_paged : HasPages finmap.empty []
 none_paged = record {

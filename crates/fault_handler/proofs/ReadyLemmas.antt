@@ -21,12 +21,12 @@ use Rattle.mig_model.specs.Ioctls.{installed}
 use Rattle.mig_model.specs.Owed.{Owed, owed_table_after, settled_by}
 use Rattle.mig_model.specs.Space.{IsSoundSpace, Space, access_of, accessed_by, call_messages, modes_after}
 use Rattle.mig_base.specs.Userfault.{Noted, changing, message_read, next_message, next_of}
-use Rattle.mig_model.proofs.DestinationAct.{put-missing, put-unprotected}
-use Rattle.mig_model.proofs.Facts.{modes_events, some_is}
-use Rattle.mig_model.proofs.FaultLemmas.{AreFaults-tried}
-use Rattle.mig_model.proofs.SettledLemmas.{settled_by-applied}
-use Rattle.mig_model.proofs.TriedLemmas as tried
-use Rattle.mig_model.proofs.TriedLemmas.{command_tries}
+use Rattle.mig_model.proofs.invariant.DestinationAct.{put-missing, put-unprotected}
+use Rattle.mig_model.proofs.memory.Facts.{modes_events, some_is}
+use Rattle.mig_model.proofs.owed.FaultLemmas.{AreFaults-tried}
+use Rattle.mig_model.proofs.owed.SettledLemmas.{settled_by-applied}
+use Rattle.mig_model.proofs.owed.TriedLemmas as tried
+use Rattle.mig_model.proofs.owed.TriedLemmas.{command_tries}
 use Rattle.uffd_ioctl.specs.Lent.{IsLent}
 use Rattle.fault_handler.specs.Order.{AreInside, IsReady}
 use Rattle.fault_handler.proofs.InsideLemmas.{called_inside, inside_queued}

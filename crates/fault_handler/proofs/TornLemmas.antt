@@ -13,7 +13,7 @@ use Rattle.mig_base.proofs.PageLemmas.{same_pages}
 use Rattle.mig_base.proofs.RangeLemmas.{count_below-few, in_range-true, in_range_bounds}
 use Rattle.mig_base.proofs.SetLemmas.{same_members}
 use Rattle.mig_model.specs.Faults.{is_torn}
-use Rattle.mig_model.proofs.FrameFaults.{and_none}
+use Rattle.mig_model.proofs.delivery.FrameFaults.{and_none}
 use Rattle.uffd_ioctl.proofs.CallLemmas.{same_bool_by}
 use Rattle.mig_base.proofs.TestLemmas.{or_first, or_second}
 

@@ -17,7 +17,7 @@ use Rattle.mig_model.specs.Guest.{Guest, read_guest}
 use Rattle.mig_model.specs.Host.{Host}
 use Rattle.mig_model.specs.Log.{less, present}
 use Rattle.mig_model.specs.Migration.{World, answer, made, next, next_by, outcome, outcome_by}
-use Rattle.mig_model.proofs.StepWorlds.{after_notice, after_resume, after_source_read, after_start, after_switch}
+use Rattle.mig_model.proofs.steps.StepWorlds.{after_notice, after_resume, after_source_read, after_start, after_switch}
 use Rattle.mig_model.specs.NodeSteps.{is_used}
 use Rattle.mig_model.specs.Source.{Source, commands_of, is_precopy, is_released, is_source_idle, is_source_paused, is_stopped, not_clean, space_of}
 use Rattle.mig_model.specs.Destination.{Destination, is_dest_paused}
@@ -26,15 +26,15 @@ use Rattle.mig_model.specs.Wire.{Sent}
 use Rattle.mig_model.specs.Wire.Frame.{Advise, Discard, Package}
 use Rattle.mig_model.specs.Space.{Space}
 use Rattle.mig_model.specs.Promises.{IsReached}
-use Rattle.mig_model.proofs.ReachedLemmas.{reached-next}
-use Rattle.mig_model.proofs.UrgentFew.{few-reached}
+use Rattle.mig_model.proofs.steps.ReachedLemmas.{reached-next}
+use Rattle.mig_model.proofs.invariant.UrgentFew.{few-reached}
 use Rattle.mig_model.specs.Invariant.{IsSoundWorld, PrecopyWires, SwitchedAt}
-use Rattle.mig_model.proofs.CompletionStopped.{IsUpAt, next_some, read_object, wires_at}
+use Rattle.mig_model.proofs.completion.CompletionStopped.{IsUpAt, next_some, read_object, wires_at}
 use Rattle.finish.specs.Finishing.{IsDue, before_push, down_left, down_step, lacks_epoch, one_if, precopy_step, reported, steps_left, unread, up_left, waiting}
-use Rattle.mig_model.proofs.StepAnswers.{answers-notice, answers-resume, answers-source_read, answers-start, answers-switch}
-use Rattle.mig_model.proofs.SourceMapped.{read_host}
+use Rattle.mig_model.proofs.steps.StepAnswers.{answers-notice, answers-resume, answers-source_read, answers-start, answers-switch}
+use Rattle.mig_model.proofs.invariant.SourceMapped.{read_host}
 use Rattle.mig_base.proofs.SetSizes.{only_where}
-use Rattle.mig_model.proofs.UrgentWire.{is_paused}
+use Rattle.mig_model.proofs.invariant.UrgentWire.{is_paused}
 
 -- the step is due that leads to a new world
 pub due_by : (world new : World) (step : Step) (effect : Effect) → answer world step ≡ made effect new → steps_left new < steps_left world → (lacks_epoch world ≡ false → lacks_epoch new ≡ false) → IsDue world step

@@ -9,7 +9,7 @@ use Rattle.mig_base.specs.declared.schedule.Step.{Step}
 use Rattle.mig_model.specs.Migration.{World, after_steps, next, outcome}
 use Rattle.mig_model.specs.Promises.{AreAccepted}
 use Rattle.mig_model.specs.Runs.{Happens, may_lack}
-use Rattle.mig_model.proofs.ReachedLemmas.{after_steps-append}
+use Rattle.mig_model.proofs.steps.ReachedLemmas.{after_steps-append}
 use Rattle.finish.specs.Finishing.{AreDue, IsDue, Leads, finishing_step, lacks_epoch, steps_left}
 use Rattle.finish.proofs.OwnSteps.{entries_next}
 

@@ -13,7 +13,7 @@ use Rattle.mig_model.specs.Log.{least_of}
 use Rattle.mig_model.specs.Migration.{World, next}
 use Rattle.mig_model.specs.NodeSteps.{is_used}
 use Rattle.mig_model.specs.Source.{is_source_paused}
-use Rattle.mig_model.proofs.PartsChanged.{changes_parts}
+use Rattle.mig_model.proofs.steps.PartsChanged.{changes_parts}
 use Rattle.finish.specs.Finishing.{IsOfStrategy, all_bytes, delivering_step, down_step, finishing_step, running_step, stopped_by, unless_used, up_step}
 
 -- Which steps it has

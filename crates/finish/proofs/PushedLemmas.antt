@@ -19,9 +19,9 @@ use Rattle.mig_base.proofs.SetLemmas.{member_removed}
 use Rattle.mig_model.specs.Log.{least_of}
 use Rattle.mig_model.specs.Migration.{World, next, outcome}
 use Rattle.mig_model.specs.Runs.{Happens}
-use Rattle.mig_model.proofs.PartsChanged.{changes_parts}
-use Rattle.mig_model.proofs.StepCases.{holds-made}
-use Rattle.mig_model.proofs.StepLemmas.{leaves-ok}
+use Rattle.mig_model.proofs.steps.PartsChanged.{changes_parts}
+use Rattle.mig_model.proofs.steps.StepCases.{holds-made}
+use Rattle.mig_model.proofs.steps.StepLemmas.{leaves-ok}
 use Rattle.finish.specs.Finishing.{HasNoneBelow, HasPushed, IsPast, delivering_step, finishing_step, stopped_by, up_step, down_step}
 use Rattle.finish.proofs.LeadLemmas.{made_next}
 

@@ -23,7 +23,7 @@ use Rattle.mig_model.specs.Log.{forgotten, least_of, no_pages, present}
 use Rattle.mig_model.specs.Migration.{World, answer, made}
 use Rattle.mig_model.specs.Effects.{frame_effect}
 use Rattle.mig_model.specs.Faults.{is_early, is_end}
-use Rattle.mig_model.proofs.StepWorlds.{after_deliver, after_deliver_back, after_deliver_urgent, after_dest_read, after_end, after_install, after_push}
+use Rattle.mig_model.proofs.steps.StepWorlds.{after_deliver, after_deliver_back, after_deliver_urgent, after_dest_read, after_end, after_install, after_push}
 use Rattle.mig_model.specs.Owed.{home}
 use Rattle.mig_model.specs.Promises.{IsReached}
 use Rattle.mig_model.specs.Source.{Source, bytes_of, is_released, is_source_idle, is_stopped, package_frames, rebuild_frames, released, source_rebuilt, space_of}
@@ -31,16 +31,16 @@ use Rattle.mig_base.specs.Userfault.{Noted, Object}
 use Rattle.mig_model.specs.Whereabouts.{IsReceiving, is_request}
 use Rattle.mig_model.specs.Wire.{Copy, Frame, Sent, page_frame, sending, sending_if, wire_behind, wire_with}
 use Rattle.mig_model.specs.Wire.Frame.{Done, End, Recv, Request, Resume}
-use Rattle.mig_model.proofs.CompletionStopped.{IsUpAt, next_some, wires_at, running-has_run, one_more, none_more, pushed-next, urgent_took-next, install_by-next, none_early, not_at_end, is_waiting, waiting_flow, waiting-not_ended, waiting_wire}
-use Rattle.mig_model.proofs.Facts.{and_false, by_test, eqb-self}
-use Rattle.mig_model.proofs.FirstFrame.{comes}
+use Rattle.mig_model.proofs.completion.CompletionStopped.{IsUpAt, next_some, wires_at, running-has_run, one_more, none_more, pushed-next, urgent_took-next, install_by-next, none_early, not_at_end, is_waiting, waiting_flow, waiting-not_ended, waiting_wire}
+use Rattle.mig_model.proofs.memory.Facts.{and_false, by_test, eqb-self}
+use Rattle.mig_model.proofs.invariant.FirstFrame.{comes}
 use Rattle.mig_base.proofs.SetSizes.{len-removed, len-some}
-use Rattle.mig_model.proofs.UrgentWire.{placed}
+use Rattle.mig_model.proofs.invariant.UrgentWire.{placed}
 use Rattle.frame_texts.specs.Flight.{AreFrames, HasGoodFrames}
 use Rattle.frame_texts.proofs.LengthBounds.{text_short}
 use Rattle.finish.specs.Finishing.{IsDue, all_bytes, before_push, one_if, paused_step, reported, running_step, steps_left, stopped_by, stopped_step, delivering_step, unread, waiting}
 use Rattle.finish.proofs.DueSteps.{due_by, few_next, goes_up, left_up, one_if-most, read_unread, sent_one}
-use Rattle.mig_model.proofs.StepAnswers.{answers-deliver, answers-deliver_back, answers-deliver_urgent, answers-dest_read, answers-end, answers-install, answers-push}
+use Rattle.mig_model.proofs.steps.StepAnswers.{answers-deliver, answers-deliver_back, answers-deliver_urgent, answers-dest_read, answers-end, answers-install, answers-push}
 
 -- what is known while the source has stopped
 pub record IsStopped (world : World) : Type 0 where

@@ -9,13 +9,13 @@ use Rattle.mig_model.specs.Bounds.{IsCpuCount}
 use Rattle.mig_model.specs.Migration.{World}
 use Rattle.mig_model.specs.NodeSteps.{is_used}
 use Rattle.mig_model.specs.Promises.{IsComplete, IsReached}
-use Rattle.mig_model.proofs.EveryStep.{kept-reached}
+use Rattle.mig_model.proofs.steps.EveryStep.{kept-reached}
 use Rattle.frame_texts.specs.Flight.{HasGoodFrames}
 use Rattle.frame_texts.proofs.GoodFrames.{frames_good}
 use Rattle.finish.specs.Finishing.{IsDue, down_step, finishing_step, lacks_epoch, needs_epoch, up_step}
 use Rattle.finish.proofs.DueSteps.{down_due, precopy_due, start_due}
 use Rattle.finish.proofs.StoppedSteps.{paused_due, stopped_due}
-use Rattle.mig_model.proofs.Completion.{in_order}
+use Rattle.mig_model.proofs.completion.Completion.{in_order}
 
 start_by : (used : Bool) (world : World) → is_used world.source.epoch ≡ used → IsReached world → world.up ≡ true → world.source.phase ≡ SourcePhase.Idle → IfSome (if used then None else Some Step.Start) (IsDue world)
 start_by true world is reached up phase = tt

@@ -19,8 +19,8 @@ use Rattle.mig_base.proofs.TestLemmas.{and_first, and_second}
 use Rattle.mig_model.specs.Bounds.{IsPage}
 use Rattle.mig_model.specs.Ioctls.{same_prot}
 use Rattle.mig_model.specs.Lengths.{begins_area}
-use Rattle.mig_model.proofs.Facts.{by_test}
-use Rattle.mig_model.proofs.PageCalls.{same_prot_self}
+use Rattle.mig_model.proofs.memory.Facts.{by_test}
+use Rattle.mig_model.proofs.memory.PageCalls.{same_prot_self}
 use Rattle.frame_texts.specs.Texts.{AreMappedBelow, list_below, area_at, areas_of}
 use Rattle.frame_texts.proofs.RunsAndAreas.{same_prot_tells, prot_in-areas_of}
 use Rattle.frame_decoder.specs.Reading.{area_next}

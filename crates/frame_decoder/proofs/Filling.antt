@@ -19,7 +19,7 @@ use Rattle.mig_base.proofs.RangeLemmas.{in_range_bounds}
 use Rattle.mig_base.proofs.RunLemmas.{in_runs-push}
 use Rattle.mig_base.proofs.SetLemmas.{same_members, member_below}
 use Rattle.mig_base.proofs.TestLemmas.{all_below}
-use Rattle.mig_model.proofs.Facts.{by_test}
+use Rattle.mig_model.proofs.memory.Facts.{by_test}
 use Rattle.frame_decoder.specs.declared.fault.StreamFault.{StreamFault}
 use Rattle.frame_decoder.specs.declared.fault.StreamFault.TheVariants as faults
 use Rattle.frame_decoder.specs.Reading.{◌>>=◌, Fails, many_from, run_at, run_next, set_of, set_from, area_at, area_next, map_from}

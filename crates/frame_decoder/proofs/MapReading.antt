@@ -16,7 +16,7 @@ use Rattle.mig_base.specs.Codes.{prot_number}
 use Rattle.mig_base.proofs.TestLemmas.{and_first, and_second}
 use Rattle.mig_model.specs.Bounds.{IsPage}
 use Rattle.mig_model.specs.Ioctls.{same_prot}
-use Rattle.mig_model.proofs.IoctlLemmas.{same_prot-self}
+use Rattle.mig_model.proofs.memory.IoctlLemmas.{same_prot-self}
 use Rattle.frame_texts.specs.Texts.{AreMappedBelow, area_text, areas_of, areas_text}
 use Rattle.frame_texts.proofs.RunsAndAreas.{same_prot_tells}
 use Rattle.page_stream.proofs.AreaTexts.{areas_are, few_areas}

@@ -14,7 +14,7 @@ use Rattle.mig_base.proofs.SetLemmas.{same_members, member_below}
 use Rattle.mig_base.proofs.TestLemmas.{and_first, and_second, all_below}
 use Rattle.mig_model.specs.Bounds.{IsPage, ArePages}
 use Rattle.mig_model.specs.Lengths.{begins_run, run_count}
-use Rattle.mig_model.proofs.Facts.{either}
+use Rattle.mig_model.proofs.memory.Facts.{either}
 use Rattle.frame_texts.specs.Texts.{AreBelow, run_text, runs_of, runs_text}
 use Rattle.frame_texts.proofs.RunsAndAreas.{member-runs_of}
 use Rattle.frame_texts.proofs.RunsInOrder.{runs_of-ordered, runs_of-only}

@@ -12,8 +12,8 @@ use Rattle.mig_base.specs.declared.Prot.TheVariants.{NoAccess}
 use Rattle.mig_base.specs.declared.TheConstants.{HIGH_PAGE}
 use Rattle.mig_base.proofs.RangeLemmas.{in_range-true, in_range-false_below, in_range-false_above, in_range_bounds}
 use Rattle.mig_model.specs.Lengths.{begins_area}
-use Rattle.mig_model.proofs.Facts.{and_left, none_absurd}
-use Rattle.mig_model.proofs.IoctlLemmas.{same_prot-self}
+use Rattle.mig_model.proofs.memory.Facts.{and_left, none_absurd}
+use Rattle.mig_model.proofs.memory.IoctlLemmas.{same_prot-self}
 use Rattle.frame_texts.specs.Texts.{AreMappedBelow, AreAreasAfter, list_below, area_at, areas_of, prot_in}
 use Rattle.frame_texts.proofs.RunsAndAreas.{area_tells, area_covers, prot_in-areas_of}
 

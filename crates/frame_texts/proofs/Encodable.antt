@@ -9,7 +9,7 @@ use Rattle.frame_texts.specs.Texts.{IsEncodable, FitsCommand}
 use Rattle.frame_texts.specs.Texts.Version.{Two}
 use Rattle.mig_model.specs.Bounds.{IsFrame, AreRightAccesses, ArePageBytes}
 use Rattle.mig_model.specs.Wire.{Frame}
-use Rattle.mig_model.proofs.Facts.{and_left}
+use Rattle.mig_model.proofs.memory.Facts.{and_left}
 
 pub fits_value : (width value : ℕ) → is_width width ≡ true → value < 256 ^ width → value < 2 ^ 64
 fits_value width value h l = grind (arith, nat_tests)

@@ -25,12 +25,12 @@ use Rattle.mig_model.specs.Destination.{Destination, act_frames, destination_act
 use Rattle.mig_model.specs.Migration.{World}
 use Rattle.mig_model.specs.Bounds.{AreFewPages, ArePageBytes, ArePages, AreUrgentFew, IsCpuCount, IsFrame, IsMapping, IsPage, AreListed}
 use Rattle.frame_texts.proofs.PageBytes.{HasBytes, contents_bytes}
-use Rattle.mig_model.proofs.CommandLemmas.{length-contents}
-use Rattle.mig_model.proofs.Facts.{owed_is_present}
-use Rattle.mig_model.proofs.RightCommands.{AllRight, right_commands}
+use Rattle.mig_model.proofs.memory.CommandLemmas.{length-contents}
+use Rattle.mig_model.proofs.memory.Facts.{owed_is_present}
+use Rattle.mig_model.proofs.transcript.RightCommands.{AllRight, right_commands}
 use Rattle.mig_base.proofs.SetSizes.{count_below-few, len-below, only_where}
-use Rattle.mig_model.proofs.Delivery.{pair-origins}
-use Rattle.mig_model.proofs.PageLists.{listed_or_more, less_pages, few_none}
+use Rattle.mig_model.proofs.invariant.Delivery.{pair-origins}
+use Rattle.mig_model.proofs.memory.PageLists.{listed_or_more, less_pages, few_none}
 
 -- Lists of frames
 

@@ -29,27 +29,27 @@ use Rattle.mig_model.specs.Wire.Frame.{Advise, Run, End, Resume, Request, Recv, 
 use Rattle.mig_model.specs.Source.{bytes_of, is_precopy, is_released, is_source_idle, is_source_paused, is_stopped, rebuild_frames, run_of, source_act, source_acted_by, source_rebuilt, space_of, switch_frames}
 use Rattle.mig_model.specs.Destination.{act_frames, destination_act, destination_acted_by, install_by}
 use Rattle.mig_model.specs.Migration.{World, first_world_with, guest_by, guest_of, has_started, next, with_guest_by}
-use Rattle.mig_model.proofs.StepWorlds.{forward_sent, after_break, after_command, after_deliver, after_deliver_back, after_deliver_urgent, after_dest_act, after_end, after_notice, after_push, after_push_urgent, after_resume, after_run, after_send, after_source_read, after_start, after_switch}
+use Rattle.mig_model.proofs.steps.StepWorlds.{forward_sent, after_break, after_command, after_deliver, after_deliver_back, after_deliver_urgent, after_dest_act, after_end, after_notice, after_push, after_push_urgent, after_resume, after_run, after_send, after_source_read, after_start, after_switch}
 use Rattle.mig_model.specs.NodeSteps.{is_used}
 use Rattle.mig_model.specs.SourceSteps.{run_bound}
 use Rattle.mig_model.specs.Invariant.{IsSoundWorld}
-use Rattle.mig_model.proofs.Taken.{IsInPlaceBack}
+use Rattle.mig_model.proofs.delivery.Taken.{IsInPlaceBack}
 use Rattle.mig_model.specs.Bounds.{ArePages, IsCpuCount, IsMapping, IsPage, AreListed}
 use Rattle.frame_texts.proofs.PageBytes.{HasBytes, changed_bytes, zeroed_bytes}
-use Rattle.mig_model.proofs.WokenSteps.{stopped_switched, takes_urgent}
-use Rattle.mig_model.proofs.Facts.{no_event, no_page}
-use Rattle.mig_model.proofs.PageLists.{listed-without}
+use Rattle.mig_model.proofs.steps.WokenSteps.{stopped_switched, takes_urgent}
+use Rattle.mig_model.proofs.memory.Facts.{no_event, no_page}
+use Rattle.mig_model.proofs.memory.PageLists.{listed-without}
 use Rattle.frame_texts.proofs.FrameBounds.{AreBodies, act_good, act_listed, answers_good, bodies-sending, bodies-sending_if, end_good, page_good, present_page, rebuilt_good, run_good, requested_owed, switch_good}
-use Rattle.mig_model.proofs.FramesTaken.{is_taken_back}
-use Rattle.mig_model.proofs.MappingLemmas.{IsMapping-after, IsMapping-empty, host_tried}
-use Rattle.mig_model.proofs.Bounded.{IsReady}
-use Rattle.mig_model.proofs.HandlerCalls.{end_below, first_in, last_in, some_bound}
-use Rattle.mig_model.proofs.SourceMapped.{read_host}
-use Rattle.mig_model.proofs.RightCommands.{AllRight, right_source}
-use Rattle.mig_model.proofs.SourceKept.{source_holds}
-use Rattle.mig_model.proofs.SourceRounds.{precopy_unswitched, precopy_started}
-use Rattle.mig_model.proofs.StepCases.{MakesWorld, made-next}
-use Rattle.mig_model.proofs.UrgentWire.{is_paused}
+use Rattle.mig_model.proofs.delivery.FramesTaken.{is_taken_back}
+use Rattle.mig_model.proofs.memory.MappingLemmas.{IsMapping-after, IsMapping-empty, host_tried}
+use Rattle.mig_model.proofs.invariant.Bounded.{IsReady}
+use Rattle.mig_model.proofs.memory.HandlerCalls.{end_below, first_in, last_in, some_bound}
+use Rattle.mig_model.proofs.invariant.SourceMapped.{read_host}
+use Rattle.mig_model.proofs.transcript.RightCommands.{AllRight, right_source}
+use Rattle.mig_model.proofs.invariant.SourceKept.{source_holds}
+use Rattle.mig_model.proofs.invariant.SourceRounds.{precopy_unswitched, precopy_started}
+use Rattle.mig_model.proofs.steps.StepCases.{MakesWorld, made-next}
+use Rattle.mig_model.proofs.invariant.UrgentWire.{is_paused}
 use Rattle.mig_base.proofs.SetSizes.{only_where}
 
 -- what the frames of a world rest on, and that each of them has a text, where the guest has that many processors

@@ -9,9 +9,9 @@ use Rattle.mig_model.specs.Invariant.{AreOf}
 use Rattle.mig_model.specs.Promises.{IsReached}
 use Rattle.mig_model.specs.Bounds.{IsCpuCount}
 use Rattle.frame_texts.specs.Flight.{AreFrames, HasGoodFrames}
-use Rattle.mig_model.proofs.Bounded.{IsBounded, bounded-first, bounded-next, bounded-reached}
-use Rattle.mig_model.proofs.SourceRounds.{idle_back, idle_forward}
-use Rattle.mig_model.proofs.UrgentWire.{idle_unstopped}
+use Rattle.mig_model.proofs.invariant.Bounded.{IsBounded, bounded-first, bounded-next, bounded-reached}
+use Rattle.mig_model.proofs.invariant.SourceRounds.{idle_back, idle_forward}
+use Rattle.mig_model.proofs.invariant.UrgentWire.{idle_unstopped}
 use Rattle.frame_texts.proofs.FrameBounds.{AreBodies}
 use Rattle.frame_texts.proofs.FrameSteps.{AreLimited, limited-first, limited-next}
 

@@ -19,7 +19,7 @@ use Rattle.frame_texts.specs.Texts.{AreBelow, AreMappedBelow}
 use Rattle.mig_model.specs.Bounds.{IsFrame}
 use Rattle.mig_model.specs.Wire.{Frame}
 use Rattle.mig_model.specs.Wire.Frame.{Discard, Package, Recv}
-use Rattle.mig_model.proofs.Facts.{and_left, missing_none}
+use Rattle.mig_model.proofs.memory.Facts.{and_left, missing_none}
 use Rattle.mig_base.proofs.SetSizes.{count_below-few, len-below}
 
 one_of_two : (b c : Bool) (n : ℕ) → (b ≡ true → c ≡ false) → n + cond b 1 0 + cond c 1 0 ≤ suc n

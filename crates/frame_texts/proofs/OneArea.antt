@@ -14,8 +14,8 @@ use Rattle.mig_base.proofs.SetLemmas.{member_below, member_run}
 use Rattle.mig_model.specs.Ioctls.{same_prot}
 use Rattle.mig_model.specs.Lengths.{begins_area}
 use Rattle.frame_texts.specs.Texts.{list_below, area_at, areas_of}
-use Rattle.mig_model.proofs.Facts.{and_false, and_second, below_or_at, none_absurd}
-use Rattle.mig_model.proofs.IoctlLemmas.{same_prot-self}
+use Rattle.mig_model.proofs.memory.Facts.{and_false, and_second, below_or_at, none_absurd}
+use Rattle.mig_model.proofs.memory.IoctlLemmas.{same_prot-self}
 use Rattle.frame_texts.proofs.RunsAndAreas.{run_length-covers}
 
 pub none_listed : (test : ℕ → Bool) (bound : ℕ) → ((j : ℕ) → j < bound → test j ≡ false) → list_below test bound ≡ []

@@ -18,8 +18,8 @@ use Rattle.mig_base.specs.Ranges.{in_range, pages_of}
 use Rattle.mig_base.proofs.PageLemmas.{get-moved_range, get-remove_range}
 use Rattle.mig_model.specs.Host.{Host, host_changed}
 use Rattle.mig_model.specs.Ioctls.{put_pages}
-use Rattle.mig_model.proofs.HostLemmas.{get-put, some_kept}
-use Rattle.mig_model.proofs.IoctlLemmas.{get-put_pages}
+use Rattle.mig_model.proofs.memory.HostLemmas.{get-put, some_kept}
+use Rattle.mig_model.proofs.memory.IoctlLemmas.{get-put_pages}
 
 abbrev pub AreBytes : List ℕ → Type 0
 AreBytes bytes = All (λ byte. byte < 256) bytes

@@ -19,9 +19,9 @@ use Rattle.mig_base.proofs.SetLemmas.{same_members, member_below, member_run}
 use Rattle.mig_model.specs.Ioctls.{same_prot}
 use Rattle.mig_model.specs.Lengths.{begins_run, begins_area}
 use Rattle.frame_texts.specs.Texts.{list_below, run_at, runs_of, area_at, areas_of, prot_in, AreBelow, AreMappedBelow}
-use Rattle.mig_model.proofs.Facts.{none_absurd, either, and_second, below_or_at, or_assoc, and_false}
-use Rattle.mig_model.proofs.SourceSending.{present_bytes}
-use Rattle.mig_model.proofs.IoctlLemmas.{same_prot-self}
+use Rattle.mig_model.proofs.memory.Facts.{none_absurd, either, and_second, below_or_at, or_assoc, and_false}
+use Rattle.mig_model.proofs.invariant.SourceSending.{present_bytes}
+use Rattle.mig_model.proofs.memory.IoctlLemmas.{same_prot-self}
 
 -- Runs
 

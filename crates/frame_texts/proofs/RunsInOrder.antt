@@ -15,7 +15,7 @@ use Rattle.mig_base.proofs.RunLemmas.{end_from, end_push, runs_push}
 use Rattle.mig_base.proofs.SetLemmas.{member_run}
 use Rattle.mig_model.specs.Lengths.{begins_run}
 use Rattle.frame_texts.specs.Texts.{AreBelow, list_below, run_at, runs_of}
-use Rattle.mig_model.proofs.Facts.{and_left, and_second}
+use Rattle.mig_model.proofs.memory.Facts.{and_left, and_second}
 use Rattle.frame_texts.proofs.RunsAndAreas.{run_length-covers, member-runs_of}
 
 -- The runs of a set

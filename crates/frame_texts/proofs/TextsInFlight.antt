@@ -15,9 +15,9 @@ use Rattle.mig_model.specs.Migration.{World}
 use Rattle.mig_model.specs.Whereabouts.{AreFaithful, copies_of, is_request, are_requests}
 use Rattle.mig_model.specs.Invariant.{AreWhole, IsSoundWorld, is_done, are_requests_and_done}
 use Rattle.mig_model.specs.Promises.{IsReached}
-use Rattle.mig_model.proofs.Delivery.{whole_parts}
-use Rattle.mig_model.proofs.EveryStep.{kept-reached, urgent-reached}
-use Rattle.mig_model.proofs.Facts.{none_absurd}
+use Rattle.mig_model.proofs.invariant.Delivery.{whole_parts}
+use Rattle.mig_model.proofs.steps.EveryStep.{kept-reached, urgent-reached}
+use Rattle.mig_model.proofs.memory.Facts.{none_absurd}
 use Rattle.frame_texts.proofs.TextLemmas.{length-text}
 
 -- Whole copies

@@ -10,7 +10,7 @@ use Rattle.mig_model.specs.Cpus.{idle_answer, woken_answer}
 use Rattle.mig_model.specs.Guest.{Guest, tried}
 use Rattle.mig_model.specs.GuestSteps.{issue, retry, tried_with, try_command}
 use Rattle.mig_model.specs.NodeSteps.{and_then, in_phase}
-use Rattle.mig_model.proofs.StepLemmas.{goes_on, in-phase}
+use Rattle.mig_model.proofs.steps.StepLemmas.{goes_on, in-phase}
 
 -- a processor that was woken tries its command again, at a node that runs it
 pub again : (guest : Guest) (runs : Bool) (cpu : ℕ) (command : Command) → Ok command ≡ woken_answer guest.cpus cpu → runs ≡ true → retry guest runs cpu ≡ try_command guest cpu command

@@ -23,20 +23,20 @@ use Rattle.mig_model.specs.Invariant.{IsSoundWorld}
 use Rattle.mig_model.specs.Ioctls.{event_features, handshaken, registered}
 use Rattle.mig_model.specs.Migration.{World, guest_by, next, outcome}
 use Rattle.mig_model.specs.Effects.{act_effect, frame_effect, install_effect, page_effect}
-use Rattle.mig_model.proofs.StepWorlds.{after_send}
+use Rattle.mig_model.proofs.steps.StepWorlds.{after_send}
 use Rattle.mig_model.specs.Owed.{home}
 use Rattle.mig_model.specs.Source.{bytes_of, is_precopy, source_act, source_act_by, space_of}
 use Rattle.mig_model.specs.Space.{fresh_space}
 use Rattle.mig_model.specs.Whereabouts.{is_unread}
 use Rattle.mig_model.specs.Wire.{Copy, Frame, is_zeros}
-use Rattle.mig_model.proofs.Bounded.{IsBounded, bounded-next, has_memory}
-use Rattle.mig_model.proofs.Facts.{no_event}
-use Rattle.mig_model.proofs.FaultPages.{HasFaultsInside}
-use Rattle.mig_model.proofs.HandlerCalls.{copy_installed, destination_forgets, destination_wakes, destination_zeroes, page_protected, round_registers, run_protected, run_registers, source_forgets, source_unprotects, source_wakes, source_zeroes, start_registers, zero_protected}
-use Rattle.mig_model.proofs.Registering.{pages_again}
-use Rattle.mig_model.proofs.RightCommands.{AllRight, right_source}
-use Rattle.mig_model.proofs.SourceRounds.{precopy_unswitched}
-use Rattle.mig_model.proofs.StepCases.{made-effect, made-next}
+use Rattle.mig_model.proofs.invariant.Bounded.{IsBounded, bounded-next, has_memory}
+use Rattle.mig_model.proofs.memory.Facts.{no_event}
+use Rattle.mig_model.proofs.invariant.FaultPages.{HasFaultsInside}
+use Rattle.mig_model.proofs.memory.HandlerCalls.{copy_installed, destination_forgets, destination_wakes, destination_zeroes, page_protected, round_registers, run_protected, run_registers, source_forgets, source_unprotects, source_wakes, source_zeroes, start_registers, zero_protected}
+use Rattle.mig_model.proofs.memory.Registering.{pages_again}
+use Rattle.mig_model.proofs.transcript.RightCommands.{AllRight, right_source}
+use Rattle.mig_model.proofs.invariant.SourceRounds.{precopy_unswitched}
+use Rattle.mig_model.proofs.steps.StepCases.{made-effect, made-next}
 use Rattle.mig_base.proofs.SetSizes.{only_where}
 use Rattle.host_calls.specs.declared.call.Call.{Call}
 use Rattle.host_calls.specs.Calls.{areas_at, calls_of, guest_at, installed_calls, is_of_host, node_of, pages_from, pushed_calls, read_calls, registers, resolved_calls, run_calls, sent_calls, taken_calls}

@@ -14,9 +14,9 @@ use Rattle.mig_model.specs.Ioctls.{is_bad_range, read_error, read_space, wake_an
 use Rattle.mig_model.specs.Effects.{event_effect, read_effect}
 use Rattle.mig_model.specs.Space.{Space}
 use Rattle.mig_base.specs.Userfault.{Noted, Object, message_read, next_message}
-use Rattle.mig_model.proofs.Registering.{left_new}
-use Rattle.mig_model.proofs.RightCommands.{AllRight}
-use Rattle.mig_model.proofs.WaitingCommands.{less_same, set_same}
+use Rattle.mig_model.proofs.memory.Registering.{left_new}
+use Rattle.mig_model.proofs.transcript.RightCommands.{AllRight}
+use Rattle.mig_model.proofs.transcript.WaitingCommands.{less_same, set_same}
 use Rattle.host_calls.specs.declared.call.Call.{Call}
 use Rattle.host_calls.specs.Calls.{range_woken, read_calls, woken_calls}
 use Rattle.host_calls.specs.Made.{AreMade}

@@ -14,8 +14,8 @@ use Rattle.mig_model.specs.Migration.{World, outcome}
 use Rattle.mig_model.specs.Promises.{IsReached}
 use Rattle.mig_model.specs.Runs.{Happens}
 use Rattle.mig_model.specs.Space.{Space}
-use Rattle.mig_model.proofs.Bounded.{IsBounded, bounded-reached}
-use Rattle.mig_model.proofs.HandlerCalls.{run_protected}
+use Rattle.mig_model.proofs.invariant.Bounded.{IsBounded, bounded-reached}
+use Rattle.mig_model.proofs.memory.HandlerCalls.{run_protected}
 use Rattle.grammar.specs.Printed.{outcome_line}
 use Rattle.host_calls.specs.declared.call.Call.{Call}
 use Rattle.host_calls.specs.Calls.{IsWithin, areas_at, calls_of, node_of}

@@ -8,8 +8,8 @@ use Rattle.mig_base.specs.Ranges.{in_range}
 use Rattle.mig_model.specs.Bounds.{IsPage}
 use Rattle.mig_model.specs.Cpus.{all_woken, outstanding, woken_if}
 use Rattle.mig_model.specs.Guest.{in_bytes}
-use Rattle.mig_model.proofs.RightCommands.{AllRight, IsInside}
-use Rattle.mig_model.proofs.FaultPages.{access_page}
+use Rattle.mig_model.proofs.transcript.RightCommands.{AllRight, IsInside}
+use Rattle.mig_model.proofs.invariant.FaultPages.{access_page}
 
 -- Ranges
 

@@ -23,9 +23,9 @@ use Rattle.mig_model.specs.Host.{Host, memory, host_after, IsSound}
 use Rattle.mig_base.specs.Userfault.{fresh_object, is_registered, is_watched}
 use Rattle.mig_model.specs.Space.{Space, access_of, accessed_by, accessed, is_made, message_if, call_messages, modes_after, protected_after, all_queued, called_with, called, queued_by}
 use Rattle.mig_base.specs.Commands.{is_store, page_of, is_access}
-use Rattle.mig_model.proofs.CommandLemmas.{memory-changed}
-use Rattle.mig_model.proofs.SpaceLemmas.{IsSoundSpace-accessed, IsSoundSpace-called, no_member}
-use Rattle.mig_model.proofs.SourceCalls.{untold}
+use Rattle.mig_model.proofs.memory.CommandLemmas.{memory-changed}
+use Rattle.mig_model.proofs.memory.SpaceLemmas.{IsSoundSpace-accessed, IsSoundSpace-called, no_member}
+use Rattle.mig_model.proofs.owed.SourceCalls.{untold}
 use Rattle.uffd_ioctl.specs.Spaces as spaces
 use Rattle.hosts.specs.Spaces.{IsUnwatched, needs_room}
 

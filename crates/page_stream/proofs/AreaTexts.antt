@@ -18,7 +18,7 @@ use Rattle.mig_base.proofs.RangeLemmas.{count_below-few}
 use Rattle.mig_base.proofs.SetLemmas.{member_below}
 use Rattle.mig_base.proofs.TestLemmas.{and_false}
 use Rattle.mig_model.specs.Ioctls.{same_prot}
-use Rattle.mig_model.proofs.IoctlLemmas.{same_prot-self}
+use Rattle.mig_model.proofs.memory.IoctlLemmas.{same_prot-self}
 use Rattle.mig_model.specs.Lengths.{area_count, begins_area}
 use Rattle.frame_texts.specs.Texts.{area_at, areas_of, list_below}
 use Rattle.frame_texts.proofs.OneArea.{none_listed}

@@ -15,7 +15,7 @@ use Rattle.mig_base.specs.Ranges.{count_below}
 use Rattle.mig_base.proofs.RangeLemmas.{count_below-constant, count_below-same}
 use Rattle.mig_base.proofs.TestLemmas.{eqb-above, eqb-self}
 use Rattle.mig_model.specs.Ioctls.{same_prot}
-use Rattle.mig_model.proofs.IoctlLemmas.{same_prot-self}
+use Rattle.mig_model.proofs.memory.IoctlLemmas.{same_prot-self}
 use Rattle.mig_model.specs.Lengths.{begins_area, area_count}
 
 -- Areas

@@ -25,15 +25,15 @@ use Rattle.mig_model.specs.Log.{Log, dirty, present}
 use Rattle.mig_model.specs.Source.{Source, commands_of, source_act, source_act_by, source_acted, source_acted_by, space_of}
 use Rattle.mig_model.specs.Space.{IsSoundSpace, Space}
 use Rattle.mig_model.specs.Wire.Frame.{Package}
-use Rattle.mig_model.proofs.DestinationAct.{byte_of, get-put_one, memory-reads}
-use Rattle.mig_model.proofs.EntryLemmas.{entry_of, holds_after}
-use Rattle.mig_model.proofs.Facts.{some_command}
-use Rattle.mig_model.proofs.HostLemmas.{memory-empty}
-use Rattle.mig_model.proofs.MappingLemmas.{IsMapping-flat, host_tried}
-use Rattle.mig_model.proofs.RightCommands.{AllRight, IsInside, right_commands, right_slept}
-use Rattle.mig_model.proofs.SourceMapped.{read_host}
-use Rattle.mig_model.proofs.Stopping.{member_less}
-use Rattle.mig_model.proofs.WaitingCommands.{less_same}
+use Rattle.mig_model.proofs.invariant.DestinationAct.{byte_of, get-put_one, memory-reads}
+use Rattle.mig_model.proofs.memory.EntryLemmas.{entry_of, holds_after}
+use Rattle.mig_model.proofs.memory.Facts.{some_command}
+use Rattle.mig_model.proofs.memory.HostLemmas.{memory-empty}
+use Rattle.mig_model.proofs.memory.MappingLemmas.{IsMapping-flat, host_tried}
+use Rattle.mig_model.proofs.transcript.RightCommands.{AllRight, IsInside, right_commands, right_slept}
+use Rattle.mig_model.proofs.invariant.SourceMapped.{read_host}
+use Rattle.mig_model.proofs.invariant.Stopping.{member_less}
+use Rattle.mig_model.proofs.transcript.WaitingCommands.{less_same}
 use Rattle.frame_texts.proofs.FrameBounds.{member_present, present_pages}
 use Rattle.precopy.specs.Order.{HasRightGuest}
 

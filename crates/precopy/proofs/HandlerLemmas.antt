@@ -15,7 +15,7 @@ use Rattle.mig_model.specs.Effects.{act_effect, read_effect}
 use Rattle.mig_model.specs.GuestSteps.{when_quiet}
 use Rattle.mig_model.specs.NodeSteps.{acted, first_of}
 use Rattle.mig_model.specs.SourceSteps.{act}
-use Rattle.mig_model.proofs.StepLemmas.{goes_on, in-phase, is-quiet}
+use Rattle.mig_model.proofs.steps.StepLemmas.{goes_on, in-phase, is-quiet}
 use Rattle.mig_model.specs.Source.{Source, is_handling, source_act, source_acted, source_acted_by, space_of}
 use Rattle.dirty_log.specs.Answers.{act_refusal, read_answer}
 use Rattle.dirty_log.specs.Spaces.{source_of}

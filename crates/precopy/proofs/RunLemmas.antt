@@ -15,7 +15,7 @@ use Rattle.mig_model.specs.NodeSteps.{IsRefusedFor as IsStepRefused, checked}
 use Rattle.mig_model.specs.Source.{Source, run_of, space_of}
 use Rattle.mig_model.specs.Space.{Space}
 use Rattle.mig_model.specs.Wire.{Frame}
-use Rattle.mig_model.proofs.HandlerCalls.{some_bound}
+use Rattle.mig_model.proofs.memory.HandlerCalls.{some_bound}
 use Rattle.dirty_log.specs.Answers.{IsRefusedFor, send_refusal}
 use Rattle.dirty_log.specs.Spaces.{is_sendable}
 use Rattle.precopy.specs.Order.{AreSendable}

@@ -3,7 +3,7 @@ use Rattle.std.proofs.Common.{◌≡◌, Bool, true, false, List, [], ◌∷◌,
 use Rattle.std.specs.Prelude.{Result, Ok, Err, IsOk}
 use Rattle.mig_base.specs.declared.refusal.Refusal.{Refusal}
 use Rattle.mig_model.specs.NodeSteps.{IsRefusedFor, and_then, checked, unless}
-use Rattle.mig_model.proofs.StepLemmas.{NoneApplies, not_refused}
+use Rattle.mig_model.proofs.steps.StepLemmas.{NoneApplies, not_refused}
 
 -- no reason to refuse a step applies where its check passes
 pub passed : {A : Type 0} (reasons : List (Bool × Refusal)) (step : Result A Refusal) → Ok tt ≡ checked (unless reasons step) → NoneApplies reasons

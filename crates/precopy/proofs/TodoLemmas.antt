@@ -18,13 +18,13 @@ use Rattle.mig_model.specs.Whereabouts.{is_unread}
 use Rattle.mig_model.specs.Ioctls.{protected_in}
 use Rattle.mig_model.specs.Log.{Log, log_read, log_run_sent, no_pages}
 use Rattle.mig_model.specs.Source.{Source, all_registered, source_acted_by, space_of}
-use Rattle.mig_model.proofs.IoctlLemmas.{get-put_pages}
-use Rattle.mig_model.proofs.Facts.{modes_events, queued_protect}
-use Rattle.mig_model.proofs.SourceCalls.{untouched}
-use Rattle.mig_model.proofs.SourceCommands.{present_after}
-use Rattle.mig_model.proofs.SourceKept.{no_page_absurd}
-use Rattle.mig_model.proofs.SourceMessages.{events_queued, is_unread-append, noted_all, tells}
-use Rattle.mig_model.proofs.SourceRounds.{mapped_registered, present_mapped}
+use Rattle.mig_model.proofs.memory.IoctlLemmas.{get-put_pages}
+use Rattle.mig_model.proofs.memory.Facts.{modes_events, queued_protect}
+use Rattle.mig_model.proofs.owed.SourceCalls.{untouched}
+use Rattle.mig_model.proofs.invariant.SourceCommands.{present_after}
+use Rattle.mig_model.proofs.invariant.SourceKept.{no_page_absurd}
+use Rattle.mig_model.proofs.owed.SourceMessages.{events_queued, is_unread-append, noted_all, tells}
+use Rattle.mig_model.proofs.invariant.SourceRounds.{mapped_registered, present_mapped}
 use Rattle.dirty_log.specs.Spaces.{is_sendable}
 use Rattle.uffd_ioctl.proofs.LentLemmas.{read_space}
 use Rattle.dirty_log.proofs.KeptLemmas.{queued_by, was_unread}

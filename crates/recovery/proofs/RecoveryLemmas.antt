@@ -13,10 +13,10 @@ use Rattle.mig_model.specs.Destination.{Destination, received_of, recv_by}
 use Rattle.mig_model.specs.Guest.{is_present}
 use Rattle.mig_model.specs.Log.{less, present, no_pages}
 use Rattle.mig_model.specs.Space.{IsSoundSpace, Space}
-use Rattle.mig_model.proofs.FrameFaults.{none_empty, present_below}
+use Rattle.mig_model.proofs.delivery.FrameFaults.{none_empty, present_below}
 use Rattle.mig_base.proofs.SetSizes.{len-some}
-use Rattle.mig_model.proofs.Stopping.{member_less}
-use Rattle.mig_model.proofs.Facts.{no_page}
+use Rattle.mig_model.proofs.invariant.Stopping.{member_less}
+use Rattle.mig_model.proofs.memory.Facts.{no_page}
 use Rattle.mig_model.specs.Bounds.{AreFewPages, AreListed}
 use Rattle.mig_model.specs.Wire as wire
 use Rattle.page_stream.specs.declared.frame.Frame.{Frame}

@@ -17,8 +17,8 @@ use Rattle.mig_model.specs.Effects.{try_effect}
 use Rattle.mig_model.specs.Views.{cpu_state}
 use Rattle.mig_model.specs.Runs.{Happens, Outcome}
 use Rattle.mig_base.specs.declared.refusal.Refusal.{Refusal}
-use Rattle.mig_model.proofs.StepLemmas.{next-refused}
-use Rattle.mig_model.proofs.StepCases.{made-effect}
+use Rattle.mig_model.proofs.steps.StepLemmas.{next-refused}
+use Rattle.mig_model.proofs.steps.StepCases.{made-effect}
 use Rattle.mig_model.specs.Promises.{IsReached}
 use Rattle.rig.specs.declared.section.Tried.{Tried}
 use Rattle.rig.specs.Sections.{IsEntered, IsOutcome, IsReplyTo, IsToldOf, IsTry, entries_by}

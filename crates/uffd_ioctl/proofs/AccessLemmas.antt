@@ -17,9 +17,9 @@ use Rattle.mig_model.specs.Host.{Host, memory, host_changed, IsSound}
 use Rattle.mig_base.specs.Commands.{is_access, page_of}
 use Rattle.mig_base.specs.Userfault.{Object}
 use Rattle.mig_model.specs.Space.{Space, IsSoundSpace, is_made, called}
-use Rattle.mig_model.proofs.CommandLemmas.{memory-changed}
-use Rattle.mig_model.proofs.HostLemmas.{is_mapped-memory, get-put}
-use Rattle.mig_model.proofs.Facts.{some_either}
+use Rattle.mig_model.proofs.memory.CommandLemmas.{memory-changed}
+use Rattle.mig_model.proofs.memory.HostLemmas.{is_mapped-memory, get-put}
+use Rattle.mig_model.proofs.memory.Facts.{some_either}
 use Rattle.page_table.specs.Views.{Pages}
 use Rattle.uffd_ioctl.specs.Spaces.{space_of}
 use Rattle.uffd_ioctl.proofs.AnswerLemmas.{sound_put, put_is, sound_write, write_is}

@@ -18,10 +18,10 @@ use Rattle.mig_base.proofs.PageLemmas.{same_pages}
 use Rattle.mig_base.proofs.ByteLemmas.{length-overwrite}
 use Rattle.mig_base.proofs.TestLemmas.{eqb-self, eqb-above}
 use Rattle.mig_model.specs.Host.{Host, byte_in, memory, host_changed, IsSound}
-use Rattle.mig_model.proofs.NumberLemmas.{aligned_inside, number_at-bytes, number_at-zeros}
-use Rattle.mig_model.proofs.HostLemmas.{memory-none, memory-some, IsSound-put, get-put}
-use Rattle.mig_model.proofs.CommandLemmas.{length-contents}
-use Rattle.mig_model.proofs.Stopping.{present_bytes}
+use Rattle.mig_model.proofs.memory.NumberLemmas.{aligned_inside, number_at-bytes, number_at-zeros}
+use Rattle.mig_model.proofs.memory.HostLemmas.{memory-none, memory-some, IsSound-put, get-put}
+use Rattle.mig_model.proofs.memory.CommandLemmas.{length-contents}
+use Rattle.mig_model.proofs.invariant.Stopping.{present_bytes}
 
 -- Accesses
 

@@ -27,8 +27,8 @@ use Rattle.mig_base.specs.Commands.{is_access}
 use Rattle.mig_base.proofs.TestLemmas.{at_or_below, positive, none_is_some}
 use Rattle.mig_base.specs.Userfault.{Object, mode_at, is_registered, unregistered, moved_modes, is_watched}
 use Rattle.mig_model.specs.Space.{Space, IsSoundSpace, message_if, remap_messages, call_messages, modes_after, protected_after, all_queued, called, queued_by}
-use Rattle.mig_model.proofs.CommandLemmas.{remapped_place}
-use Rattle.mig_model.proofs.SpaceLemmas.{IsSoundSpace-called}
+use Rattle.mig_model.proofs.memory.CommandLemmas.{remapped_place}
+use Rattle.mig_model.proofs.memory.SpaceLemmas.{IsSoundSpace-called}
 use Rattle.page_table.specs.Views.{Pages}
 use Rattle.uffd_ioctl.specs.Spaces.{space_of}
 use Rattle.uffd_ioctl.proofs.AnswerLemmas.{munmap_done}

@@ -16,8 +16,8 @@ use Rattle.mig_base.proofs.ReplyLemmas.{IsRemapped, mmap_inside, mremap_told}
 use Rattle.mig_base.proofs.ReplyLemmas.IsWhere.{Shrunk, Grew, Moved, Told}
 use Rattle.mig_base.proofs.BoundLemmas.{apart_of}
 use Rattle.mig_model.specs.Host.{Host, memory, IsSound}
-use Rattle.mig_model.proofs.HostLemmas.{is_mapped-memory}
-use Rattle.mig_model.proofs.CommandLemmas.{remapped_place}
+use Rattle.mig_model.proofs.memory.HostLemmas.{is_mapped-memory}
+use Rattle.mig_model.proofs.memory.CommandLemmas.{remapped_place}
 use Rattle.uffd_ioctl.specs.Remaps.{IsRemap, HasProt}
 use Rattle.uffd_ioctl.proofs.MapCallLemmas.{one_prot_pages, mapped_range}
 

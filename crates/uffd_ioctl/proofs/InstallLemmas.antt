@@ -23,9 +23,9 @@ use Rattle.mig_model.specs.Space.{Space, IsSoundSpace}
 use Rattle.mig_model.specs.Ioctls.{put_pages, handed, installed, is_bad_range, is_one_area, same_area, same_prot, missing_run, copied, copy_errors, copy_error, zeropage_errors, zeropage_error, stop_error, wakes, put_answer, put_by, left_by}
 use Rattle.mig_base.specs.Tests.{same_bool, is_every}
 use Rattle.mig_base.proofs.TestLemmas.{eqb-self}
-use Rattle.mig_model.proofs.IoctlLemmas.{CanPut, IsSoundSpace-installed, IsSoundSpace-copied, get-put_pages, every_page, none_holds, protect_told, can_put, length-handed}
-use Rattle.mig_model.proofs.PageCalls.{IsCalled, copy_accepted, copy_made}
-use Rattle.mig_model.proofs.Registering.{pages_again}
+use Rattle.mig_model.proofs.memory.IoctlLemmas.{CanPut, IsSoundSpace-installed, IsSoundSpace-copied, get-put_pages, every_page, none_holds, protect_told, can_put, length-handed}
+use Rattle.mig_model.proofs.memory.PageCalls.{IsCalled, copy_accepted, copy_made}
+use Rattle.mig_model.proofs.memory.Registering.{pages_again}
 use Rattle.page_table.specs.Views.{Pages}
 use Rattle.page_table.specs.declared.page_table.PutFault.{PutFault}
 use Rattle.page_table.specs.declared.page_table.PutFault.TheVariants as stop

@@ -22,9 +22,9 @@ use Rattle.mig_base.specs.declared.command.Errno.{Errno}
 use Rattle.mig_model.specs.Ioctls as ioctls
 use Rattle.mig_model.specs.Ioctls.{has_events, left_by}
 use Rattle.mig_model.specs.Source.{Source, source_acted_by, space_of}
-use Rattle.mig_model.proofs.CommandLemmas.{memory-changed}
-use Rattle.mig_model.proofs.Facts.{none_absurd}
-use Rattle.mig_model.proofs.HostLemmas.{memory-none, memory-some}
+use Rattle.mig_model.proofs.memory.CommandLemmas.{memory-changed}
+use Rattle.mig_model.proofs.memory.Facts.{none_absurd}
+use Rattle.mig_model.proofs.memory.HostLemmas.{memory-none, memory-some}
 use Rattle.uffd_ioctl.specs.Lent.{IsLent}
 use Rattle.mig_base.proofs.TestLemmas.{missing_none}
 

@@ -11,9 +11,9 @@ use Rattle.mig_model.specs.Space.{Space, IsSoundSpace}
 use Rattle.mig_base.specs.Userfault.{is_registered}
 use Rattle.mig_model.specs.Guest.{is_forgotten}
 use Rattle.mig_model.specs.Ioctls.{is_bad_range}
-use Rattle.mig_model.proofs.Facts.{none_absurd}
+use Rattle.mig_model.proofs.memory.Facts.{none_absurd}
 use Rattle.uffd_ioctl.specs.Lent.{IsLent}
-use Rattle.mig_model.proofs.SourceRounds.{present_mapped}
+use Rattle.mig_model.proofs.invariant.SourceRounds.{present_mapped}
 
 -- Pages of a space
 

@@ -20,10 +20,10 @@ use Rattle.mig_base.proofs.ReplyLemmas.{IsTarget}
 use Rattle.mig_base.proofs.TestLemmas.{some_is_none, or_first, or_second, eqb-above, is_some-cond}
 use Rattle.area_map.specs.Ranges.{HasOneProt}
 use Rattle.mig_model.specs.Host.{Host, memory, IsSound}
-use Rattle.mig_model.proofs.HostLemmas.{cell_at, memory-at, memory-some, is_mapped-memory, mapped_count-memory}
-use Rattle.mig_model.proofs.CommandLemmas.{past_none}
-use Rattle.mig_model.proofs.Facts.{low_or}
-use Rattle.mig_model.proofs.ReplyOfLemmas.{is_some-written}
+use Rattle.mig_model.proofs.memory.HostLemmas.{cell_at, memory-at, memory-some, is_mapped-memory, mapped_count-memory}
+use Rattle.mig_model.proofs.memory.CommandLemmas.{past_none}
+use Rattle.mig_model.proofs.memory.Facts.{low_or}
+use Rattle.mig_model.proofs.memory.ReplyOfLemmas.{is_some-written}
 
 -- how many of the pages are mapped
 abbrev pub mapped_in : FinMap nat_cmp Prot → ℕ → ℕ → ℕ

@@ -14,9 +14,9 @@ use Rattle.mig_base.proofs.SetLemmas.{same_members, member_without, member_with_
 use Rattle.mig_base.proofs.TestLemmas.{and_true, or_first, or_second}
 use Rattle.mig_base.specs.Userfault.{Noted, Object, Mode, mode_at, unregistered, moved_modes, event_queued, is_registered, is_watched, changing}
 use Rattle.mig_model.specs.Space.{message_if, remap_messages, all_queued}
-use Rattle.mig_model.proofs.Registering.{pages_again}
-use Rattle.mig_model.proofs.Facts.{queued_missing, queued_protect}
-use Rattle.mig_model.proofs.SourceMessages.{noted_all, events_queued}
+use Rattle.mig_model.proofs.memory.Registering.{pages_again}
+use Rattle.mig_model.proofs.memory.Facts.{queued_missing, queued_protect}
+use Rattle.mig_model.proofs.owed.SourceMessages.{noted_all, events_queued}
 use Rattle.userfault.specs.Modes.{opened, limited, no_mode}
 use Rattle.userfault.proofs.ModeLemmas.{is_pages_where}
 use Rattle.uffd_ioctl.specs.declared.remap.Remap.{Remap}

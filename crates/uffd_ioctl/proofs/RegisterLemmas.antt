@@ -24,7 +24,7 @@ use Rattle.mig_model.specs.Host.{IsSound}
 use Rattle.mig_base.specs.Userfault.{Object, Mode, fresh_object, enabled_with, is_registered, has_modes, registered_where, unregistered}
 use Rattle.mig_model.specs.Space.{Space, IsSoundSpace}
 use Rattle.mig_model.specs.Ioctls.{event_features, mode_of, left_by, is_mapped_in, registered_in, unregistered_in, protected_in}
-use Rattle.mig_model.proofs.Registering.{past_none}
+use Rattle.mig_model.proofs.memory.Registering.{past_none}
 use Rattle.uffd_ioctl.specs.Remaps.{AreLow}
 use Rattle.uffd_ioctl.specs.Spaces.{space_of, assembled_object}
 use Rattle.uffd_ioctl.proofs.CallLemmas.{protected_below}

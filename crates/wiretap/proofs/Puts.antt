@@ -8,8 +8,8 @@ use Rattle.mig_model.specs.Migration.{World, next}
 use Rattle.mig_model.specs.Parts.{Grows, Shrinks, ChangesParts}
 use Rattle.mig_model.specs.Runs.{Happens, Outcome}
 use Rattle.mig_model.specs.Wire.{Sent, Wire, empty_wire}
-use Rattle.mig_model.proofs.PartsChanged.{changes_parts}
-use Rattle.mig_model.proofs.StepCases.{made-next}
+use Rattle.mig_model.proofs.steps.PartsChanged.{changes_parts}
+use Rattle.mig_model.proofs.steps.StepCases.{made-next}
 use Rattle.frame_decoder.proofs.Whole.{texts_join}
 use Rattle.frame_decoder.specs.Streams.{texts}
 use Rattle.frame_decoder.specs.declared.version.Version.TheVariants.{Two}

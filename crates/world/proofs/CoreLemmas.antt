@@ -24,18 +24,18 @@ use Rattle.mig_model.specs.Replies.{HandsOver, call_reply}
 use Rattle.mig_model.specs.Source.{space_of}
 use Rattle.mig_model.specs.Runs.{Happens, Outcome, may_lack}
 use Rattle.mig_model.specs.Views.{phase_of}
-use Rattle.mig_model.proofs.CallReplies.{reply_handed_over, reply_kept}
-use Rattle.mig_model.proofs.DestinationAct.{install_put_next}
-use Rattle.mig_model.proofs.EveryStep.{kept-reached}
-use Rattle.mig_model.proofs.Facts.{by_test}
-use Rattle.mig_model.proofs.PromiseLemmas.{is_alone}
-use Rattle.mig_model.proofs.StaysComplete.{complete-next}
-use Rattle.mig_model.proofs.StepCases.{Makes, holds-made, made-effect, made-ok}
-use Rattle.mig_model.proofs.StepLemmas.{Holds, holds-effect, holds-map, next-refused}
-use Rattle.mig_model.proofs.StepPromises.{destination_zeroed, source_zeroed}
-use Rattle.mig_model.proofs.StepWorlds.{after_command}
-use Rattle.mig_model.proofs.ViewPromises.{phase_complete}
-use Rattle.mig_model.proofs.WaitingCommands.{idle_at, is_try, same_waits, set_there, tried_guest, tried_other}
+use Rattle.mig_model.proofs.transcript.CallReplies.{reply_handed_over, reply_kept}
+use Rattle.mig_model.proofs.invariant.DestinationAct.{install_put_next}
+use Rattle.mig_model.proofs.steps.EveryStep.{kept-reached}
+use Rattle.mig_model.proofs.memory.Facts.{by_test}
+use Rattle.mig_model.proofs.transcript.PromiseLemmas.{is_alone}
+use Rattle.mig_model.proofs.completion.StaysComplete.{complete-next}
+use Rattle.mig_model.proofs.steps.StepCases.{Makes, holds-made, made-effect, made-ok}
+use Rattle.mig_model.proofs.steps.StepLemmas.{Holds, holds-effect, holds-map, next-refused}
+use Rattle.mig_model.proofs.steps.StepPromises.{destination_zeroed, source_zeroed}
+use Rattle.mig_model.proofs.steps.StepWorlds.{after_command}
+use Rattle.mig_model.proofs.completion.ViewPromises.{phase_complete}
+use Rattle.mig_model.proofs.transcript.WaitingCommands.{idle_at, is_try, same_waits, set_there, tried_guest, tried_other}
 use Rattle.world.specs.Core.{Core, CoreFirst, CoreStep, IsEntered, IsTry, processor_of, took_effect, waiting, waiting_after, with_entry}
 use Rattle.world.specs.Worlds.{IsWorld}
 use Rattle.world.proofs.ReachedLemmas.{world_happens}

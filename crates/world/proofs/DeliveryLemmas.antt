@@ -22,12 +22,12 @@ use Rattle.mig_model.specs.Source.{Source, source_answers, space_of}
 use Rattle.mig_model.specs.SourceSteps as source
 use Rattle.mig_model.specs.Wire.{Frame, Sent, Wire, wire_behind, wire_if, wire_with}
 use Rattle.mig_model.specs.Wire.Frame.{Recv}
-use Rattle.mig_model.proofs.EveryStep.{kept-reached, urgent-reached}
-use Rattle.mig_model.proofs.FrameFaults.{no_back_fault, no_frame_fault, no_rebuild_fault, no_urgent_fault, present_below}
-use Rattle.mig_model.proofs.FramesTaken.{back_epoch, is_taken, is_taken_back}
-use Rattle.mig_model.proofs.StepLemmas.{delivers, delivers_back, delivers_urgent}
-use Rattle.mig_model.proofs.UrgentKept.{is_taken_urgent}
-use Rattle.mig_model.proofs.WaitingAccesses.{as_many}
+use Rattle.mig_model.proofs.steps.EveryStep.{kept-reached, urgent-reached}
+use Rattle.mig_model.proofs.delivery.FrameFaults.{no_back_fault, no_frame_fault, no_rebuild_fault, no_urgent_fault, present_below}
+use Rattle.mig_model.proofs.delivery.FramesTaken.{back_epoch, is_taken, is_taken_back}
+use Rattle.mig_model.proofs.steps.StepLemmas.{delivers, delivers_back, delivers_urgent}
+use Rattle.mig_model.proofs.invariant.UrgentKept.{is_taken_urgent}
+use Rattle.mig_model.proofs.transcript.WaitingAccesses.{as_many}
 use Rattle.page_stream.specs.Frames.{frame_of}
 use Rattle.wires.specs.Lanes.{Arrives, IsMoved, IsWhole, sent_of}
 use Rattle.wires.specs.declared.sent.Sent.{Sent as CodeSent}

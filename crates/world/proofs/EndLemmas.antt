@@ -23,11 +23,11 @@ use Rattle.mig_model.specs.Source.{Source, is_stopped}
 use Rattle.mig_model.specs.SourceSteps as source
 use Rattle.mig_model.specs.Wire.{Copy, Frame, Sent, wire_behind}
 use Rattle.mig_model.specs.Wire.Frame.{End}
-use Rattle.mig_model.proofs.EveryStep.{kept-reached, urgent-reached}
-use Rattle.mig_model.proofs.Facts.{by_test}
-use Rattle.mig_model.proofs.FirstFrame.{comes}
-use Rattle.mig_model.proofs.StepLemmas.{delivers}
-use Rattle.mig_model.proofs.UrgentWire.{placed}
+use Rattle.mig_model.proofs.steps.EveryStep.{kept-reached, urgent-reached}
+use Rattle.mig_model.proofs.memory.Facts.{by_test}
+use Rattle.mig_model.proofs.invariant.FirstFrame.{comes}
+use Rattle.mig_model.proofs.steps.StepLemmas.{delivers}
+use Rattle.mig_model.proofs.invariant.UrgentWire.{placed}
 use Rattle.world.proofs.DeliveryLemmas.{CanArrive}
 use Rattle.world.specs.Answers.{has_sent_end}
 

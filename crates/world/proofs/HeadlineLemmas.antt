@@ -3,13 +3,13 @@ use Rattle.std.proofs.Common.{List}
 use Rattle.mig_base.specs.declared.schedule.Step.{Step}
 use Rattle.mig_model.specs.Migration.{World, after_steps}
 use Rattle.mig_model.specs.Promises.{IsComplete, IsReached}
-use Rattle.mig_model.proofs.DestinationAct.{install_put_next}
-use Rattle.mig_model.proofs.EveryStep.{complete-after_steps, kept-after_steps, kept-reached, urgent-reached}
-use Rattle.mig_model.proofs.PromiseLemmas.{are_paired, are_under_way, is_alone, is_precopying, is_receiving, is_switching}
-use Rattle.mig_model.proofs.SettledPromises.{settled_call, settled_dropped, settled_else, settled_install}
-use Rattle.mig_model.proofs.StepPromises.{destination_zeroed, source_zeroed}
-use Rattle.mig_model.proofs.ViewPromises.{phase_complete}
-use Rattle.mig_model.proofs.WaitingAccesses.{are_accesses}
+use Rattle.mig_model.proofs.invariant.DestinationAct.{install_put_next}
+use Rattle.mig_model.proofs.steps.EveryStep.{complete-after_steps, kept-after_steps, kept-reached, urgent-reached}
+use Rattle.mig_model.proofs.transcript.PromiseLemmas.{are_paired, are_under_way, is_alone, is_precopying, is_receiving, is_switching}
+use Rattle.mig_model.proofs.owed.SettledPromises.{settled_call, settled_dropped, settled_else, settled_install}
+use Rattle.mig_model.proofs.steps.StepPromises.{destination_zeroed, source_zeroed}
+use Rattle.mig_model.proofs.completion.ViewPromises.{phase_complete}
+use Rattle.mig_model.proofs.transcript.WaitingAccesses.{are_accesses}
 use Rattle.world.specs.Headline.{Headline, InstallsNothingOver, IsMoved, SettlesRight}
 use Rattle.world.specs.Worlds.{IsWorld}
 use Rattle.world.proofs.CoreLemmas.{core_reached}

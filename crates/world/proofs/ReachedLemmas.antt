@@ -6,8 +6,8 @@ use Rattle.mig_model.specs.Bounds.{IsCpuCount}
 use Rattle.mig_model.specs.Migration.{World, first_world_with, next, outcome}
 use Rattle.mig_model.specs.Promises.{IsReached}
 use Rattle.mig_model.specs.Runs.{Happens, Outcome, may_lack}
-use Rattle.mig_model.proofs.Bounded.{bounded-reached}
-use Rattle.mig_model.proofs.ReachedLemmas.{after_steps-append}
+use Rattle.mig_model.proofs.invariant.Bounded.{bounded-reached}
+use Rattle.mig_model.proofs.steps.ReachedLemmas.{after_steps-append}
 use Rattle.world.specs.Worlds.{IsWorld}
 
 -- the same processors after one step more

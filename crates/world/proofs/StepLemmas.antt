@@ -16,7 +16,7 @@ use Rattle.mig_model.specs.Runs.{Happens, is_delivery, may_lack, needs_memory}
 use Rattle.mig_model.specs.Source.{Source, is_under_way}
 use Rattle.mig_model.specs.SourceSteps as source
 use Rattle.mig_model.specs.Wire.{Frame, Sent, Wire, sending, wire_if, wire_with}
-use Rattle.mig_model.proofs.StepLemmas.{is-up}
+use Rattle.mig_model.proofs.steps.StepLemmas.{is-up}
 
 -- Any step
 

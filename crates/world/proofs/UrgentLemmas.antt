@@ -12,11 +12,11 @@ use Rattle.mig_model.specs.NodeSteps.{is_used, unless}
 use Rattle.mig_model.specs.Runs.{Happens}
 use Rattle.mig_model.specs.Source.{Source, is_stopped, space_of}
 use Rattle.mig_model.specs.SourceSteps.{push_urgent}
-use Rattle.mig_model.proofs.Bounded.{memory_bounded}
-use Rattle.mig_model.proofs.EveryStep.{kept-reached}
-use Rattle.mig_model.proofs.StepLemmas.{is-up}
-use Rattle.mig_model.proofs.UrgentFew.{few-reached}
-use Rattle.mig_model.proofs.WokenSteps.{stopped_switched}
+use Rattle.mig_model.proofs.invariant.Bounded.{memory_bounded}
+use Rattle.mig_model.proofs.steps.EveryStep.{kept-reached}
+use Rattle.mig_model.proofs.steps.StepLemmas.{is-up}
+use Rattle.mig_model.proofs.invariant.UrgentFew.{few-reached}
+use Rattle.mig_model.proofs.steps.WokenSteps.{stopped_switched}
 use Rattle.frame_texts.proofs.FrameBounds.{member_present, present_pages}
 use Rattle.frame_texts.proofs.FrameSteps.{stopped_unreleased}
 use Rattle.world.specs.Worlds.{IsWorld}

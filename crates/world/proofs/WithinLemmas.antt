@@ -16,12 +16,12 @@ use Rattle.mig_model.specs.Guest.{Guest, took_by}
 use Rattle.mig_model.specs.Migration.{World, after_steps, first_world_with, guest_by, guest_of, next}
 use Rattle.mig_base.specs.declared.schedule.Side.{Side}
 use Rattle.mig_model.specs.Promises.{IsReached}
-use Rattle.mig_model.proofs.Bounded.{bounded-reached}
-use Rattle.mig_model.proofs.CpuCount.{as_many_next}
-use Rattle.mig_model.proofs.EveryStep.{kept-reached}
-use Rattle.mig_model.proofs.ReachedLemmas.{reached-next}
-use Rattle.mig_model.proofs.StepCases.{MakesWorld, made-next}
-use Rattle.mig_model.proofs.WaitingAccesses.{as_many}
+use Rattle.mig_model.proofs.invariant.Bounded.{bounded-reached}
+use Rattle.mig_model.proofs.invariant.CpuCount.{as_many_next}
+use Rattle.mig_model.proofs.steps.EveryStep.{kept-reached}
+use Rattle.mig_model.proofs.steps.ReachedLemmas.{reached-next}
+use Rattle.mig_model.proofs.steps.StepCases.{MakesWorld, made-next}
+use Rattle.mig_model.proofs.transcript.WaitingAccesses.{as_many}
 
 abbrev AreBelow : ℕ → List Entry → Type 0
 AreBelow n entries = All (λ e. e.cpu < n) entries

@@ -1,7 +1,7 @@
 use Rattle.std.proofs.Common.{◌*◌, ap, arith}
 use Rattle.dirty_log.proofs.SpaceLemmas.{can_protect, protect_left, protect_not_refused}
 use Rattle.dirty_log.proofs.spaces.protect.Goals as goal
-use Rattle.mig_model.proofs.HandlerCalls.{one_is_protect}
+use Rattle.mig_model.proofs.memory.HandlerCalls.{one_is_protect}
 
 pub unreachable-requires : goal.unreachable-requires
 unreachable-requires c =

@@ -1,6 +1,6 @@
 use Rattle.frame_texts.proofs.GoodFrames.{frames_good}
 use Rattle.frame_texts.proofs.LengthBounds.{text_short}
-use Rattle.mig_model.proofs.ReplyOfLemmas.{right_answered}
+use Rattle.mig_model.proofs.memory.ReplyOfLemmas.{right_answered}
 use Rattle.frame_texts.proofs.Encodable.{encodable}
 use Rattle.frame_texts.proofs.frames.frames_have_texts.Goals as goal
 

@@ -17,11 +17,11 @@ use Rattle.mig_model.specs.Log.{no_pages}
 use Rattle.frame_texts.specs.Texts.{areas_of, areas_text, commands_text, header_text, runs_of, runs_text}
 use Rattle.frame_texts.specs.Texts.Version.{One}
 use Rattle.mig_model.specs.Wire.Frame.{Discard, Package, Recv}
-use Rattle.mig_model.proofs.Facts.{no_page, only_one, either}
+use Rattle.mig_model.proofs.memory.Facts.{no_page, only_one, either}
 use Rattle.frame_texts.proofs.OneArea.{one_area}
 use Rattle.frame_texts.proofs.OneText.{text-is}
 use Rattle.frame_texts.proofs.RunsInOrder.{runs_of-only}
-use Rattle.mig_model.proofs.SpaceLemmas.{no_member}
+use Rattle.mig_model.proofs.memory.SpaceLemmas.{no_member}
 use Rattle.frame_texts.proofs.frames.some_texts.Goals as goal
 
 -- the runs of one page, and of none

@@ -1,5 +1,5 @@
-use Rattle.mig_model.proofs.Bounded.{bounded-reached}
-use Rattle.mig_model.proofs.FaultPages.{inside-reached}
+use Rattle.mig_model.proofs.invariant.Bounded.{bounded-reached}
+use Rattle.mig_model.proofs.invariant.FaultPages.{inside-reached}
 use Rattle.host_calls.proofs.MadeCalls.{step_made}
 use Rattle.host_calls.proofs.laws.calls_are_made.Goals as goal
 

@@ -1,5 +1,5 @@
-use Rattle.mig_model.proofs.Bounded.{memory_bounded}
-use Rattle.mig_model.proofs.MappingLemmas.{flat_within}
+use Rattle.mig_model.proofs.invariant.Bounded.{memory_bounded}
+use Rattle.mig_model.proofs.memory.MappingLemmas.{flat_within}
 use Rattle.mig_model.proofs.bounds.memory_is_bounded.Goals as goal
 
 pub returns-clause-flat : goal.returns-clause-flat

@@ -1,6 +1,6 @@
 use Rattle.std.proofs.Common.{◌∙◌}
-use Rattle.mig_model.proofs.Bounded.{bounded-reached}
-use Rattle.mig_model.proofs.WaitingAccesses.{as_many}
+use Rattle.mig_model.proofs.invariant.Bounded.{bounded-reached}
+use Rattle.mig_model.proofs.transcript.WaitingAccesses.{as_many}
 use Rattle.mig_model.proofs.bounds.processors_stay.Goals as goal
 
 pub returns : goal.returns

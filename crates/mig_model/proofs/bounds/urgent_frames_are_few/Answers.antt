@@ -1,4 +1,4 @@
-use Rattle.mig_model.proofs.UrgentFew.{few-reached}
+use Rattle.mig_model.proofs.invariant.UrgentFew.{few-reached}
 use Rattle.mig_model.proofs.bounds.urgent_frames_are_few.Goals as goal
 
 pub returns : goal.returns

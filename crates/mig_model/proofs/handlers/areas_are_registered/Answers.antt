@@ -1,6 +1,6 @@
-use Rattle.mig_model.proofs.Bounded.{bounded-reached}
-use Rattle.mig_model.proofs.HandlerCalls.{round_registers, run_registers, start_registers}
-use Rattle.mig_model.proofs.Registering.{runs_of}
+use Rattle.mig_model.proofs.invariant.Bounded.{bounded-reached}
+use Rattle.mig_model.proofs.memory.HandlerCalls.{round_registers, run_registers, start_registers}
+use Rattle.mig_model.proofs.memory.Registering.{runs_of}
 use Rattle.mig_model.proofs.handlers.areas_are_registered.Goals as goal
 
 pub returns-clause-start : goal.returns-clause-start

@@ -1,5 +1,5 @@
-use Rattle.mig_model.proofs.Bounded.{bounded-reached}
-use Rattle.mig_model.proofs.HandlerCalls.{copy_installed, destination_zeroes}
+use Rattle.mig_model.proofs.invariant.Bounded.{bounded-reached}
+use Rattle.mig_model.proofs.memory.HandlerCalls.{copy_installed, destination_zeroes}
 use Rattle.mig_model.proofs.handlers.the_destination_puts_pages.Goals as goal
 
 pub returns-clause-zeroed : goal.returns-clause-zeroed

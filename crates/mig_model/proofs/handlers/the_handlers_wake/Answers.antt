@@ -1,6 +1,6 @@
-use Rattle.mig_model.proofs.Bounded.{bounded-reached}
-use Rattle.mig_model.proofs.FaultPages.{inside-reached}
-use Rattle.mig_model.proofs.HandlerCalls.{destination_forgets, destination_wakes, source_forgets, source_wakes}
+use Rattle.mig_model.proofs.invariant.Bounded.{bounded-reached}
+use Rattle.mig_model.proofs.invariant.FaultPages.{inside-reached}
+use Rattle.mig_model.proofs.memory.HandlerCalls.{destination_forgets, destination_wakes, source_forgets, source_wakes}
 use Rattle.mig_model.proofs.handlers.the_handlers_wake.Goals as goal
 
 pub returns-clause-source : goal.returns-clause-source

@@ -1,5 +1,5 @@
-use Rattle.mig_model.proofs.Bounded.{bounded-reached}
-use Rattle.mig_model.proofs.HandlerCalls.{page_protected, run_protected, zero_protected}
+use Rattle.mig_model.proofs.invariant.Bounded.{bounded-reached}
+use Rattle.mig_model.proofs.memory.HandlerCalls.{page_protected, run_protected, zero_protected}
 use Rattle.mig_model.proofs.handlers.the_source_protects_what_it_sends.Goals as goal
 
 pub returns-clause-page : goal.returns-clause-page

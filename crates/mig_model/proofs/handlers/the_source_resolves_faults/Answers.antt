@@ -1,5 +1,5 @@
-use Rattle.mig_model.proofs.Bounded.{bounded-reached}
-use Rattle.mig_model.proofs.HandlerCalls.{source_unprotects, source_zeroes}
+use Rattle.mig_model.proofs.invariant.Bounded.{bounded-reached}
+use Rattle.mig_model.proofs.memory.HandlerCalls.{source_unprotects, source_zeroes}
 use Rattle.mig_model.proofs.handlers.the_source_resolves_faults.Goals as goal
 
 pub returns-clause-zeroed : goal.returns-clause-zeroed

@@ -2,8 +2,8 @@ use Rattle.std.proofs.Common.{refl, ap, ◌∙◌}
 use Rattle.mig_base.specs.Flat.{reply_of}
 use Rattle.mig_model.specs.Host.{memory}
 use Rattle.mig_model.specs.Space.{accessed_by}
-use Rattle.mig_model.proofs.CommandLemmas.{memory-changed}
-use Rattle.mig_model.proofs.SpaceLemmas.{access_reply}
+use Rattle.mig_model.proofs.memory.CommandLemmas.{memory-changed}
+use Rattle.mig_model.proofs.memory.SpaceLemmas.{access_reply}
 use Rattle.mig_model.proofs.laws.a_space_answers_as_its_memory.Goals as goal
 
 pub returns-clause-reply : goal.returns-clause-reply

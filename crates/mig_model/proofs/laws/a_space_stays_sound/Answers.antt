@@ -1,5 +1,5 @@
-use Rattle.mig_model.proofs.SpaceLemmas.{IsSoundSpace-fresh, IsSoundSpace-accessed, IsSoundSpace-called}
-use Rattle.mig_model.proofs.IoctlLemmas.{IsSoundSpace-handshaken, IsSoundSpace-range_registered, IsSoundSpace-range_unregistered, IsSoundSpace-copied, IsSoundSpace-zeropaged, IsSoundSpace-write_protected, IsSoundSpace-read_space}
+use Rattle.mig_model.proofs.memory.SpaceLemmas.{IsSoundSpace-fresh, IsSoundSpace-accessed, IsSoundSpace-called}
+use Rattle.mig_model.proofs.memory.IoctlLemmas.{IsSoundSpace-handshaken, IsSoundSpace-range_registered, IsSoundSpace-range_unregistered, IsSoundSpace-copied, IsSoundSpace-zeropaged, IsSoundSpace-write_protected, IsSoundSpace-read_space}
 use Rattle.mig_model.proofs.laws.a_space_stays_sound.Goals as goal
 
 pub returns-clause-fresh : goal.returns-clause-fresh

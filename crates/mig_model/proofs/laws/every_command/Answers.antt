@@ -1,7 +1,7 @@
 use Rattle.std.proofs.Common.{refl}
 use Rattle.mig_base.specs.Flat.{reply_of}
 use Rattle.mig_model.specs.Host.{memory}
-use Rattle.mig_model.proofs.CommandLemmas.{memory-changed, IsSound-changed}
+use Rattle.mig_model.proofs.memory.CommandLemmas.{memory-changed, IsSound-changed}
 use Rattle.mig_model.proofs.laws.every_command.Goals as goal
 
 pub returns-clause-memory : goal.returns-clause-memory

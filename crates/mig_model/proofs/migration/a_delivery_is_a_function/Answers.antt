@@ -1,4 +1,4 @@
-use Rattle.mig_model.proofs.WirePromises.{delivered_first, delivered_back_first, delivered_urgent_first, moved_short, moved_back_short, moved_urgent_short}
+use Rattle.mig_model.proofs.delivery.WirePromises.{delivered_first, delivered_back_first, delivered_urgent_first, moved_short, moved_back_short, moved_urgent_short}
 use Rattle.mig_model.proofs.migration.a_delivery_is_a_function.Goals as goal
 
 pub returns-clause-forward : goal.returns-clause-forward

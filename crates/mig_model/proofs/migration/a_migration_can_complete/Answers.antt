@@ -1,6 +1,6 @@
 use Rattle.std.proofs.Common.{[], refl}
 use Rattle.mig_model.specs.Migration.{first_world}
-use Rattle.mig_model.proofs.Completion.{epoch_left-completes, link_up-completes}
+use Rattle.mig_model.proofs.completion.Completion.{epoch_left-completes, link_up-completes}
 use Rattle.mig_model.proofs.migration.a_migration_can_complete.Goals as goal
 
 pub returns-clause-first : goal.returns-clause-first

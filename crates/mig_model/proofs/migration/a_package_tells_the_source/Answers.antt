@@ -1,6 +1,6 @@
-use Rattle.mig_model.proofs.EveryStep.{kept-reached}
-use Rattle.mig_model.proofs.FlightPromises.{package_tells}
-use Rattle.mig_model.proofs.PromiseLemmas.{is_switching}
+use Rattle.mig_model.proofs.steps.EveryStep.{kept-reached}
+use Rattle.mig_model.proofs.delivery.FlightPromises.{package_tells}
+use Rattle.mig_model.proofs.transcript.PromiseLemmas.{is_switching}
 use Rattle.mig_model.proofs.migration.a_package_tells_the_source.Goals as goal
 
 pub returns-clause-in_flight : goal.returns-clause-in_flight

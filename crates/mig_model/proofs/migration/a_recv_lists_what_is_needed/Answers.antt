@@ -1,6 +1,6 @@
-use Rattle.mig_model.proofs.EveryStep.{kept-reached}
-use Rattle.mig_model.proofs.FlightPromises.{recv_tells}
-use Rattle.mig_model.proofs.PromiseLemmas.{is_receiving}
+use Rattle.mig_model.proofs.steps.EveryStep.{kept-reached}
+use Rattle.mig_model.proofs.delivery.FlightPromises.{recv_tells}
+use Rattle.mig_model.proofs.transcript.PromiseLemmas.{is_receiving}
 use Rattle.mig_model.proofs.migration.a_recv_lists_what_is_needed.Goals as goal
 
 pub returns-clause-in_flight : goal.returns-clause-in_flight

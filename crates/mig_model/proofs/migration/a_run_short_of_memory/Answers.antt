@@ -1,4 +1,4 @@
-use Rattle.mig_model.proofs.Runs.{needs_none, never_lacking, run_enough, run_reached, run_results, run_world}
+use Rattle.mig_model.proofs.steps.Runs.{needs_none, never_lacking, run_enough, run_reached, run_results, run_world}
 use Rattle.mig_model.proofs.migration.a_run_short_of_memory.Goals as goal
 
 pub returns-clause-world : goal.returns-clause-world

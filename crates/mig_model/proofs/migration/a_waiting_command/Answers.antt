@@ -1,5 +1,5 @@
-use Rattle.mig_model.proofs.EveryStep.{kept-reached}
-use Rattle.mig_model.proofs.WaitingCommands.{waiting_command, retried_at, waits_arise, issued_at}
+use Rattle.mig_model.proofs.steps.EveryStep.{kept-reached}
+use Rattle.mig_model.proofs.transcript.WaitingCommands.{waiting_command, retried_at, waits_arise, issued_at}
 use Rattle.mig_model.proofs.migration.a_waiting_command.Goals as goal
 
 pub returns-clause-kept : goal.returns-clause-kept

@@ -1,4 +1,4 @@
-use Rattle.mig_model.proofs.Calls.{are_sound_calls}
+use Rattle.mig_model.proofs.transcript.Calls.{are_sound_calls}
 use Rattle.mig_model.proofs.migration.calls_have_unread_events.Goals as goal
 
 pub returns : goal.returns

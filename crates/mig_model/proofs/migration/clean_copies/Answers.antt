@@ -1,5 +1,5 @@
-use Rattle.mig_model.proofs.EveryStep.{kept-reached}
-use Rattle.mig_model.proofs.PromiseLemmas.{is_precopying}
+use Rattle.mig_model.proofs.steps.EveryStep.{kept-reached}
+use Rattle.mig_model.proofs.transcript.PromiseLemmas.{is_precopying}
 use Rattle.mig_model.proofs.migration.clean_copies.Goals as goal
 
 pub returns : goal.returns

@@ -1,7 +1,7 @@
 use Rattle.mig_model.specs.Migration.{after_steps}
-use Rattle.mig_model.proofs.EveryStep.{kept-reached, urgent-reached, kept-after_steps, complete-after_steps}
-use Rattle.mig_model.proofs.WirePromises.{completes_by, completes_only}
-use Rattle.mig_model.proofs.PromiseLemmas.{is_alone}
+use Rattle.mig_model.proofs.steps.EveryStep.{kept-reached, urgent-reached, kept-after_steps, complete-after_steps}
+use Rattle.mig_model.proofs.delivery.WirePromises.{completes_by, completes_only}
+use Rattle.mig_model.proofs.transcript.PromiseLemmas.{is_alone}
 use Rattle.mig_model.proofs.migration.completion.Goals as goal
 
 pub returns-clause-alone : goal.returns-clause-alone

@@ -1,5 +1,5 @@
-use Rattle.mig_model.proofs.StepLemmas.{next-refused}
-use Rattle.mig_model.proofs.PartsChanged.{changes_parts}
+use Rattle.mig_model.proofs.steps.StepLemmas.{next-refused}
+use Rattle.mig_model.proofs.steps.PartsChanged.{changes_parts}
 use Rattle.mig_model.proofs.migration.each_step_changes_its_parts.Goals as goal
 
 pub returns-clause-refused : goal.returns-clause-refused

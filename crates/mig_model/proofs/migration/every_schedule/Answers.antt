@@ -1,4 +1,4 @@
-use Rattle.mig_model.proofs.EveryStep.{kept-reached}
+use Rattle.mig_model.proofs.steps.EveryStep.{kept-reached}
 use Rattle.mig_model.proofs.migration.every_schedule.Goals as goal
 
 pub returns-clause-transcript : goal.returns-clause-transcript

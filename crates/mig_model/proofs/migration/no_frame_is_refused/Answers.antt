@@ -1,8 +1,8 @@
-use Rattle.mig_model.proofs.WaitingAccesses.{as_many}
-use Rattle.mig_model.proofs.EveryStep.{kept-reached, urgent-reached}
-use Rattle.mig_model.proofs.FramesTaken.{is_taken, is_taken_back, back_epoch}
-use Rattle.mig_model.proofs.FrameFaults.{full_by, is_full, no_back_fault, no_frame_fault, no_rebuild_fault, no_urgent_fault, present_below}
-use Rattle.mig_model.proofs.UrgentKept.{is_taken_urgent}
+use Rattle.mig_model.proofs.transcript.WaitingAccesses.{as_many}
+use Rattle.mig_model.proofs.steps.EveryStep.{kept-reached, urgent-reached}
+use Rattle.mig_model.proofs.delivery.FramesTaken.{is_taken, is_taken_back, back_epoch}
+use Rattle.mig_model.proofs.delivery.FrameFaults.{full_by, is_full, no_back_fault, no_frame_fault, no_rebuild_fault, no_urgent_fault, present_below}
+use Rattle.mig_model.proofs.invariant.UrgentKept.{is_taken_urgent}
 use Rattle.mig_model.specs.Source.{space_of}
 use Rattle.mig_model.proofs.migration.no_frame_is_refused.Goals as goal
 

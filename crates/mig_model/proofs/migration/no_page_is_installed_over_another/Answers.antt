@@ -1,6 +1,6 @@
-use Rattle.mig_model.proofs.EveryStep.{kept-reached}
-use Rattle.mig_model.proofs.DestinationAct.{install_put_next}
-use Rattle.mig_model.proofs.StepPromises.{source_zeroed, destination_zeroed}
+use Rattle.mig_model.proofs.steps.EveryStep.{kept-reached}
+use Rattle.mig_model.proofs.invariant.DestinationAct.{install_put_next}
+use Rattle.mig_model.proofs.steps.StepPromises.{source_zeroed, destination_zeroed}
 use Rattle.mig_model.proofs.migration.no_page_is_installed_over_another.Goals as goal
 
 pub returns-clause-install : goal.returns-clause-install

@@ -1,5 +1,5 @@
-use Rattle.mig_model.proofs.EveryStep.{kept-reached, urgent-reached}
-use Rattle.mig_model.proofs.PromiseLemmas.{are_under_way}
+use Rattle.mig_model.proofs.steps.EveryStep.{kept-reached, urgent-reached}
+use Rattle.mig_model.proofs.transcript.PromiseLemmas.{are_under_way}
 use Rattle.mig_model.proofs.migration.owed_pages_are_under_way.Goals as goal
 
 pub returns : goal.returns

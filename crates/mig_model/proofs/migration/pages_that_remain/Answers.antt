@@ -1,11 +1,11 @@
 use Rattle.mig_base.specs.declared.schedule.Step.{Step}
 use Rattle.mig_model.specs.Migration.{next, after_steps}
-use Rattle.mig_model.proofs.EveryStep.{kept-reached, urgent-reached, kept-next, kept-after_steps}
-use Rattle.mig_model.proofs.PushOrder.{no_switch, no_recv_taken, pushed_before, urgent_before}
-use Rattle.mig_model.proofs.StepPromises.{remaining_push, remaining_push_urgent, remaining_shrinks}
-use Rattle.mig_model.proofs.EndRefused.{end_left, end_sent}
-use Rattle.mig_model.proofs.UrgentSteps.{urgent-next}
-use Rattle.mig_model.proofs.WirePromises.{remaining_back}
+use Rattle.mig_model.proofs.steps.EveryStep.{kept-reached, urgent-reached, kept-next, kept-after_steps}
+use Rattle.mig_model.proofs.delivery.PushOrder.{no_switch, no_recv_taken, pushed_before, urgent_before}
+use Rattle.mig_model.proofs.steps.StepPromises.{remaining_push, remaining_push_urgent, remaining_shrinks}
+use Rattle.mig_model.proofs.delivery.EndRefused.{end_left, end_sent}
+use Rattle.mig_model.proofs.invariant.UrgentSteps.{urgent-next}
+use Rattle.mig_model.proofs.delivery.WirePromises.{remaining_back}
 use Rattle.mig_model.proofs.migration.pages_that_remain.Goals as goal
 
 pub returns-clause-push : goal.returns-clause-push

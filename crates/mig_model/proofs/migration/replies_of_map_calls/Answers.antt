@@ -1,4 +1,4 @@
-use Rattle.mig_model.proofs.CallReplies.{reply_entered, reply_kept, reply_handed_over}
+use Rattle.mig_model.proofs.transcript.CallReplies.{reply_entered, reply_kept, reply_handed_over}
 use Rattle.mig_model.proofs.migration.replies_of_map_calls.Goals as goal
 
 pub returns-clause-entered : goal.returns-clause-entered

@@ -1,4 +1,4 @@
-use Rattle.mig_model.proofs.EveryStep.{kept-reached, urgent-reached}
+use Rattle.mig_model.proofs.steps.EveryStep.{kept-reached, urgent-reached}
 use Rattle.mig_model.proofs.migration.the_invariant.Goals as goal
 
 pub returns-clause-world : goal.returns-clause-world

@@ -1,6 +1,6 @@
-use Rattle.mig_model.proofs.EveryStep.{kept-reached}
-use Rattle.mig_model.proofs.WaitingAccesses.{are_accesses}
-use Rattle.mig_model.proofs.SettledPromises.{settled_call, settled_install, settled_dropped, settled_access, settled_else}
+use Rattle.mig_model.proofs.steps.EveryStep.{kept-reached}
+use Rattle.mig_model.proofs.transcript.WaitingAccesses.{are_accesses}
+use Rattle.mig_model.proofs.owed.SettledPromises.{settled_call, settled_install, settled_dropped, settled_access, settled_else}
 use Rattle.mig_model.proofs.migration.the_settled_relation.Goals as goal
 
 pub returns-clause-call : goal.returns-clause-call

@@ -1,4 +1,4 @@
-use Rattle.mig_model.proofs.WirePromises.{forward_grows, back_grows, urgent_grows, wires_broken, stays_up}
+use Rattle.mig_model.proofs.delivery.WirePromises.{forward_grows, back_grows, urgent_grows, wires_broken, stays_up}
 use Rattle.mig_model.proofs.migration.the_wires.Goals as goal
 
 pub returns-clause-forward : goal.returns-clause-forward

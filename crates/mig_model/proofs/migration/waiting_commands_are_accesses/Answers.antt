@@ -1,4 +1,4 @@
-use Rattle.mig_model.proofs.WaitingAccesses.{are_accesses}
+use Rattle.mig_model.proofs.transcript.WaitingAccesses.{are_accesses}
 use Rattle.mig_model.proofs.migration.waiting_commands_are_accesses.Goals as goal
 
 pub returns : goal.returns

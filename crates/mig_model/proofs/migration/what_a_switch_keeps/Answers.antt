@@ -1,4 +1,4 @@
-use Rattle.mig_model.proofs.Unbroken.{keeps_clean}
+use Rattle.mig_model.proofs.delivery.Unbroken.{keeps_clean}
 use Rattle.mig_model.proofs.migration.what_a_switch_keeps.Goals as goal
 
 pub returns : goal.returns

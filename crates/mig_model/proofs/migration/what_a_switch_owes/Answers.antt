@@ -1,5 +1,5 @@
-use Rattle.mig_model.proofs.EveryStep.{kept-reached}
-use Rattle.mig_model.proofs.FlightPromises.{switch_owes, switch_sends}
+use Rattle.mig_model.proofs.steps.EveryStep.{kept-reached}
+use Rattle.mig_model.proofs.delivery.FlightPromises.{switch_owes, switch_sends}
 use Rattle.mig_model.proofs.migration.what_a_switch_owes.Goals as goal
 
 pub returns-clause-owes : goal.returns-clause-owes

@@ -1,4 +1,4 @@
-use Rattle.mig_model.proofs.ViewPromises.{complete_left, new_reached, phase_complete}
+use Rattle.mig_model.proofs.completion.ViewPromises.{complete_left, new_reached, phase_complete}
 use Rattle.mig_model.proofs.migration.what_a_world_tells.Goals as goal
 
 pub returns-clause-complete : goal.returns-clause-complete

@@ -1,4 +1,4 @@
-use Rattle.mig_model.proofs.StepPromises.{entered_issue, entered_retry}
+use Rattle.mig_model.proofs.steps.StepPromises.{entered_issue, entered_retry}
 use Rattle.mig_model.proofs.migration.what_is_entered.Goals as goal
 
 pub returns-clause-issue : goal.returns-clause-issue

@@ -1,5 +1,5 @@
-use Rattle.mig_model.proofs.EveryStep.{kept-reached}
-use Rattle.mig_model.proofs.WirePromises.{arrivals_after, installed_where, given_up_where}
+use Rattle.mig_model.proofs.steps.EveryStep.{kept-reached}
+use Rattle.mig_model.proofs.delivery.WirePromises.{arrivals_after, installed_where, given_up_where}
 use Rattle.mig_model.proofs.migration.what_is_installed.Goals as goal
 
 pub returns-clause-first : goal.returns-clause-first

@@ -1,6 +1,6 @@
 use Rattle.std.proofs.Common.{ap, ◌∙◌}
 use Rattle.mig_model.specs.Host.{memory}
-use Rattle.mig_model.proofs.HostLemmas.{memory-empty}
+use Rattle.mig_model.proofs.memory.HostLemmas.{memory-empty}
 use Rattle.report.proofs.check.check.Goals as goal
 
 pub replay-requires : goal.replay-requires

@@ -1,4 +1,4 @@
-use Rattle.mig_model.proofs.PageLists.{less_pages}
+use Rattle.mig_model.proofs.memory.PageLists.{less_pages}
 use Rattle.dirty_log.proofs.log.DirtyLog.discarded.Goals as goal
 
 pub returns-clause-pages : goal.returns-clause-pages

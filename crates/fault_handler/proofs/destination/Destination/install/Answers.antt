@@ -7,7 +7,7 @@ use Rattle.mig_model.specs.Guest.{is_present}
 use Rattle.mig_model.specs.Owed.{home}
 use Rattle.mig_base.specs.Userfault.{changing}
 use Rattle.fault_handler.specs.contracts.destination.Destination.{the_view}
-use Rattle.mig_model.proofs.Facts.{counted_is}
+use Rattle.mig_model.proofs.memory.Facts.{counted_is}
 use Rattle.fault_handler.proofs.PageLemmas.{installed_paged}
 use Rattle.fault_handler.proofs.ReadyLemmas.{pairs_now}
 use Rattle.fault_handler.proofs.InstallLemmas.{IsFirst, IsVacant, dropped_is, install_done, installed_is, installed_order, pair_ends, same_pages, some_arrival, vacant}

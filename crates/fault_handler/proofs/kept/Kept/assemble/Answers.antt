@@ -4,7 +4,7 @@ use Rattle.std.specs.FinSet as set
 use Rattle.mig_model.specs.Destination.{assembled}
 use Rattle.mig_model.specs.Ioctls.{event_features}
 use Rattle.mig_base.specs.Userfault.{enabled_with, fresh_object, registered_where}
-use Rattle.mig_model.proofs.HandlerCalls.{missing_mode}
+use Rattle.mig_model.proofs.memory.HandlerCalls.{missing_mode}
 use Rattle.fault_handler.proofs.KeptLemmas.{kept_nothing}
 use Rattle.fault_handler.proofs.kept.Kept.assemble.Goals as goal
 

@@ -4,7 +4,7 @@ use Rattle.mig_base.specs.Bytes.{contents, zero_page}
 use Rattle.mig_base.specs.declared.refusal.Refusal.{Refusal}
 use Rattle.mig_model.specs.Source.{Source, bytes_of}
 use Rattle.mig_model.specs.Wire.{page_frame}
-use Rattle.mig_model.proofs.Facts.{counted_is}
+use Rattle.mig_model.proofs.memory.Facts.{counted_is}
 use Rattle.dirty_log.specs.Answers.{IsRefusedFor, send_refusal}
 use Rattle.dirty_log.specs.declared.sent.Sent.{Sent}
 use Rattle.dirty_log.proofs.SendLemmas.{one_sent, zero_shown}

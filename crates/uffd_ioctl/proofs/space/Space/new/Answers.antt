@@ -1,4 +1,4 @@
-use Rattle.mig_model.proofs.SpaceLemmas.{IsSoundSpace-fresh}
+use Rattle.mig_model.proofs.memory.SpaceLemmas.{IsSoundSpace-fresh}
 use Rattle.uffd_ioctl.proofs.space.Space.new.Goals as goal
 
 pub invariant_of-result : goal.invariant_of-result

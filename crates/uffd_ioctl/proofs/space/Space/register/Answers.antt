@@ -1,7 +1,7 @@
 use Rattle.std.proofs.Common.{◌∙◌, ◌/◌, sym, subst}
 use Rattle.mig_model.specs.Space as machine
 use Rattle.mig_model.specs.Ioctls as table
-use Rattle.mig_model.proofs.IoctlLemmas.{IsSoundSpace-range_registered}
+use Rattle.mig_model.proofs.memory.IoctlLemmas.{IsSoundSpace-range_registered}
 use Rattle.userfault.specs.Modes as modes
 use Rattle.uffd_ioctl.specs.Spaces.{space_of}
 use Rattle.uffd_ioctl.proofs.RegisterLemmas.{made_by, sound_low, watched_in}

@@ -1,4 +1,4 @@
-use Rattle.mig_model.proofs.NumberLemmas.{aligned_width}
+use Rattle.mig_model.proofs.memory.NumberLemmas.{aligned_width}
 use Rattle.uffd_ioctl.proofs.AnswerLemmas.{store_unmapped, store_forbidden, store_done}
 use Rattle.uffd_ioctl.proofs.space.Space.store_reply.Goals as goal
 

@@ -1,7 +1,7 @@
 use Rattle.std.proofs.Common.{◌∙◌, ◌/◌, sym, subst}
 use Rattle.mig_model.specs.Space as machine
 use Rattle.mig_model.specs.Ioctls as table
-use Rattle.mig_model.proofs.IoctlLemmas.{IsSoundSpace-range_unregistered}
+use Rattle.mig_model.proofs.memory.IoctlLemmas.{IsSoundSpace-range_unregistered}
 use Rattle.uffd_ioctl.proofs.RegisterLemmas.{made_by, opened}
 use Rattle.uffd_ioctl.proofs.space.Space.unregister.Goals as goal
 use Rattle.mig_base.proofs.TestLemmas.{never_some}

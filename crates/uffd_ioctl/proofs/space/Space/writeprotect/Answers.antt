@@ -3,7 +3,7 @@ use Rattle.mig_base.specs.Bits.{is_one}
 use Rattle.mig_base.proofs.TestLemmas.{never_some}
 use Rattle.mig_model.specs.Space as machine
 use Rattle.mig_model.specs.Ioctls as table
-use Rattle.mig_model.proofs.IoctlLemmas.{IsSoundSpace-write_protected}
+use Rattle.mig_model.proofs.memory.IoctlLemmas.{IsSoundSpace-write_protected}
 use Rattle.uffd_ioctl.proofs.RegisterLemmas.{made_by, set_in}
 use Rattle.uffd_ioctl.proofs.space.Space.writeprotect.Goals as goal
 

@@ -6,7 +6,7 @@ use Rattle.mig_model.specs.Migration.{destination_acts, source_acts}
 use Rattle.mig_model.specs.NodeSteps.{in_phase}
 use Rattle.mig_model.specs.Source.{is_under_way}
 use Rattle.mig_model.specs.SourceSteps as source
-use Rattle.mig_model.proofs.StepLemmas.{is-down}
+use Rattle.mig_model.proofs.steps.StepLemmas.{is-down}
 use Rattle.world.specs.Worlds.{world_of}
 use Rattle.world.proofs.StepLemmas.{destination_acts_always, notice_refused, source_acts_always}
 use Rattle.world.proofs.parts.Parts.notice.Goals as goal

@@ -4,7 +4,7 @@ use Rattle.mig_base.specs.declared.schedule.Step.{Step}
 use Rattle.mig_model.specs.Migration.{source_sends_urgently}
 use Rattle.mig_model.specs.SourceSteps as source
 use Rattle.mig_model.specs.Wire.{wire_with}
-use Rattle.mig_model.proofs.StepLemmas.{is-up}
+use Rattle.mig_model.proofs.steps.StepLemmas.{is-up}
 use Rattle.dirty_log.specs.Sending.{frame_sent}
 use Rattle.precopy.specs.Sending.{IsPushedUrgently}
 use Rattle.world.specs.Worlds.{world_of}

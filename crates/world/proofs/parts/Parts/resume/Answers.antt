@@ -6,7 +6,7 @@ use Rattle.mig_model.specs.Migration.{source_sends}
 use Rattle.mig_model.specs.NodeSteps.{in_phase}
 use Rattle.mig_model.specs.SourceSteps as source
 use Rattle.mig_model.specs.Wire.{wire_with}
-use Rattle.mig_model.proofs.StepLemmas.{is-down}
+use Rattle.mig_model.proofs.steps.StepLemmas.{is-down}
 use Rattle.page_stream.specs.Frames.{frame_of}
 use Rattle.world.specs.Worlds.{world_of}
 use Rattle.world.proofs.StepLemmas.{happens_kept, node_refused, source_sent}

@@ -2,7 +2,7 @@ use Rattle.std.proofs.Common.{ap, refl}
 use Rattle.mig_base.specs.declared.schedule.Step.{Step}
 use Rattle.mig_model.specs.Migration.{source_acts}
 use Rattle.mig_model.specs.SourceSteps as source
-use Rattle.mig_model.proofs.StepLemmas.{is-up}
+use Rattle.mig_model.proofs.steps.StepLemmas.{is-up}
 use Rattle.world.specs.Worlds.{world_of}
 use Rattle.world.proofs.StepLemmas.{refused_down, source_acts_always}
 use Rattle.world.proofs.parts.Parts.serve.Goals as goal

@@ -1,0 +1,23 @@
+-- Each step keeps the invariant of a world.
+pub mod Breaking
+pub mod FirstFrame
+pub mod PackageTaken
+pub mod DeliveryBack
+pub mod SourceCommands
+pub mod SourceRounds
+pub mod UrgentWire
+pub mod UrgentKept
+pub mod UrgentSteps
+pub mod UrgentFew
+pub mod Bounded
+pub mod CpuCount
+pub mod SourceMapped
+pub mod OpenObjects
+pub mod FaultPages
+pub mod Delivery
+pub mod SourceSending
+pub mod WireLemmas
+pub mod DestinationAct
+pub mod Stopping
+pub mod SourceKept
+pub mod DestinationRead
