@@ -26,11 +26,11 @@ pub(crate) fn draw_of<R: Rng>(rng: &mut R, course: &Course, pages: &PageSet) -> 
     ensures { result < 0x10_0000 }
 {
     let from = draw_page(rng, course);
-    let above = pages.next(from, true);
+    let above = pages.next_member(from);
     if above < HIGH_PAGE {
         return above;
     }
-    let first = pages.next(0, true);
+    let first = pages.next_member(0);
     if first < HIGH_PAGE { first } else { from }
 }
 

@@ -58,7 +58,7 @@ impl Sweep {
 
     /// The next slot that is loaded.
     fn next_slot(&mut self) -> Option<Addr> {
-        let page = self.pages.next(0, true);
+        let page = self.pages.next_member(0);
         if page >= HIGH_PAGE {
             return None;
         }

@@ -155,6 +155,6 @@ fn least_page(pages: &PageSet, from: PageNo) -> Option<PageNo>
     requires below { HasNoneBelow pages.now from }
     ensures { result ≡ least_of pages.now }
 {
-    let page = pages.next(from, true);
+    let page = pages.next_member(from);
     if page < HIGH_PAGE { Some(page) } else { None }
 }

@@ -51,8 +51,8 @@ fn seen(rt: &impl Abort, set: &PageSet) -> [(PageNo, PageNo); 4] {
     let mut from = 0;
     for place in seen.iter_mut() {
         inside(rt, from, 0);
-        let first = set.next(from, true);
-        let end = set.next(first, false);
+        let first = set.next_member(from);
+        let end = set.next_gap(first);
         *place = (first, end);
         from = end;
     }
@@ -120,7 +120,7 @@ fn make(rt: &impl Abort, alloc: Global, set: &mut PageSet, call: Call) -> Result
         Len => return Ok(Number(set.len())),
         Next(from, want) => {
             inside(rt, from, 0);
-            return Ok(Number(set.next(from, want)));
+            return Ok(Number(if want { set.next_member(from) } else { set.next_gap(from) }));
         }
         NextBefore(from, want, end) => {
             assert!(rt; from <= end && end <= HIGH_PAGE);

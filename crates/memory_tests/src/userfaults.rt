@@ -116,9 +116,9 @@ fn change(rt: &impl Abort, object: &mut Userfault, call: Call) -> Result<(), NoM
             inside(rt, first, count);
             object.register(first, count, mode)
         }
-        MissingFault(addr, cpu) => object.queue_fault(addr, true, false, cpu),
-        ProtectFault(addr, cpu) => object.queue_fault(addr, true, true, cpu),
-        LoadFault(addr, cpu) => object.queue_fault(addr, false, false, cpu),
+        MissingFault(addr, cpu) => object.queue_fault(addr, true, cpu),
+        ProtectFault(addr, cpu) => object.queue_protect_fault(addr, cpu),
+        LoadFault(addr, cpu) => object.queue_fault(addr, false, cpu),
         Event(message, cpu) => object.queue_event(message, cpu),
         Move(from, to, count) => {
             inside(rt, from, count);

@@ -49,7 +49,7 @@ impl<'a> Iterator for Iter<'a> {
 
     fn next(&mut self) -> Option<PageNo> {
         self.pages.ends_by_high_page();
-        let page = self.pages.next(self.from, true);
+        let page = self.pages.next_member(self.from);
         if page == HIGH_PAGE {
             return None;
         }
@@ -101,11 +101,11 @@ impl<'a> Iterator for Runs<'a> {
 
     fn next(&mut self) -> Option<Run> {
         self.pages.ends_by_high_page();
-        let first = self.pages.next(self.from, true);
+        let first = self.pages.next_member(self.from);
         if first == HIGH_PAGE {
             return None;
         }
-        let end = self.pages.next(first, false);
+        let end = self.pages.next_gap(first);
         self.from = end;
         Some(Run {
             first,

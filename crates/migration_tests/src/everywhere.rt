@@ -109,7 +109,7 @@ fn make_first(rt: &impl Abort, world: &mut World, steps: &[Step]) -> bool {
 fn steps_on(world: &World) -> [Step; 9] {
     let ticket = Ticket {
         epoch: world.epoch(),
-        page: world.remaining().next(0, true),
+        page: world.remaining().next_member(0),
     };
     [
         Step::SourceRead,

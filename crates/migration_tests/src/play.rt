@@ -86,7 +86,7 @@ pub fn look(world: &World, call: Call) -> Answer {
         Call::Source => Answer::SourceIs(world.source_phase(), world.epoch()),
         Call::Remaining => {
             let remaining = world.remaining();
-            Answer::Remain(remaining.len(), remaining.next(0, true))
+            Answer::Remain(remaining.len(), remaining.next_member(0))
         }
         Call::Cpu(cpu) => match world.cpu_state(cpu) {
             Ok(state) => Answer::CpuIs(state),

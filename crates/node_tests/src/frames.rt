@@ -140,7 +140,7 @@ pub fn frame_of(rt: &impl Abort, alloc: Global, sending: Sending) -> Result<Fram
 }
 
 fn range_of(pages: &PageSet) -> Range {
-    (pages.next(0, true), pages.len())
+    (pages.next_member(0), pages.len())
 }
 
 impl Brief {

@@ -69,7 +69,7 @@ fn are_pages(pages: &PageSet) -> bool
     ensures { IsTrue result ↔ ArePages pages.now }
 {
     pages.ends_by_high_page();
-    LOW_PAGE <= pages.next(0, true)
+    LOW_PAGE <= pages.next_member(0)
 }
 
 /// Whether the pages of a set may all be mapped at once.

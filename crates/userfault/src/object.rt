@@ -162,28 +162,42 @@ impl Userfault {
         missing && protect
     }
 
-    /// Queues the page fault of processor `cpu` at `addr`: a store if `write`, else a load; of a write-protected page if `wp`, else
-    /// of a missing one. If a fault of this kind at this address is already unread, it stays the only one and keeps its thread,
-    /// whichever processor caused it. The call searches all unread faults. `NoMemory` only if there is no such fault; it changes
-    /// nothing.
-    pub fn queue_fault(
-        &mut self,
-        addr: Addr,
-        write: bool,
-        wp: bool,
-        cpu: u8,
-    ) -> Result<(), NoMemory>
-        ensures ok { OnOk result (self.new ≡ machine.fault_queued self.old addr write wp cpu) }
-        ensures memory { OnErr result (machine.waits_fault self.old.faults addr wp ≡ false) }
+    /// Queues the page fault of processor `cpu` at `addr` of a missing page: a store if `write`, else a load. If such a fault at this
+    /// address is already unread, it stays the only one and keeps its thread, whichever processor caused it. The call searches all
+    /// unread faults. `NoMemory` only if there is no such fault; it changes nothing.
+    pub fn queue_fault(&mut self, addr: Addr, write: bool, cpu: u8) -> Result<(), NoMemory>
+        ensures ok { OnOk result (self.new ≡ machine.fault_queued self.old addr write false cpu) }
+        ensures memory { OnErr result (machine.waits_fault self.old.faults addr false ≡ false) }
         ensures err { OnErr result (self.new ≡ self.old) }
     {
-        if waits(&self.faults, addr, wp) {
+        if waits(&self.faults, addr, false) {
             return Ok(());
         }
         let message = Message::PageFault {
             addr,
             write,
-            wp,
+            wp: false,
+            tid: self.thread_id(cpu),
+        };
+        self.faults.push_back(Noted::new(message, cpu))?;
+        Ok(())
+    }
+
+    /// Queues the page fault of a store of processor `cpu` at `addr` to a write-protected page. An unread fault of the same kind and
+    /// address stays the only one, as with [`queue_fault`](Userfault::queue_fault). The call searches all unread faults. `NoMemory`
+    /// only if there is no such fault; it changes nothing.
+    pub fn queue_protect_fault(&mut self, addr: Addr, cpu: u8) -> Result<(), NoMemory>
+        ensures ok { OnOk result (self.new ≡ machine.fault_queued self.old addr true true cpu) }
+        ensures memory { OnErr result (machine.waits_fault self.old.faults addr true ≡ false) }
+        ensures err { OnErr result (self.new ≡ self.old) }
+    {
+        if waits(&self.faults, addr, true) {
+            return Ok(());
+        }
+        let message = Message::PageFault {
+            addr,
+            write: true,
+            wp: true,
             tid: self.thread_id(cpu),
         };
         self.faults.push_back(Noted::new(message, cpu))?;

@@ -63,7 +63,7 @@ impl DirtyLog {
         ensures least { result ≡ machine.least_of self.now.todo }
         ensures below { IfSome result (λ page. page < HIGH_PAGE) }
     {
-        let page = self.todo.next(self.from, true);
+        let page = self.todo.next_member(self.from);
         if page < HIGH_PAGE { Some(page) } else { None }
     }
 
@@ -75,7 +75,7 @@ impl DirtyLog {
         ensures few { result ≤ most }
     {
         self.todo.ends_by_high_page();
-        let end = self.todo.next(first, false);
+        let end = self.todo.next_gap(first);
         (end - first).min(most)
     }
 
@@ -167,7 +167,7 @@ impl DirtyLog {
     {
         space.is_in_order();
         PageSet::insert_range_in_both(&mut self.clean, &mut self.sent, first, count)?;
-        if self.todo.next(self.from, true) >= first {
+        if self.todo.next_member(self.from) >= first {
             self.from = self.from.max(first + count);
         }
         self.todo.remove_range(first, count);

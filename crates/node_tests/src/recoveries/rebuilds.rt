@@ -51,7 +51,7 @@ fn looks(source: &Source) -> Answer {
     let remaining = source.remaining();
     Stands(
         source.phase(),
-        (remaining.next(0, true), remaining.len()),
+        (remaining.next_member(0), remaining.len()),
         source.log().next_page(),
         source.packaged(),
     )

@@ -134,14 +134,14 @@ impl Brief {
                 Some(last) => Brief::Run(*first, pages.len(), last.as_array()[0]),
                 None => Brief::Unfit,
             },
-            Frame::Discard { pages } => Brief::Discard(pages.next(0, true), pages.len()),
+            Frame::Discard { pages } => Brief::Discard(pages.next_member(0), pages.len()),
             Frame::Package {
                 areas,
                 owed,
                 commands,
             } => Brief::Package(
                 areas.mapped_pages(),
-                owed.next(0, true),
+                owed.next_member(0),
                 owed.len(),
                 first_two(commands),
             ),

@@ -151,6 +151,6 @@ impl Source {
 fn least_page(pages: &PageSet) -> Option<PageNo>
     ensures { result ≡ least_of pages.now }
 {
-    let page = pages.next(0, true);
+    let page = pages.next_member(0);
     if page < HIGH_PAGE { Some(page) } else { None }
 }

@@ -44,12 +44,12 @@ impl Space {
         let mode = self.object.mode_at(page);
         if mode.missing && self.pages.get(page).is_none() {
             self.object
-                .queue_fault(page_address(page), command.is_store(), false, cpu)?;
+                .queue_fault(page_address(page), command.is_store(), cpu)?;
             return Ok(Access::Missing);
         }
         if command.is_store() && mode.protect && self.pages.is_protected(page) {
             self.object
-                .queue_fault(page_address(page), true, true, cpu)?;
+                .queue_protect_fault(page_address(page), cpu)?;
             return Ok(Access::Protected);
         }
         if let Command::Store { addr, width, value } = command {

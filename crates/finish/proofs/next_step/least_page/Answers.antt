@@ -7,8 +7,8 @@ use Rattle.finish.proofs.next_step.least_page.Goals as goal
 
 pub returns-then-page-lt-HIGH_PAGE : goal.returns-then-page-lt-HIGH_PAGE
 returns-then-page-lt-HIGH_PAGE c =
-    sym (least_below-is (contains c.args.pages.now) HIGH_PAGE c.next-page.result c.if-page-lt-HIGH_PAGE.true (c.next-page.ensures.here c.if-page-lt-HIGH_PAGE.true) (none_before c.args.pages.now c.args.from c.next-page.result c.requires.below c.next-page.ensures.before))
+    sym (least_below-is (contains c.args.pages.now) HIGH_PAGE c.next_member-page.result c.if-page-lt-HIGH_PAGE.true (c.next_member-page.ensures.here c.if-page-lt-HIGH_PAGE.true) (none_before c.args.pages.now c.args.from c.next_member-page.result c.requires.below c.next_member-page.ensures.before))
 
 pub returns-else-page-lt-HIGH_PAGE : goal.returns-else-page-lt-HIGH_PAGE
 returns-else-page-lt-HIGH_PAGE c =
-    sym (least_below-none (contains c.args.pages.now) HIGH_PAGE (none_before c.args.pages.now c.args.from HIGH_PAGE c.requires.below (λ page from l. c.next-page.ensures.before page from (omega (arith, c.if-page-lt-HIGH_PAGE.false)))))
+    sym (least_below-none (contains c.args.pages.now) HIGH_PAGE (none_before c.args.pages.now c.args.from HIGH_PAGE c.requires.below (λ page from l. c.next_member-page.ensures.before page from (omega (arith, c.if-page-lt-HIGH_PAGE.false)))))

@@ -9,11 +9,11 @@ pub returns-then-page-lt-HIGH_PAGE-clause-least : goal.returns-then-page-lt-HIGH
 returns-then-page-lt-HIGH_PAGE-clause-least c =
     let todo = ap (λ log. log.todo) c.self.view_is in
     rw (← todo)
-    (sym (least_below-is (contains c.self.inside.todo) HIGH_PAGE c.next-page.result c.if-page-lt-HIGH_PAGE.true (c.next-page.ensures.here c.if-page-lt-HIGH_PAGE.true)
-    (λ q l. none_before (contains c.self.inside.todo) c.self.inside.from c.next-page.result q c.self.invariant.0.none c.next-page.ensures.before l)))
+    (sym (least_below-is (contains c.self.inside.todo) HIGH_PAGE c.next_member-page.result c.if-page-lt-HIGH_PAGE.true (c.next_member-page.ensures.here c.if-page-lt-HIGH_PAGE.true)
+    (λ q l. none_before (contains c.self.inside.todo) c.self.inside.from c.next_member-page.result q c.self.invariant.0.none c.next_member-page.ensures.before l)))
 
 pub returns-else-page-lt-HIGH_PAGE-clause-least : goal.returns-else-page-lt-HIGH_PAGE-clause-least
 returns-else-page-lt-HIGH_PAGE-clause-least c =
     let todo = ap (λ log. log.todo) c.self.view_is in
     rw (← todo)
-    (sym (least_below-none (contains c.self.inside.todo) HIGH_PAGE (λ q l. none_before (contains c.self.inside.todo) c.self.inside.from c.next-page.result q c.self.invariant.0.none c.next-page.ensures.before (omega (arith, l, c.if-page-lt-HIGH_PAGE.false)))))
+    (sym (least_below-none (contains c.self.inside.todo) HIGH_PAGE (λ q l. none_before (contains c.self.inside.todo) c.self.inside.from c.next_member-page.result q c.self.invariant.0.none c.next_member-page.ensures.before (omega (arith, l, c.if-page-lt-HIGH_PAGE.false)))))

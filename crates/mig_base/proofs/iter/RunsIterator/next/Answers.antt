@@ -4,17 +4,17 @@ use Rattle.mig_base.proofs.iter.RunsIterator.next.Goals as goal
 
 pub returns-then-first-eq-HIGH_PAGE-clause-steps : goal.returns-then-first-eq-HIGH_PAGE-clause-steps
 returns-then-first-eq-HIGH_PAGE-clause-steps c =
-    let none = nothing_left c.self.inside.pages.now c.args.self.now c.self.inside.from c.self.view_is c.ends_by_high_page.ensures (λ q l m. c.next-first.ensures.before q l (omega (arith, c.if-first-eq-HIGH_PAGE.true))) in
+    let none = nothing_left c.self.inside.pages.now c.args.self.now c.self.inside.from c.self.view_is c.ends_by_high_page.ensures (λ q l m. c.next_member-first.ensures.before q l (omega (arith, c.if-first-eq-HIGH_PAGE.true))) in
     (none, none)
 
 pub returns-clause-steps : goal.returns-clause-steps
 returns-clause-steps c =
     let pages = c.self.inside.pages.now in
-    let first = c.next-first.result in
-    let end = c.next-end.result in
-    let some : first < end = longer_run pages first end c.ends_by_high_page.ensures (c.next-first.ensures.here (omega (arith, c.next-first.ensures.range.1, c.if-first-eq-HIGH_PAGE.false))) c.next-end.ensures.range.0 c.next-end.ensures.here in (
-      first_left pages c.args.self.now c.self.inside.from c.self.view_is c.ends_by_high_page.ensures first end c.next-end.ensures.range.1 c.next-first.ensures.range.0 some c.next-first.ensures.before c.next-end.ensures.before c.next-end.ensures.here,
-      rest_left pages c.args.self.now c.self.inside.from c.self.view_is c.ends_by_high_page.ensures first end c.next-end.ensures.range.1 c.next-first.ensures.range.0 some c.next-first.ensures.before c.next-end.ensures.before c.next-end.ensures.here,
+    let first = c.next_member-first.result in
+    let end = c.next_gap-end.result in
+    let some : first < end = longer_run pages first end c.ends_by_high_page.ensures (c.next_member-first.ensures.here (omega (arith, c.next_member-first.ensures.range.1, c.if-first-eq-HIGH_PAGE.false))) c.next_gap-end.ensures.range.0 c.next_gap-end.ensures.here in (
+      first_left pages c.args.self.now c.self.inside.from c.self.view_is c.ends_by_high_page.ensures first end c.next_gap-end.ensures.range.1 c.next_member-first.ensures.range.0 some c.next_member-first.ensures.before c.next_gap-end.ensures.before c.next_gap-end.ensures.here,
+      rest_left pages c.args.self.now c.self.inside.from c.self.view_is c.ends_by_high_page.ensures first end c.next_gap-end.ensures.range.1 c.next_member-first.ensures.range.0 some c.next_member-first.ensures.before c.next_gap-end.ensures.before c.next_gap-end.ensures.here,
     )
 
 pub returns-clause-goes : goal.returns-clause-goes
