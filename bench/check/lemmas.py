@@ -31,7 +31,11 @@ def head_of(file):
 
 
 def files(crate):
-    return sorted(it for it in (CRATES / crate / "proofs").glob("*.antt") if it.stem != "Lib")
+    """The files of lemmas of a crate and of its folders of lemmas. A folder has a file of its name beside it."""
+    proofs = CRATES / crate / "proofs"
+    at_the_top = [it for it in proofs.glob("*.antt") if it.stem != "Lib"]
+    in_folders = [it for beside in at_the_top for it in beside.with_suffix("").glob("*.antt")]
+    return sorted(at_the_top + in_folders)
 
 
 def listed():
@@ -40,7 +44,7 @@ def listed():
     yield "They lead from the definitions of the model to its laws. `./dev pages` writes this page.\n"
     for crate in CRATES_OF_LEMMAS:
         yield f"## `{crate}`\n\n| File | What it shows |\n|---|---|"
-        yield from (f"| [{it.stem}](../crates/{crate}/proofs/{it.name}) | {head_of(it)} |" for it in files(crate))
+        yield from (f"| [{it.stem}](../{it.relative_to(page.TOP)}) | {head_of(it)} |" for it in files(crate))
         yield ""
 
 

@@ -1,7 +1,7 @@
 -- What is promised of every world and of every step, in words that know nothing of the steps.
 use Rattle.std.proofs.Common.{◌≡◌, ℕ, ◌/◌, zero, suc, Bool, true, false, eqb, Option, Some, None, List, [], ◌∷◌, ◌++◌, refl, sym, ap, ◌∙◌, subst, ◌⊎◌, inl, inr, ⊎_elim, arith, append-nil, not}
 use Rattle.std.specs.Prelude.{set, Ok, Err, IsOk}
-use Rattle.std.proofs.lemmas.Bool.{false≢true}
+use Rattle.std.proofs.lemmas.Bool.{false≢true, eqb-true, eqb-false}
 use Rattle.std.proofs.lemmas.Bool.Decides.{nat_tests}
 use Rattle.std.proofs.lemmas.Option.{none-some}
 use Rattle.mig_base.specs.Commands.{is_access}
@@ -35,7 +35,7 @@ use Rattle.mig_model.proofs.steps.StepLemmas.{Holds, holds-effect, holds-map, ne
 use Rattle.mig_model.proofs.steps.StepPromises.{destination_zeroed, source_zeroed}
 use Rattle.mig_model.proofs.steps.StepWorlds.{after_command}
 use Rattle.mig_model.proofs.completion.ViewPromises.{phase_complete}
-use Rattle.mig_model.proofs.transcript.WaitingCommands.{idle_at, is_try, same_waits, set_there, tried_guest, tried_other}
+use Rattle.mig_model.proofs.transcript.WaitingCommands.{idle_at, is_try, same_waits, set_here, set_there, tried_guest, tried_other}
 use Rattle.world.specs.Core.{Core, CoreFirst, CoreStep, IsEntered, IsTry, processor_of, took_effect, waiting, waiting_after, with_entry}
 use Rattle.world.specs.Worlds.{IsWorld}
 use Rattle.world.proofs.ReachedLemmas.{world_happens}
@@ -68,11 +68,6 @@ record Tried (world : World) (step : Step) (made : Made) : Type 0 where
   entered : made.world.transcript ≡ world.transcript ++ entries_of cpu command (took_of world command)
   at : processor_of made.world cpu ≡ processor_after command (took_of world command)
 
-set_waiting : (processors : List CpuState) (i : ℕ) (new : CpuState) (command : Command) → outstanding (processor_at processors i) ≡ Some command → processor_at (set processors i new) i ≡ new
-set_waiting [] i new command h = absurd (none-some command h)
-set_waiting (p ∷ ps) zero new command h = refl
-set_waiting (p ∷ ps) (suc i) new command h = set_waiting ps i new command h
-
 tries : (world : World) (step : Step) → is_try step ≡ true → Makes (Tried world step) world step
 tries world (Step.Issue cpu command) h =
     λ there idle may.
@@ -92,7 +87,7 @@ tries world (Step.Retry cpu) h =
       try = inr (refl, waits);
       effect = refl;
       entered = refl;
-      at = ap (λ g. processor_at g.cpus cpu) (tried_guest world cpu command) ∙ set_waiting (guest_of world).cpus cpu (processor_after command (took_of world command)) command waits;
+      at = ap (λ g. processor_at g.cpus cpu) (tried_guest world cpu command) ∙ set_here (guest_of world).cpus cpu (processor_after command (took_of world command)) command waits;
     }
 tries world _ h = absurd (false≢true h)
 
@@ -214,12 +209,6 @@ after_retry : (took : Took) (command : Command) (cpu k : ℕ) (before now : Opti
     now ≡ waiting_after (Step.Retry cpu) (Ok (try_effect cpu took)) k before
 after_retry took command cpu k before now here there = grind (arith, nat_tests)
 
-same_number : (cpu k : ℕ) → eqb cpu k ≡ true → cpu ≡ k
-same_number cpu k h = grind (arith, nat_tests)
-
-other_number : (cpu k : ℕ) → eqb cpu k ≡ false → cpu ≡ k → ⊥
-other_number cpu k h e = grind (arith, nat_tests)
-
 abbrev WaitsIn : World → Step → ℕ → Effect → World → Type 0
 WaitsIn world step k effect new = waiting new k ≡ waiting_after step (Ok effect) k (waiting world k)
 
@@ -231,19 +220,19 @@ waits_ok world (Step.Issue cpu command) k effect reached is =
     let at = ap (λ g. processor_at g.cpus cpu) (tried_guest world cpu command) ∙ set_there (guest_of world).cpus cpu (processor_after command (took_of world command)) there in
     after_issue (took_of world command) command cpu k (waiting world k) (waiting new k)
     (λ h.
-    let same = same_number cpu k h in
+    let same = eqb-true cpu k h in
     (subst (λ j. waiting new j ≡ outstanding (processor_after command (took_of world command))) same (ap outstanding at), subst (λ j. waiting world j ≡ None) same (ap outstanding (idle_is (processor_of world cpu) idle))))
-    (λ h. tried_other world cpu command k (other_number cpu k h))) is
+    (λ h. tried_other world cpu command k (eqb-false cpu k h))) is
 waits_ok world (Step.Retry cpu) k effect reached is =
     made-effect (WaitsIn world (Step.Retry cpu) k) world (Step.Retry cpu) effect
     (λ command waits woken may.
     let new = after_command world cpu command in
-    let at = ap (λ g. processor_at g.cpus cpu) (tried_guest world cpu command) ∙ set_waiting (guest_of world).cpus cpu (processor_after command (took_of world command)) command waits in
+    let at = ap (λ g. processor_at g.cpus cpu) (tried_guest world cpu command) ∙ set_here (guest_of world).cpus cpu (processor_after command (took_of world command)) command waits in
     after_retry (took_of world command) command cpu k (waiting world k) (waiting new k)
     (λ h.
-    let same = same_number cpu k h in
+    let same = eqb-true cpu k h in
     (subst (λ j. waiting new j ≡ outstanding (processor_after command (took_of world command))) same (ap outstanding at), subst (λ j. waiting world j ≡ Some command) same waits))
-    (λ h. tried_other world cpu command k (other_number cpu k h))) is
+    (λ h. tried_other world cpu command k (eqb-false cpu k h))) is
 waits_ok world step k effect reached is = same_waits world step (kept-reached world reached) refl k ∙ sym (after_other step (Ok effect) k (waiting world k) refl)
 
 waits_by : (world : World) (step : Step) (k : ℕ) (result : Outcome) → IsReached world → outcome world step ≡ result → waiting (next world step) k ≡ waiting_after step result k (waiting world k)

@@ -92,7 +92,7 @@ every_page test first count page h low high =
 found_bound : (o : Option ℕ) (here : Bool) (bound k : ℕ) → (o ≡ Some k → k < bound) → (elim o [ Some least ↦ Some least | None ↦ cond here (Some bound) None ]) ≡ Some k → k < suc bound
 found_bound o here bound k h e = grind (arith, nat_tests)
 
-least_bound : (test : ℕ → Bool) (bound k : ℕ) → least_below test bound ≡ Some k → k < bound
+pub least_bound : (test : ℕ → Bool) (bound k : ℕ) → least_below test bound ≡ Some k → k < bound
 unfolding least_below
 least_bound test zero k h = absurd (cc)
 least_bound test (suc bound) k h = found_bound (least_below test bound) (test bound) bound k (λ e. least_bound test bound k e) h

@@ -210,7 +210,7 @@ waits_arise world step k command kept = λ h. inl (sym (same_waits world step ke
 
 -- How a try changes its processor
 
-set_here : (processors : List CpuState) (i : ℕ) (new : CpuState) (command : Command) → outstanding (processor_at processors i) ≡ Some command → processor_at (set processors i new) i ≡ new
+pub set_here : (processors : List CpuState) (i : ℕ) (new : CpuState) (command : Command) → outstanding (processor_at processors i) ≡ Some command → processor_at (set processors i new) i ≡ new
 set_here [] i new command h = absurd (none-some command h)
 set_here (p ∷ ps) zero new command h = refl
 set_here (p ∷ ps) (suc i) new command h = set_here ps i new command h
