@@ -120,7 +120,11 @@ fn make(rt: &impl Abort, alloc: Global, set: &mut PageSet, call: Call) -> Result
         Len => return Ok(Number(set.len())),
         Next(from, want) => {
             inside(rt, from, 0);
-            return Ok(Number(if want { set.next_member(from) } else { set.next_gap(from) }));
+            return Ok(Number(if want {
+                set.next_member(from)
+            } else {
+                set.next_gap(from)
+            }));
         }
         NextBefore(from, want, end) => {
             assert!(rt; from <= end && end <= HIGH_PAGE);

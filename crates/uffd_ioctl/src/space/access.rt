@@ -48,8 +48,7 @@ impl Space {
             return Ok(Access::Missing);
         }
         if command.is_store() && mode.protect && self.pages.is_protected(page) {
-            self.object
-                .queue_protect_fault(page_address(page), cpu)?;
+            self.object.queue_protect_fault(page_address(page), cpu)?;
             return Ok(Access::Protected);
         }
         if let Command::Store { addr, width, value } = command {
