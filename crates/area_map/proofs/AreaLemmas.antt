@@ -52,7 +52,7 @@ before_middle (x ∷ xs) ys a h = All-cons (λ y. IsBefore y a) x xs (All-middle
 pub drop_at_area : (areas : List Area) (n : ℕ) → n < length areas → drop n areas ≡ get_or areas n no_area ∷ drop (n + 1) areas
 drop_at_area areas n below = drop_more areas n no_area below
 
--- the area at an index, and those behind it
+-- the area at an index, and those after it
 pub runs_at : (areas : List Area) (n : ℕ) → AreRuns areas → n < length areas → AreRuns (get_or areas n no_area ∷ drop (n + 1) areas)
 runs_at areas n h below = subst AreRuns (drop_at_area areas n below) (AreRuns-drop n areas h)
 
@@ -87,7 +87,7 @@ option_or-none (Some x) = refl
 pub prot_in-split : (areas : List Area) (n q : ℕ) → prot_in areas q ≡ option_or (prot_in (take n areas) q) (prot_in (drop n areas) q)
 prot_in-split areas n q = ap (λ xs. prot_in xs q) (sym (take-append-drop n areas)) ∙ prot_in-append (take n areas) (drop n areas) q
 
--- behind all areas nothing is mapped
+-- after all areas nothing is mapped
 pub prot_in-past : (areas : List Area) (end q : ℕ) → All (EndsBy end) areas → end ≤ q → prot_in areas q ≡ None
 unfolding prot_in
 prot_in-past [] end q h l = refl
@@ -118,7 +118,7 @@ pub prot_in-rest_below : (a : Area) (areas : List Area) (q : ℕ) → q < a.firs
 unfolding prot_in
 prot_in-rest_below a areas q l = ap (λ b. cond b (Some a.prot) (prot_in areas q)) (in_range-false_below a.first a.count q l)
 
--- no page up to the end of an area is in those behind it
+-- no page up to the end of an area is in those after it
 pub prot_in-behind : (a : Area) (rest : List Area) (q : ℕ) → AreRuns (a ∷ rest) → q < a.first + a.count → prot_in rest q ≡ None
 prot_in-behind a rest q h u =
     prot_in-before rest q (All-weaker (IsBefore a) (BeginsAfter q) (λ x b. let apart = b.apart in omega arith) rest h.1)
@@ -151,7 +151,7 @@ All-take_at P areas n at below is h =
     let before : n < at = omega arith in
     subst P (get_or-take at areas n no_area before) (h n no_area (omega (arith, length-take at areas)))
 
--- a page behind an area and before the next
+-- a page after an area and before the next
 pub prot_in-outside : (areas : List Area) (n at q : ℕ) → AreRuns areas → n < length areas → at ≡ n + 1 → (get_or areas n no_area).first + (get_or areas n no_area).count ≤ q → All (BeginsAfter q) (drop at areas) → prot_in areas q ≡ None
 prot_in-outside areas n at q h below is end after =
     prot_in-split areas at q

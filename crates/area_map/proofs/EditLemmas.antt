@@ -17,14 +17,14 @@ use Rattle.area_map.proofs.AreaLemmas.{no_area, EndsBy, AreRuns-append, prot_in-
 
 -- Indices
 
--- an area that ends before the range and begins behind it
+-- an area that ends before the range and begins after it
 crossed : (areas : List Area) (low high first end : ℕ) → low ≤ length areas → first ≤ end → All (EndsBefore first) (take low areas) → All (BeginsAfter end) (drop high areas) → high < low → ⊥
 crossed areas low high first end within order front back wrong =
     let behind : BeginsAfter end (get_or areas high no_area) = All-drop_at (BeginsAfter end) areas high (omega arith) back in
     let before : EndsBefore first (get_or areas high no_area) = subst (EndsBefore first) (get_or-take low areas high no_area wrong) (front high no_area (omega (arith, length-take low areas))) in
     omega arith
 
--- the areas that end before a page stand before those that begin behind it
+-- the areas that end before a page stand before those that begin after it
 pub in_order : (areas : List Area) (low high first end : ℕ) → low ≤ length areas → first ≤ end → All (EndsBefore first) (take low areas) → All (BeginsAfter end) (drop high areas) → low ≤ high
 in_order areas low high first end within order front back =
     ⊎_elim

@@ -41,7 +41,7 @@ part_inside first count part_first part_count from to range q f e t = grind (ari
 part_outside : (first count part_first part_count from to range q : ℕ) → part_first ≡ min (from + range) (max from first) → part_first + part_count ≡ min (from + range) (max from (first + count)) → in_range to range q ≡ false → in_range ((part_first - from) + to) part_count q ≡ false
 part_outside first count part_first part_count from to range q f e t = grind (arith, nat_tests)
 
--- an area behind others that do not have the page
+-- an area after others that do not have the page
 behind : (b : Bool) (x : Prot) (o : Option Prot) → (b ≡ true → o ≡ None) → cond b (Some x) o ≡ option_or o (cond b (Some x) None)
 behind true x o h = rw (h refl) refl
 behind false x None h = refl

@@ -10,7 +10,7 @@ use Rattle.area_map.specs.Areas.{prot_in, IsBefore, AreRuns, BeginsAfter}
 use Rattle.area_map.specs.Ranges.{HasOneProt}
 use Rattle.area_map.proofs.AreaLemmas.{no_area, runs_at, prot_in-first, prot_in-rest_above, prot_in-rest_below, prot_in-behind, prot_in-from, prot_in-at, prot_in-outside}
 
--- the page behind an area has another protection, or none
+-- the page after an area has another protection, or none
 pub ends_there : (a : Area) (rest : List Area) → AreRuns (a ∷ rest) → prot_in rest (a.first + a.count) ≡ Some a.prot → ⊥
 unfolding prot_in
 ends_there a [] h e = some_is_none a.prot None e refl

@@ -5,7 +5,7 @@ use Rattle.std.specs.List.Sorted.{IsNonDecreasingBy}
 use Rattle.mig_base.specs.declared.Area.{Area}
 use Rattle.area_map.specs.Areas.{AreRuns}
 
--- each area begins, and ends, no later than those behind it
+-- each area begins, and ends, no later than those after it
 pub begin_in_order : (areas : List Area) → AreRuns areas → IsNonDecreasingBy (λ a. a.first) areas
 begin_in_order [] h i j d l u = absurd (omega arith)
 begin_in_order (a ∷ rest) h zero zero d l u = omega arith

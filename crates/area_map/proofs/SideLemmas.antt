@@ -36,7 +36,7 @@ IsBelow-none areas at start page prot runs within front until apart back joined 
 front_apart : (areas : List Area) (page : ℕ) (prot : Option Prot) → All (EndsBefore page) areas → All (StandsBelow page prot) areas
 front_apart areas page prot h = All-weaker (EndsBefore page) (StandsBelow page prot) (λ x e. record { apart = omega arith; differ = λ same. absurd (omega arith) }) areas h
 
--- the next area begins at the page or behind it
+-- the next area begins at the page or after it
 pub IsBelow-whole : (areas : List Area) (at page : ℕ) (prot : Option Prot) → AreRuns areas → at < length areas → All (EndsBefore page) (take at areas) → page ≤ (get_or areas at no_area).first → IsBelow areas (record { at = at; part = None; page = page }) page prot
 IsBelow-whole areas at page prot runs below front from =
     let a = get_or areas at no_area in

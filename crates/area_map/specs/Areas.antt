@@ -49,7 +49,7 @@ pub record AreCounted (areas : List Area) (mapped : ℕ) : Type 0 where
 abbrev pub BeginsBy : ℕ → Area → Type 0
 BeginsBy page area = area.first ≤ page
 
--- the area begins behind the page
+-- the area begins after the page
 abbrev pub BeginsAfter : ℕ → Area → Type 0
 BeginsAfter page area = page < area.first
 
@@ -57,7 +57,7 @@ BeginsAfter page area = page < area.first
 abbrev pub EndsBefore : ℕ → Area → Type 0
 EndsBefore page area = area.first + area.count < page
 
--- the area contains the page, lies behind it, or ends right before it
+-- the area contains the page, lies after it, or ends right before it
 abbrev pub EndsFrom : ℕ → Area → Type 0
 EndsFrom page area = page ≤ area.first + area.count
 

@@ -15,7 +15,7 @@ pub record StandsBelow (page : ℕ) (prot : Option Prot) (area : Area) : Type 0 
   pub apart : area.first + area.count ≤ page
   pub differ : area.first + area.count ≡ page → Some area.prot ≢ prot
 
--- the area begins at the page or behind it, and if it begins there, its protection is not `prot`
+-- the area begins at the page or after it, and if it begins there, its protection is not `prot`
 pub record StandsAbove (page : ℕ) (prot : Option Prot) (area : Area) : Type 0 where
   pub apart : page ≤ area.first
   pub differ : page ≡ area.first → Some area.prot ≢ prot

@@ -31,7 +31,7 @@ pub fn frames(alloc: Global, pages: u32) -> Result<Vec<Frame>, Failed> {
     Ok(frames)
 }
 
-/// Writes the frames one behind the other.
+/// Writes the frames one after the other.
 pub fn write_all(frames: &[Frame], stream: &mut Vec<u8>) -> Result<(), Failed> {
     for frame in frames {
         if !frame.is_well_formed() {

@@ -1,6 +1,6 @@
 //! Times the codec: frames of pages that are written with `page_stream` and read with `frame_decoder`. The words are one of:
 //!
-//! - `pages PIECE BATCH ROUNDS`: writes BATCH frames one behind the other and feeds them in pieces of PIECE bytes, ROUNDS times;
+//! - `pages PIECE BATCH ROUNDS`: writes BATCH frames one after the other and feeds them in pieces of PIECE bytes, ROUNDS times;
 //!   beside that it copies the same number of pages of 4096 bytes twice. Prints the nanoseconds a page of both.
 //! - `feed PIECE BATCH ROUNDS`: writes BATCH frames once, and feeds them ROUNDS times in pieces of PIECE bytes. Prints the bytes, and
 //!   the picoseconds a byte.

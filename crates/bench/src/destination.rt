@@ -153,7 +153,7 @@ fn make(destination: &mut Destination, command: Command) -> Result<(), Failed> {
     }
 }
 
-/// Has the processor make `calls` calls, each over one page, `APART` pages behind that of the last.
+/// Has the processor make `calls` calls, each over one page, `APART` pages after that of the last.
 pub fn make_all(
     destination: &mut Destination,
     kind: Call,

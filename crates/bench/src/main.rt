@@ -58,7 +58,7 @@ impl Part {
         }
     }
 
-    /// Prints what the words behind that of the part ask for.
+    /// Prints what the words after that of the part ask for.
     fn measure(self, rt: &HostRuntime, words: &[String]) -> io::Result<()> {
         match self {
             Part::Source => source_times::measure(rt, words),
@@ -77,7 +77,7 @@ fn try_all(rt: &HostRuntime) -> io::Result<()> {
     Ok(())
 }
 
-/// Does what a word, and those behind it, ask for.
+/// Does what a word, and those after it, ask for.
 fn obey(rt: &HostRuntime, word: &str, rest: &[String]) -> io::Result<()> {
     match Part::from_word(word) {
         Some(part) if rest.is_empty() => part.try_few(rt),

@@ -18,7 +18,7 @@ pub enum Work {
     PreCopy,
     /// It was sent, and is stored to: the store faults on its protection, and is made once that is gone.
     Store,
-    /// It is pushed behind the switch, delivered and installed.
+    /// It is pushed after the switch, delivered and installed.
     PostCopy,
     /// It is loaded at the destination: the load faults, and is made once the page was asked for, sent and installed.
     Fault,

@@ -2,7 +2,7 @@
 //! sent, what post-copy does for it, and a fault at the destination.
 //!
 //! Each word is a number of pages, for which it prints how many nanoseconds a page took, and beside them those of two loops that copy as
-//! many pages, to others that are there and to new ones. Behind the word `new-copies` it does nothing but the loop over new ones, which
+//! many pages, to others that are there and to new ones. After the word `new-copies` it does nothing but the loop over new ones, which
 //! has no memory from the work before then.
 
 use crate::copies;

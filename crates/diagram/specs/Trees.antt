@@ -11,7 +11,7 @@ use Rattle.diagram.specs.Names.{tag_name, key_name}
 abbrev pub Pair : Type 0
 Pair = Key × List ℕ
 
--- what stands inside an element: nothing, or a text or an element behind what stands before it
+-- what stands inside an element: nothing, or a text or an element after what stands before it
 pub data Contents : Type 0 where
   Nothing : Contents
   Words : Contents → List ℕ → Contents

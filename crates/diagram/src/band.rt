@@ -30,7 +30,7 @@ impl Columns {
 #[derive(Clone, Copy)]
 pub(crate) struct Stretch {
     pub row: u32,
-    /// The first column, and the one behind the last.
+    /// The first column, and the one after the last.
     pub from: u32,
     pub to: u32,
     pub state: State,
@@ -46,7 +46,7 @@ struct Thread {
     now: State,
     peak: State,
     about: u32,
-    /// The stretch that goes on.
+    /// The stretch that continues.
     open: Stretch,
 }
 
@@ -114,7 +114,7 @@ impl Band {
         }
     }
 
-    /// Ends the stretches that do not go on in a column: all of them behind the last.
+    /// Ends the stretches that do not continue in a column: all of them after the last.
     fn cut(&mut self, memory: &mut Memory, column: u32, columns: Columns) {
         let last = column >= columns.count();
         for thread in self.threads.iter_mut() {

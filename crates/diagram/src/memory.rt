@@ -3,7 +3,7 @@
 use crate::text::{Part, push_all};
 use std::alloc::Global;
 
-/// Memory for lists and texts. Where it runs out, the work goes on with what there is, and the picture is not made in the end.
+/// Memory for lists and texts. Where it runs out, the work continues with what there is, and the picture is not made in the end.
 #[derive(Clone, Copy)]
 pub(crate) struct Memory {
     pub alloc: Global,

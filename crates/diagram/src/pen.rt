@@ -55,7 +55,7 @@ fn head(from: Place, to: Place) -> (Place, Place) {
     )
 }
 
-/// A sheet that is drawn on. Where memory runs out the drawing goes on without it, and `finish` says so: a sheet remembers that too.
+/// A sheet that is drawn on. Where memory runs out the drawing continues without it, and `finish` says so: a sheet remembers that too.
 pub(crate) struct Pen {
     sheet: Sheet,
     pub memory: Memory,

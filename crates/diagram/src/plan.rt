@@ -229,7 +229,7 @@ impl Plan {
         self.bottom = y.saturating_add(60);
     }
 
-    /// The middle of a column; the end of the columns for the one behind the last.
+    /// The middle of a column; the end of the columns for the one after the last.
     pub(crate) fn x_of(&self, column: u32) -> u64 {
         let count = self.columns.count();
         if column >= count {

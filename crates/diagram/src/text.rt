@@ -13,7 +13,7 @@ pub(crate) enum Part<'a> {
     Nothing,
     Words(&'a str),
     Number(u32),
-    /// A number of things, and what they are: with an s behind it unless there is one.
+    /// A number of things, and what they are: with an s after it unless there is one.
     Count(u32, &'a str),
     /// A page, as its address.
     Page(u32),
@@ -48,7 +48,7 @@ fn push_count(text: &mut String, count: u32, what: &str) -> Result<(), AllocErro
     text.push('s')
 }
 
-/// Adds the steps of each state, as a sum behind what they sum to.
+/// Adds the steps of each state, as a sum after what they sum to.
 fn push_sum(text: &mut String, counts: &Counts, per: u32) -> Result<(), AllocError> {
     let mut sign = "=";
     for state in State::WAITS {

@@ -9,7 +9,7 @@ use crate::state::{Counts, State};
 pub(crate) struct Wait {
     pub cpu: u32,
     pub page: u32,
-    /// The first column, and the one behind the last.
+    /// The first column, and the one after the last.
     pub from: u32,
     pub to: u32,
     /// The columns of each state.
@@ -23,7 +23,7 @@ impl Wait {
     }
 }
 
-/// Adds a stretch to the last wait if that goes on with it, or a wait that begins with it.
+/// Adds a stretch to the last wait if that continues with it, or a wait that begins with it.
 fn add(memory: &mut Memory, waits: &mut Vec<Wait>, stretch: &Stretch) {
     let columns = stretch.to.saturating_sub(stretch.from);
     if let Some(last) = waits.last_mut()

@@ -29,7 +29,7 @@ read_come todo message from come = record {
 sent_come : (todo : FinSet nat_cmp) (first count from : ℕ) → HasComeTo todo from → HasComeTo (without todo first count) from
 sent_come todo first count from come = record { inside = come.inside; none = λ q l. member_without todo first count q ∙ ap (λ b. b && not (in_range first count q)) (come.none q l) }
 
--- the first run of the round brings it behind itself
+-- the first run of the round brings it past itself
 behind : (q first count : ℕ) (was : Bool) → (q < first → was ≡ false) → q < first + count → (was && not (in_range first count q)) ≡ false
 behind q first count was low l = grind (arith, ranges)
 

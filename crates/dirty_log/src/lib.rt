@@ -1,7 +1,7 @@
 //! What the source of a migration knows about its pages: QEMU's dirty bitmap, for a guest with a userfault object.
 //!
 //! [`DirtyLog`] owns three sets of pages, clean, todo and ever sent, and the faults that the source's handler has read and not
-//! resolved yet. A page is clean from the moment at which it is write-protected and sent, until the handler lets a write to it go on or
+//! resolved yet. A page is clean from the moment at which it is write-protected and sent, until the handler lets a write to it continue or
 //! reads an event that changed it; the next round of pre-copy skips it. The source owns the address space and the processors, and lends
 //! them to the calls.
 //!

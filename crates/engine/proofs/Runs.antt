@@ -1,4 +1,4 @@
--- How a run goes on: line by line.
+-- How a run continues: line by line.
 use Rattle.std.proofs.Common.{◌≡◌, ℕ, ◌+◌, ◌<◌, ◌≤◌, List, [], ◌∷◌, ◌++◌, length, refl, sym, ap, subst, ◌∙◌, append_assoc, append-nil, arith, inl, inr, length-append}
 use Rattle.std.specs.Str.Lines.{strip_carriage_return}
 use Rattle.grammar.specs.declared.line.Language.{Language}

@@ -50,7 +50,7 @@ pub trait LineSink {
         ensures kept { OnErr result (output.new.items ≡ output.old.items) };
 
     /// Called where more than 256 bytes of the line with this number were read, and not its end. A fault ends the reading, so that a line
-    /// without end does not go on for ever; Ok reads on, and the rest of the line is not kept.
+    /// without end does not continue for ever; Ok reads on, and the rest of the line is not kept.
     fn overrun(&self, number: u64) -> Result<(), RunFault>
         ensures { IfErr result (λ fault. (raw : RawLine) → 256 < raw.len →
             LineFault (refuses self.now number raw) number fault) };

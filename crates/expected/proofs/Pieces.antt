@@ -129,7 +129,7 @@ long_fault cpus front bytes a one long ran = λ more.
 pub memory_fault : (cpus : ℕ) (front bytes : List ℕ) (a : Tester) → Ran cpus front a → FaultIn cpus (front ++ bytes) faults.NoMemory
 memory_fault cpus front bytes a ran = λ more. subst (λ (t : List ℕ). SomeMet cpus t) (sym (append_assoc front bytes more)) (some_met cpus front (bytes ++ more) a ran)
 
--- the same with more bytes behind
+-- the same with more bytes after them
 pub fault_more : (cpus : ℕ) (x y : List ℕ) (fault : RunFault) → FaultIn cpus x fault → FaultIn cpus (x ++ y) fault
 fault_more cpus x y (faults.Line n) f = λ more. subst (λ (t : List ℕ). WrongAt cpus t n) (sym (append_assoc x y more)) (f (y ++ more))
 fault_more cpus x y faults.ReadFault f = f

@@ -14,7 +14,7 @@ use Rattle.expected.proofs.Cuts.{skipped_no_order}
 pub same_words : (text : List ℕ) (a b : List (List ℕ)) → CpusLine text a → CpusLine text b → a ≡ b
 same_words text a b p q = let e : codes "#" ∷ codes "cpus" ∷ a ≡ codes "#" ∷ codes "cpus" ∷ b = sym p ∙ q in cc
 
--- the words behind # and cpus are one list of tokens
+-- the words after # and cpus are one list of tokens
 pub says_one : (text : List ℕ) (words : List (List ℕ)) (tokens : List Token) (count : ℕ) → CpusLine text words → AreTokens tokens words → SaysCpus text count → tokens ≡ Number count ∷ []
 says_one text words tokens count line are says =
     one_list tokens (Number count ∷ []) words are (subst (λ (ws : List (List ℕ)). AreTokens (Number count ∷ []) ws) (same_words text says.words words says.line line) says.number)

@@ -1,4 +1,4 @@
--- What reading means for the report on a transcript, and lists of wrong entries that go on by one.
+-- What reading means for the report on a transcript, and lists of wrong entries that continue by one.
 use Rattle.std.proofs.Common.{◌≡◌, ℕ, ◌+◌, ◌<◌, Bool, List, [], ◌∷◌, ◌++◌, length, take, get_or, Option, None, Some, refl, sym, ap, subst, ◌∙◌, append_assoc, append-nil}
 use Rattle.std.specs.Prelude.{IfSome}
 use Rattle.std.specs.Io.KnownBytes.{Appends}

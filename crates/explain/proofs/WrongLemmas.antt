@@ -1,4 +1,4 @@
--- The wrong entries of a list that goes on by one entry.
+-- The wrong entries of a list that continues by one entry.
 use Rattle.std.proofs.Common.{◌≡◌, ◌≢◌, ℕ, ◌+◌, ◌<◌, List, [], ◌∷◌, ◌++◌, length, take, get_or, refl, subst, sym, inl, inr, arith}
 use Rattle.std.proofs.lemmas.List.{take_more, length-take-le}
 use Rattle.mig_base.specs.declared.command.Entry.{Entry}

@@ -84,7 +84,7 @@ abbrev pub AreFew : Bool → ℕ → ℕ → Type 0
 AreFew false most count = count ≤ most
 AreFew true most count = ⊤
 
--- whatever lines led here, they go on to the second world
+-- whatever lines led here, they lead on to the second world
 abbrev pub GoesOn : Bool → World → Option (List ℕ) → List ℕ → World → Option (List ℕ) → List ℕ → Type 0
 GoesOn answers old gone output new now rest = (start : World) (count : ℕ) (before : Option (List ℕ)) → Going answers start count old before gone output
     → (more : ℕ) × (count ≤ more) × Going answers start more new before now rest

@@ -8,7 +8,7 @@ ghost use Rattle.mig_model.specs.GuestSteps.{issue, retry};
 ghost use Rattle.mig_model.specs.Migration.{World, answer, destination_acts, destination_sends, guest_tries};
 
 /// A step of the destination depends on the destination alone. In any world it has the effect, and leaves the destination, that the
-/// destination's own step gives; what it sends comes behind the frames in flight, or is lost while the link is down. Commands are the
+/// destination's own step gives; what it sends comes after the frames in flight, or is lost while the link is down. Commands are the
 /// destination's once it has run.
 pub fn a_step_of_the_destination()
     ensures read { (world : World) → answer world Step.DestRead ≡ destination_acts world (read world.destination) }

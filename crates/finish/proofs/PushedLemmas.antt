@@ -1,4 +1,4 @@
--- Where the search for the next page to push goes on.
+-- Where the search for the next page to push continues.
 use Rattle.std.proofs.lemmas.Bool.Decides.{nat_tests}
 use Rattle.std.proofs.Common.{◌≡◌, ℕ, zero, suc, ◌<◌, ◌≤◌, ◌&&◌, Bool, true, false, cond, eqb, not, is_some, Option, Some, None, Ok, ⊎_elim, arith, sym, refl, ◌∙◌, ap}
 use Rattle.std.proofs.lemmas.Bool.{false≢true, cases_Bool}
@@ -107,7 +107,7 @@ by_step mid new Step.Install from page pushed named made is l =
     same_source mid new page (ap (λ w. w.source) is ∙ (changes_parts mid Step.Install).source) (pushed page l)
 by_step mid new step from page pushed named made is none = grind (arith, nat_tests)
 
--- after a step that was named and made, no page remains below the one from which the search goes on
+-- after a step that was named and made, no page remains below the one from which the search continues
 pub still_pushed : (mid new : World) (step : Step) (effect : Effect) (from to : ℕ) → HasPushed mid from → finishing_step mid ≡ Some step → IsOk (outcome mid step) → Happens mid step (Ok effect) new → ((page : ℕ) → page < to → IsPast step from page) → HasPushed new to
 still_pushed mid new step effect from to pushed named made happens past page l = by_step mid new step from page pushed named made (made_next mid new step effect happens) (past page l)
 

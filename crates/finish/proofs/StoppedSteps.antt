@@ -384,7 +384,7 @@ rebuilt_as : (world : World) (has : HasReport world) (node : Source) (frames : L
     answer world (Step.DeliverBack all_bytes) ≡ made (frame_effect (Recv has.state has.owed)) (rebuilt_world world has.rest node frames)
 rebuilt_as world has node frames is sends = report_answer world has ∙ (λ i. made (frame_effect (Recv has.state has.owed)) (rebuilt_world world has.rest (is i) (sends i)))
 
--- the source goes on as a stopped one: what remains are pages that it has
+-- the source continues as a stopped one: what remains are pages that it has
 rebuilt_stopped : (world : World) (has : HasReport world) (node : Source) (frames : List Frame) → source_rebuilt has.state has.owed world.source ≡ node → rebuild_frames has.state world.source ≡ frames →
     node.phase ≡ SourcePhase.Stopped → node.switched ≡ true → len (present (space_of node)) ≡ len (present (space_of world.source)) → length frames ≤ 2 → IsDue world (Step.DeliverBack all_bytes)
 rebuilt_stopped world has node frames is sends phase switched pages most =

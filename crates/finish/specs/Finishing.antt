@@ -112,7 +112,7 @@ abbrev pub HasPushed : World → ℕ → Type 0
 HasPushed world from = HasNoneBelow world.source.remaining from
 
 -- the page does not remain after the step, if none below `from` remained before: a push, which is of the least page, leaves none up to it,
--- and the steps behind the last push leave the pages that remain as they are
+-- and the steps after the last push leave the pages that remain as they are
 abbrev pub IsPast : Step → ℕ → ℕ → Type 0
 IsPast (Step.Push ticket) from page = page ≤ ticket.page
 IsPast Step.End from page = page < from

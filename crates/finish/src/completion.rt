@@ -56,7 +56,7 @@ pub fn finish(world: &mut World, alloc: Global) -> Result<Vec<Step>, Refusal>
 }
 
 /// The page from which the next one to push is looked for once this step was made, where none below `from` remained before: a push is of
-/// the least page that remains, and the steps behind the last push leave the pages that remain as they are.
+/// the least page that remains, and the steps after the last push leave the pages that remain as they are.
 fn pushed_below(step: Step, from: PageNo) -> PageNo
     requires { from ≤ HIGH_PAGE }
     ensures range { result ≤ HIGH_PAGE }

@@ -1,4 +1,4 @@
--- Lines behind a script: what they spell, and where their run leads.
+-- Lines after a script: what they spell, and where their run leads.
 use Rattle.std.proofs.Common.{◌≡◌, ◌≢◌, ℕ, zero, suc, ◌+◌, ◌<◌, add-one, Option, Some, Ok, Err, List, [], ◌∷◌, ◌++◌, length, take, get_or, arith, refl, sym, ap, subst, ◌∙◌, append_assoc, append-nil, length-append, inl, inr}
 use Rattle.std.specs.Prelude.{IsOk}
 use Rattle.std.proofs.lemmas.Bool.{false≢true}
@@ -92,7 +92,7 @@ behind_run old steps text accepted p =
       | inr feed ↦ subst (λ (t : List ℕ). Leading old t new) (sym (p.3 ∙ ap (λ (f : List ℕ). f ++ p.1) feed)) (feed_first old p.1 new lines)
     ]
 
--- ---- two scripts, one behind the other
+-- ---- two scripts, one after the other
 
 ended_behind : (raw mid front : List ℕ) → raw ++ 10 ∷ mid ≡ front ++ 10 ∷ [] → IsEnded mid
 ended_behind [] mid [] e = inl cc

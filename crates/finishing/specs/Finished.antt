@@ -42,7 +42,7 @@ HaveLines (step ∷ steps) = CanBeSpelled (order_of step) × HaveLines steps
 abbrev pub Adds : List Step → List ℕ → List ℕ → Type 0
 Adds steps before after = (more : List ℕ) × (after ≡ before ++ more) × AreLines steps more
 
--- the lines of the steps, behind a line feed or none
+-- the lines of the steps, after a line feed or none
 abbrev pub AreBehind : List Step → List ℕ → Type 0
 AreBehind steps text = (front : List ℕ) × (lines : List ℕ) × ((front ≡ []) ⊎ (front ≡ 10 ∷ [])) × (text ≡ front ++ lines) × AreLines steps lines
 
@@ -62,7 +62,7 @@ abbrev pub Ends : Ending → World → Option (List ℕ) → Option (List ℕ) �
 Ends Complete world before after = (text : List ℕ) × Completes world text × Appends before after text
 Ends NoEpoch world before after = (lacks_epoch world ≡ true) × Appends before after []
 
--- a fault behind the script. Only a write fault comes after a part of the lines was written
+-- a fault after the script. Only a write fault comes after a part of the lines was written
 abbrev pub Fails : World → RunFault → Option (List ℕ) → Option (List ℕ) → Type 0
 Fails world (faults.Line n) before after = ⊥
 Fails world faults.ReadFault before after = ⊥
@@ -92,7 +92,7 @@ pub record WrongAt (input : List ℕ) (n : ℕ) : Type 0 where
   pub number : n ≡ length lines + 1
   pub wrong : BeginsWrong Script rest
 
--- how it ends with a fault: at a wrong line of the script, or behind the script
+-- how it ends with a fault: at a wrong line of the script, or after the script
 abbrev pub Stops : World → List ℕ → RunFault → Option (List ℕ) → Option (List ℕ) → Type 0
 Stops start input (faults.Line n) before after = WrongAt input n × Appends before after []
 Stops start input faults.ReadFault before after = Appends before after []

@@ -5,7 +5,7 @@ ghost use Rattle.mig_model.specs.Promises.{IsComplete};
 ghost use Rattle.mig_model.specs.Migration.{World};
 ghost use Rattle.finishing.specs.Finished.{IsEnded, LeadsTo, Completes};
 
-/// The script with the lines behind it is a script, if its last line has a line feed, and its run ends with a complete migration.
+/// The script with the lines after it is a script, if its last line has a line feed, and its run ends with a complete migration.
 pub fn a_finished_script()
     ensures { (start world : World) (input text : List ℕ) → IsEnded input →
         LeadsTo start input world → Completes world text

@@ -89,7 +89,7 @@ area_inside areas first some =
     let last = (in_area areas first (first + count - 1) (in_range-true first count (first + count - 1) (omega (arith, some)) (omega (arith, some)))).0 in
     omega (arith, some, last)
 
--- no area begins at a page that goes on as the page before
+-- no area begins at a page that continues as the page before
 goes_on : (areas : FinMap nat_cmp Prot) (first next : ℕ) → first < next → get areas first ≡ get areas (next - 1) → get areas first ≡ get areas next → begins_area areas next ≡ true → ⊥
 goes_on areas first next past before here begins =
     let positive : ltb 0 next ≡ true = lt-ltb 0 next (omega (arith, past)) in
@@ -97,7 +97,7 @@ goes_on areas first next past before here begins =
     let no = and_second (contains_key areas next) (not (ltb 0 next && same_prot (get areas next) (get areas (next - 1)))) begins in
     false≢true (rw (positive, same) at no)
 
--- behind the last area, and not one with it
+-- after the last area, and not one with it
 record BeginsBehind (areas : FinMap nat_cmp Prot) (state : ℕ × Option Prot) (next : ℕ) : Type 0 where
   pub past : state.0 ≤ next
   pub differ : next ≡ state.0 → state.1 ≡ get areas next → ⊥

@@ -38,7 +38,7 @@ all_faultless : (old : Held) (feeds : List Feed) (new : Held) → IsRun old feed
 all_faultless old [] new run none = tt
 all_faultless old (feed ∷ feeds) new run none = (one_faultless old feed.piece feed.answer run.0 feeds new run.1 run.2 none, all_faultless run.0 feeds new run.2 none)
 
--- The reading of texts and of less than a text behind them
+-- The reading of texts and of less than a text after them
 
 fixed_by : Version → List Sent → Option Version
 fixed_by version [] = None

@@ -194,7 +194,7 @@ reads_content = record { takes = content_takes; again = content_again }
 
 -- As many items as a count says
 
--- each item fits behind those before it
+-- each item fits after those before it
 abbrev pub AllFrom : {S A : Type 0} → (Fits : S → A → Type 0) → (next : S → A → S) → S → List A → Type 0
 AllFrom Fits next state [] = Unit {0}
 AllFrom Fits next state (x ∷ xs) = Fits state x × AllFrom Fits next (next state x) xs

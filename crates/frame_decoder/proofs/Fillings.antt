@@ -155,7 +155,7 @@ part_splits fixed old piece bytes rest part up =
       | inr one ↦ absurd (part_not_one fixed bytes part one)
     ]
 
--- a fault stands whatever comes behind it
+-- a fault stands whatever comes after it
 pub fault_splits : (fixed : Option Version) (old piece bytes rest : List ℕ) (fault : StreamFault) → Breach fixed bytes fault → IsFilledUp fixed old piece bytes rest → Splits fixed (old ++ piece) [] [] (Some fault) fixed
 fault_splits fixed old piece bytes rest fault breach up =
     record { read = []; unread = old ++ piece; whole = refl; spells = spells_none fixed; ends = (subst (λ (bytes : List ℕ). Breach fixed bytes fault) up.joined (breach_more fixed bytes rest fault breach), refl) }

@@ -267,7 +267,7 @@ next_stands fixed bytes fits =
 
 -- The header of a frame at the front
 
--- the header of the text at the front, and its body behind it
+-- the header of the text at the front, and its body after it
 pub record HeadIs (fixed : Option Version) (bytes : List ℕ) (v : Version) (epoch : ℕ) (f : Frame) : Type 0 where
   pub reads : header_at fixed bytes ≡ Ok (record { version = v; tag = tag_of f; epoch = epoch; len = length (body_text f) })
   pub long : 12 + length (body_text f) ≤ length bytes

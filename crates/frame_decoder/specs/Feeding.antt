@@ -33,7 +33,7 @@ abbrev pub FedFault : Held → List ℕ → StreamFault → Held → Type 0
 FedFault old piece fault new = ((old.fault ≡ Some fault) × (new ≡ old))
     ⊎ ((old.fault ≡ None) × (new.fault ≡ Some fault) × Splits old.version (old.bytes ++ piece) [] new.bytes new.fault new.version)
 
--- what `feed` returns and how it changes a decoder: the held bytes and the piece behind them split into whole frames, which are returned,
+-- what `feed` returns and how it changes a decoder: the held bytes and the piece after them split into whole frames, which are returned,
 -- and a rest or a fault, which is held. `NoMemory` changes nothing
 abbrev pub Fed : Held → List ℕ → Answer → Held → Type 0
 Fed old piece (Ok frames) new = (old.fault ≡ None) × Splits old.version (old.bytes ++ piece) frames new.bytes new.fault new.version × (frames ≡ [] → new.fault ≡ None)

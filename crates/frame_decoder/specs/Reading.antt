@@ -1,4 +1,4 @@
--- Reading a text from left to right: each reader takes a field from the front of some bytes, and gives its value and the bytes behind it.
+-- Reading a text from left to right: each reader takes a field from the front of some bytes, and gives its value and the bytes after it.
 -- The readers of the code return what these give.
 use Rattle.std.specs.Prelude.{◌≡◌, ℕ, zero, suc, ◌+◌, ◌^◌, Bool, not, ◌&&◌, List, [], ◌∷◌, length, take, drop, Option, Some, None, Result, Ok, Err, nat_lt, nat_le, ◌==◌, if◌then◌else◌}
 use Rattle.std.specs.Int.{Width, w32, w64, byte_len, from_be_bytes}
@@ -32,7 +32,7 @@ use Rattle.frame_decoder.specs.Headers.{Header, header_at}
 use Rattle.frame_decoder.specs.Versions.{max_pages, has_runs}
 
 infixl 10 ◌>>=◌
--- reading goes on with what was read; the first fault ends it
+-- reading continues with what was read; the first fault ends it
 abbrev pub ◌>>=◌ : {A B : Type 0} → Result A StreamFault → (A → Result B StreamFault) → Result B StreamFault
 (Ok x) >>= f = f x
 (Err e) >>= f = Err e
@@ -58,7 +58,7 @@ IsRead view (Err e) read = read ≡ Err e
 abbrev pub checked : {A : Type 0} → Bool → A → Result A StreamFault
 checked test x = if test then Ok x else Err faults.BadField
 
--- Fields: a value and the bytes behind it
+-- Fields: a value and the bytes after it
 
 -- one byte; BadField if there is none
 abbrev pub byte_at : List ℕ → Result (ℕ × List ℕ) StreamFault
@@ -127,7 +127,7 @@ run_at low bytes = do
   count ← number_at w32 first.1
   checked (is_run low first.0 count.0) (record { first = first.0; count = count.0 }, count.1)
 
--- where the next run may begin: one page behind the end of this one, since runs do not touch
+-- where the next run may begin: one page after the end of this one, since runs do not touch
 abbrev pub run_next : ℕ → PageRun → ℕ
 run_next low run = run.first + run.count + 1
 
@@ -213,7 +213,7 @@ commands_at bytes = do
   commands ← many_at command_at count.0 count.1
   checked (is_cpu_count (length commands.0)) commands
 
--- Bodies: a frame, and the bytes behind it
+-- Bodies: a frame, and the bytes after it
 
 -- the body of a Page: its number and its bytes
 unfoldable pub page_frame_at : List ℕ → Result (MachineFrame × List ℕ) StreamFault
@@ -294,7 +294,7 @@ abbrev pub body_next : Header → Result MachineFrame StreamFault → Front
 body_next header (Ok frame) = Front.Whole header.version header.epoch frame (12 + header.len)
 body_next header (Err fault) = Front.Fault faults.BadField
 
--- what stands behind a header: less than its body, or the frame; a fault of the header counts first
+-- what stands after a header: less than its body, or the frame; a fault of the header counts first
 abbrev pub header_next : List ℕ → Result Header StreamFault → Front
 header_next bytes (Err fault) = Front.Fault fault
 header_next bytes (Ok header) = if nat_lt (length (drop 12 bytes)) header.len then Front.Part else body_next header (body_at header.version header.tag (take header.len (drop 12 bytes)))

@@ -61,7 +61,7 @@ pub record Spells (old : Option Version) (bytes : List ℕ) (frames : List Sent)
 pub record PartOfHeader (bytes : List ℕ) : Type 0 where
   pub short : length bytes < header_len
 
--- a header without a fault, and behind it fewer bytes than its body has
+-- a header without a fault, and after it fewer bytes than its body has
 pub record PartOfBody (fixed : Option Version) (bytes : List ℕ) : Type 0 where
   pub header : Header
   pub long : header_len ≤ length bytes
@@ -113,7 +113,7 @@ abbrev pub Ends : (fixed : Option Version) → (unread held : List ℕ) → Opti
 Ends fixed unread held None = IsPart fixed unread × (held ≡ unread)
 Ends fixed unread held (Some fault) = Breach fixed unread fault × (held ≡ [])
 
--- the stream is exactly these frames, all of one version, and behind them less than a frame, which is held, or a fault; `new` is the
+-- the stream is exactly these frames, all of one version, and after them less than a frame, which is held, or a fault; `new` is the
 -- version that is fixed then
 pub record Splits (old : Option Version) (stream : List ℕ) (frames : List Sent) (held : List ℕ) (fault : Option StreamFault) (new : Option Version) : Type 0 where
   pub read : List ℕ

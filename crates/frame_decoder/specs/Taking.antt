@@ -28,13 +28,13 @@ abbrev pub StopsAt : (fixed : Option Version) → List ℕ → Option StreamFaul
 StopsAt fixed unread None = IsPart fixed unread
 StopsAt fixed unread (Some fault) = Breach fixed unread fault
 
--- these frames take the first `read` bytes, and behind them stands less than a frame or a fault
+-- these frames take the first `read` bytes, and after them stands less than a frame or a fault
 pub record IsTaken (fixed : Option Version) (bytes : List ℕ) (frames : List Sent) (read : ℕ) (fault : Option StreamFault) (new : Option Version) : Type 0 where
   pub inside : read ≤ length bytes
   pub spells : Spells fixed (take read bytes) frames new
   pub stops : StopsAt new (drop read bytes) fault
 
--- what is held of such bytes: those behind the frames, and none if a fault stands there
+-- what is held of such bytes: those after the frames, and none if a fault stands there
 abbrev pub left_of : (read : ℕ) → Option StreamFault → List ℕ → List ℕ
 left_of read None bytes = drop read bytes
 left_of read (Some fault) bytes = []
@@ -55,7 +55,7 @@ pub record IsOneFrame (fixed : Option Version) (bytes : List ℕ) : Type 0 where
 abbrev pub FillEnds : (fixed : Option Version) → (new rest : List ℕ) → Type 0
 FillEnds fixed new rest = ((rest ≡ []) × IsPart fixed new) ⊎ IsOneFrame fixed new
 
--- filling ends so, and no byte is lost: the held bytes and the rest of the piece are what was held, and the piece behind it
+-- filling ends so, and no byte is lost: the held bytes and the rest of the piece are what was held, and the piece after it
 pub record IsFilledUp (fixed : Option Version) (old piece new rest : List ℕ) : Type 0 where
   pub joined : new ++ rest ≡ old ++ piece
   pub ends : FillEnds fixed new rest

@@ -86,7 +86,7 @@ fn read_recv(alloc: Global, version: Version, bytes: &[u8]) -> Result<(Frame, &[
     Ok((Frame::Recv { state, owed }, rest))
 }
 
-/// The frame at the front of a body, and the bytes behind it.
+/// The frame at the front of a body, and the bytes after it.
 #[tactic(auto, unfolding(crate::specs::Reading::payload_at))]
 fn read_payload(
     alloc: Global,

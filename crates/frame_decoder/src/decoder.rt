@@ -18,7 +18,7 @@ use std::marker::Model;
 /// The length of the text of a Page, in bytes.
 const PAGE_FRAME_LEN: usize = HEADER_LEN + 4 + PAGE_BYTES;
 
-/// The bytes to hold once frames were taken from the front: those behind the frames, and none if a fault stands there.
+/// The bytes to hold once frames were taken from the front: those after the frames, and none if a fault stands there.
 fn left_of<'a>(taken: &Taken, bytes: &'a [u8]) -> &'a [u8]
     requires { taken.now.read ≤ length bytes.now }
     ensures { result.now ≡ left_of taken.now.read taken.now.fault bytes.now }
@@ -41,7 +41,7 @@ fn read_in_place(
     ensures err { OnErr result (held.new.items ≡ held.old.items) }
 {
     let taken = take_frames(alloc, fixed, piece)?;
-    // Its room lies behind the frames, so that they are not the last of the heap: otherwise glibc returns the memory of a long piece's
+    // Its room lies after the frames, so that they are not the last of the heap: otherwise glibc returns the memory of a long piece's
     // frames to the kernel each time that they are dropped.
     held.try_reserve(PAGE_FRAME_LEN)?;
     held.extend_from_slice(left_of(&taken, piece))?;
@@ -92,7 +92,7 @@ fn hold(held: &mut Vec<u8>, left: &[u8]) -> Result<(), NoMemory>
     Ok(())
 }
 
-/// Reads the rest of a piece in place behind a frame that is held whole, and holds what is left then.
+/// Reads the rest of a piece in place after a frame that is held whole, and holds what is left then.
 fn read_behind(
     alloc: Global,
     version: Version,
@@ -144,7 +144,7 @@ fn read_filled(
     })
 }
 
-/// Reads the held bytes and a piece behind them, and holds what is left. `NoMemory` leaves the held bytes as they were.
+/// Reads the held bytes and a piece after them, and holds what is left. `NoMemory` leaves the held bytes as they were.
 fn read_joined(
     alloc: Global,
     fixed: Option<Version>,

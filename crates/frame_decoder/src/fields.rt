@@ -1,4 +1,4 @@
-//! Reading single fields: each reader returns the field and the bytes behind it, or `BadField`.
+//! Reading single fields: each reader returns the field and the bytes after it, or `BadField`.
 
 ghost use Rattle.std.specs.Int.{w32, w64};
 ghost use Rattle.frame_decoder.specs.Reading.{Gives, byte_at, number_at, page_at, content_at, prot_at, state_at};

@@ -45,7 +45,7 @@ pub fn older_frames_stand()
 {}
 
 /// A decoder that is fed the texts of frames, cut anywhere, returns these frames, in order, and no fault, and then holds no byte. If less
-/// than one more text stands behind them, it holds that.
+/// than one more text stands after them, it holds that.
 pub fn texts_are_decoded()
     ensures all { (version : Version) (frames : List Sent) → AllByRecursion (IsSent version) frames → Decodes (all_texts version frames) frames [] }
     ensures part { (version : Version) (frames : List Sent) (sent : Sent) (front rest : List ℕ) → AllByRecursion (IsSent version) frames → IsSent version sent → texts.text (version_of version) sent.epoch sent.frame ≡ front ++ rest → (rest ≡ [] → ⊥) → Decodes (all_texts version frames ++ front) frames front }

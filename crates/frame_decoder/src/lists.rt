@@ -125,7 +125,7 @@ fn ends_with(last: Option<Prot>, prot: Prot) -> bool
     }
 }
 
-/// An area that begins at `low` or later, and does not go on with the protection of the page before.
+/// An area that begins at `low` or later, and does not continue with the protection of the page before.
 #[tactic(auto, unfolding(crate::specs::Reading::area_at))]
 fn read_area(low: PageNo, last: Option<Prot>, bytes: &[u8]) -> Result<(Area, &[u8]), StreamFault>
     ensures gives { Gives (λ x. (x.0, x.1.now)) result (area_at (low, last) bytes.now) }

@@ -123,7 +123,7 @@ pub(crate) struct Taken {
     pub frames: Vec<(u32, Frame)>,
     /// The number of bytes that they take.
     pub read: usize,
-    /// The fault that stands behind them, if any.
+    /// The fault that stands after them, if any.
     pub fault: Option<StreamFault>,
     /// The version that is fixed then.
     pub version: Option<Version>,

@@ -41,13 +41,13 @@ fn made(rt: &impl Abort, alloc: Global, sample: Sample) -> Result<Frame, NoMemor
     })
 }
 
-/// Writes a frame behind what the vector has.
+/// Writes a frame after what the vector has.
 fn write(rt: &impl Abort, frame: &Frame, epoch: u32, bytes: &mut Vec<u8>) -> Result<(), NoMemory> {
     assert!(rt; frame.is_well_formed());
     encode_into(frame, epoch, bytes)
 }
 
-/// Looks at what is written of a frame behind a byte, and at the text alone.
+/// Looks at what is written of a frame after a byte, and at the text alone.
 fn look(
     rt: &impl Abort,
     alloc: Global,

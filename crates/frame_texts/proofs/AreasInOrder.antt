@@ -25,7 +25,7 @@ before_differs areas prot next more begins before here =
     let positive = lt-ltb 0 next more in
     false≢true (rw (here, before, positive, same_prot-self prot) at begins)
 
--- an area that begins later lies behind, and has another protection where the two touch
+-- an area that begins later lies after it, and has another protection where the two touch
 area_behind : (areas : FinMap nat_cmp Prot) (first next : ℕ) → first < next → begins_area areas next ≡ true → (first + (area_at areas first).count ≤ next) × (first + (area_at areas first).count ≡ next → get areas next ≢ Some (area_at areas first).prot)
 area_behind areas first next later begins =
     let count = (area_at areas first).count in
@@ -50,7 +50,7 @@ area_not_empty areas first below h =
     let within = (in_range_bounds first (area_at areas first).count first covers).1 in
     omega (arith, within)
 
--- one area more, behind the last
+-- one area more, after the last
 areas_push : (end : ℕ) (prot : Option Prot) (list : List Area) (last next : Area) → AreAreasAfter end prot (list ++ last ∷ []) → last.first + last.count ≤ next.first → 0 < next.count → (last.first + last.count ≡ next.first → last.prot ≢ next.prot) → AreAreasAfter end prot ((list ++ last ∷ []) ++ next ∷ [])
 areas_push end prot [] last next h past some differs = (h.0, h.1, h.2, (past, some, λ at same. differs at (same_Some last.prot next.prot same), tt))
 areas_push end prot (area ∷ list) last next h past some differs = (h.0, h.1, h.2, areas_push (area.first + area.count) (Some area.prot) list last next h.3 past some differs)
@@ -98,7 +98,7 @@ none_below_areas end prot (area ∷ areas) q h l =
     let low = h.0 in
     rw (in_range-false_below area.first area.count q (omega (arith, low)), none_below_areas (area.first + area.count) (Some area.prot) areas q h.3 (omega (arith, low))) refl
 
--- the page behind an area has another protection, or none
+-- the page after an area has another protection, or none
 ends_there : (end : ℕ) (prot : Prot) (areas : List Area) → AreAreasAfter end (Some prot) areas → prot_in areas end ≢ Some prot
 ends_there end prot [] h same = none-some prot same
 ends_there end prot (area ∷ areas) h same = grind (arith, nat_tests, none_below_areas, same_Some)

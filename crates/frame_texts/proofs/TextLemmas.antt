@@ -34,7 +34,7 @@ length-areas_of : (areas : FinMap nat_cmp Prot) → length (areas_of areas) ≡ 
 unfolding area_count
 length-areas_of areas = length-map (list_below (begins_area areas) HIGH_PAGE) (area_at areas) ∙ length-list_below (begins_area areas) HIGH_PAGE
 
--- texts of one length, one behind the other
+-- texts of one length, one after the other
 length-flat_map_same : {A : Type 0} (text : A → List ℕ) (size : ℕ) (xs : List A) → AllByRecursion (λ x. length (text x) ≡ size) xs → length (flat_map text xs) ≡ size * length xs
 length-flat_map_same text size [] h = omega arith
 length-flat_map_same text size (x ∷ xs) h = grind (arith, nat_tests, flat_map-cons, length-append, length-flat_map_same text size xs h.1)

@@ -20,7 +20,7 @@ splits_then a b c x y fs gs held now fault s t = record {
   ends = t.ends;
 }
 
--- bytes behind a fault change nothing
+-- bytes after a fault change nothing
 pub splits_behind : (a b : Option Version) (x more : List ℕ) (fs : List Sent) (held : List ℕ) (fault : StreamFault) → Splits a x fs held (Some fault) b → Splits a (x ++ more) fs [] (Some fault) b
 splits_behind a b x more fs held fault s = record {
   read = s.read;

@@ -68,7 +68,7 @@ bytes_again ts bytes h = elim h [
   | inr e ↦ rw (e.0, e.1) refl
 ]
 
--- ---- what stands behind the first word
+-- ---- what stands after the first word
 
 issue_found : (ts : List Token) (o : Order) → issue_from ts ≡ Some o → OrderForm o (Key key.Cpu ∷ ts)
 unfolding issue_from

@@ -75,7 +75,7 @@ target_written false (Some addr) = simp append-nil
 target_written true None = refl
 target_written true (Some addr) = simp append-nil
 
--- the words behind mmap and mremap, before their spaces are counted
+-- the words after mmap and mremap, before their spaces are counted
 behind_mmap : (a p q : List ℕ) → a ++ codes " " ++ p ++ q ≡ a ++ (32 ∷ (p ++ q))
 behind_mmap a p q = simp append_assoc
 

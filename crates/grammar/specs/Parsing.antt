@@ -22,7 +22,7 @@ use Rattle.grammar.specs.declared.token.Token.{Token}
 use Rattle.grammar.specs.declared.token.Token.TheVariants.{Key, Number}
 
 infixl 10 ◌>>=◌
--- reading goes on with the value, if there is one
+-- reading continues with the value, if there is one
 abbrev pub ◌>>=◌ : {A B : Type 0} → Option A → (A → Option B) → Option B
 (Some x) >>= f = f x
 None >>= f = None
@@ -63,11 +63,11 @@ access_from (Key key.Load ∷ Number addr ∷ Number width ∷ []) = small width
 access_from (Key key.Store ∷ Number addr ∷ Number width ∷ Number value ∷ []) = small width >>= λ w. Some (Store addr w value)
 access_from _ = None
 
--- mmap, from its length, its protection and the words behind
+-- mmap, from its length, its protection and the words after them
 abbrev pub mmap_from : ℕ → Keyword → List Token → Option Command
 mmap_from len prot place = prot_from prot >>= λ p. place_from place >>= λ q. Some (Mmap len p q)
 
--- mremap, from its range, its new length and the words behind
+-- mremap, from its range, its new length and the words after them
 abbrev pub mremap_from : ℕ → ℕ → ℕ → List Token → Option Command
 mremap_from addr old_len new_len target = target_from target >>= λ t. Some (Mremap addr old_len new_len t.0 t.1)
 
@@ -108,30 +108,30 @@ bytes_from _ = None
 abbrev pub count_from : ℕ → Option ℕ
 count_from n = small n >>= λ count. if nat_lt 0 count && not (nat_lt MAX_RUN count) then Some count else None
 
--- Orders, by the tokens behind their first word
+-- Orders, by the tokens after their first word
 
--- behind cpu: a processor and its command
+-- after cpu: a processor and its command
 unfoldable pub issue_from : List Token → Option Order
 issue_from (Number cpu ∷ command) = small cpu >>= λ k. command_from command >>= λ c. Some (Make (step.Issue k c))
 issue_from _ = None
 
--- behind retry: a processor
+-- after retry: a processor
 unfoldable pub retry_from : List Token → Option Order
 retry_from (Number cpu ∷ []) = small cpu >>= λ k. Some (Make (step.Retry k))
 retry_from _ = None
 
--- behind sendrun: a number of pages
+-- after sendrun: a number of pages
 unfoldable pub run_from : List Token → Option Order
 run_from (Number n ∷ []) = count_from n >>= λ count. Some (Make (step.SendRun count))
 run_from _ = None
 
--- behind notice: a side of the channel
+-- after notice: a side of the channel
 unfoldable pub notice_from : List Token → Option Order
 notice_from (Key key.Source ∷ []) = Some (Make (step.Notice side.Source))
 notice_from (Key key.Dest ∷ []) = Some (Make (step.Notice side.Destination))
 notice_from _ = None
 
--- behind push and upush: the address of a page, and an epoch, which may be left out
+-- after push and upush: the address of a page, and an epoch, which may be left out
 unfoldable pub push_from : Bool → List Token → Option Order
 push_from urgent (Number addr ∷ epoch) = page_from addr >>= λ p. epoch_from epoch >>= λ e. Some (Push urgent p e)
 push_from urgent _ = None
@@ -159,7 +159,7 @@ unfoldable pub alone_from : Keyword → List Token → Option Order
 alone_from word [] = word_from word
 alone_from word _ = None
 
--- the order that a first word and the tokens behind it stand for
+-- the order that a first word and the tokens after it stand for
 unfoldable pub order_with : Keyword → List Token → Option Order
 order_with key.Cpu behind = issue_from behind
 order_with key.Retry behind = retry_from behind

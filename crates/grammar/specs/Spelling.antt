@@ -50,7 +50,7 @@ abbrev pub fixed_form : Option ℕ → List Token
 fixed_form None = []
 fixed_form (Some addr) = Key key.Fixed ∷ Number addr ∷ []
 
--- the tokens of a command, behind those of its processor
+-- the tokens of a command, after those of its processor
 abbrev pub CommandForm : Command → List Token → Type 0
 CommandForm (Load addr width) tokens = (width < 256) × (tokens ≡ Key key.Load ∷ Number addr ∷ Number width ∷ [])
 CommandForm (Store addr width value) tokens = (width < 256) × (tokens ≡ Key key.Store ∷ Number addr ∷ Number width ∷ Number value ∷ [])

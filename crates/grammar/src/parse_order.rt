@@ -1,7 +1,7 @@
 //! Reading a line of a script.
 //!
 //! Each word is a [`Keyword`] or a number, so a line is a list of [`Token`]s. The first word is the kind of the order, and each kind
-//! has a function over the tokens behind it. `specs/Parsing.antt` repeats these functions, and `specs/Spelling.antt` defines the tokens
+//! has a function over the tokens after it. `specs/Parsing.antt` repeats these functions, and `specs/Spelling.antt` defines the tokens
 //! of an order; `proofs/Orders.antt` has one case for each kind in both directions.
 //!
 //! An order is several machine words wide, and each call would copy it, so the functions that build one are inlined.
@@ -165,7 +165,7 @@ fn alone(word: Keyword, behind: &[Token]) -> Option<Order>
     }
 }
 
-/// The order that a first word and the tokens behind it stand for.
+/// The order that a first word and the tokens after it stand for.
 #[tactic(auto, unfolding(crate::specs::Parsing::order_with))]
 fn order_with(word: Keyword, behind: &[Token]) -> Option<Order>
     ensures { result ≡ order_with_words word behind.now }

@@ -11,7 +11,7 @@ took_of (Took.Answer reply) = machine.Took.Answer reply
 took_of Took.Sleep = machine.Took.Sleep
 took_of (Took.Call reply left) = machine.Took.Call reply left
 
--- a command may have this outcome: only a load or a store sleeps, and a map call that goes on has messages
+-- a command may have this outcome: only a load or a store sleeps, and a map call that continues has messages
 abbrev pub IsOutcome : Command → Took → Type 0
 IsOutcome command (Took.Answer reply) = Unit {0}
 IsOutcome command Took.Sleep = is_access command ≡ true

@@ -23,7 +23,7 @@ pub enum Took {
     Answer(Reply),
     /// The processor has to sleep on the page of the command.
     Sleep,
-    /// The map call goes on until `left` messages have been read.
+    /// The map call continues until `left` messages have been read.
     Call { reply: Reply, left: u8 },
 }
 

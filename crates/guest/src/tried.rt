@@ -8,6 +8,6 @@ use mig_base::effect::Effect;
 pub struct Tried {
     /// The effect of the step.
     pub effect: Effect,
-    /// Its entry in the transcript, `None` if the processor sleeps. A map call that goes on has its entry at once.
+    /// Its entry in the transcript, `None` if the processor sleeps. A map call that continues has its entry at once.
     pub entry: Option<Entry>,
 }

@@ -289,7 +289,7 @@ const MREMAP: Command = Command::Mremap {
 
 const AT_12: Reply = Reply::At(0x12000);
 
-/// A map call is entered at once, and goes on until its three messages are read.
+/// A map call is entered at once, and continues until its three messages are read.
 const IN_A_CALL: [(Call, Result<Answer, Refusal>); 14] = [
     (Issue(1, MMAP), Ok(Answered(1, MMAP, Reply::At(0x10000)))),
     (Issue(0, STORE_10), Ok(Answered(0, STORE_10, Reply::Done))),

@@ -45,7 +45,7 @@ const MOVED_ON: Message = Message::Remap {
 };
 
 /// Two pages of three, of which the first is present and protected, go over two others, one of which is registered in another mode. Then
-/// they go on to where nothing is and get longer, and get longer there once more.
+/// they move on to where nothing is and get longer, and get longer there once more.
 const MOVES: [(Call, Answer); 32] = [
     (
         Mmap(12288, Prot::ReadWrite, Place::Anywhere),

@@ -39,7 +39,7 @@ lines_more node calls i other front text more below is last =
     ∙ append_assoc front (call_lines node (take i calls)) (call_line node call)
     ∙ ap (λ (t : List ℕ). front ++ t) (sym (lines_last node (take i calls) call) ∙ ap (call_lines node) (sym (take_more calls i other below)))
 
--- the line of an effect, and the lines of its calls behind it
+-- the line of an effect, and the lines of its calls after it
 pub printed_step : (step : Step) (effect : Effect) (world : World) (node : Side) (calls : List Call) (none line text : List ℕ) → none ≡ [] → line ≡ none ++ outcome_line (Ok effect) → node ≡ node_of step
     → calls ≡ calls_of (areas_at (node_of step) world) step effect → text ≡ line ++ call_lines node calls → text ≡ step_lines step (Ok effect) world
 unfolding step_lines

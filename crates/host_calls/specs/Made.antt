@@ -24,7 +24,7 @@ pub record IsRegistered (old new : Guest) (addr len mode : ℕ) : Type 0 where
   pub leaves : new.space ≡ registered old.space addr len mode
   pub wakes : new.cpus ≡ old.cpus
 
--- read(2) of one message is not refused. It lets the map call of one processor go on, or that of none
+-- read(2) of one message is not refused. It lets the map call of one processor continue, or that of none
 pub record IsRead (old new : Guest) : Type 0 where
   pub answer : read_error old.space ≡ None
   pub leaves : new.space ≡ read_space old.space

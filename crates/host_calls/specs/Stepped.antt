@@ -1,4 +1,4 @@
--- The output of a run with the calls behind each line.
+-- The output of a run with the calls after each line.
 use Rattle.std.specs.Prelude.{◌≡◌, ℕ, List, [], ◌∷◌, ◌++◌, Option, Some, None}
 use Rattle.mig_base.specs.declared.schedule.Step.{Step}
 use Rattle.grammar.specs.declared.line.Language.TheVariants.{Script}
@@ -17,7 +17,7 @@ use Rattle.host_calls.specs.Texts.{call_lines}
 
 -- One line
 
--- the output of a step: the line of its outcome, and behind it the lines of its calls
+-- the output of a step: the line of its outcome, and after it the lines of its calls
 unfoldable pub step_lines : Step → Outcome → World → List ℕ
 step_lines step outcome new = outcome_line outcome ++ call_lines (node_of step) (calls_by step outcome new)
 

@@ -1,6 +1,6 @@
 //! The calls of the two hosts that the steps of a script stand for.
 //!
-//! [`run_steps`] runs a script as `engine::run_script` does, and writes behind each line the calls of a host that its step stands for:
+//! [`run_steps`] runs a script as `engine::run_script` does, and writes after each line the calls of a host that its step stands for:
 //! commands of the host protocol of `conformance/README.md`. [`list_calls`] lists them for one step. `specs/Calls.antt` defines them,
 //! `specs/Texts.antt` their lines, and `specs/Stepped.antt` the output of a run. [`laws`] says that they do what the step does.
 //!

@@ -1,4 +1,4 @@
-//! Reading a script, and writing its output with the calls behind each line.
+//! Reading a script, and writing its output with the calls after each line.
 
 ghost use Rattle.std.specs.Prelude.{◌≤◌, OnOk, IfSome};
 ghost use Rattle.mig_model.specs.Migration.{first_world};
@@ -10,7 +10,7 @@ use engine::line_reader::read_lines;
 use std::alloc::Global;
 use std::io::{Read, Write};
 
-/// Runs a script as `engine::run_script` does with `Mode::Lines`, on a world of `cpus` processors, and writes behind the line of each step
+/// Runs a script as `engine::run_script` does with `Mode::Lines`, on a world of `cpus` processors, and writes after the line of each step
 /// the calls of a host that it stands for: `> NODE COMMAND` for each, in their order, where NODE is `source` or `dest` and COMMAND one
 /// of the host protocol.
 ///

@@ -1,4 +1,4 @@
-//! Doing the lines of a script: the order of each is carried out, and printed with the calls behind it.
+//! Doing the lines of a script: the order of each is carried out, and printed with the calls after it.
 
 ghost use Rattle.std.specs.Prelude.{◌≡◌, ◌≤◌, ◌++◌, [], Ok, OnOk, IfOk, IfErr, string_bytes};
 ghost use Rattle.engine.specs.declared.fault.RunFault.TheVariants.{NoMemory as OutOfMemory};

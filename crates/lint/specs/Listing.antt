@@ -9,7 +9,7 @@ use Rattle.grammar.specs.Lines.{HasNoFeed, ReadsLine, BeginsWrong}
 use Rattle.engine.specs.declared.fault.RunFault.{RunFault}
 use Rattle.engine.specs.declared.fault.RunFault.TheVariants as faults
 
--- the first line of the bytes ends where rest begins: behind its line feed, or at their end
+-- the first line of the bytes ends where rest begins: after its line feed, or at their end
 abbrev pub Cuts : List ℕ → List ℕ → Type 0
 Cuts bytes rest = ((raw : List ℕ) × HasNoFeed raw × (bytes ≡ raw ++ 10 ∷ rest)) ⊎ (HasNoFeed bytes × (rest ≡ []))
 

@@ -119,7 +119,7 @@ fn take_fixed(words: &mut Words<'_>, word: Word<'_>, usage: Usage) -> Result<(),
     reject_maymove(*words, usage)
 }
 
-/// Behind `fixed` and its address, `maymove` comes too late.
+/// After `fixed` and its address, `maymove` comes too late.
 fn reject_maymove(words: Words<'_>, usage: Usage) -> Result<(), Fault> {
     if let Some(word) = words.peek() {
         if word.is(b"maymove") {

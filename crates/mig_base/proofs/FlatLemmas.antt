@@ -1,4 +1,4 @@
--- A run that goes on by one entry.
+-- A run that continues by one entry.
 use Rattle.std.proofs.Common.{◌≡◌, List, [], ◌∷◌, ◌++◌, refl}
 use Rattle.mig_base.specs.declared.command.Entry.{Entry}
 use Rattle.mig_base.specs.Flat.{Memory, reply_of, after, IsRunFrom, memory_from}

@@ -1,4 +1,4 @@
--- What stands behind the first words of an effect's text.
+-- What stands after the first words of an effect's text.
 use Rattle.std.specs.Prelude.{ℕ, false, List, [], ◌++◌, codes}
 use Rattle.std.specs.Fmt.{decimal, digits}
 use Rattle.mig_base.specs.Texts.{hexadecimal, reply_text, fault_text, event_text, state_text, side_text}

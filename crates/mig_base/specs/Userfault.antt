@@ -106,7 +106,7 @@ fault_queued object addr write wp cpu =
     if waits_fault object.faults addr wp then object
     else record object { faults = object.faults ++ record { message = PageFault addr write wp (thread_id object cpu); cpu = cpu } ∷ [] }
 
--- the object once an event is queued behind the others
+-- the object once an event is queued after the others
 abbrev pub event_queued : Object → Message → ℕ → Object
 event_queued object message cpu = record object { events = object.events ++ record { message = message; cpu = cpu } ∷ [] }
 
@@ -115,7 +115,7 @@ abbrev pub first_noted : List Noted → Option Noted
 first_noted [] = None
 first_noted (noted ∷ rest) = Some noted
 
--- the queue behind its first message
+-- the queue after its first message
 abbrev pub rest_noted : List Noted → List Noted
 rest_noted [] = []
 rest_noted (noted ∷ rest) = rest

@@ -113,7 +113,7 @@ pub enum Effect {
     },
     /// The destination knows that nothing more is sent.
     TookEnd,
-    /// The destination goes on after a break.
+    /// The destination continues after a break.
     TookResume,
     /// The source knows that a page is requested.
     TookRequest {
@@ -147,7 +147,7 @@ pub enum Effect {
     Noticed {
         side: Side,
     },
-    /// Both sides go on over a new channel, in this epoch.
+    /// Both sides continue over a new channel, in this epoch.
     Resumed {
         epoch: u32,
     },

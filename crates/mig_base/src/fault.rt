@@ -42,7 +42,7 @@ pub enum BackFault {
     NoMemory,
 }
 
-/// Why a source does not go on from the Recv of a destination. Nothing is changed.
+/// Why a source does not continue from the Recv of a destination. Nothing is changed.
 #[derive(Clone, Copy, Debug, PartialEq, Eq, Error)]
 pub enum RebuildFault {
     /// The Recv contradicts the source: it lists pages that the source does not have, lists pages of a destination that does not run, or

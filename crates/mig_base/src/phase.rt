@@ -27,7 +27,7 @@ pub enum DestPhase {
     Discarding,
     /// It runs the processors.
     Running,
-    /// It has noticed that the channel is broken, and has not taken a Resume since. If it has run the processors, they go on.
+    /// It has noticed that the channel is broken, and has not taken a Resume since. If it has run the processors, they continue.
     Paused,
     /// It runs the processors, and nothing more comes.
     Ended,

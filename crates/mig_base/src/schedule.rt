@@ -48,7 +48,7 @@ pub enum Step {
     Break,
     /// A side notices that the channel is broken.
     Notice(Side),
-    /// Both sides go on over a new channel, in the next epoch.
+    /// Both sides continue over a new channel, in the next epoch.
     Resume,
 }
 

@@ -136,7 +136,7 @@ recv_by Received.NotRun node = Recv Received.NotRun no_pages ∷ []
 recv_by Received.Running node = Recv Received.Running (origins node.owed) ∷ map Request node.requests
 recv_by Received.Ended node = Recv Received.Ended no_pages ∷ []
 
--- one more copy waits to be installed, behind those that came before
+-- one more copy waits to be installed, after those that came before
 abbrev pub arrived : Destination → Copy → Destination
 arrived node copy = record node { arrivals = node.arrivals ++ copy ∷ [] }
 
@@ -173,7 +173,7 @@ destination_answers node (End urgent) = Done ∷ []
 destination_answers node Resume = recv_by (received_of node) node
 destination_answers node _ = []
 
--- a break of the channel is noticed. If the destination has run, its processors go on
+-- a break of the channel is noticed. If the destination has run, its processors continue
 abbrev pub destination_paused : Destination → Destination
 destination_paused node = record node { phase = DestPhase.Paused }
 

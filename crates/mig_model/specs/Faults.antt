@@ -112,6 +112,6 @@ is_bad_owed node Received.NotRun owed = not (finset.len owed == 0)
 is_bad_owed node Received.Running owed = not node.switched || not (finset.len (less owed (present (space_of node))) == 0)
 is_bad_owed node Received.Ended owed = not node.switched || not (finset.len owed == 0)
 
--- why a source does not go on from a Recv, if it does not
+-- why a source does not continue from a Recv, if it does not
 abbrev pub rebuild_fault : Source → Received → FinSet nat_cmp → Option RebuildFault
 rebuild_fault node state owed = first_holding ((is_bad_owed node state owed, RebuildFault.BadOwed) ∷ [])

@@ -83,7 +83,7 @@ abbrev pub held_after : List Fault → Message → List Fault
 held_after held (PageFault addr write wp tid) = held ++ record { page = addr / PAGE_SIZE; wp = wp } ∷ []
 held_after held message = held
 
--- the faults behind the first
+-- the faults after the first
 abbrev pub rest_held : List Fault → List Fault
 rest_held [] = []
 rest_held (fault ∷ rest) = rest

@@ -1,4 +1,4 @@
--- The steps of a guest: its processors' commands. And what a handler's step goes on from.
+-- The steps of a guest: its processors' commands. And what a handler's step continues from.
 use Rattle.std.specs.Prelude.{ℕ, Bool, Option, Some, None, Result, Ok, Err, List, [], ◌∷◌}
 use Rattle.mig_base.specs.Commands.{is_access}
 use Rattle.mig_base.specs.declared.command.Command.{Command}
@@ -35,7 +35,7 @@ issue guest runs cpu command = and_then (idle_answer guest.cpus cpu) (λ idle. i
 abbrev pub retry : Guest → (runs : Bool) → ℕ → Result Tried Refusal
 retry guest runs cpu = and_then (woken_answer guest.cpus cpu) (λ command. in_phase runs (try_command guest cpu command))
 
--- the page, fault or copy that a step goes on from: refused as NothingThere if there is none, Changing while the guest has unread
+-- the page, fault or copy that a step continues from: refused as NothingThere if there is none, Changing while the guest has unread
 -- events
 abbrev pub when_quiet : {A : Type 0} → Guest → Option A → Result A Refusal
 when_quiet guest None = Err Refusal.NothingThere

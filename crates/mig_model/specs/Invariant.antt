@@ -89,14 +89,14 @@ abbrev pub is_done : Frame → Bool
 is_done Done = true
 is_done frame = false
 
--- whether frames are any number of requests with one Done behind them, as the last
+-- whether frames are any number of requests with one Done after them, as the last
 abbrev pub are_requests_and_done : List Sent → Bool
 are_requests_and_done [] = false
 are_requests_and_done (sent ∷ rest) = is_request sent.frame && are_requests_and_done rest || is_done sent.frame && is_empty rest
 
 -- What is in flight in each pair of phases, while the link is up
 
--- the place at the end of the wire, once Switch was made: behind End if End was sent in this epoch
+-- the place at the end of the wire, once Switch was made: after End if End was sent in this epoch
 abbrev pub flow_of : Source → Flow
 flow_of source = if source.end_epoch == source.epoch then AfterEnd else Pushed
 

@@ -46,7 +46,7 @@ command_len (Some (Load addr width)) = 10
 command_len (Some (Store addr width value)) = 18
 command_len (Some command) = 0
 
--- the bytes of the processors in a Package, behind their number
+-- the bytes of the processors in a Package, after their number
 abbrev pub commands_len : List (Option Command) → ℕ
 commands_len [] = 0
 commands_len (command ∷ commands) = command_len command + commands_len commands

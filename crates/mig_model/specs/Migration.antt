@@ -168,7 +168,7 @@ deliver_urgent world n =
     (delivered (λ wire. record world { urgent = wire }) world.urgent n (λ behind sent.
     destination_acts behind (destination.take_urgent behind.destination sent.frame))))
 
--- Break, Notice and Resume: the channel breaks, both sides notice it, and they go on over a new one in a new epoch
+-- Break, Notice and Resume: the channel breaks, both sides notice it, and they continue over a new one in a new epoch
 
 -- the link is down, and all that was in flight is lost, with the bytes of unfinished frames
 abbrev pub cut : World → World

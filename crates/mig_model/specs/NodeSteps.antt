@@ -37,7 +37,7 @@ unless reasons result = first_by (λ refusal. Err refusal) reasons result
 abbrev pub in_phase : {A : Type 0} → Bool → Result A Refusal → Result A Refusal
 in_phase allowed result = if allowed then result else Err Refusal.Phase
 
--- a step that goes on from what another result finds, or is refused as that is
+-- a step that continues from what another result finds, or is refused as that is
 abbrev pub and_then : {A B : Type 0} → Result A Refusal → (A → Result B Refusal) → Result B Refusal
 and_then (Ok found) step = step found
 and_then (Err refusal) step = Err refusal
@@ -47,7 +47,7 @@ abbrev pub first_of : {A : Type 0} → List A → Option A
 first_of [] = None
 first_of (first ∷ rest) = Some first
 
--- the list behind its first
+-- the list after its first
 abbrev pub rest_of : {A : Type 0} → List A → List A
 rest_of [] = []
 rest_of (first ∷ rest) = rest

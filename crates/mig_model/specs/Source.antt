@@ -242,7 +242,7 @@ released node =
       log = empty_log;
     }
 
--- a Recv says how far the destination has come, and the source goes on from there. If the destination has not run, the source sends
+-- a Recv says how far the destination has come, and the source continues from there. If the destination has not run, the source sends
 -- everything again: in pre-copy if it has not switched, and else as owed pages. If it runs, the pages that it lists remain. If it has
 -- ended, the migration is complete. Its queue of requests is empty in each case
 abbrev pub source_rebuilt : Received → FinSet nat_cmp → Source → Source

@@ -38,7 +38,7 @@ round node =
     ∷ (is_used node.rounds, Refusal.CountUsed) ∷ [])
     (acted (Effect.RoundMade (node.rounds + 1) (finset.len (not_clean node))) (round_made node))
 
--- the least page of the round, from which Send and SendRun go on: refused as Phase unless the source is in pre-copy, NothingThere if
+-- the least page of the round, from which Send and SendRun continue: refused as Phase unless the source is in pre-copy, NothingThere if
 -- the round is done, Changing while the source has unread events
 abbrev pub next_to_send : Source → Result ℕ Refusal
 next_to_send node = in_phase (is_precopy node.phase) (when_quiet node.guest (least_of node.log.todo))

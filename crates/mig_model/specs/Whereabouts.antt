@@ -71,7 +71,7 @@ abbrev pub kept_by : FinMap nat_cmp (List ℕ) → List Sent → FinMap nat_cmp 
 kept_by kept [] = kept
 kept_by kept (sent ∷ rest) = if is_package sent.frame then kept else kept_by (kept_after kept sent.frame) rest
 
--- the frames behind the Package
+-- the frames after the Package
 abbrev pub behind : List Sent → List Sent
 behind [] = []
 behind (sent ∷ rest) = if is_package sent.frame then rest else behind rest
@@ -112,19 +112,19 @@ pub record IsSwitching (source : Source) (kept : FinMap nat_cmp (List ℕ)) (for
   pub owed_present : (page : ℕ) → contains owed page ≡ true → is_present (space_of source) page ≡ true
   -- when it is taken, exactly the source's present pages that it does not owe are kept, with their bytes
   pub kept_rest : (page : ℕ) → get (kept_by kept forward) page ≡ (if contains owed page then None else get (space_of source).host.bytes page)
-  -- what it owes is still to be pushed, on the urgent wire, or behind it
+  -- what it owes is still to be pushed, on the urgent wire, or after it
   pub whereabouts : (page : ℕ) → contains owed page ≡ true → (is_urgent_or_left source.remaining urgent page || has_copy (copies_of (behind forward)) page) ≡ true
   pub faithful : AreFaithful (space_of source).host.bytes (copies_of (behind forward))
 
 -- the first frame of a wire back is a Recv of this state. It lists at least the pages that the destination still needs, and all of them
--- are present at the source; requests come behind it
+-- are present at the source; requests come after it
 pub record IsReceiving (source : Source) (destination : Destination) (state : Received) (back : List Sent) : Type 0 where
   pub owed : FinSet nat_cmp
   pub epoch : ℕ
   pub rest : List Sent
   pub first : back ≡ record { epoch = epoch; frame = Recv state owed } ∷ rest
   pub requests : are_requests rest ≡ true
-  -- if the destination does not run, no request comes behind it, and it lists no page
+  -- if the destination does not run, no request comes after it, and it lists no page
   pub alone : state ≢ Received.Running → rest ≡ []
   pub none_listed : state ≢ Received.Running → owed ≡ no_pages
   pub needed : (page origin : ℕ) → get destination.owed page ≡ Some origin → contains owed origin ≡ true

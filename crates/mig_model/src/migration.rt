@@ -94,7 +94,7 @@ pub fn clean_copies()
 
 /// A Package is in flight from Switch until the destination runs, as long as the link is up. While it is, the pages that will be kept when
 /// it is taken are those that the source has and does not owe; and each page that it owes is still to be pushed, on the urgent wire, or
-/// behind the Package with the source's bytes.
+/// after the Package with the source's bytes.
 pub fn a_package_tells_the_source()
     ensures in_flight { (world : World) → IsReached world → is_some (package_in world.forward.frames) ≡ true → IsSwitching world.source world.destination.kept world.forward.frames world.urgent.frames }
     ensures before_run { (world : World) → IsReached world → world.up ≡ true → is_stopped world.source.phase ≡ true → world.destination.has_run ≡ false → IsSwitching world.source world.destination.kept world.forward.frames world.urgent.frames }

@@ -22,7 +22,7 @@ use mig_base::{Command, WorldPhase};
 use std::alloc::Global;
 use std::process::Abort;
 
-/// Plays an opening, what happens up to a break, how both sides go on, and what follows.
+/// Plays an opening, what happens up to a break, how both sides continue, and what follows.
 fn play_broken(rt: &impl Abort, alloc: Global, table: &str, parts: (&[Row], &[Row], &[Row])) {
     let parts = (parts.0, parts.1, RESUMED.as_slice(), parts.2);
     let told = on_world(rt, alloc, (2, 0, 0), table, parts, Behind::Nothing);

@@ -1,4 +1,4 @@
-//! Worlds that are copied in mid-migration. The copy and the world go on in two ways, and neither touches the other.
+//! Worlds that are copied in mid-migration. The copy and the world continue in two ways, and neither touches the other.
 
 use crate::answers::Answer::{
     Asked, Asleep, Broken, CpuIs, EndSent, Entered, Installed, Noticed, ReadMissing, ReadProtected,
@@ -30,7 +30,7 @@ fn copy_of(world: &World) -> Result<World, NoMemory> {
     }
 }
 
-/// Plays what both show at first, how the copy goes on, how the world goes on, and what the copy shows then.
+/// Plays what both show at first, how the copy continues, how the world continues, and what the copy shows then.
 fn play_both(rt: &impl Abort, world: &mut World, copy: &mut World, ways: Parts) {
     play(rt, copy, "the copy at first", ways.0);
     play(rt, copy, "the copy goes on", ways.1);
@@ -89,7 +89,7 @@ static BROKEN: [Row; 15] = [
     (Progress, Stands(WorldPhase::Postcopy, [0, 3, 1, 2, 0, 1])),
 ];
 
-/// The world itself goes on to its completion.
+/// The world itself continues to its completion.
 static COMPLETED: [Row; 15] = [
     (Back, TookRequest(0x10000)),
     (Serve, Asked(0x10000)),

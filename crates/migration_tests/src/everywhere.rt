@@ -1,6 +1,6 @@
-//! A channel that breaks after each step of a migration, and a second time while both nodes go on.
+//! A channel that breaks after each step of a migration, and a second time while both nodes continue.
 //!
-//! A story is played up to each of its rows. Then the channel breaks, both nodes go on, and the migration is led to its completion by
+//! A story is played up to each of its rows. Then the channel breaks, both nodes continue, and the migration is led to its completion by
 //! steps of the nodes alone. In the end the guest loads from each page, and its transcript is checked.
 
 use crate::answers::Answer;
@@ -79,7 +79,7 @@ fn take_recv(rt: &impl Abort, world: &mut World) {
     );
 }
 
-/// The channel breaks, once or twice, and both nodes go on.
+/// The channel breaks, once or twice, and both nodes continue.
 fn recover(rt: &impl Abort, world: &mut World, again: Again) {
     play(rt, world, "breaks", &BREAKS);
     match again {
@@ -179,7 +179,7 @@ fn checked(alloc: Global, world: &World) -> Result<(), CheckFault> {
     }
 }
 
-/// The channel breaks, and the migration goes on to its completion.
+/// The channel breaks, and the migration continues to its completion.
 pub fn break_and_complete(rt: &impl Abort, alloc: Global, world: &mut World, again: Again) {
     if matches!(world.phase(), WorldPhase::Idle | WorldPhase::Complete) {
         return play(rt, world, "no break", &NO_BREAK);
@@ -209,14 +209,14 @@ fn break_behind(rt: &impl Abort, alloc: Global, table: &str, opening: &[Row], ro
     }
 }
 
-/// Breaks the channel behind each row of an opening.
+/// Breaks the channel after each row of an opening.
 fn break_opening(rt: &impl Abort, alloc: Global, table: &str, opening: &[Row]) {
     for end in 0..opening.len() {
         break_behind(rt, alloc, table, &opening[..end], NOTHING.as_slice());
     }
 }
 
-/// Breaks the channel behind each row of a story.
+/// Breaks the channel after each row of a story.
 fn break_each(rt: &impl Abort, alloc: Global, table: &str, opening: &[Row], rows: &[Row]) {
     break_opening(rt, alloc, table, opening);
     for end in 0..=rows.len() {

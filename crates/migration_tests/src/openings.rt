@@ -1,4 +1,4 @@
-//! How the stories begin, and what two nodes do to go on after a break.
+//! How the stories begin, and what two nodes do to continue after a break.
 
 use crate::answers::Answer::{
     Noticed, Refused, Replied, Resumed, RoundMade, SentPage, Started, Switched, TookAdvise,

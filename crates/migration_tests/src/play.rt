@@ -21,7 +21,7 @@ use world::World;
 /// A step or a look, and the answer that is wanted.
 pub type Row = (Call, Answer);
 
-/// Tables that are played one behind the other.
+/// Tables that are played one after the other.
 pub type Parts<'a> = (&'a [Row], &'a [Row], &'a [Row], &'a [Row]);
 
 /// What a refused step has to leave.
@@ -111,7 +111,7 @@ pub fn play(rt: &impl Abort, world: &mut World, table: &str, rows: &[Row]) {
     }
 }
 
-/// What is played behind the tables, that no table can say.
+/// What is played after the tables, that no table can say.
 #[derive(Clone, Copy)]
 pub enum Behind {
     Nothing,
@@ -123,14 +123,14 @@ pub enum Behind {
     OneCall,
     /// Three steps in one call.
     Three,
-    /// The world is copied, and both go on: what both show at first, what happens to the copy, what happens to the world, and what the
+    /// The world is copied, and both continue: what both show at first, what happens to the copy, what happens to the world, and what the
     /// copy shows then.
     Copied(Parts<'static>),
-    /// The channel breaks, and the migration goes on to its completion.
+    /// The channel breaks, and the migration continues to its completion.
     Broken(Again),
 }
 
-/// Plays tables on a world, and what comes behind them. Whether memory was found for it.
+/// Plays tables on a world, and what comes after them. Whether memory was found for it.
 fn tell(
     rt: &impl Abort,
     alloc: Global,
@@ -185,7 +185,7 @@ pub fn on_world(
     told
 }
 
-/// Plays a table on a new world of two processors, behind an opening.
+/// Plays a table on a new world of two processors, after an opening.
 pub fn play_new(rt: &impl Abort, alloc: Global, table: &str, opening: &[Row], rows: &[Row]) {
     let parts = (opening, rows, NOTHING.as_slice(), NOTHING.as_slice());
     let told = on_world(rt, alloc, (2, 0, 0), table, parts, Behind::Nothing);

@@ -1,6 +1,6 @@
 //! Scenes in which `bench/compare/refused.py` refuses each growth in turn, and how many calls answered `NoMemory`.
 //!
-//! Such a step has changed nothing; the same step has the answer of the table then, and so has each step behind it. In the end the
+//! Such a step has changed nothing; the same step has the answer of the table then, and so has each step after it. In the end the
 //! transcript is checked.
 
 use crate::answers::Answer;
@@ -59,7 +59,7 @@ fn checked(rt: &impl Abort, alloc: Global, world: &World) -> u32 {
     1
 }
 
-/// Plays tables on a world one behind the other, and checks its transcript. How often memory was refused.
+/// Plays tables on a world one after the other, and checks its transcript. How often memory was refused.
 fn play_all(rt: &impl Abort, alloc: Global, world: &mut World, table: &str, parts: Parts) -> u32 {
     let mut refused = 0u32;
     for rows in [parts.0, parts.1, parts.2, parts.3] {

@@ -182,7 +182,7 @@ fn is_run(rt: &impl Abort, alloc: Global, cpus: u8, behind: Behind) -> bool {
     play_behind(rt, alloc, cpus, behind) == Ok(true)
 }
 
-/// One call for all steps, which goes on after a refusal. Where memory was refused a second world is run.
+/// One call for all steps, which continues after a refusal. Where memory was refused a second world is run.
 #[test]
 fn steps_in_one_call(rt: HostRuntime) {
     for (cpus, behind) in [(2, Behind::OneCall), (1, Behind::Three)] {

@@ -1,4 +1,4 @@
-//! Nodes that notice a break, and a source that goes on from what a destination has received.
+//! Nodes that notice a break, and a source that continues from what a destination has received.
 
 mod notices;
 mod rebuilds;

@@ -221,7 +221,7 @@ moved_nothing f from to count q none free = by_case (in_range to count q) refl
     by_case true e = let bounds = in_range_bounds to count q e in free q bounds.0 bounds.1 ∙ sym (none (from + (q - to)) (omega arith) (omega (arith, bounds)))
     by_case false e = range_skipped from count q f none
 
--- a move that goes on
+-- a move that continues
 pub moved_on : (f now : ℕ → Option ℕ) (from to done more count : ℕ) → (from + count ≤ to) ⊎ (to + count ≤ from) → done + more ≤ count → ((q : ℕ) → now q ≡ moved_number f from to done q) → (q : ℕ) → moved_number now (from + done) (to + done) more q ≡ moved_number f from to (done + more) q
 moved_on f now from to done more count apart few is q = by_target (in_range (to + done) more q) refl
   where

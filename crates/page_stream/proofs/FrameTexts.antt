@@ -13,7 +13,7 @@ use Rattle.frame_texts.proofs.TextLemmas.{length-text}
 use Rattle.page_stream.specs.Writing.{Puts}
 use Rattle.page_stream.proofs.Puts.{puts_then}
 
--- Three texts, one behind the other
+-- Three texts, one after the other
 
 pub room_of_first : (old : Vec ℕ) (x y z : List ℕ) → vec_len old + length (x ++ y ++ z) ≤ vec_capacity old → vec_len old + length x ≤ vec_capacity old
 room_of_first old x y z room = omega (arith, length-append (x ++ y) z, length-append x y)

@@ -43,14 +43,14 @@ begins_by-same prots others q here before = rw (here, before) refl
 pub nothing_begins : (prots : ℕ → Option Prot) (q : ℕ) → prots q ≡ None → begins_by prots q ≡ false
 nothing_begins prots q none = rw none refl
 
--- a page behind the first of a run of one protection
+-- a page after the first of a run of one protection
 goes_on : (prots : ℕ → Option Prot) (prot : Prot) (q : ℕ) → 0 < q → prots q ≡ Some prot → prots (q - 1) ≡ Some prot → begins_by prots q ≡ false
 goes_on prots prot q some here before = rw (here, before, same_prot-self prot, lt-ltb 0 q some) refl
 
 begins_first : (prots : ℕ → Option Prot) (prot : Prot) (q : ℕ) → prots q ≡ Some prot → (0 < q → prots (q - 1) ≡ None) → begins_by prots q ≡ true
 begins_first prots prot q here before = grind (arith, nat_tests)
 
--- behind an area, one of another protection begins
+-- after an area, one of another protection begins
 begins_next : (prots others : ℕ → Option Prot) (prot : Prot) (q : ℕ) → prots q ≡ others q → prots (q - 1) ≡ Some prot → others (q - 1) ≡ None → (others q ≡ Some prot → ⊥) → begins_by prots q ≡ begins_by others q
 begins_next prots others prot q here before none other = rw (here, before, none) (differ (others q) prot (ltb 0 q) other)
   where

@@ -26,7 +26,7 @@ const VERSION: u8 = 2;
 /// The tag of a frame of one page.
 const PAGE_TAG: u8 = 0x02;
 
-/// The bytes behind the header of a frame of one page: its number and its contents.
+/// The bytes after the header of a frame of one page: its number and its contents.
 const PAGE_BODY_LEN: u32 = 4 + PAGE_BYTES as u32;
 
 /// Appends the text of a frame that is sent in an epoch, in version 2 of the texts: [`Frame::text_len`] bytes. The frame is well formed
@@ -109,7 +109,7 @@ fn put_header(into: &mut Vec<u8>, tag: u8, epoch: u32, len: u32)
     put(into, &len.to_be_bytes());
 }
 
-/// The body, which stands behind the header.
+/// The body, which stands after the header.
 fn put_body(into: &mut Vec<u8>, frame: &Frame)
     requires room { vec_len into.old + length (body_text (frame_of frame.now)) ≤ vec_capacity into.old }
     requires right { IsFrame (frame_of frame.now) }

@@ -18,7 +18,7 @@ enum {
     POSTMIG_NOT_A_LINE = 3,  /* the text is not a line; of a whole text, *written is the number of its first line that is not one */
     POSTMIG_NO_MEMORY = 4,   /* malloc failed */
     POSTMIG_NO_CPU = 5,      /* there are 1 to 16 processors */
-    POSTMIG_NO_FRAME = 6,    /* no frame waits: the stream has to go on */
+    POSTMIG_NO_FRAME = 6,    /* no frame waits: the stream has to continue */
     POSTMIG_FRAMES_WAIT = 7, /* frames wait: postmig_frames_next has to take them first */
     POSTMIG_BAD_TAG = 8,     /* the stream has a version or tag that is not known, */
     POSTMIG_BAD_LENGTH = 9,  /* a length that no body of such a frame has, */
@@ -93,7 +93,7 @@ uint32_t postmig_frames_new(postmig_handle *frames);
 /* Takes the next bytes of the stream, cut anywhere. POSTMIG_FRAMES_WAIT and POSTMIG_NO_MEMORY: nothing of them was taken. */
 uint32_t postmig_frames_feed(postmig_handle *frames, const uint8_t *bytes, size_t length);
 
-/* Takes the first frame that waits, and writes its bytes, in version 2 of the format. POSTMIG_NO_ROOM: it still waits. Behind the last
+/* Takes the first frame that waits, and writes its bytes, in version 2 of the format. POSTMIG_NO_ROOM: it still waits. After the last
    frame the answer is POSTMIG_NO_FRAME, or the fault of the stream that stands there; it stays that fault. */
 uint32_t postmig_frames_next(postmig_handle *frames, postmig_frame *frame, uint8_t *out, size_t room, size_t *written);
 

@@ -93,7 +93,7 @@ impl FrameQueue {
         }
     }
 
-    /// Feeds the decoder nothing if no frame waits: it then returns the fault behind the last frame.
+    /// Feeds the decoder nothing if no frame waits: it then returns the fault after the last frame.
     fn refill(&mut self) -> Result<(), StreamFault>
         ensures ok { OnOk result (Refills self.old self.new) }
         ensures fault { IfErr result (λ fault. Stops self.old fault self.new) }

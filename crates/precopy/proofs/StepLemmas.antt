@@ -29,6 +29,6 @@ pub refused_if : {A : Type 0} (step : Result A Refusal) (refusal : Refusal) → 
 refused_if (Ok made) refusal is = absurd (grind arith)
 refused_if (Err other) refusal is = grind arith
 
--- a step that goes on from what is not there is refused as that is
+-- a step that continues from what is not there is refused as that is
 pub stops : {A B : Type 0} (found : Result A Refusal) (step : A → Result B Refusal) (refusal : Refusal) → found ≡ Err refusal → and_then found step ≡ Err refusal
 stops found step refusal is = ap (λ f. and_then f step) is

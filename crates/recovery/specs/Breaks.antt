@@ -27,8 +27,8 @@ received_by state node = machine.Frame.Recv state no_pages
 abbrev pub received_frame : Destination → machine.Frame
 received_frame node = received_by (received_of node) node
 
--- whether a source that goes on from there needs memory: for the pages that a running destination still needs, or for all of its own, once
--- it has switched and the destination has not run
+-- whether a source that continues from there needs memory: for the pages that a running destination still needs, or for all of its own,
+-- once it has switched and the destination has not run
 abbrev pub takes_pages : Received → Bool → Bool
 takes_pages Received.NotRun switched = switched
 takes_pages Received.Running switched = true

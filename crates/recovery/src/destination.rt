@@ -21,7 +21,7 @@ use page_stream::Frame;
 use precopy::Source;
 use std::alloc::Global;
 
-/// Pauses the destination, which notices that the channel is broken; if it has run, its processors go on. Refused as `Phase` before the
+/// Pauses the destination, which notices that the channel is broken; if it has run, its processors continue. Refused as `Phase` before the
 /// start and once the migration is complete, both of which the source knows, and if the destination is paused already. The caller
 /// knows that the channel is broken.
 pub fn notice_dest(source: &Source, destination: &mut Destination) -> Result<Effect, Refusal>
@@ -64,7 +64,7 @@ pub fn report_received(alloc: Global, destination: &Destination) -> Result<Frame
     Ok(Frame::Recv { state, owed })
 }
 
-/// The requests of the destination once more, in order: it sends them behind a Recv if it runs. `NoMemory` comes if room is refused.
+/// The requests of the destination once more, in order: it sends them after a Recv if it runs. `NoMemory` comes if room is refused.
 pub fn rerequest(alloc: Global, destination: &Destination) -> Result<Vec<Frame>, NoMemory>
     ensures frames { IfOk result (λ frames. frames_of frames.items ≡ map wire.Frame.Request destination.now.requests) }
     ensures well_formed { IfOk result (λ frames. AreWellFormed (frames_of frames.items)) }

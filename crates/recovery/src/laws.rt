@@ -6,7 +6,7 @@ ghost use Rattle.mig_model.specs.Destination.{Destination, destination_answers, 
 ghost use Rattle.mig_model.specs.Wire as wire;
 ghost use Rattle.recovery.specs.Breaks.{received_frame};
 
-/// For a Resume the machine's destination sends its Recv, and behind it, if it runs, its requests once more.
+/// For a Resume the machine's destination sends its Recv, and after it, if it runs, its requests once more.
 pub fn what_a_resume_sends()
     ensures running { (node : Destination) → received_of node ≡ Received.Running → destination_answers node wire.Frame.Resume ≡ received_frame node ∷ map wire.Frame.Request node.requests }
     ensures otherwise { (node : Destination) → received_of node ≢ Received.Running → destination_answers node wire.Frame.Resume ≡ received_frame node ∷ [] }

@@ -1,4 +1,4 @@
-//! Both sides go on over a new channel.
+//! Both sides continue over a new channel.
 
 ghost use Rattle.std.specs.Prelude.{◌≡◌, ◌∷◌, [], Err, IfOk, IfErr, OnErr};
 ghost use Rattle.mig_model.specs.Bounds.{IsFrame};
@@ -14,7 +14,7 @@ use mig_base::refusal::Refusal;
 use page_stream::Frame;
 use precopy::Source;
 
-/// Begins the next epoch, in which both sides go on over a new channel, and returns the frame to send, a Resume. Both stay paused until
+/// Begins the next epoch, in which both sides continue over a new channel, and returns the frame to send, a Resume. Both stay paused until
 /// they take the Resume or the Recv that answers it. Refused as `Phase` unless both are paused, and as `CountUsed` if no epoch is left.
 pub fn resume(source: &mut Source, destination: &Destination) -> Result<(Effect, Frame), Refusal>
     ensures made { IfOk result (λ made. in_phase (is_dest_paused destination.now.phase) (step.resume source.old) ≡ sent made.0 (frame_of made.1 ∷ []) source.new) }
@@ -28,7 +28,7 @@ pub fn resume(source: &mut Source, destination: &Destination) -> Result<(Effect,
     Ok((Effect::Resumed { epoch }, Frame::Resume))
 }
 
-/// Whether both sides can go on: the refusal of [`resume`].
+/// Whether both sides can continue: the refusal of [`resume`].
 pub fn check_resume(source: &Source, destination: &Destination) -> Result<(), Refusal>
     ensures { result ≡ checked (in_phase (is_dest_paused destination.now.phase) (step.resume source.now)) }
 {

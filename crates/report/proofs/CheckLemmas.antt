@@ -1,4 +1,4 @@
--- The first wrong entry of a list, and flat runs that go on by one entry.
+-- The first wrong entry of a list, and flat runs that continue by one entry.
 use Rattle.std.proofs.Common.{◌≡◌, ℕ, zero, suc, ◌+◌, ◌<◌, List, [], ◌∷◌, Some, sym, ap, ◌∙◌, subst, arith, length, take, get_or}
 use Rattle.std.specs.Prelude.{slice_get}
 use Rattle.std.proofs.lemmas.List.{take_more, take_all}

@@ -9,7 +9,7 @@ use crate::same::is_same;
 use crate::seat::{Answer, CpuSeat};
 use mig_base::{Entry, MAX_CPUS};
 
-/// The first answer of a processor, and the entries behind it.
+/// The first answer of a processor, and the entries after it.
 pub(crate) fn next_answer(entries: &[Entry], cpu: u8) -> Option<(Answer, &[Entry])>
     ensures some { IfSome result (λ r. answers_of cpu entries.now ≡ r.0 ∷ answers_of cpu r.1.now) }
     ensures shorter { IfSome result (λ r. length r.1.now < length entries.now) }
@@ -29,7 +29,7 @@ pub(crate) fn next_answer(entries: &[Entry], cpu: u8) -> Option<(Answer, &[Entry
     None
 }
 
-/// The first answer of a processor in `opening` and then in `list`, and what is behind it.
+/// The first answer of a processor in `opening` and then in `list`, and what is after it.
 fn next_wanted<'a>(
     opening: &'a [Entry],
     list: &'a [Answer],

@@ -49,7 +49,7 @@ pub enum StepKind {
 pub enum Pass {
     /// It makes the step.
     Go,
-    /// It goes on to the next turn.
+    /// It continues with the next turn.
     Skip,
     /// It ends.
     Stop,

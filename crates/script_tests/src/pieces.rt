@@ -112,7 +112,7 @@ fn played(
 }
 
 /// Plays a case. One that is refused memory has written whole lines, and none if it is a check; it is played again. Nothing is read or
-/// written behind a read or a write that failed.
+/// written after a read or a write that failed.
 fn play(rt: &impl Abort, alloc: Global, job: Job, case: &Case, at: usize) -> Result<(), Fail> {
     let (mut fault, mut written, mut reads, mut writes) = played(alloc, job, case)?;
     if fault == Some(RunFault::NoMemory) {
@@ -306,7 +306,7 @@ fn endless(
     Ok((fault, reader.reads))
 }
 
-/// A line is refused at its 257th byte: nothing is read behind the piece that has it.
+/// A line is refused at its 257th byte: nothing is read after the piece that has it.
 #[test]
 fn a_line_without_an_end(rt: HostRuntime) -> Result<(), Fail> {
     for byte in [b'#', b' ', b'x', 0, 255] {

@@ -74,7 +74,7 @@ fn world_after(alloc: Global, script: &[u8], count: usize) -> Option<World> {
     Some(world)
 }
 
-/// Finishes a world. Where memory was refused it goes on once more.
+/// Finishes a world. Where memory was refused it continues once more.
 fn finished(alloc: Global, world: &mut World) -> Option<Vec<Step>> {
     match finish(world, alloc) {
         Ok(steps) => Some(steps),

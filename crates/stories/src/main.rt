@@ -84,7 +84,7 @@ impl Kind {
     }
 }
 
-/// Puts the message of a fault behind what was printed before it.
+/// Puts the message of a fault after what was printed before it.
 fn print_fault(
     alloc: Global,
     text: &mut Vec<u8>,
@@ -97,7 +97,7 @@ fn print_fault(
     Ok(())
 }
 
-/// Prints what a run of a script prints behind a text, and then its fault.
+/// Prints what a run of a script prints after a text, and then its fault.
 fn print_run(
     alloc: Global,
     text: &mut Vec<u8>,
@@ -109,14 +109,14 @@ fn print_run(
     print_fault(alloc, text, outcome.err())
 }
 
-/// Prints what a check of a transcript prints behind a text, and then its fault.
+/// Prints what a check of a transcript prints after a text, and then its fault.
 fn print_check(alloc: Global, text: &mut Vec<u8>, transcript: &[u8]) -> Result<(), AllocError> {
     let mut reader = transcript;
     let outcome = check_script(alloc, &mut reader, text);
     print_fault(alloc, text, outcome.err())
 }
 
-/// Prints the listing of a script or a transcript behind a text, and then its fault.
+/// Prints the listing of a script or a transcript after a text, and then its fault.
 fn print_listing(
     alloc: Global,
     text: &mut Vec<u8>,

@@ -102,7 +102,7 @@ fn check(alloc: Global, transcript: &[u8]) -> Result<Result<bool, RunFault>, All
     Ok(verdict)
 }
 
-/// The lines of a script with answers, with ` => ` cut away and what is behind it, and the answers.
+/// The lines of a script with answers, with ` => ` cut away and what is after it, and the answers.
 fn split_answers(alloc: Global, text: &[u8]) -> Result<(Vec<u8>, Vec<u8>), AllocError> {
     let mut lines = room(alloc)?;
     let mut answers = room(alloc)?;
@@ -186,7 +186,7 @@ fn each_profile_runs(rt: HostRuntime) -> Result<(), Fail> {
     Ok(())
 }
 
-/// The lines of the script are the same, and those behind them complete the migration: `progress` is the last line of each.
+/// The lines of the script are the same, and those after them complete the migration: `progress` is the last line of each.
 #[test]
 fn each_profile_is_finished(rt: HostRuntime) -> Result<(), Fail> {
     for profile in Profile::ALL {

@@ -39,7 +39,7 @@ pub(crate) fn queue_if_due(
     Ok(1)
 }
 
-/// Queues a message if it is due, behind the `queued` messages of its call, and returns how many there are now. `NoMemory`
+/// Queues a message if it is due, after the `queued` messages of its call, and returns how many there are now. `NoMemory`
 /// removes those `queued` messages.
 fn queue_more(
     object: &mut Userfault,

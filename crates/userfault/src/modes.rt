@@ -94,7 +94,7 @@ pub fn part_of(alloc: Global, set: &PageSet, first: PageNo, count: u32) -> Resul
 }
 
 /// The first run of pages that are in the set (or, with `want` false, are not), from `from` on and before `end`: its first
-/// page, and the page behind its last. Both are `end` if there is no such run.
+/// page, and the page after its last. Both are `end` if there is no such run.
 pub fn run_of(set: &PageSet, from: PageNo, end: PageNo, want: bool) -> (PageNo, PageNo)
     requires { (from < end) × (end ≤ HIGH_PAGE) }
     ensures range { (from ≤ result.0) × (result.0 ≤ result.1) × (result.1 ≤ end) }

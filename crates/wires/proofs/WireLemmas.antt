@@ -114,7 +114,7 @@ none_is_not (Some x) sent is none = cc
 pub read_is : (read : Option (ℕ × Frame)) (epoch : ℕ) (frame : Frame) (sent : machine.Sent) → option_map decoded read ≡ Some sent → read ≡ Some (epoch, frame) → sent_of (record { epoch = epoch; frame = frame }) ≡ sent
 read_is read epoch frame sent is found = same_Some (decoded (epoch, frame)) sent (sym (ap (option_map decoded) found) ∙ is)
 
--- the frames behind the first
+-- the frames after the first
 pub same_rest : (frames : List machine.Sent) (first sent : machine.Sent) (rest others : List machine.Sent) → frames ≡ first ∷ rest → frames ≡ sent ∷ others → rest ≡ others
 same_rest frames first sent rest others is so = ap (λ (frames : List machine.Sent). drop 1 frames) (sym is ∙ so)
 

@@ -25,7 +25,7 @@ pub(crate) struct Chunks {
     /// The chunk that is read, and the number of its bytes that were taken.
     pub(crate) reading: Vec<u8>,
     pub(crate) taken: usize,
-    /// The chunks behind it, which are no longer written.
+    /// The chunks after it, which are no longer written.
     pub(crate) full: VecDeque<Vec<u8>>,
     /// The chunk that is written.
     pub(crate) writing: Vec<u8>,
@@ -162,7 +162,7 @@ impl Chunks {
         };
     }
 
-    /// Goes on to the next chunk if all bytes of the one that is read were taken. The first frame in flight is then in it.
+    /// Continues with the next chunk if all bytes of the one that is read were taken. The first frame in flight is then in it.
     pub(crate) fn turn(&mut self)
         requires { AreChunks self.old }
         ensures chunks { AreChunks self.new }

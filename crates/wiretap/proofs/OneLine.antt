@@ -100,7 +100,7 @@ carries_few old (line ∷ []) new text runs is w =
     (w.0, w.1, w.2, no_traffic, w.3, w.4, ap (put_by old) w.5.0 ∙ sym (more_of_nothing (put_by old w.0)), (w.5.0, w.5.1, refl))
 carries_few old (line ∷ other ∷ lines) new text runs is w = absurd is
 
--- Its frames come behind those in flight
+-- Its frames come after those in flight
 
 made_any : (mode : Mode) (old : World) (step : Option Step) (new : World) (text : List ℕ) → MakesAny mode old step new text → ArePut old new
 made_any mode old (Some step) new text m = put_happens old step m.0 new m.1.1
@@ -121,7 +121,7 @@ lines_put mode old [] again new text is w = put_nothing old new (same_state agai
 lines_put mode old (line ∷ []) again new text is w = does_put mode old line again new w.1 (subst (λ (b : Work). Does (Running mode old) line b w.1) (sym w.5.0) w.3)
 lines_put mode old (line ∷ other ∷ lines) again new text is w = absurd is
 
--- Running goes on
+-- Running continues
 
 does_running : (a : Work) (line : Line) (b : Work) (text : List ℕ) → IsRunning a → Does a line b text → IsRunning b
 does_running a Skipped b text r d = record { mode = r.mode; state = r.state; is = d.0 ∙ r.is }
@@ -142,7 +142,7 @@ closes_running a end rest text more u v r c = works_running a.work c.lines end (
 
 -- What was written
 
--- the bytes behind those that were in flight are what the line has put
+-- the bytes after those that were in flight are what the line has put
 written : (old new : Work) (lines : List Line) (text : List ℕ) (marks : Marks) (r : IsRunning old) (s : IsRunning new) → IsFew lines → Works old lines new text
     → ((mode : Mode) (state : World) → old ≡ Running mode state → AreMarks state marks) → behind marks s.state ≡ put_by old new
 written old new lines text marks r s is w are =

@@ -23,7 +23,7 @@ counted_whole n count is below = grind (arith, nat_tests)
 pub counted_bytes : (frames : List Sent) (count : ℕ) → AllByRecursion (IsSent Two) frames → count ≡ counted 0 (in_flight_len frames) → count < 18446744073709551615 → count ≡ length (texts Two frames)
 counted_bytes frames count each is below = counted_whole (in_flight_len frames) count is below ∙ sym (in_flight frames each)
 
--- What comes behind the first bytes
+-- What comes after the first bytes
 
 drop_append : (n : ℕ) (xs ys : List ℕ) → drop n (xs ++ ys) ≡ drop n xs ++ drop (n - length xs) ys
 drop_append zero xs ys = let none : zero - length xs ≡ zero = omega arith in ap (λ (k : ℕ). xs ++ drop k ys) (sym none)
@@ -32,7 +32,7 @@ drop_append (suc n) (x ∷ xs) ys =
     let less : suc n - length (x ∷ xs) ≡ n - length xs = omega arith in
     drop_append n xs ys ∙ ap (λ (k : ℕ). drop n xs ++ drop k ys) (sym less)
 
--- the bytes behind the first `known` of these pieces were written, and `left` of them are still to come
+-- the bytes after the first `known` of these pieces were written, and `left` of them are still to come
 pub record Behind (known : ℕ) (pieces : List (List ℕ)) (left : ℕ) (before after : Option (List ℕ)) : Type 0 where
   pub rest : left ≡ known - length (concat pieces)
   pub appends : Appends before after (drop known (concat pieces))

@@ -124,7 +124,7 @@ texts_put old new p = elim p [
       drop_all (length (texts Two old.frames)) (texts Two new.frames) (omega (arith, all)) ∙ sym (ap (texts Two) shrunk.0)
 ]
 
--- what comes behind the bytes that were in flight is what was put
+-- what comes after the bytes that were in flight is what was put
 pub behind_put : (old new : World) (marks : Marks) → AreMarks old marks → ArePut old new → behind marks new ≡ put_between old new
 behind_put old new marks are p = λ i. record {
   forward = (ap (λ (n : ℕ). drop n (texts Two new.forward.frames)) are.forward ∙ texts_put old.forward new.forward p.forward) i;

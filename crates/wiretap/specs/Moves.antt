@@ -25,7 +25,7 @@ pub record AreMarks (state : World) (marks : Marks) : Type 0 where
   pub back : marks.back ≡ length (texts Two state.back.frames)
   pub urgent : marks.urgent ≡ length (texts Two state.urgent.frames)
 
--- the bytes in flight in a world, on each wire those behind the number that its count says
+-- the bytes in flight in a world, on each wire those after the number that its count says
 abbrev pub behind : Marks → World → Traffic
 behind marks state =
     record {

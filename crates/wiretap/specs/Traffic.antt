@@ -16,11 +16,11 @@ use Rattle.wiretap.specs.declared.taps.Taps.{Taps}
 
 -- One step
 
--- the frames that a step put on a wire: those behind the frames that were in flight before it
+-- the frames that a step put on a wire: those after the frames that were in flight before it
 abbrev pub put_on : (old new : Wire) → List Sent
 put_on old new = drop (length old.frames) new.frames
 
--- a step put these frames at the end of a wire, behind all that was in flight; or it put none, and took frames from the front or none
+-- a step put these frames at the end of a wire, after all that was in flight; or it put none, and took frames from the front or none
 abbrev pub IsPut : (old new : Wire) → List Sent → Type 0
 IsPut old new put = (new.frames ≡ old.frames ++ put) ⊎ ((put ≡ []) × Shrinks old new)
 
@@ -34,7 +34,7 @@ pub record Traffic : Type 0 where
 abbrev pub no_traffic : Traffic
 no_traffic = record { forward = []; back = []; urgent = [] }
 
--- bytes, and more behind them on each wire
+-- bytes, and more after them on each wire
 abbrev pub with_more : Traffic → Traffic → Traffic
 with_more first more = record { forward = first.forward ++ more.forward; back = first.back ++ more.back; urgent = first.urgent ++ more.urgent }
 

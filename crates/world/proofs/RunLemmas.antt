@@ -1,4 +1,4 @@
--- Runs of the world that go on by one step.
+-- Runs of the world that continue by one step.
 use Rattle.std.proofs.Common.{◌≡◌, ℕ, List, [], ◌∷◌, ◌++◌, refl, sym, subst, ◌+◌, ◌<◌, length, take, get_or}
 use Rattle.std.proofs.lemmas.List.{take_more}
 use Rattle.mig_base.specs.declared.schedule.Step.{Step}

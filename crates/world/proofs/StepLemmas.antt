@@ -180,7 +180,7 @@ breaks world ok = breaks_by world (answer world Step.Break) refl ok
 pub breaks_not : (world : World) (refusal : Refusal) → Err refusal ≡ checked (answer world Step.Break) → answer world Step.Break ≡ Err refusal
 breaks_not world refusal h = grind (arith, nat_tests)
 
--- Frames behind others
+-- Frames after others
 
 sending-both : (wire : List Sent) (epoch : ℕ) (frames more : List Frame) → sending (sending wire epoch frames) epoch more ≡ sending wire epoch (frames ++ more)
 sending-both wire epoch [] more = refl

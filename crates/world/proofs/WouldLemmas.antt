@@ -1,10 +1,10 @@
--- Why a step is refused: what a check says of a step that goes on from what a node finds.
+-- Why a step is refused: what a check says of a step that continues from what a node finds.
 use Rattle.std.proofs.Common.{◌≡◌, ◌||◌, Bool, true, false, not, Ok, Err, Result, if◌then◌else◌, refl, sym, ap, ◌∙◌, arith}
 use Rattle.std.proofs.lemmas.Bool.Decides.{nat_tests}
 use Rattle.mig_base.specs.declared.refusal.Refusal.{Refusal}
 use Rattle.mig_model.specs.NodeSteps.{and_then, checked, is_out_of_phase, while_down, while_up}
 
--- a step goes on, whatever is found
+-- a step continues, whatever is found
 abbrev pub Always : {A B : Type 0} → (A → Result B Refusal) → Type 0
 Always {A} go = (x : A) → checked (go x) ≡ Ok tt
 

@@ -146,7 +146,7 @@ fn answers_to(
     }
 }
 
-/// The Recv of the destination, and behind it, if it runs, its requests once more.
+/// The Recv of the destination, and after it, if it runs, its requests once more.
 fn report(alloc: Global, destination: &Destination) -> Result<Vec<Frame>, NoMemory>
     ensures answers { IfOk result (λ answers.
         frames_of answers.items ≡ to.destination_answers destination.now machine.Frame.Resume) }

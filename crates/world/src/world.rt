@@ -101,9 +101,9 @@ impl World {
         })
     }
 
-    /// An equal world, in memory of its own, so that two schedules can go on from here: a step of one world changes nothing of the other.
-    /// The copy takes as much memory as this world holds: the bytes of every present page, every kept or waiting copy, and all bytes in
-    /// flight. The only refusal is `NoMemory`, and no copy is left then.
+    /// An equal world, in memory of its own, so that two schedules can continue from here: a step of one world changes nothing of the
+    /// other. The copy takes as much memory as this world holds: the bytes of every present page, every kept or waiting copy, and all bytes
+    /// in flight. The only refusal is `NoMemory`, and no copy is left then.
     pub fn copy(&self) -> Result<Self, NoMemory>
         ensures { IfOk result (λ copy. copy ≡ self.now) }
     {
@@ -131,7 +131,7 @@ impl World {
         self.parts.would(step)
     }
 
-    /// Makes steps in turn, and returns the outcome of each. It goes on after a step that is refused. If the call itself returns
+    /// Makes steps in turn, and returns the outcome of each. It continues after a step that is refused. If the call itself returns
     /// `NoMemory`, no step was made.
     pub fn run(
         &mut self,

@@ -14,7 +14,7 @@ const MOST: usize = 6;
 /// The height of a line.
 const LINE: u64 = 140;
 
-/// Puts a wait among the longest, behind those that are as long.
+/// Puts a wait among the longest, after those that are as long.
 fn put(memory: &mut Memory, longest: &mut Vec<Wait>, wait: Wait) {
     let mut next = wait;
     let mut is_placed = false;

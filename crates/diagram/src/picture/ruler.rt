@@ -76,7 +76,7 @@ fn is_wide(plan: &Plan, lines: u32) -> bool {
     plan.width.saturating_mul(u64::from(lines)) >= all.saturating_mul(400)
 }
 
-/// The distance of two numbers: 5, 10 or 20, or one of these with zeros behind it.
+/// The distance of two numbers: 5, 10 or 20, or one of these with zeros after it.
 fn distance(plan: &Plan) -> u32 {
     let mut at = 5u32;
     for _ in 0..8 {

@@ -86,7 +86,7 @@ fn pages_are_read(rt: HostRuntime) -> Result<(), Fail> {
     one_text(&rt, rt.alloc(), &bytes)
 }
 
-/// Feeds the bytes of a text with one of them changed: what is answered is written as the bytes that it took up. Behind the front stand as
+/// Feeds the bytes of a text with one of them changed: what is answered is written as the bytes that it took up. After the front stand as
 /// many bytes of 7 and then of 9.
 fn changes(
     rt: &impl Abort,

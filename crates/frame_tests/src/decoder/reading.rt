@@ -20,7 +20,7 @@ fn written(rt: &impl Abort, alloc: Global, frame: &Frame, epoch: u32) -> Result<
     encode(alloc, frame, epoch)
 }
 
-/// Stops unless the frames are written as the bytes begin, the version of each aside. Answers the bytes behind them.
+/// Stops unless the frames are written as the bytes begin, the version of each aside. Answers the bytes after them.
 pub fn look<'a>(
     rt: &impl Abort,
     alloc: Global,
@@ -41,7 +41,7 @@ pub fn look<'a>(
     Ok(rest)
 }
 
-/// Feeds a piece and looks at its frames, which take up some of the bytes. Answers the bytes behind them.
+/// Feeds a piece and looks at its frames, which take up some of the bytes. Answers the bytes after them.
 pub fn play<'a>(
     rt: &impl Abort,
     alloc: Global,

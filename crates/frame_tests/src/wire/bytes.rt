@@ -25,7 +25,7 @@ fn send(rt: &impl Abort, alloc: Global, wire: &mut Wire, bytes: &[u8]) -> Result
     Ok(())
 }
 
-/// Puts some bytes behind others, once more where memory was refused.
+/// Puts some bytes after others, once more where memory was refused.
 fn append(all: &mut Vec<u8>, bytes: &[u8]) -> Result<(), NoMemory> {
     if all.extend_from_slice(bytes).is_err() {
         all.extend_from_slice(bytes)?;

@@ -8,7 +8,7 @@ use std::process::Abort;
 use std::test::Fail;
 use wires::{Sent, Wire};
 
-/// Texts of frames, and how many bytes of 7 are behind each.
+/// Texts of frames, and how many bytes of 7 are after each.
 pub(crate) static TEXTS: [(&[u8], usize); 11] = [
     (b"\x02\x01\x00\x00\x00\x00\x00\x01\x00\x00\x00\x00", 0),
     (

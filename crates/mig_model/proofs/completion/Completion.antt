@@ -1,4 +1,4 @@
--- A migration can be completed from every world in which it can go on: each phase of the source leads to a later one.
+-- A migration can be completed from every world in which it can continue: each phase of the source leads to a later one.
 use Rattle.std.proofs.lemmas.Bool.Decides.{nat_tests}
 use Rattle.std.proofs.Common.{◌≡◌, ℕ, zero, suc, ◌<◌, Bool, true, false, List, [], ◌∷◌, refl, sym, ap, subst, arith}
 use Rattle.std.specs.Ordering.{nat_cmp}

@@ -25,7 +25,7 @@ use Rattle.mig_model.proofs.memory.Facts.{either}
 
 -- A Package in flight
 
--- the wire is behind the place of the Package
+-- the wire is past the place of the Package
 abbrev is_past : Flow → Bool
 is_past Pushed = true
 is_past AfterEnd = true

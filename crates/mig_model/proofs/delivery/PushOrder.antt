@@ -15,7 +15,7 @@ use Rattle.mig_model.specs.Promises.{is_recv}
 use Rattle.mig_model.proofs.steps.StepCases.{MakesWorld, made-next, made-ok}
 use Rattle.mig_model.proofs.invariant.UrgentSteps.{urgent-next}
 
--- what holds behind a push in an epoch: a later epoch has begun, or the source has switched in that epoch, and is not paused while the
+-- what holds after a push in an epoch: a later epoch has begun, or the source has switched in that epoch, and is not paused while the
 -- link is up, so that it takes no Recv
 abbrev HasPushed : ℕ → ℕ → Bool → SourcePhase → Bool → Type 0
 HasPushed pushed epoch switched phase up = (pushed < epoch) ⊎ ((epoch ≡ pushed) × (switched ≡ true) × (up ≡ true → is_source_paused phase ≡ false))
@@ -45,7 +45,7 @@ pushed_steps pushed world steps = by_steps (PushedIn pushed) (λ old step kept u
 stopped_not_paused : (phase : SourcePhase) → is_stopped phase ≡ true → is_source_paused phase ≡ false
 stopped_not_paused phase h = grind (arith, nat_tests)
 
--- an accepted Push, and any steps behind it
+-- an accepted Push, and any steps after it
 pub pushed_before : (world : World) (ticket : Ticket) (steps : List Step) → IsSoundWorld world → AreSoundUrgent world → IsOk (outcome world (Step.Push ticket)) → PushedIn world.source.epoch (after_steps (next world (Step.Push ticket)) steps)
 pushed_before world ticket steps kept urgent ok =
     pushed_steps world.source.epoch (next world (Step.Push ticket)) steps (kept-next world (Step.Push ticket) kept urgent) (urgent-next world (Step.Push ticket) kept urgent)
@@ -53,7 +53,7 @@ pushed_before world ticket steps kept urgent ok =
     (λ stopped up own present remains.
     inr (refl, stopped_switched world.source.phase world.source.switched stopped kept.phases.source_phase, λ u. stopped_not_paused world.source.phase stopped)) ok)
 
--- an accepted PushUrgent, and any steps behind it
+-- an accepted PushUrgent, and any steps after it
 pub urgent_before : (world : World) (ticket : Ticket) (steps : List Step) → IsSoundWorld world → AreSoundUrgent world → IsOk (outcome world (Step.PushUrgent ticket)) → PushedIn world.source.epoch (after_steps (next world (Step.PushUrgent ticket)) steps)
 urgent_before world ticket steps kept urgent ok =
     pushed_steps world.source.epoch (next world (Step.PushUrgent ticket)) steps (kept-next world (Step.PushUrgent ticket) kept urgent) (urgent-next world (Step.PushUrgent ticket) kept urgent)

@@ -65,7 +65,7 @@ taken_awaits host frame_sent epoch frame rest world first h ran = grind (arith, 
 no_back : (from : SourcePhase) (to : DestPhase) (world : World) → is_stopped from ≡ true → world.up ≡ true → world.destination.has_run ≡ false → IsSoundWorld (in_phases from to world) → world.back.frames ≡ []
 no_back from to world stopped up ran kept = grind (arith, nat_tests)
 
--- more frames behind the Package
+-- more frames after the Package
 sent_more : (host : Host) (frame_sent : Frame) (world : World) (more : List Sent) → HasSwitched host frame_sent world → package_in (world.forward.frames ++ more) ≡ Some frame_sent
 sent_more host frame_sent world more now = (has_package world.destination.kept world.forward.frames more frame_sent now.package_is).same ∙ now.package_is
 
@@ -111,7 +111,7 @@ no_package_by o not = grind (arith, nat_tests)
 none_before : (from : SourcePhase) (to : DestPhase) (world : World) → is_precopy from ≡ true → world.up ≡ true → IsSoundWorld (in_phases from to world) → is_some (package_in world.forward.frames) ≡ true → ⊥
 none_before from to world precopy up kept there = grind (arith, nat_tests, none_precopy)
 
--- a frame behind a wire with no Package
+-- a frame after a wire with no Package
 sent_first : (wire : List Sent) (sent : Sent) → package_in wire ≡ None → package_in (wire ++ sent ∷ []) ≡ package_in (sent ∷ [])
 sent_first wire sent none = package_in-append wire (sent ∷ []) ∙ ap (λ o. if is_some o then o else package_in (sent ∷ [])) none
 

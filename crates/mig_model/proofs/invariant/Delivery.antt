@@ -83,14 +83,14 @@ pair-origins owed origin h =
 
 -- The answer
 
--- a Recv stands first, and the requests behind it
+-- a Recv stands first, and the requests after it
 answer_first : (back : List Sent) (epoch : ℕ) (frame : Frame) (frames : List Frame) → back ≡ [] → sending back epoch (frame ∷ frames) ≡ record { epoch = epoch; frame = frame } ∷ sending [] epoch frames
 answer_first back epoch frame frames none = ap (λ b. sending b epoch (frame ∷ frames)) none ∙ sending-behind (record { epoch = epoch; frame = frame } ∷ []) epoch frames
 
 resume_alone : (epoch source_epoch : ℕ) (rest : List Sent) (h : record { epoch = epoch; frame = Resume } ∷ rest ≡ record { epoch = source_epoch; frame = Resume } ∷ []) → rest ≡ []
 resume_alone epoch source_epoch rest h = cc
 
--- it goes on in a phase, and answers with these frames
+-- it continues in a phase, and answers with these frames
 goes_on : (to : DestPhase) (ran : Bool) (epoch : ℕ) (keeps : FinMap nat_cmp (List ℕ)) (frames : List Frame) (rest : List Sent) (world : World) →
     let old : World = at_state SourcePhase.Paused DestPhase.Paused ran true (record { epoch = epoch; frame = Resume } ∷ rest) world in
     let new : World = record old {
@@ -257,7 +257,7 @@ precopy_advised : (epoch : ℕ) (frame : Frame) (rest : List Sent) (world : Worl
     IsSoundWorld old → IsSoundWorld (delivered old old.forward.frames)
 precopy_advised epoch frame rest world kept = grind (arith, nat_tests, copies_kept, ends_late)
 
--- the Package and the pages behind it are the same
+-- the Package and the pages after it are the same
 switching_on : (source : Source) (kept keeps : FinMap nat_cmp (List ℕ)) (wire rest urgent : List Sent) → package_in wire ≡ package_in rest → kept_by kept wire ≡ kept_by keeps rest → behind wire ≡ behind rest →
     IsSwitching source kept wire urgent → IsSwitching source keeps rest urgent
 switching_on source kept keeps wire rest urgent same held after old =

@@ -43,7 +43,7 @@ is_late flow = true
 late_next : (flow next : Flow) (frame : Frame) → is_late flow ≡ true → flow_next flow frame ≡ Some next → is_late next ≡ true
 late_next flow next frame late h = grind (arith, nat_tests)
 
--- behind a Discard the wire does not come back to copies that are kept
+-- after a Discard the wire does not come back to copies that are kept
 pub stays_late : (flow : Flow) (wire : List Sent) → is_late flow ≡ true → flow_after flow wire ≡ Some Copies → ⊥
 stays_late flow [] late h = false≢true (ap (λ o. elim o [ None ↦ false | Some f ↦ is_late f ]) (sym h) ∙ late)
 stays_late flow (sent ∷ wire) late h =
@@ -55,7 +55,7 @@ stays_late flow (sent ∷ wire) late h =
 pub ends_late : (wire : List Sent) → flow_after BeforePackage wire ≡ Some Copies → ⊥
 ends_late wire h = stays_late BeforePackage wire refl h
 
--- behind End nothing comes
+-- after End nothing comes
 pub nothing_behind : (wire : List Sent) (flow : Flow) → flow_after AfterEnd wire ≡ Some flow → (wire ≡ []) × (flow ≡ AfterEnd)
 nothing_behind [] flow h = (refl, ap (λ o. elim o [ None ↦ AfterEnd | Some f ↦ f ]) (sym h))
 nothing_behind (sent ∷ wire) flow h = absurd (none-some flow h)

@@ -45,7 +45,7 @@ kept_after-page_frame kept page bytes n = kept_page (list_all (λ byte. eqb byte
 pub copies_whole-push : (wire : List Sent) (sent : Sent) → AreWhole (copies_in sent.frame) → AreWhole (copies_of wire) → AreWhole (copies_of (wire ++ sent ∷ []))
 copies_whole-push wire sent whole are = grind (arith, nat_tests, copies_of-append, AreWhole-append)
 
--- what is kept once one more frame behind copies is taken
+-- what is kept once one more frame after copies is taken
 pub kept_by-push : (wire : List Sent) (flow : Flow) (sent : Sent) (kept : FinMap nat_cmp (List ℕ)) → flow_after flow wire ≡ Some Copies → kept_by kept (wire ++ sent ∷ []) ≡ kept_by (kept_by kept wire) (sent ∷ [])
 kept_by-push wire flow sent kept h = (has_no_package flow kept wire (sent ∷ []) h).kept_then
 
@@ -119,7 +119,7 @@ still_after : (world : World) (first count : ℕ) (clean : FinSet nat_cmp) → I
     (q : ℕ) → contains clean q ≡ true → is_unread (space_of world.source).object.events q ≡ false → contains (protected_in (space_of world.source) first count true).protected q ≡ true
 still_after world first count clean kept unswitched are clean_is q h u = grind (arith, nat_tests, member_below, watched_below, or_right)
 
--- the copies of the clean pages are right once those of these pages are behind them
+-- the copies of the clean pages are right once those of these pages are after them
 carried_copies : (source : Source) (first count : ℕ) (frame : Frame) (log : Log) (pages epoch : ℕ) (flow : Flow) (kept : FinMap nat_cmp (List ℕ)) (wire : List Sent) → AreSent (space_of source) first count →
     IsCarried (space_of source) source.log first count frame log → flow_after flow wire ≡ Some Copies → IsPrecopying source kept wire →
     IsPrecopying (carried source first count log pages) kept (wire ++ record { epoch = epoch; frame = frame } ∷ [])

@@ -14,7 +14,7 @@ use Rattle.std.proofs.lemmas.Bool.Decides.{nat_tests}
 use Rattle.mig_model.specs.Invariant.Flow.{Copies, Pushed}
 use Rattle.mig_model.proofs.invariant.FirstFrame.{stays_late}
 
--- Frames that are sent stand behind those in flight
+-- Frames that are sent stand after those in flight
 
 pub sending-behind : (wire : List Sent) (epoch : ℕ) (frames : List Frame) → sending wire epoch frames ≡ wire ++ sending [] epoch frames
 sending-behind [] epoch frames = refl
@@ -52,7 +52,7 @@ pub AreOf-sending : (epoch : ℕ) (wire : List Sent) (frames : List Frame) → A
 AreOf-sending epoch wire [] x = x
 AreOf-sending epoch wire (frame ∷ frames) x = grind (arith, nat_tests, AreOf-append, AreOf-sending epoch (wire ++ record { epoch = epoch; frame = frame } ∷ []) frames (AreOf-append epoch wire _ x (refl, tt)))
 
--- The Package, and what stands before and behind it
+-- The Package, and what stands before and after it
 
 pub package_in-append : (a b : List Sent) → package_in (a ++ b) ≡ (if is_some (package_in a) then package_in a else package_in b)
 package_in-append [] b = refl
@@ -78,7 +78,7 @@ are_requests-append (sent ∷ a) b = ap (λ t. is_request sent.frame && t) (are_
 done_step : (here before after : Bool) (x : Bool) → (before ≡ true → after ≡ true) → (here && before) ≡ true → ((here && after) || x) ≡ true
 done_step here before after x h e = grind arith
 
--- a Done behind requests
+-- a Done after requests
 pub are_requests_and_done-push : (wire : List Sent) (sent : Sent) → is_done sent.frame ≡ true → are_requests wire ≡ true → are_requests_and_done (wire ++ sent ∷ []) ≡ true
 are_requests_and_done-push [] sent done h = grind (arith, nat_tests)
 are_requests_and_done-push (s ∷ wire) sent done h = grind (arith, nat_tests, done_step, are_requests_and_done-push wire sent done)
@@ -115,9 +115,9 @@ fits-moved wire n sent rest is short = grind (arith, nat_tests)
 pub flow_sent : (flow before after : Flow) (wire : List Sent) (sent : Sent) → flow_after flow wire ≡ Some before → flow_next before sent.frame ≡ Some after → flow_after flow (wire ++ sent ∷ []) ≡ Some after
 flow_sent flow before after wire sent h n = grind (arith, nat_tests, flow_after-append)
 
--- Behind a Package
+-- After a Package
 
--- a wire on which a Package is has the same Package, and the same is kept before it, whatever is put behind
+-- a wire on which a Package is has the same Package, and the same is kept before it, whatever is put after it
 pub record HasPackage (kept : FinMap nat_cmp (List ℕ)) (wire more : List Sent) : Type 0 where
   pub same : package_in (wire ++ more) ≡ package_in wire
   pub kept_same : kept_by kept (wire ++ more) ≡ kept_by kept wire

@@ -1,4 +1,4 @@
--- Registering the areas of a guest one behind the other is registering every mapped page at once.
+-- Registering the areas of a guest one after the other is registering every mapped page at once.
 use Rattle.std.proofs.Common.{◌≡◌, ℕ, zero, suc, ◌+◌, ◌-◌, ◌*◌, ◌/◌, ◌<◌, ◌≤◌, ◌&&◌, ◌||◌, Bool, true, false, cond, not, ltb, Option, Some, None, List, [], ◌∷◌, refl, sym, ap, ◌∙◌, subst, arith, if◌then◌else◌}
 use Rattle.std.specs.Ordering.{nat_cmp}
 use Rattle.std.specs.FinMap.{FinMap, contains_key}
@@ -166,7 +166,7 @@ run_registered space first count bits can mode mapping some mapped =
     ∙ ap (λ n. registered_in space first n (mode_of bits)) (pages_again count)
     ∙ same_test space (is_mapped_in space first count) (in_range first count) (mode_of bits) (λ page. mapped_test (in_range first count page) (contains_key space.host.areas page) (mapped page))
 
--- One run behind the other
+-- One run after the other
 
 abbrev Turned : List Run → ℕ → Space → Type 0
 Turned runs bits space = AreAccepted space runs bits × (registered_in_turn space runs bits ≡ registered_by space (in_runs runs) (mode_of bits))

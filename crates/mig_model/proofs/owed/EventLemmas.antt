@@ -28,7 +28,7 @@ inside_of space owed watched page origin h = or_left (contains space.object.miss
 
 -- the owed relation
 
--- a range that reaches past the address space is cut at its end, behind which nothing is owed
+-- a range that reaches past the address space is cut at its end, after which nothing is owed
 hole_right : (here : Host) (owed : ℕ → Option ℕ) (addr len page : ℕ) → IsSound here → AreMapped here owed → owed_after (Remove addr (lesser (addr + rounded len) HIGH)) owed page ≡ gone owed (addr / 4096) (pages_of len) page
 hole_right here owed addr len page sound mapped = grind (arith, nat_tests)
 

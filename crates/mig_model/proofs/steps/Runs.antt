@@ -39,7 +39,7 @@ run_world world (step ∷ steps) (result ∷ results) new run =
     rest ∙ ap (λ w. after_steps w (steps_made steps results)) (other_made world step result mid other run.1).1
     ∙ sym (ap (λ b. after_steps world (if b then steps_made steps results else step ∷ steps_made steps results)) other))
 
--- the answers of a step and of those behind it
+-- the answers of a step and of those after it
 abbrev both_by : Bool → World → Step → Outcome → List Step → List Outcome → Type 0
 both_by lacks world step result steps results = (if lacks then results else result ∷ results) ≡ outcomes world (if lacks then steps else step ∷ steps)
 

@@ -56,7 +56,7 @@ holds-while_up Q true (Ok done) h = h refl
 holds-while_up Q false (Ok done) h = tt
 holds-while_up Q up (Err refusal) h = grind (arith, nat_tests)
 
--- what a step goes on from
+-- what a step continues from
 pub holds-ok_or : {A : Type 0} (Q : A → Type 0) (o : Option A) (refusal : Refusal) → ((x : A) → o ≡ Some x → Q x) → Holds Q (ok_or o refusal)
 holds-ok_or Q None refusal h = tt
 holds-ok_or Q (Some x) refusal h = h x refl
@@ -90,7 +90,7 @@ is-up up result is = ap (λ b. while_up b result) is ∙ ap (λ b. if b then res
 pub is-down : {A : Type 0} (up : Bool) (result : Result A Refusal) → up ≡ false → while_down up result ≡ result
 is-down up result is = ap (λ b. while_down b result) is ∙ ap (λ b. if b then result else Err Refusal.NotBroken) (or-true (is_out_of_phase result))
 
--- what a step goes on from is there
+-- what a step continues from is there
 pub goes_on : {A B : Type 0} (found : Result A Refusal) (x : A) (step : A → Result B Refusal) → found ≡ Ok x → and_then found step ≡ step x
 goes_on found x step is = ap (λ f. and_then f step) is
 

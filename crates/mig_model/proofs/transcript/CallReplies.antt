@@ -118,13 +118,13 @@ record IsLast (effect : Effect) (k : ℕ) (reply : Reply) : Type 0 where
   event : Message
   is : effect ≡ Effect.ReadLast event k reply
 
--- calls go on, but for one whose last message is read
+-- calls continue, but for one whose last message is read
 record GoOn (old new : Guest) (effect : Effect) : Type 0 where
   kept : (k : ℕ) (reply : Reply) → reply_at old.cpus k ≡ Some reply → (reply_at new.cpus k ≡ Some reply) ⊎ IsLast effect k reply
   was : (k : ℕ) (reply : Reply) → reply_at new.cpus k ≡ Some reply → reply_at old.cpus k ≡ Some reply
   last : (event : Message) (k : ℕ) (reply : Reply) → effect ≡ Effect.ReadLast event k reply → (processor_at old.cpus k ≡ CpuState.InCall reply 1) × (processor_at new.cpus k ≡ CpuState.Idle)
 
--- all go on
+-- all continue
 abbrev SameCalls : Guest → Guest → Type 0
 SameCalls old new = (k : ℕ) → reply_at new.cpus k ≡ reply_at old.cpus k
 
@@ -189,7 +189,7 @@ try_not_last took cpu = grind (arith, nat_tests)
 
 -- Steps that try no command
 
--- calls go on, and nothing is entered
+-- calls continue, and nothing is entered
 record GoesOn (world : World) (made : Made) : Type 0 where
   calls : GoOn (guest_of world) (guest_of made.world) made.effect
   transcript : made.world.transcript ≡ world.transcript
@@ -286,7 +286,7 @@ reply_entered world cpu reply reached =
     (by_reached (λ w. AreSoundCalls w × HasReplies w) (λ old step kept urgent both. (calls_next old step kept both.0, leaves-next HasReplies old step both.1 (replies_answer old step kept both.0 both.1)))
     (λ cpus epoch rounds. (calls-first cpus epoch rounds, λ k other h. absurd (none-some other (sym (ap call_reply (idle_at cpus k)) ∙ h)))) world reached).1 cpu reply
 
--- a call that goes on, or gives its reply by this step
+-- a call that continues, or gives its reply by this step
 abbrev GoesOnOr : ℕ → Reply → Made → Type 0
 GoesOnOr k reply made = (reply_at (guest_of made.world).cpus k ≡ Some reply) ⊎ IsLast made.effect k reply
 

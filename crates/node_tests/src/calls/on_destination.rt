@@ -4,7 +4,7 @@ use fault_handler::Destination;
 use page_stream::Frame;
 use std::io;
 
-/// Prints what the destination is, behind an answer.
+/// Prints what the destination is, after an answer.
 fn print_state(rt: &HostRuntime, destination: &Destination) -> io::Result<()> {
     println!(rt;
         "; {:?} run {} epoch {} arrivals {} owed {} installed {} dropped {}",

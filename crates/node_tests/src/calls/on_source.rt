@@ -29,7 +29,7 @@ pub fn fill(source: &mut Source) -> Result<(), Refusal> {
     Ok(())
 }
 
-/// Prints what the source is, behind an answer.
+/// Prints what the source is, after an answer.
 fn print_state(rt: &HostRuntime, source: &Source) -> io::Result<()> {
     println!(rt;
         "; {:?} switched {} epoch {} remaining {} asked {} sent {}",

@@ -17,7 +17,7 @@ const OWES_12: Sending = Package((0x10, 4), (0x12, 1), 2, None);
 /// Pages 0x10 to 0x13 are mapped, and all are owed.
 const OWES_ALL: Sending = Package((0x10, 4), (0x10, 4), 2, None);
 
-/// Each frame of an epoch before the destination's and of one behind it. What is out of place is so first, and what is bad is so last.
+/// Each frame of an epoch before the destination's and of one after it. What is out of place is so first, and what is bad is so last.
 static EPOCHS: [Step; 25] = [
     (Take(3, Advise), TOOK),
     (Take(2, Page(0x10, 1)), STALE),

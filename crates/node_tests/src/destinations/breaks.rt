@@ -1,4 +1,4 @@
-//! Breaks that a destination notices, and how it goes on.
+//! Breaks that a destination notices, and how it continues.
 
 use super::calls::Answer::{Acts, Asleep, Counted, Done, Replied, Reports, Sends, Stands};
 use super::calls::Call::{
@@ -43,7 +43,7 @@ static BEFORE_THE_RUN: [Step; 23] = [
     (Counts, Ok(Counted([0, 0, 0], 0, 2))),
 ];
 
-/// A destination that was never advised goes on as one that was.
+/// A destination that was never advised continues as one that was.
 static NEVER_ADVISED: [Step; 5] = [
     (Pause, Ok(Done)),
     (Take(0, Resume), STALE),
@@ -60,7 +60,7 @@ const ASKED_FOR_BOTH: Answer = Sends((
     None,
 ));
 
-/// The processors go on while the channel is broken. What they need then is asked for once it is up again, in the order in which it
+/// The processors continue while the channel is broken. What they need then is asked for once it is up again, in the order in which it
 /// was needed.
 static WHILE_IT_RUNS: [Step; 34] = [
     (Take(1, Advise), TOOK),

@@ -39,7 +39,7 @@ static IDLE: [Step; 20] = [
     (Phase, Ok(Stands(DestPhase::Advised, false, 7))),
 ];
 
-/// A destination that was advised takes copies, and a Discard behind them.
+/// A destination that was advised takes copies, and a Discard after them.
 static ADVISED: [Step; 20] = [
     (Take(1, Advise), TOOK),
     (Take(1, Advise), OUT_OF_PLACE),
@@ -63,7 +63,7 @@ static ADVISED: [Step; 20] = [
     (Phase, Ok(Stands(DestPhase::Discarding, false, 1))),
 ];
 
-/// Behind a Discard comes a Package.
+/// After a Discard comes a Package.
 static DISCARDING: [Step; 19] = [
     (Take(1, Advise), TOOK),
     (Take(1, Discard(NONE)), TOOK),

@@ -238,7 +238,7 @@ static BOTH_WIRES: [Step; 17] = [
     (Phase, Ok(Stands(DestPhase::Ended, true, 1))),
 ];
 
-/// A processor goes on with the load for which it waited at the source.
+/// A processor continues with the load for which it waited at the source.
 static HANDED_OVER: [Step; 13] = [
     (Take(1, Advise), TOOK),
     (Take(1, Discard(NONE)), TOOK),

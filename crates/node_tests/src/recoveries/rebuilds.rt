@@ -1,4 +1,4 @@
-//! A source that goes on from what a destination has received.
+//! A source that continues from what a destination has received.
 
 use crate::frames::{Brief, NONE, Range, set_of};
 use crate::same::same;
@@ -65,7 +65,7 @@ fn done<T: Drop>(answer: Result<T, Refusal>) -> Result<Answer, Refusal> {
     }
 }
 
-/// The source goes on.
+/// The source continues.
 fn rebuilt(
     rt: &impl Abort,
     alloc: Global,
@@ -156,7 +156,7 @@ const NO_FRAMES: Result<Answer, Refusal> = Ok(Sends((None, None, None)));
 
 const BAD_OWED: Result<Answer, Refusal> = Ok(NotRebuilt(RebuildFault::BadOwed));
 
-/// Before the switch a destination has not run, and pre-copy goes on, of which nothing was kept.
+/// Before the switch a destination has not run, and pre-copy continues, of which nothing was kept.
 static BEFORE_THE_SWITCH: [Step; 19] = [
     (Notice, Err(Refusal::Phase)),
     (Map, Ok(Done)),

@@ -98,7 +98,7 @@ pub(super) enum Brief {
 #[derive(Clone, Copy, Debug, PartialEq, Eq)]
 pub(super) enum Answer {
     Done,
-    /// A command was answered, or a map call goes on, and it was entered; or its processor sleeps, and it was not.
+    /// A command was answered, or a map call continues, and it was entered; or its processor sleeps, and it was not.
     Tries(Effect),
     /// A command whose entry does not fit its effect.
     Unfit(Tried),

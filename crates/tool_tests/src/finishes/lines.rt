@@ -40,7 +40,7 @@ const STEPS: [(Step, &str); 23] = [
     (Step::Resume, "resume"),
 ];
 
-/// Commands, behind the words of their processor.
+/// Commands, after the words of their processor.
 const COMMANDS: [(Command, &str); 11] = [
     (
         Command::Load {

@@ -24,7 +24,7 @@ const FINISHED: [(&str, &str); 5] = [
         "# a comment\ncpu 1 mmap 4096 rw\ncpu 1 store 0x10000 8 1\n",
         "start\nswitch\npush 0x10000 1\nend\ndeliver\ndeliver\ndeliver\ndeliver\ninstall\ndeliver\nback\n",
     ),
-    // The lines go on behind a line feed.
+    // The lines continue after a line feed.
     (
         "start\nswitch",
         "\nend\ndeliver\ndeliver\ndeliver\ndeliver\nback\n",
@@ -124,7 +124,7 @@ fn finished(
     Ok((outcome, writer.bytes))
 }
 
-/// The script with these lines and a report behind it: its run ends with a complete migration.
+/// The script with these lines and a report after it: its run ends with a complete migration.
 fn completes(rt: &impl Abort, alloc: Global, script: &[u8], lines: &[u8]) -> Result<(), Fail> {
     let mut whole = room(alloc)?;
     whole.extend_from_slice(script)?;

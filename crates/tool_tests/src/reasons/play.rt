@@ -88,7 +88,7 @@ fn may_be_left(case: &Case<'_>, written: &[u8]) -> bool {
     }
 }
 
-/// Plays a case, and again if it is refused memory. Nothing is read or written behind a read or a write that failed.
+/// Plays a case, and again if it is refused memory. Nothing is read or written after a read or a write that failed.
 pub fn play(rt: &impl Abort, alloc: Global, case: &Case<'_>) -> Result<(), Fail> {
     let (mut answer, mut writer, mut reads) = played(alloc, case)?;
     if answer == Err(RunFault::NoMemory) {

@@ -97,7 +97,7 @@ static REPORTS: &[Row] = &[
         Ok(false),
         b"wrong 3 expected segv protected\n  line 4: 1 store 0x21000 1 0x1 => done\n  0x21000 is mapped:\n    line 1: 0 mmap 4096 r => at 0x10000\n    line 2: 0 mremap 0x10000 4096 8192 => at 0x10000\n    line 3: 0 mremap 0x10000 8192 8192 maymove fixed 0x20000 => at 0x20000\nwrong 4 expected segv unmapped\n  line 5: 1 load 0x10000 1 => value 0x0\n  0x10000 is not mapped:\n    line 3: 0 mremap 0x10000 8192 8192 maymove fixed 0x20000 => at 0x20000\nwrong 5 expected bad access\n  line 6: 1 load 0x20001 2 => value 0x0\n  no earlier entry decides this reply\n",
     ),
-    // A place that is not the least free one. The memory goes on from its own places.
+    // A place that is not the least free one. The memory continues from its own places.
     (
         b"0 mmap 4096 rw => at 0x10000\n0 mmap 4096 rw => at 0x11000\n0 munmap 0x10000 4096 => done\n0 mmap 4096 r => at 0x12000\n0 mmap 4096 r => at 0x11000\n",
         &[ALL_WHY],

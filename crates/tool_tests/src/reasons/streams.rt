@@ -82,7 +82,7 @@ fn each_write_fails(rt: HostRuntime) -> Result<(), Fail> {
     Ok(())
 }
 
-/// A line of this many bytes behind another, and what comes after it.
+/// A line of this many bytes after another, and what comes after it.
 fn with_line(alloc: Global, size: usize, end: &[u8]) -> Result<Vec<u8>, AllocError> {
     let mut script = Vec::new(alloc);
     script.extend_from_slice(b"start\n")?;

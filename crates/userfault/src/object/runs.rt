@@ -26,7 +26,7 @@ impl Userfault {
     }
 
     /// The first run of pages that are not registered for write-protect faults, from page `from` on and before `end`: its first
-    /// page, and the page behind its last. Both are `end` if there is no such run.
+    /// page, and the page after its last. Both are `end` if there is no such run.
     pub fn unwatched_run(&self, from: PageNo, end: PageNo) -> (PageNo, PageNo)
         requires { (from < end) × (end ≤ HIGH_PAGE) }
         ensures range { (from ≤ result.0) × (result.0 ≤ result.1) × (result.1 ≤ end) }

@@ -41,7 +41,7 @@ impl Parts {
         }
     }
 
-    /// Both sides go on over a new channel, in the next epoch: the source sends Resume.
+    /// Both sides continue over a new channel, in the next epoch: the source sends Resume.
     pub(super) fn resume(&mut self) -> Result<Effect, Refusal>
         requires { IsWorld (world_of self.old) }
         ensures { Happens (world_of self.old) Step.Resume result (world_of self.new) }
@@ -77,7 +77,7 @@ impl Parts {
         }
     }
 
-    /// Whether both sides can go on.
+    /// Whether both sides can continue.
     pub(super) fn check_resume(&self) -> Result<(), Refusal>
         ensures { result ≡ checked (answer (world_of self.now) Step.Resume) }
     {
