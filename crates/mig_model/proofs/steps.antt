@@ -1,4 +1,4 @@
--- What each step makes of a world, and what holds along every run.
+-- What each step does to a world, and what holds along every run.
 pub mod StepWorlds
 pub mod StepLemmas
 pub mod StepCases
