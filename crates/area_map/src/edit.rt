@@ -215,7 +215,8 @@ fn number_of(area: Option<Area>) -> usize
 fn insert_at(areas: &mut Vec<Area>, at: usize, area: Option<Area>)
     requires within { at ≤ vec_len areas.old }
     requires room { vec_len areas.old + length (option_to_list area) ≤ vec_capacity areas.old }
-    ensures items { areas.new.items ≡ take at areas.old.items ++ (option_to_list area ++ drop at areas.old.items) }
+    ensures items { areas.new.items ≡
+        take at areas.old.items ++ (option_to_list area ++ drop at areas.old.items) }
     ensures len { vec_len areas.new ≡ vec_len areas.old + length (option_to_list area) }
     ensures capacity { vec_capacity areas.old ≤ vec_capacity areas.new }
 {

@@ -153,7 +153,9 @@ impl AreaMap {
     pub fn one_prot(&self, first: PageNo, count: u32) -> Option<Prot>
         requires { first + count ≤ HIGH_PAGE }
         ensures some { IfSome result (HasOneProt (λ page. map.get self.now page) first count) }
-        ensures none { 0 < count → IfNone result ((prot : Prot) → HasOneProt (λ page. map.get self.now page) first count prot → ⊥) }
+        ensures none { 0 < count →
+            IfNone result ((prot : Prot) →
+            HasOneProt (λ page. map.get self.now page) first count prot → ⊥) }
         ensures empty { count ≡ 0 → result ≡ None }
     {
         if count == 0 {
@@ -168,7 +170,8 @@ impl AreaMap {
         requires from_bound { from + count ≤ HIGH_PAGE }
         requires to_bound { to + count ≤ HIGH_PAGE }
         requires apart { (from + count ≤ to) ⊎ (to + count ≤ from) }
-        ensures ok { OnOk result ((page : ℕ) → map.get self.new page ≡ moved (λ before. map.get self.old before) from to count page) }
+        ensures ok { OnOk result ((page : ℕ) →
+            map.get self.new page ≡ moved (λ before. map.get self.old before) from to count page) }
         ensures err { OnErr result (self.new ≡ self.old) }
     {
         let mut moved = self.copy()?;
@@ -189,7 +192,9 @@ impl AreaMap {
     /// Gives each page of the range the protection, or unmaps it if `prot` is `None`. `NoMemory` leaves the map as it was.
     fn put(&mut self, first: PageNo, count: u32, prot: Option<Prot>) -> Result<(), NoMemory>
         requires { first + count ≤ HIGH_PAGE }
-        ensures ok { OnOk result ((page : ℕ) → map.get self.new page ≡ (if in_range first count page then prot else map.get self.old page)) }
+        ensures ok { OnOk result ((page : ℕ) →
+            map.get self.new page ≡
+            (if in_range first count page then prot else map.get self.old page)) }
         ensures err { OnErr result (self.new ≡ self.old) }
     {
         if count == 0 {

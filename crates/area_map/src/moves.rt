@@ -21,7 +21,10 @@ pub(crate) fn map_moved(
     requires from_bound { from + count ≤ HIGH_PAGE }
     requires to_bound { to + count ≤ HIGH_PAGE }
     requires free { (page : ℕ) → in_range to count page ≡ true → map.get moved.old page ≡ None }
-    ensures { OnOk result ((page : ℕ) → map.get moved.new page ≡ (if in_range to count page then prot_in areas.now (from + (page - to)) else map.get moved.old page)) }
+    ensures { OnOk result ((page : ℕ) →
+        map.get moved.new page ≡
+        (if in_range to count page then prot_in areas.now (from + (page - to)) else map.get
+        moved.old page)) }
 {
     for area in areas {
         let part = clipped(*area, from, from + count);

@@ -114,7 +114,9 @@ fn put_in_room(
     requires room { vec_len areas.old + 3 ≤ vec_capacity areas.old }
     requires bound { first + count ≤ HIGH_PAGE }
     ensures counted { AreCounted areas.new.items mapped.new }
-    ensures pages { (page : ℕ) → prot_in areas.new.items page ≡ (if in_range first count page then prot else prot_in areas.old.items page) }
+    ensures pages { (page : ℕ) →
+        prot_in areas.new.items page ≡
+        (if in_range first count page then prot else prot_in areas.old.items page) }
     ensures added { vec_len areas.new ≤ vec_len areas.old + 3 }
     ensures capacity { vec_capacity areas.old ≤ vec_capacity areas.new }
 {

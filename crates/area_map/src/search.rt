@@ -50,7 +50,8 @@ pub(crate) fn one_prot_of(areas: &[Area], first: PageNo, count: u32) -> Option<P
     requires bound { first + count ≤ HIGH_PAGE }
     requires some { 0 < count }
     ensures some { IfSome result (HasOneProt (prot_in areas.now) first count) }
-    ensures none { IfNone result ((prot : Prot) → HasOneProt (prot_in areas.now) first count prot → ⊥) }
+    ensures none { IfNone result ((prot : Prot) → HasOneProt (prot_in areas.now) first count prot →
+        ⊥) }
 {
     let after = beginning_by(areas, first);
     if after == 0 {

@@ -15,7 +15,8 @@ impl AreaMap {
     pub fn areas_in(&self, first: PageNo, count: u32) -> &[Area]
         requires { first + count ≤ HIGH_PAGE }
         ensures runs { AreRuns result.now }
-        ensures pages { (page : ℕ) → in_range first count page ≡ true → map.get (pages_in result.now) page ≡ map.get self.now page }
+        ensures pages { (page : ℕ) → in_range first count page ≡ true →
+            map.get (pages_in result.now) page ≡ map.get self.now page }
     {
         areas_between(&self.areas, first, count)
     }
@@ -26,7 +27,8 @@ fn areas_between(areas: &[Area], first: PageNo, count: u32) -> &[Area]
     requires runs { AreRuns areas.now }
     requires bound { first + count ≤ HIGH_PAGE }
     ensures runs { AreRuns result.now }
-    ensures pages { (page : ℕ) → in_range first count page ≡ true → prot_in result.now page ≡ prot_in areas.now page }
+    ensures pages { (page : ℕ) → in_range first count page ≡ true →
+        prot_in result.now page ≡ prot_in areas.now page }
 {
     let low = ending_before(areas, first);
     let reaching = &areas[low..];

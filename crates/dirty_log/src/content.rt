@@ -48,8 +48,10 @@ pub fn are_bytes(bytes: &[u8])
 /// Copies the bytes of consecutive present pages, from page `first` on.
 pub fn read_pages(space: &Space, first: PageNo, into: &mut Vec<PageBytes>)
     requires inside { first + length into.old.items ≤ HIGH_PAGE }
-    requires present { (i : ℕ) → i < length into.old.items → is_present space.now (first + i) ≡ true }
-    ensures { (node : Source) → (space_of node).host.bytes ≡ space.now.host.bytes → into.new.items ≡ run_of node first (length into.old.items) }
+    requires present { (i : ℕ) → i < length into.old.items →
+        is_present space.now (first + i) ≡ true }
+    ensures { (node : Source) → (space_of node).host.bytes ≡ space.now.host.bytes →
+        into.new.items ≡ run_of node first (length into.old.items) }
 {
     for i in 0..into.len() {
         into[i].copy_from(bytes_at(space, first + i as PageNo));

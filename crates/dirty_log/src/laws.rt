@@ -19,17 +19,35 @@ ghost use Rattle.dirty_log.specs.Spaces.{AreProtected};
 /// A clean page that no unread event has changed is protected, and so it is present and registered for write-protect faults. This holds
 /// for an empty log; each call of a log keeps it, and so does each load, store and map call of a processor.
 pub fn clean_pages_are_protected()
-    ensures present { (log : Log) (space : Space) (page : ℕ) → IsSoundSpace space → AreProtected log space → contains log.clean page ≡ true → is_unread space.object.events page ≡ false → is_present space page ≡ true }
-    ensures registered { (log : Log) (space : Space) (page : ℕ) → IsSoundSpace space → AreProtected log space → contains log.clean page ≡ true → is_unread space.object.events page ≡ false → contains space.object.protect page ≡ true }
+    ensures present { (log : Log) (space : Space) (page : ℕ) → IsSoundSpace space →
+        AreProtected log space → contains log.clean page ≡ true →
+        is_unread space.object.events page ≡ false → is_present space page ≡ true }
+    ensures registered { (log : Log) (space : Space) (page : ℕ) → IsSoundSpace space →
+        AreProtected log space → contains log.clean page ≡ true →
+        is_unread space.object.events page ≡ false → contains space.object.protect page ≡ true }
     ensures new { (space : Space) → AreProtected empty_log space }
     ensures forget { (log : Log) (space : Space) → AreProtected (forgotten log) space }
-    ensures register_new { (log : Log) (space : Space) → IsSoundSpace space → AreProtected log space → AreProtected log (all_registered space) }
-    ensures begin_round { (log : Log) (space : Space) (todo : FinSet nat_cmp) → AreProtected log space → AreProtected (record log { todo = todo }) space }
-    ensures drop_held { (log : Log) (space : Space) → AreProtected log space → AreProtected (record log { held = [] }) space }
-    ensures send { (log : Log) (space : Space) (page : ℕ) → IsSoundSpace space → send_refusal space page 1 ≡ None → AreProtected log space → AreProtected (log_sent log page) (protected_in space page 1 true) }
-    ensures send_run { (log : Log) (space : Space) (first count : ℕ) → IsSoundSpace space → send_refusal space first count ≡ None → AreProtected log space → AreProtected (log_run_sent log first count) (protected_in space first count true) }
-    ensures read { (log : Log) (guest : Guest) (noted : Noted) → next_message guest.space.object ≡ Some noted → AreProtected log guest.space → AreProtected (log_read log noted.message) (read_guest guest noted.cpu noted.message).space }
-    ensures act { (node : Source) (fault : Fault) → IsSoundSpace (space_of node) → AreProtected node.log (space_of node) → AreProtected (source_acted node fault).log (space_of (source_acted node fault)) }
-    ensures access { (log : Log) (space : Space) (cpu : ℕ) (command : Command) → AreProtected log space → AreProtected log (accessed space cpu command) }
-    ensures call { (log : Log) (space : Space) (cpu : ℕ) (command : Command) → is_access command ≡ false → IsSoundSpace space → AreProtected log space → AreProtected log (called space cpu command) }
+    ensures register_new { (log : Log) (space : Space) → IsSoundSpace space →
+        AreProtected log space → AreProtected log (all_registered space) }
+    ensures begin_round { (log : Log) (space : Space) (todo : FinSet nat_cmp) →
+        AreProtected log space → AreProtected (record log { todo = todo }) space }
+    ensures drop_held { (log : Log) (space : Space) → AreProtected log space →
+        AreProtected (record log { held = [] }) space }
+    ensures send { (log : Log) (space : Space) (page : ℕ) → IsSoundSpace space →
+        send_refusal space page 1 ≡ None → AreProtected log space →
+        AreProtected (log_sent log page) (protected_in space page 1 true) }
+    ensures send_run { (log : Log) (space : Space) (first count : ℕ) → IsSoundSpace space →
+        send_refusal space first count ≡ None → AreProtected log space →
+        AreProtected (log_run_sent log first count) (protected_in space first count true) }
+    ensures read { (log : Log) (guest : Guest) (noted : Noted) →
+        next_message guest.space.object ≡ Some noted → AreProtected log guest.space →
+        AreProtected (log_read log noted.message) (read_guest guest noted.cpu noted.message).space }
+    ensures act { (node : Source) (fault : Fault) → IsSoundSpace (space_of node) →
+        AreProtected node.log (space_of node) →
+        AreProtected (source_acted node fault).log (space_of (source_acted node fault)) }
+    ensures access { (log : Log) (space : Space) (cpu : ℕ) (command : Command) →
+        AreProtected log space → AreProtected log (accessed space cpu command) }
+    ensures call { (log : Log) (space : Space) (cpu : ℕ) (command : Command) →
+        is_access command ≡ false → IsSoundSpace space → AreProtected log space →
+        AreProtected log (called space cpu command) }
 {}

@@ -98,7 +98,8 @@ impl DirtyLog {
     /// The pages that were sent in this epoch and are not clean now, as a new set: the destination has to discard its copies of them. Each
     /// lies where a page may be mapped. `NoMemory` if the set cannot be allocated.
     pub fn discarded(&self) -> Result<PageSet, NoMemory>
-        ensures discarded { IfOk result (λ pages. pages ≡ machine.less self.now.sent self.now.clean) }
+        ensures discarded { IfOk result (λ pages.
+            pages ≡ machine.less self.now.sent self.now.clean) }
         ensures pages { IfOk result (λ pages. ArePages pages) }
     {
         let mut pages = self.sent.copy()?;

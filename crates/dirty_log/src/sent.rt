@@ -25,7 +25,8 @@ impl<'a> Sent<'a> {
     /// What is sent for a present page.
     pub fn read(space: &'a Space, page: PageNo) -> Self
         requires { is_present space.now page ≡ true }
-        ensures sent { frame_sent page result ≡ page_frame page (contents space.now.host.bytes page) }
+        ensures sent { frame_sent page result ≡
+            page_frame page (contents space.now.host.bytes page) }
         ensures frame { IsPage page → IsFrame (frame_sent page result) }
     {
         let bytes = bytes_at(space, page);

@@ -88,7 +88,9 @@ pub fn unprotect(space: &mut Space, page: PageNo)
 /// How a fault has to be resolved, according to the present state of its page.
 pub fn act_of(space: &Space, fault: &PageFault) -> Act
     ensures low { (result ≡ Act.Forgot) ⊎ (fault.now.page < HIGH_PAGE) }
-    ensures act { act_is result ≡ source_act_by (is_forgotten space.now fault.now.page) (is_present space.now fault.now.page) (contains space.now.protected fault.now.page && fault.now.wp) }
+    ensures act { act_is result ≡
+        source_act_by (is_forgotten space.now fault.now.page) (is_present space.now fault.now.page)
+        (contains space.now.protected fault.now.page && fault.now.wp) }
 {
     space.is_in_order();
     if fault.page() >= u64::from(HIGH_PAGE) {

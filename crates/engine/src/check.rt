@@ -29,7 +29,8 @@ pub fn check_script<R: Read, W: Write>(
     ensures ok { IfOk result (λ answer. IfSome (R.remaining reader.old) (λ input.
         Checks input answer (W.contents writer.old) (W.contents writer.new))) }
     ensures fault { IfErr result (λ fault. IfSome (R.remaining reader.old) (λ input.
-        CheckStops input (R.remaining reader.new) fault (W.contents writer.old) (W.contents writer.new))) }
+        CheckStops input (R.remaining reader.new) fault (W.contents writer.old)
+        (W.contents writer.new))) }
 {
     let mut script = ScriptReader::new(alloc, LineRunner::keeping(alloc));
     let mut verdict = String::new(alloc);
@@ -49,7 +50,8 @@ fn answer_of<R: Read, W: Write>(
     ensures ok { IfOk result (λ answer. IfSome (R.remaining reader.old) (λ input.
         Checks input answer (W.contents writer.old) (W.contents writer.new))) }
     ensures fault { IfErr result (λ fault. IfSome (R.remaining reader.old) (λ input.
-        CheckStops input (R.remaining reader.new) fault (W.contents writer.old) (W.contents writer.new))) }
+        CheckStops input (R.remaining reader.new) fault (W.contents writer.old)
+        (W.contents writer.new))) }
 {
     read_lines(reader, writer, script)?;
     let answer = judge(alloc, script.entries(), verdict)?;

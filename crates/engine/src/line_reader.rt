@@ -102,7 +102,8 @@ impl LineReader {
         requires { self.old.number + 1 < 2 ^ 64 }
         ensures ok { OnOk result (Ended S.takes sink.old self.old ended sink.new self.new) }
         ensures fault { IfErr result (λ fault. LineFault
-            (S.refuses sink.old (self.old.number + 1) (open_line self.old ended)) (self.old.number + 1) fault) }
+            (S.refuses sink.old (self.old.number + 1) (open_line self.old ended))
+            (self.old.number + 1) fault) }
         ensures kept { OnErr result (self.new.output.items ≡ self.old.output.items) }
     {
         let number = self.number + 1;
@@ -123,7 +124,8 @@ impl LineReader {
         ensures number { OnOk result (self.new.number ≡ self.old.number + 1) }
         ensures len { OnOk result (self.new.len ≡ 0) }
         ensures fault { IfErr result (λ fault. (w : Option (List ℕ)) (behind : List ℕ) →
-            BreaksIn S.takes S.refuses sink.old self.old (bytes.now ++ 10 ∷ behind) self.new.output.items fault w) }
+            BreaksIn S.takes S.refuses sink.old self.old (bytes.now ++
+            10 ∷ behind) self.new.output.items fault w) }
     {
         self.hold(bytes)?;
         self.end_line(sink, true)
@@ -239,9 +241,11 @@ pub fn read_lines<R: Read, W: Write, S: LineSink>(
     sink: &mut S,
 ) -> Result<(), RunFault>
     ensures ok { OnOk result (IfSome (R.remaining reader.old) (λ input.
-        Finishes S.takes sink.old input sink.new [] (W.contents writer.old) (W.contents writer.new))) }
+        Finishes S.takes sink.old input sink.new [] (W.contents writer.old)
+        (W.contents writer.new))) }
     ensures fault { IfErr result (λ fault. IfSome (R.remaining reader.old) (λ input.
-        Stops S.takes S.refuses sink.old input (R.remaining reader.new) fault (W.contents writer.old) (W.contents writer.new))) }
+        Stops S.takes S.refuses sink.old input (R.remaining reader.new) fault
+        (W.contents writer.old) (W.contents writer.new))) }
 {
     let mut lines = LineReader::new(alloc);
     let mut buffer = [0u8; PIECE];

@@ -33,7 +33,8 @@ pub fn run_script<R: Read, W: Write>(
     ensures ok { OnOk result (IfSome (R.remaining reader.old) (λ input.
         Writes mode (first_world cpus) input (W.contents writer.old) (W.contents writer.new))) }
     ensures fault { IfErr result (λ fault. IfSome (R.remaining reader.old) (λ input.
-        Stops mode (first_world cpus) input (R.remaining reader.new) fault (W.contents writer.old) (W.contents writer.new))) }
+        Stops mode (first_world cpus) input (R.remaining reader.new) fault (W.contents writer.old)
+        (W.contents writer.new))) }
 {
     let runner = LineRunner::on_world(alloc, cpus, mode)?;
     let mut script = ScriptReader::new(alloc, runner);
@@ -48,9 +49,11 @@ pub fn read_lines<R: Read, W: Write>(
 ) -> Result<(), RunFault>
     requires { script.old ≡ start_of script.old.work }
     ensures ok { OnOk result (IfSome (R.remaining reader.old) (λ input.
-        ReadsAll script.old.work input script.new.work (R.remaining reader.new) (W.contents writer.old) (W.contents writer.new))) }
+        ReadsAll script.old.work input script.new.work (R.remaining reader.new)
+        (W.contents writer.old) (W.contents writer.new))) }
     ensures fault { IfErr result (λ fault. IfSome (R.remaining reader.old) (λ input.
-        StopsBy (language_of script.old.work) (Outputs script.old.work) input (R.remaining reader.new) fault (W.contents writer.old) (W.contents writer.new))) }
+        StopsBy (language_of script.old.work) (Outputs script.old.work) input
+        (R.remaining reader.new) fault (W.contents writer.old) (W.contents writer.new))) }
 {
     let mut buffer = [0u8; PIECE];
     for _ in 0..u32::MAX {

@@ -202,7 +202,8 @@ impl ScriptReader {
         requires clean { self.old.output ≡ [] }
         requires number { self.old.number + 1 < 2 ^ 64 }
         ensures ok { OnOk result ((text : List ℕ) ×
-            Closes self.old self.new.work [] text [] (W.contents writer.old) (W.contents writer.new)) }
+            Closes self.old self.new.work [] text [] (W.contents writer.old)
+            (W.contents writer.new)) }
         ensures fault { IfErr result (λ fault.
             CloseFault self.old fault (W.contents writer.old) (W.contents writer.new)) }
     {

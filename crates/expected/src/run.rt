@@ -33,9 +33,11 @@ pub fn test_script<R: Read, W: Write>(
     requires low { 1 ≤ cpus }
     requires high { cpus ≤ 16 }
     ensures ok { IfOk result (λ tested. IfSome (R.remaining reader.old) (λ input.
-        Tests name.now cpus input tested.outcome tested.answers (W.contents writer.old) (W.contents writer.new))) }
+        Tests name.now cpus input tested.outcome tested.answers (W.contents writer.old)
+        (W.contents writer.new))) }
     ensures fault { IfErr result (λ fault. IfSome (R.remaining reader.old) (λ input.
-        Stops name.now cpus input (R.remaining reader.new) fault (W.contents writer.old) (W.contents writer.new))) }
+        Stops name.now cpus input (R.remaining reader.new) fault (W.contents writer.old)
+        (W.contents writer.new))) }
 {
     let mut tester = Tester::new(alloc, cpus)?;
     match test_lines(reader, name, &mut tester)? {
@@ -58,7 +60,8 @@ fn test_lines<R: Read>(reader: &mut R, name: &str, tester: &mut Tester) -> Resul
     requires { tester.old.number ≡ 0 }
     ensures ok { IfOk result (λ outcome. (cpus : ℕ) → Ran cpus [] tester.old →
         IfSome (R.remaining reader.old) (λ input.
-        Comes name.now cpus input outcome tester.new.player.answers tester.new.player.report.items)) }
+        Comes name.now cpus input outcome tester.new.player.answers
+        tester.new.player.report.items)) }
     ensures fault { IfErr result (λ fault. (cpus : ℕ) → Ran cpus [] tester.old →
         IfSome (R.remaining reader.old) (λ input.
         Halts cpus input (R.remaining reader.new) fault)) }

@@ -97,7 +97,8 @@ impl Tester {
     pub(crate) fn finish(&mut self, name: &str) -> Result<Outcome, RunFault>
         requires { self.old.number + 1 < 2 ^ 64 }
         ensures ok { IfOk result (λ outcome. (cpus : ℕ) (input : List ℕ) → Ran cpus input self.old →
-            Comes name.now cpus input outcome self.new.player.answers self.new.player.report.items) }
+            Comes name.now cpus input outcome self.new.player.answers
+            self.new.player.report.items) }
         ensures fault { IfErr result (λ fault. (cpus : ℕ) (input : List ℕ) →
             Ran cpus input self.old → FaultAtEnd cpus input fault) }
     {

@@ -48,9 +48,11 @@ pub fn explain_script<R: Read, W: Write>(
     asks: Asks,
 ) -> Result<Verdict, RunFault>
     ensures ok { IfOk result (λ verdict. IfSome (unread R.remaining reader.old) (λ input.
-        Explains asks input verdict.is_flat verdict.entries (W.contents writer.old) (W.contents writer.new))) }
+        Explains asks input verdict.is_flat verdict.entries (W.contents writer.old)
+        (W.contents writer.new))) }
     ensures fault { IfErr result (λ fault. IfSome (unread R.remaining reader.old) (λ input.
-        ExplainStops asks input (unread R.remaining reader.new) fault (W.contents writer.old) (W.contents writer.new))) }
+        ExplainStops asks input (unread R.remaining reader.new) fault (W.contents writer.old)
+        (W.contents writer.new))) }
 {
     let mut script = ScriptReader::new(alloc, LineRunner::keeping(alloc));
     let mut text = String::new(alloc);
@@ -69,9 +71,11 @@ fn answer_of<R: Read, W: Write>(
     requires start { script.old ≡ start_of nothing_kept }
     requires empty { string_bytes text.old ≡ [] }
     ensures ok { IfOk result (λ verdict. IfSome (unread R.remaining reader.old) (λ input.
-        Explains asks input verdict.is_flat verdict.entries (W.contents writer.old) (W.contents writer.new))) }
+        Explains asks input verdict.is_flat verdict.entries (W.contents writer.old)
+        (W.contents writer.new))) }
     ensures fault { IfErr result (λ fault. IfSome (unread R.remaining reader.old) (λ input.
-        ExplainStops asks input (unread R.remaining reader.new) fault (W.contents writer.old) (W.contents writer.new))) }
+        ExplainStops asks input (unread R.remaining reader.new) fault (W.contents writer.old)
+        (W.contents writer.new))) }
 {
     read_lines(reader, writer, script)?;
     let lines = reader.lines()?;

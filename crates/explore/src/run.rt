@@ -141,11 +141,15 @@ fn write_end<W: Write>(
     plan: &Plan,
 ) -> Result<(), RunFault>
     ensures ok { OnOk result ((start : Machine) (before : Option (List ℕ)) →
-        Going plan.now.answers start plan.now.steps world.old before (W.contents writer.old) sheet.old.output.items
-        → Writes plan.now.answers plan.now.finish plan.now.sweep start plan.now.steps before (W.contents writer.new)) }
+        Going plan.now.answers start plan.now.steps world.old before (W.contents writer.old)
+        sheet.old.output.items
+        → Writes plan.now.answers plan.now.finish plan.now.sweep start plan.now.steps before
+        (W.contents writer.new)) }
     ensures fault { OnErr result ((start : Machine) (before : Option (List ℕ)) →
-        Going plan.now.answers start plan.now.steps world.old before (W.contents writer.old) sheet.old.output.items
-        → Stops plan.now.answers (plan.now.finish || plan.now.sweep) start plan.now.steps before (W.contents writer.new)) }
+        Going plan.now.answers start plan.now.steps world.old before (W.contents writer.old)
+        sheet.old.output.items
+        → Stops plan.now.answers (plan.now.finish || plan.now.sweep) start plan.now.steps before
+        (W.contents writer.new)) }
 {
     if plan.finish {
         write_whole(writer, world, memo, sheet, plan.answers)?;

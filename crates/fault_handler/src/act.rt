@@ -30,7 +30,9 @@ impl Act {
     /// The action on a fault, by the present state of its page. The page may lie past the address space.
     pub fn of(space: &Space, owed: &Owed, fault: &PageFault) -> Self
         ensures low { (result ≡ Act.Forgot) ⊎ (fault.now.page < HIGH_PAGE) }
-        ensures act { act_is result ≡ destination_act_by (is_forgotten space.now fault.now.page) (is_present space.now fault.now.page) (get owed.now fault.now.page) }
+        ensures act { act_is result ≡
+            destination_act_by (is_forgotten space.now fault.now.page)
+            (is_present space.now fault.now.page) (get owed.now fault.now.page) }
     {
         space.is_in_order();
         if fault.page() >= u64::from(HIGH_PAGE) {

@@ -171,7 +171,9 @@ impl Kept {
 /// Removes from a set the pages of a range that are not present in a table.
 fn remove_missing(kept: &mut PageSet, pages: &PageTable, first: PageNo, count: u32)
     requires { first + count ≤ HIGH_PAGE }
-    ensures { (q : ℕ) → set.contains kept.new q ≡ (set.contains kept.old q && (not (in_range first count q) || map.contains_key pages.now.bytes q)) }
+    ensures { (q : ℕ) → set.contains kept.new q ≡
+        (set.contains kept.old q &&
+        (not (in_range first count q) || map.contains_key pages.now.bytes q)) }
 {
     for page in first..first + count {
         if pages.get(page).is_none() {
@@ -182,7 +184,8 @@ fn remove_missing(kept: &mut PageSet, pages: &PageTable, first: PageNo, count: u
 
 /// Whether two sets have a page in common.
 fn meet(one: &PageSet, other: &PageSet) -> bool
-    ensures { result ≡ not (set.len (set.retain one.now (λ page. set.contains other.now page)) == 0) }
+    ensures { result ≡ not (set.len (set.retain one.now (λ page.
+        set.contains other.now page)) == 0) }
 {
     for run in one.runs() {
         let end = run.first + run.count;
@@ -195,7 +198,8 @@ fn meet(one: &PageSet, other: &PageSet) -> bool
 
 /// Whether every page of a set is mapped.
 fn are_mapped(areas: &AreaMap, pages: &PageSet) -> bool
-    ensures { result ≡ (set.len (set.retain pages.now (λ page. not (map.contains_key areas.now page))) == 0) }
+    ensures { result ≡ (set.len (set.retain pages.now (λ page.
+        not (map.contains_key areas.now page))) == 0) }
 {
     for run in pages.runs() {
         if areas.mapped_in(run.first, run.count) < run.count {

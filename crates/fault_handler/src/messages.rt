@@ -16,9 +16,13 @@ use vcpu::Cpus;
 pub fn read(space: &mut Space, cpus: &mut Cpus) -> Option<(Message, Effect)>
     requires { IsLent space.old }
     ensures none { (result ≡ None) ↔ (next_message space.old.object ≡ None) }
-    ensures message { (noted : Noted) → next_message space.old.object ≡ Some noted → result ≡ Some (noted.message, read_effect cpus.old noted.cpu noted.message) }
-    ensures guest { (noted : Noted) → next_message space.old.object ≡ Some noted → guest_with space.new cpus.new ≡ read_guest (guest_with space.old cpus.old) noted.cpu noted.message }
-    ensures unchanged { next_message space.old.object ≡ None → (space.new ≡ space.old) × (cpus.new ≡ cpus.old) }
+    ensures message { (noted : Noted) → next_message space.old.object ≡ Some noted →
+        result ≡ Some (noted.message, read_effect cpus.old noted.cpu noted.message) }
+    ensures guest { (noted : Noted) → next_message space.old.object ≡ Some noted →
+        guest_with space.new cpus.new ≡
+        read_guest (guest_with space.old cpus.old) noted.cpu noted.message }
+    ensures unchanged { next_message space.old.object ≡ None →
+        (space.new ≡ space.old) × (cpus.new ≡ cpus.old) }
     ensures lent { IsLent space.new }
 {
     let Ok((message, cpu)) = space.read_message() else {

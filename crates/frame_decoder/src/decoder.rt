@@ -37,7 +37,9 @@ fn read_in_place(
     piece: &[u8],
 ) -> Result<Taken, NoMemory>
     requires { held.old.items ≡ [] }
-    ensures ok { IfOk result (λ taken. Splits fixed piece.now (sents taken.frames.items) held.new.items taken.fault taken.version) }
+    ensures ok { IfOk result (λ taken.
+        Splits fixed piece.now (sents taken.frames.items) held.new.items taken.fault
+        taken.version) }
     ensures err { OnErr result (held.new.items ≡ held.old.items) }
 {
     let taken = take_frames(alloc, fixed, piece)?;
@@ -54,7 +56,8 @@ fn fill<'a>(
     held: &mut Vec<u8>,
     piece: &'a [u8],
 ) -> Result<&'a [u8], NoMemory>
-    ensures ok { IfOk result (λ rest. IsFilled fixed held.old.items piece.now held.new.items rest.now) }
+    ensures ok { IfOk result (λ rest.
+        IsFilled fixed held.old.items piece.now held.new.items rest.now) }
     ensures err { OnErr result (held.new.items ≡ held.old.items) }
 {
     let missing = lacking(fixed, held);
@@ -74,7 +77,8 @@ fn fill_frame<'a>(
     piece: &'a [u8],
 ) -> Result<&'a [u8], NoMemory>
     requires part { IsPart fixed held.old.items }
-    ensures ok { IfOk result (λ rest. IsFilledUp fixed held.old.items piece.now held.new.items rest.now) }
+    ensures ok { IfOk result (λ rest.
+        IsFilledUp fixed held.old.items piece.now held.new.items rest.now) }
     ensures begins { take (length held.old.items) held.new.items ≡ held.old.items }
 {
     let rest = fill(fixed, held, piece)?;
@@ -101,7 +105,9 @@ fn read_behind(
     rest: &[u8],
 ) -> Result<Taken, NoMemory>
     requires { IsTextOf version held.old.items (sent_of sent) }
-    ensures ok { IfOk result (λ taken. (fixed : Option Version) → May fixed version → Splits fixed (held.old.items ++ rest.now) (sents taken.frames.items) held.new.items taken.fault taken.version) }
+    ensures ok { IfOk result (λ taken. (fixed : Option Version) → May fixed version →
+        Splits fixed (held.old.items ++
+        rest.now) (sents taken.frames.items) held.new.items taken.fault taken.version) }
     ensures err { OnErr result (held.new.items ≡ held.old.items) }
 {
     let mut taken = take_frames(alloc, Some(version), rest)?;
@@ -119,7 +125,9 @@ fn read_filled(
     piece: &[u8],
 ) -> Result<Taken, NoMemory>
     requires part { IsPart fixed held.old.items }
-    ensures ok { IfOk result (λ taken. Splits fixed (held.old.items ++ piece.now) (sents taken.frames.items) held.new.items taken.fault taken.version) }
+    ensures ok { IfOk result (λ taken.
+        Splits fixed (held.old.items ++
+        piece.now) (sents taken.frames.items) held.new.items taken.fault taken.version) }
     ensures err { OnErr result (take (length held.old.items) held.new.items ≡ held.old.items) }
 {
     let rest = fill_frame(fixed, held, piece)?;
@@ -152,7 +160,9 @@ fn read_joined(
     piece: &[u8],
 ) -> Result<Taken, NoMemory>
     requires part { IsPart fixed held.old.items }
-    ensures ok { IfOk result (λ taken. Splits fixed (held.old.items ++ piece.now) (sents taken.frames.items) held.new.items taken.fault taken.version) }
+    ensures ok { IfOk result (λ taken.
+        Splits fixed (held.old.items ++
+        piece.now) (sents taken.frames.items) held.new.items taken.fault taken.version) }
     ensures err { OnErr result (held.new.items ≡ held.old.items) }
 {
     let len = held.len();
@@ -181,7 +191,9 @@ fn read_piece(
     piece: &[u8],
 ) -> Result<Taken, NoMemory>
     requires part { IsPart fixed held.old.items }
-    ensures ok { IfOk result (λ taken. Splits fixed (held.old.items ++ piece.now) (sents taken.frames.items) held.new.items taken.fault taken.version) }
+    ensures ok { IfOk result (λ taken.
+        Splits fixed (held.old.items ++
+        piece.now) (sents taken.frames.items) held.new.items taken.fault taken.version) }
     ensures part { IfOk result (λ taken. IsPart taken.version held.new.items) }
     ensures real { IfOk result (λ taken. IsFault taken.fault) }
     ensures err { OnErr result (held.new.items ≡ held.old.items) }

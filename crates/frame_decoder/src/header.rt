@@ -25,7 +25,9 @@ pub(crate) struct Header {
 #[tactic(auto, unfolding(crate::specs::Headers::header_at))]
 pub(crate) fn read_header(fixed: Option<Version>, bytes: &[u8]) -> Result<Header, StreamFault>
     requires { 12 ≤ length bytes.now }
-    ensures { IsRead (λ x. record { version = x.version; tag = x.tag; epoch = x.epoch; len = x.len }) result (header_at fixed bytes.now) }
+    ensures { IsRead (λ x.
+        record { version = x.version; tag = x.tag; epoch = x.epoch; len = x.len }) result
+        (header_at fixed bytes.now) }
 {
     let Some(version) = Version::from_code(fixed, bytes[0]) else {
         return Err(StreamFault::BadTag);

@@ -14,28 +14,41 @@ ghost use Rattle.frame_decoder.specs.Feeding.{fresh, Decodes, Feed, IsRun, joine
 
 /// A stream has one reading: it determines its frames, what is held of its rest, the fault, and the version that is fixed then.
 pub fn one_reading()
-    ensures frames { (fixed : Option Version) (stream : List ℕ) (xs ys : List Sent) (r q : List ℕ) (a b : Option StreamFault) (m n : Option Version) → Splits fixed stream xs r a m → Splits fixed stream ys q b n → xs ≡ ys }
-    ensures held { (fixed : Option Version) (stream : List ℕ) (xs ys : List Sent) (r q : List ℕ) (a b : Option StreamFault) (m n : Option Version) → Splits fixed stream xs r a m → Splits fixed stream ys q b n → r ≡ q }
-    ensures fault { (fixed : Option Version) (stream : List ℕ) (xs ys : List Sent) (r q : List ℕ) (a b : Option StreamFault) (m n : Option Version) → Splits fixed stream xs r a m → Splits fixed stream ys q b n → a ≡ b }
-    ensures version { (fixed : Option Version) (stream : List ℕ) (xs ys : List Sent) (r q : List ℕ) (a b : Option StreamFault) (m n : Option Version) → Splits fixed stream xs r a m → Splits fixed stream ys q b n → m ≡ n }
+    ensures frames { (fixed : Option Version) (stream : List ℕ) (xs ys : List Sent) (r q : List ℕ)
+        (a b : Option StreamFault) (m n : Option Version) → Splits fixed stream xs r a m →
+        Splits fixed stream ys q b n → xs ≡ ys }
+    ensures held { (fixed : Option Version) (stream : List ℕ) (xs ys : List Sent) (r q : List ℕ)
+        (a b : Option StreamFault) (m n : Option Version) → Splits fixed stream xs r a m →
+        Splits fixed stream ys q b n → r ≡ q }
+    ensures fault { (fixed : Option Version) (stream : List ℕ) (xs ys : List Sent) (r q : List ℕ)
+        (a b : Option StreamFault) (m n : Option Version) → Splits fixed stream xs r a m →
+        Splits fixed stream ys q b n → a ≡ b }
+    ensures version { (fixed : Option Version) (stream : List ℕ) (xs ys : List Sent) (r q : List ℕ)
+        (a b : Option StreamFault) (m n : Option Version) → Splits fixed stream xs r a m →
+        Splits fixed stream ys q b n → m ≡ n }
 {}
 
 /// However a stream is cut into pieces, a decoder returns exactly the frames at its front, all of one version, and holds less than a frame
 /// or the first fault. Pieces that were refused for lack of memory are left out.
 pub fn any_cut()
-    ensures { (feeds : List Feed) (new : Held) → IsRun fresh feeds new → Splits None (joined feeds) (all_frames feeds) new.bytes new.fault new.version }
+    ensures { (feeds : List Feed) (new : Held) → IsRun fresh feeds new →
+        Splits None (joined feeds) (all_frames feeds) new.bytes new.fault new.version }
 {}
 
 /// A decoder that is fed two cuttings of one stream returns the same frames and holds the same in the end.
 pub fn cuts_agree()
-    ensures frames { (feeds others : List Feed) (new last : Held) → IsRun fresh feeds new → IsRun fresh others last → joined feeds ≡ joined others → all_frames feeds ≡ all_frames others }
-    ensures held { (feeds others : List Feed) (new last : Held) → IsRun fresh feeds new → IsRun fresh others last → joined feeds ≡ joined others → new ≡ last }
+    ensures frames { (feeds others : List Feed) (new last : Held) → IsRun fresh feeds new →
+        IsRun fresh others last → joined feeds ≡ joined others →
+        all_frames feeds ≡ all_frames others }
+    ensures held { (feeds others : List Feed) (new last : Held) → IsRun fresh feeds new →
+        IsRun fresh others last → joined feeds ≡ joined others → new ≡ last }
 {}
 
 /// Each frame that a stream of either version may have is well formed: `page_stream` writes it in version 2, and it can be read back.
 pub fn read_frames_are_written_again()
     ensures right { (version : Version) (sent : Sent) → IsSent version sent → IsFrame sent.frame }
-    ensures encodable { (version : Version) (sent : Sent) → IsSent version sent → texts.IsEncodable texts.Version.Two sent.epoch sent.frame }
+    ensures encodable { (version : Version) (sent : Sent) → IsSent version sent →
+        texts.IsEncodable texts.Version.Two sent.epoch sent.frame }
     ensures two { (frame : Frame) → IsFrame frame → IsFrameIn Two frame }
 {}
 
@@ -47,6 +60,10 @@ pub fn older_frames_stand()
 /// A decoder that is fed the texts of frames, cut anywhere, returns these frames, in order, and no fault, and then holds no byte. If less
 /// than one more text stands after them, it holds that.
 pub fn texts_are_decoded()
-    ensures all { (version : Version) (frames : List Sent) → AllByRecursion (IsSent version) frames → Decodes (all_texts version frames) frames [] }
-    ensures part { (version : Version) (frames : List Sent) (sent : Sent) (front rest : List ℕ) → AllByRecursion (IsSent version) frames → IsSent version sent → texts.text (version_of version) sent.epoch sent.frame ≡ front ++ rest → (rest ≡ [] → ⊥) → Decodes (all_texts version frames ++ front) frames front }
+    ensures all { (version : Version) (frames : List Sent) →
+        AllByRecursion (IsSent version) frames → Decodes (all_texts version frames) frames [] }
+    ensures part { (version : Version) (frames : List Sent) (sent : Sent) (front rest : List ℕ) →
+        AllByRecursion (IsSent version) frames → IsSent version sent →
+        texts.text (version_of version) sent.epoch sent.frame ≡ front ++ rest → (rest ≡ [] → ⊥) →
+        Decodes (all_texts version frames ++ front) frames front }
 {}

@@ -75,8 +75,10 @@ pub(crate) fn front(alloc: Global, fixed: Option<Version>, bytes: &[u8]) -> Resu
 ///
 /// The bytes are read in place. `NoMemory` comes if the frame's memory is refused.
 pub fn read_text(alloc: Global, bytes: &[u8]) -> Result<Option<(u32, Frame)>, NoMemory>
-    ensures read { IfOk result (λ read. IfSome read (λ sent. (version : Version) × IsTextOf version bytes.now (sent_of sent))) }
-    ensures whole { (version : Version) (sent : Sent) → IsTextOf version bytes.now sent → IfOk result (λ read. option_map sent_of read ≡ Some sent) }
+    ensures read { IfOk result (λ read.
+        IfSome read (λ sent. (version : Version) × IsTextOf version bytes.now (sent_of sent))) }
+    ensures whole { (version : Version) (sent : Sent) → IsTextOf version bytes.now sent →
+        IfOk result (λ read. option_map sent_of read ≡ Some sent) }
 {
     match front(alloc, None, bytes)? {
         Next::Whole {
@@ -92,7 +94,9 @@ pub fn read_text(alloc: Global, bytes: &[u8]) -> Result<Option<(u32, Frame)>, No
 /// The length in bytes of the text at the front of a stream, as its header says. If the bytes begin with no text, the result means
 /// nothing. It takes no memory.
 pub fn front_len(bytes: &[u8]) -> usize
-    ensures { (version : Version) (sent : Sent) (rest : List ℕ) → IsSent version sent → bytes.now ≡ text (version_of version) sent.epoch sent.frame ++ rest → result ≡ text_len sent.frame }
+    ensures { (version : Version) (sent : Sent) (rest : List ℕ) → IsSent version sent →
+        bytes.now ≡ text (version_of version) sent.epoch sent.frame ++ rest →
+        result ≡ text_len sent.frame }
 {
     if bytes.len() < HEADER_LEN {
         return bytes.len();
@@ -135,7 +139,8 @@ pub(crate) fn take_frames(
     fixed: Option<Version>,
     bytes: &[u8],
 ) -> Result<Taken, NoMemory>
-    ensures { IfOk result (λ taken. IsTaken fixed bytes.now (sents taken.frames.items) taken.read taken.fault taken.version) }
+    ensures { IfOk result (λ taken.
+        IsTaken fixed bytes.now (sents taken.frames.items) taken.read taken.fault taken.version) }
 {
     let mut frames = Vec::new(alloc);
     let mut rest = bytes;

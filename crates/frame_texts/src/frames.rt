@@ -32,7 +32,9 @@ ghost use Rattle.mig_model.specs.Wire.Frame.{Advise, Zero, Run, Discard, Package
 /// A text has the length in bytes that the machine counts for its frame, if each page that the frame carries has its 4096 bytes. This
 /// holds for every frame in flight, on all three wires, after every list of steps.
 pub fn the_length_of_a_text()
-    ensures text { (version : Version) (epoch : ℕ) (frame : Frame) → has_frame version frame ≡ true → HasWholePages frame → length (text version epoch frame) ≡ text_len frame }
+    ensures text { (version : Version) (epoch : ℕ) (frame : Frame) →
+        has_frame version frame ≡ true → HasWholePages frame →
+        length (text version epoch frame) ≡ text_len frame }
     ensures forward { (world : World) → IsReached world → AreCounted world.forward.frames }
     ensures back { (world : World) → IsReached world → AreCounted world.back.frames }
     ensures urgent { (world : World) → IsReached world → AreCounted world.urgent.frames }
@@ -43,45 +45,64 @@ pub fn the_length_of_a_text()
 /// be mapped, and for each processor at most a load or store that can be made. A well-formed frame can be read back from its text,
 /// the length of which fits 32 bits, and no memory answers such a load or store with BadAccess.
 pub fn frames_have_texts()
-    ensures in_flight { (world : World) → IsReached world → IsCpuCount (length world.source.guest.cpus) → HasGoodFrames world }
-    ensures encodable { (epoch : ℕ) (frame : Frame) → epoch < 2 ^ 32 → IsFrame frame → IsEncodable Two epoch frame }
+    ensures in_flight { (world : World) → IsReached world →
+        IsCpuCount (length world.source.guest.cpus) → HasGoodFrames world }
+    ensures encodable { (epoch : ℕ) (frame : Frame) → epoch < 2 ^ 32 → IsFrame frame →
+        IsEncodable Two epoch frame }
     ensures short { (frame : Frame) → IsFrame frame → text_len frame < 2 ^ 32 }
-    ensures accesses { (memory : Memory) (command : Command) → IsRightAccess command → reply_of memory command ≢ BadAccess }
+    ensures accesses { (memory : Memory) (command : Command) → IsRightAccess command →
+        reply_of memory command ≢ BadAccess }
 {}
 
 /// A set of pages is written as its maximal runs. They cover exactly the pages of the set, ascend, none is empty, and none touches the
 /// next. No other list of runs does all this.
 pub fn the_runs_of_a_set()
-    ensures pages { (set : FinSet nat_cmp) (page : ℕ) → AreBelow set → in_runs (runs_of set) page ≡ contains set page }
+    ensures pages { (set : FinSet nat_cmp) (page : ℕ) → AreBelow set →
+        in_runs (runs_of set) page ≡ contains set page }
     ensures ordered { (set : FinSet nat_cmp) → AreRunsFrom 0 (runs_of set) }
-    ensures only { (set : FinSet nat_cmp) (runs : List PageRun) → AreBelow set → AreRunsFrom 0 runs → ((page : ℕ) → in_runs runs page ≡ contains set page) → runs ≡ runs_of set }
+    ensures only { (set : FinSet nat_cmp) (runs : List PageRun) → AreBelow set →
+        AreRunsFrom 0 runs → ((page : ℕ) → in_runs runs page ≡ contains set page) →
+        runs ≡ runs_of set }
 {}
 
 /// Mapped pages are written as areas, their maximal runs of one protection. The areas ascend, none is empty, and none touches the next
 /// with the same protection. They give each page its protection, and no other list of this kind does.
 pub fn the_areas_of_a_map()
-    ensures pages { (areas : FinMap nat_cmp Prot) (page : ℕ) → AreMappedBelow areas → prot_in (areas_of areas) page ≡ get areas page }
+    ensures pages { (areas : FinMap nat_cmp Prot) (page : ℕ) → AreMappedBelow areas →
+        prot_in (areas_of areas) page ≡ get areas page }
     ensures ordered { (areas : FinMap nat_cmp Prot) → AreAreasAfter 0 None (areas_of areas) }
-    ensures only { (areas : FinMap nat_cmp Prot) (list : List Area) → AreMappedBelow areas → AreAreasAfter 0 None list → ((page : ℕ) → prot_in list page ≡ get areas page) → list ≡ areas_of areas }
+    ensures only { (areas : FinMap nat_cmp Prot) (list : List Area) → AreMappedBelow areas →
+        AreAreasAfter 0 None list → ((page : ℕ) → prot_in list page ≡ get areas page) →
+        list ≡ areas_of areas }
 {}
 
 /// A text determines its version, its epoch and its frame, whatever bytes follow: no two frames have the same text, and no text is a
 /// proper prefix of another.
 pub fn one_text()
-    ensures version { (v w : Version) (d e : ℕ) (f g : Frame) (s r : List ℕ) → IsEncodable v d f → IsEncodable w e g → text v d f ++ s ≡ text w e g ++ r → v ≡ w }
-    ensures epoch { (v w : Version) (d e : ℕ) (f g : Frame) (s r : List ℕ) → IsEncodable v d f → IsEncodable w e g → text v d f ++ s ≡ text w e g ++ r → d ≡ e }
-    ensures frame { (v w : Version) (d e : ℕ) (f g : Frame) (s r : List ℕ) → IsEncodable v d f → IsEncodable w e g → text v d f ++ s ≡ text w e g ++ r → f ≡ g }
-    ensures rest { (v w : Version) (d e : ℕ) (f g : Frame) (s r : List ℕ) → IsEncodable v d f → IsEncodable w e g → text v d f ++ s ≡ text w e g ++ r → s ≡ r }
+    ensures version { (v w : Version) (d e : ℕ) (f g : Frame) (s r : List ℕ) → IsEncodable v d f →
+        IsEncodable w e g → text v d f ++ s ≡ text w e g ++ r → v ≡ w }
+    ensures epoch { (v w : Version) (d e : ℕ) (f g : Frame) (s r : List ℕ) → IsEncodable v d f →
+        IsEncodable w e g → text v d f ++ s ≡ text w e g ++ r → d ≡ e }
+    ensures frame { (v w : Version) (d e : ℕ) (f g : Frame) (s r : List ℕ) → IsEncodable v d f →
+        IsEncodable w e g → text v d f ++ s ≡ text w e g ++ r → f ≡ g }
+    ensures rest { (v w : Version) (d e : ℕ) (f g : Frame) (s r : List ℕ) → IsEncodable v d f →
+        IsEncodable w e g → text v d f ++ s ≡ text w e g ++ r → s ≡ r }
 {}
 
 /// The longest bodies, in bytes, of frames with no more pages and processors than they may have. A set has at most one run for each of
 /// its pages, and a map at most one area. A Discard has at most one run for every second page of the address space.
 pub fn the_greatest_lengths()
-    ensures discard { (pages : FinSet nat_cmp) → ((page : ℕ) → contains pages page ≡ true → LOW_PAGE ≤ page) → body_len (Discard pages) ≤ 4 + 4 * (HIGH_PAGE - LOW_PAGE) }
-    ensures package { (areas : FinMap nat_cmp Prot) (owed : FinSet nat_cmp) (commands : List (Option Command)) → AreMappedBelow areas → AreBelow owed → map.len areas ≤ MAX_PAGES → len owed ≤ MAX_PAGES → length commands ≤ MAX_CPUS →
+    ensures discard { (pages : FinSet nat_cmp) →
+        ((page : ℕ) → contains pages page ≡ true → LOW_PAGE ≤ page) →
+        body_len (Discard pages) ≤ 4 + 4 * (HIGH_PAGE - LOW_PAGE) }
+    ensures package { (areas : FinMap nat_cmp Prot) (owed : FinSet nat_cmp)
+        (commands : List (Option Command)) → AreMappedBelow areas → AreBelow owed →
+        map.len areas ≤ MAX_PAGES → len owed ≤ MAX_PAGES → length commands ≤ MAX_CPUS →
         body_len (Package areas owed commands) ≤ 9 + 17 * MAX_PAGES + 18 * MAX_CPUS }
-    ensures run { (first : ℕ) (pages : List (List ℕ)) → length pages ≤ MAX_RUN → body_len (Run first pages) ≤ 8 + PAGE_SIZE * MAX_RUN }
-    ensures recv { (state : Received) (owed : FinSet nat_cmp) → AreBelow owed → len owed ≤ MAX_PAGES → body_len (Recv state owed) ≤ 5 + 8 * MAX_PAGES }
+    ensures run { (first : ℕ) (pages : List (List ℕ)) → length pages ≤ MAX_RUN →
+        body_len (Run first pages) ≤ 8 + PAGE_SIZE * MAX_RUN }
+    ensures recv { (state : Received) (owed : FinSet nat_cmp) → AreBelow owed →
+        len owed ≤ MAX_PAGES → body_len (Recv state owed) ≤ 5 + 8 * MAX_PAGES }
 {}
 
 /// Some texts, byte by byte.
@@ -89,15 +110,26 @@ pub fn the_greatest_lengths()
 pub fn some_texts()
     ensures advise { text Two 1 Advise ≡ 2 ∷ 1 ∷ 0 ∷ 0 ∷ 0 ∷ 0 ∷ 0 ∷ 1 ∷ 0 ∷ 0 ∷ 0 ∷ 0 ∷ [] }
     ensures advise_one { text One 1 Advise ≡ 1 ∷ 1 ∷ 0 ∷ 0 ∷ 0 ∷ 0 ∷ 0 ∷ 1 ∷ 0 ∷ 0 ∷ 0 ∷ 0 ∷ [] }
-    ensures zero { text One 1 (Zero 0x10) ≡ 1 ∷ 3 ∷ 0 ∷ 0 ∷ 0 ∷ 0 ∷ 0 ∷ 1 ∷ 0 ∷ 0 ∷ 0 ∷ 4 ∷ 0 ∷ 0 ∷ 0 ∷ 0x10 ∷ [] }
-    ensures discard { text One 1 (Discard (insert no_pages 0x11)) ≡ 1 ∷ 4 ∷ 0 ∷ 0 ∷ 0 ∷ 0 ∷ 0 ∷ 1 ∷ 0 ∷ 0 ∷ 0 ∷ 12 ∷ 0 ∷ 0 ∷ 0 ∷ 1 ∷ 0 ∷ 0 ∷ 0 ∷ 0x11 ∷ 0 ∷ 0 ∷ 0 ∷ 1 ∷ [] }
-    ensures package { text One 1 (Package (set_range empty 0x10 2 ReadWrite) (insert no_pages 0x11) (None ∷ Some (Load 0x11000 8) ∷ [])) ≡
-        1 ∷ 5 ∷ 0 ∷ 0 ∷ 0 ∷ 0 ∷ 0 ∷ 1 ∷ 0 ∷ 0 ∷ 0 ∷ 37 ∷ 0 ∷ 0 ∷ 0 ∷ 1 ∷ 0 ∷ 0 ∷ 0 ∷ 0x10 ∷ 0 ∷ 0 ∷ 0 ∷ 2 ∷ 2 ∷ 0 ∷ 0 ∷ 0 ∷ 1 ∷ 0 ∷ 0 ∷ 0 ∷ 0x11 ∷ 0 ∷ 0 ∷ 0 ∷ 1 ∷
+    ensures zero { text One 1 (Zero 0x10) ≡
+        1 ∷ 3 ∷ 0 ∷ 0 ∷ 0 ∷ 0 ∷ 0 ∷ 1 ∷ 0 ∷ 0 ∷ 0 ∷ 4 ∷ 0 ∷ 0 ∷ 0 ∷ 0x10 ∷ [] }
+    ensures discard { text One 1 (Discard (insert no_pages 0x11)) ≡
+        1 ∷ 4 ∷ 0 ∷ 0 ∷ 0 ∷ 0 ∷ 0 ∷ 1 ∷ 0 ∷ 0 ∷ 0 ∷ 12 ∷ 0 ∷ 0 ∷ 0 ∷ 1 ∷ 0 ∷ 0 ∷ 0 ∷ 0x11 ∷ 0 ∷ 0 ∷
+        0 ∷ 1 ∷ [] }
+    ensures package { text One 1
+        (Package (set_range empty 0x10 2 ReadWrite) (insert no_pages 0x11) (None ∷
+        Some (Load 0x11000 8) ∷ [])) ≡
+        1 ∷ 5 ∷ 0 ∷ 0 ∷ 0 ∷ 0 ∷ 0 ∷ 1 ∷ 0 ∷ 0 ∷ 0 ∷ 37 ∷ 0 ∷ 0 ∷ 0 ∷ 1 ∷ 0 ∷ 0 ∷ 0 ∷ 0x10 ∷ 0 ∷ 0 ∷
+        0 ∷ 2 ∷ 2 ∷ 0 ∷ 0 ∷ 0 ∷ 1 ∷ 0 ∷ 0 ∷ 0 ∷ 0x11 ∷ 0 ∷ 0 ∷ 0 ∷ 1 ∷
         2 ∷ 0 ∷ 1 ∷ 0 ∷ 0 ∷ 0 ∷ 0 ∷ 0 ∷ 1 ∷ 0x10 ∷ 0 ∷ 8 ∷ [] }
-    ensures end { text One 1 (End 0) ≡ 1 ∷ 6 ∷ 0 ∷ 0 ∷ 0 ∷ 0 ∷ 0 ∷ 1 ∷ 0 ∷ 0 ∷ 0 ∷ 4 ∷ 0 ∷ 0 ∷ 0 ∷ 0 ∷ [] }
-    ensures request { text One 2 (Request 0x10) ≡ 1 ∷ 0x81 ∷ 0 ∷ 0 ∷ 0 ∷ 0 ∷ 0 ∷ 2 ∷ 0 ∷ 0 ∷ 0 ∷ 4 ∷ 0 ∷ 0 ∷ 0 ∷ 0x10 ∷ [] }
-    ensures recv { text One 2 (Recv Received.Running no_pages) ≡ 1 ∷ 0x82 ∷ 0 ∷ 0 ∷ 0 ∷ 0 ∷ 0 ∷ 2 ∷ 0 ∷ 0 ∷ 0 ∷ 5 ∷ 1 ∷ 0 ∷ 0 ∷ 0 ∷ 0 ∷ [] }
+    ensures end { text One 1 (End 0) ≡
+        1 ∷ 6 ∷ 0 ∷ 0 ∷ 0 ∷ 0 ∷ 0 ∷ 1 ∷ 0 ∷ 0 ∷ 0 ∷ 4 ∷ 0 ∷ 0 ∷ 0 ∷ 0 ∷ [] }
+    ensures request { text One 2 (Request 0x10) ≡
+        1 ∷ 0x81 ∷ 0 ∷ 0 ∷ 0 ∷ 0 ∷ 0 ∷ 2 ∷ 0 ∷ 0 ∷ 0 ∷ 4 ∷ 0 ∷ 0 ∷ 0 ∷ 0x10 ∷ [] }
+    ensures recv { text One 2 (Recv Received.Running no_pages) ≡
+        1 ∷ 0x82 ∷ 0 ∷ 0 ∷ 0 ∷ 0 ∷ 0 ∷ 2 ∷ 0 ∷ 0 ∷ 0 ∷ 5 ∷ 1 ∷ 0 ∷ 0 ∷ 0 ∷ 0 ∷ [] }
     ensures done { text One 1 Done ≡ 1 ∷ 0x83 ∷ 0 ∷ 0 ∷ 0 ∷ 0 ∷ 0 ∷ 1 ∷ 0 ∷ 0 ∷ 0 ∷ 0 ∷ [] }
     ensures run { (a b : List ℕ) → HasWholePages (Run 0x10 (a ∷ b ∷ [])) →
-        text Two 1 (Run 0x10 (a ∷ b ∷ [])) ≡ 2 ∷ 8 ∷ 0 ∷ 0 ∷ 0 ∷ 0 ∷ 0 ∷ 1 ∷ 0 ∷ 0 ∷ 0x20 ∷ 0x08 ∷ 0 ∷ 0 ∷ 0 ∷ 0x10 ∷ 0 ∷ 0 ∷ 0 ∷ 2 ∷ (a ++ b) }
+        text Two 1 (Run 0x10 (a ∷ b ∷ [])) ≡
+        2 ∷ 8 ∷ 0 ∷ 0 ∷ 0 ∷ 0 ∷ 0 ∷ 1 ∷ 0 ∷ 0 ∷ 0x20 ∷ 0x08 ∷ 0 ∷ 0 ∷ 0 ∷ 0x10 ∷ 0 ∷ 0 ∷ 0 ∷ 2 ∷
+        (a ++ b) }
 {}

@@ -30,9 +30,11 @@ pub fn run_frames<R: Read, W: Write>(
     requires low { 1 ≤ cpus }
     requires high { cpus ≤ 16 }
     ensures ok { IfOk result (λ refused. IfSome (R.remaining reader.old) (λ input.
-        IsWhole (first_destination cpus) input refused (W.contents writer.old) (W.contents writer.new))) }
+        IsWhole (first_destination cpus) input refused (W.contents writer.old)
+        (W.contents writer.new))) }
     ensures fault { IfErr result (λ fault. IfSome (R.remaining reader.old) (λ input.
-        Stops (first_destination cpus) input (R.remaining reader.new) fault (W.contents writer.old) (W.contents writer.new))) }
+        Stops (first_destination cpus) input (R.remaining reader.new) fault (W.contents writer.old)
+        (W.contents writer.new))) }
 {
     let mut frames = FrameReader::new(alloc, cpus)?;
     read_frames(reader, writer, &mut frames)
@@ -49,9 +51,11 @@ fn read_frames<R: Read, W: Write>(
     requires clean { frames.old.taker.output.items ≡ [] }
     requires none { frames.old.taker.refused ≡ 0 }
     ensures ok { IfOk result (λ refused. IfSome (R.remaining reader.old) (λ input.
-        IsWhole frames.old.taker.destination input refused (W.contents writer.old) (W.contents writer.new))) }
+        IsWhole frames.old.taker.destination input refused (W.contents writer.old)
+        (W.contents writer.new))) }
     ensures fault { IfErr result (λ fault. IfSome (R.remaining reader.old) (λ input.
-        Stops frames.old.taker.destination input (R.remaining reader.new) fault (W.contents writer.old) (W.contents writer.new))) }
+        Stops frames.old.taker.destination input (R.remaining reader.new) fault
+        (W.contents writer.old) (W.contents writer.new))) }
 {
     let mut buffer = [0u8; PIECE];
     for _ in 0..u32::MAX {

@@ -27,8 +27,11 @@ pub fn issue(
     command: Command,
     runs: bool,
 ) -> Result<Tried, Refusal>
-    ensures made { IfOk result (λ tried. machine.issue (guest_with space.old cpus.old) runs cpu command ≡ tried_with tried.effect (option_to_list tried.entry) (guest_with space.new cpus.new)) }
-    ensures refused { IfErr result (λ refusal. IsRefusedFor (machine.issue (guest_with space.old cpus.old) runs cpu command) refusal) }
+    ensures made { IfOk result (λ tried.
+        machine.issue (guest_with space.old cpus.old) runs cpu command ≡
+        tried_with tried.effect (option_to_list tried.entry) (guest_with space.new cpus.new)) }
+    ensures refused { IfErr result (λ refusal.
+        IsRefusedFor (machine.issue (guest_with space.old cpus.old) runs cpu command) refusal) }
     ensures memory { result ≡ Err Refusal.NoMemory → command_needs_room space.old command ≡ true }
     ensures err { OnErr result ((space.new ≡ space.old) × (cpus.new ≡ cpus.old)) }
 {
@@ -47,9 +50,13 @@ pub fn issue(
 /// processors, and last `NoMemory`, only if the command needs memory. A refusal changes nothing.
 #[inline(always)]
 pub fn retry(space: &mut Space, cpus: &mut Cpus, cpu: u8, runs: bool) -> Result<Tried, Refusal>
-    ensures made { IfOk result (λ tried. machine.retry (guest_with space.old cpus.old) runs cpu ≡ tried_with tried.effect (option_to_list tried.entry) (guest_with space.new cpus.new)) }
-    ensures refused { IfErr result (λ refusal. IsRefusedFor (machine.retry (guest_with space.old cpus.old) runs cpu) refusal) }
-    ensures memory { (command : Command) → woken_answer cpus.old cpu ≡ Ok command → result ≡ Err Refusal.NoMemory → command_needs_room space.old command ≡ true }
+    ensures made { IfOk result (λ tried.
+        machine.retry (guest_with space.old cpus.old) runs cpu ≡
+        tried_with tried.effect (option_to_list tried.entry) (guest_with space.new cpus.new)) }
+    ensures refused { IfErr result (λ refusal.
+        IsRefusedFor (machine.retry (guest_with space.old cpus.old) runs cpu) refusal) }
+    ensures memory { (command : Command) → woken_answer cpus.old cpu ≡ Ok command →
+        result ≡ Err Refusal.NoMemory → command_needs_room space.old command ≡ true }
     ensures err { OnErr result ((space.new ≡ space.old) × (cpus.new ≡ cpus.old)) }
 {
     let command = cpus.woken(cpu)?;

@@ -32,7 +32,8 @@ impl Took {
     pub fn of(space: &mut Space, cpu: u8, command: Command) -> Result<Self, NoMemory>
         ensures took { IfOk result (λ took. took_of took ≡ took_in space.old command) }
         ensures outcome { IfOk result (λ took. IsOutcome command took) }
-        ensures space { OnOk result (space.new ≡ space_by (is_access command) space.old cpu command) }
+        ensures space { OnOk result (space.new ≡
+            space_by (is_access command) space.old cpu command) }
         ensures needs { OnErr result (command_needs_room space.old command ≡ true) }
         ensures err { OnErr result (space.new ≡ space.old) }
     {

@@ -24,7 +24,8 @@ fn two_mapped(alloc: Global) -> Result<AreaMap, NoMemory>
 
 /// Page 0x10, with 4096 sevens.
 fn first_present(alloc: Global) -> Result<PageTable, NoMemory>
-    ensures bytes { IfOk result (λ pages. pages.bytes ≡ map.insert map.empty 16 (replicate 4096 7)) }
+    ensures bytes { IfOk result (λ pages.
+        pages.bytes ≡ map.insert map.empty 16 (replicate 4096 7)) }
     ensures open { IfOk result (λ pages. pages.protected ≡ set.empty) }
 {
     let mut pages = PageTable::new(alloc);
@@ -49,7 +50,8 @@ fn areas(alloc: Global) -> Result<AreaMap, Fail>
 
 /// The first page, on the second try if the first is refused memory.
 fn pages(alloc: Global) -> Result<PageTable, Fail>
-    ensures bytes { IfOk result (λ pages. pages.bytes ≡ map.insert map.empty 16 (replicate 4096 7)) }
+    ensures bytes { IfOk result (λ pages.
+        pages.bytes ≡ map.insert map.empty 16 (replicate 4096 7)) }
     ensures open { IfOk result (λ pages. pages.protected ≡ set.empty) }
 {
     if let Ok(pages) = first_present(alloc) {
@@ -60,7 +62,8 @@ fn pages(alloc: Global) -> Result<PageTable, Fail>
 
 /// The areas and the pages.
 pub fn parts(alloc: Global) -> Result<(AreaMap, PageTable), Fail>
-    ensures sound { IfOk result (λ parts. IsSound (record { areas = parts.0; bytes = parts.1.bytes })) }
+    ensures sound { IfOk result (λ parts.
+        IsSound (record { areas = parts.0; bytes = parts.1.bytes })) }
     ensures open { IfOk result (λ parts. parts.1.protected ≡ set.empty) }
 {
     let areas = areas(alloc)?;

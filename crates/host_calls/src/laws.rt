@@ -14,7 +14,8 @@ ghost use Rattle.host_calls.specs.Made.{AreMade, first_bytes};
 pub fn calls_are_made()
     ensures made { (world : World) (step : Step) (effect : Effect) → IsReached world →
         is_of_host step ≡ true → outcome world step ≡ Ok effect →
-        AreMade (first_bytes world.destination.arrivals) (calls_of (areas_at (node_of step) (next world step)) step effect)
+        AreMade (first_bytes world.destination.arrivals)
+        (calls_of (areas_at (node_of step) (next world step)) step effect)
         (guest_at (node_of step) world) (guest_at (node_of step) (next world step)) }
     ensures none { (areas : List Area) (step : Step) (effect : Effect) → is_of_host step ≡ false →
         calls_of areas step effect ≡ [] }

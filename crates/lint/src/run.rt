@@ -28,7 +28,8 @@ pub fn lint_lines<R: Read, W: Write>(
     ensures ok { IfOk result (λ answer. IfSome (R.remaining reader.old) (λ input.
         ListsAll language name.now input answer (W.contents writer.old) (W.contents writer.new))) }
     ensures fault { IfErr result (λ fault. IfSome (R.remaining reader.old) (λ input.
-        Stops language name.now input (R.remaining reader.new) fault (W.contents writer.old) (W.contents writer.new))) }
+        Stops language name.now input (R.remaining reader.new) fault (W.contents writer.old)
+        (W.contents writer.new))) }
 {
     let mut linter = Linter::new(alloc, name, language);
     read_lines(alloc, reader, writer, &mut linter)?;

@@ -23,5 +23,7 @@ pub fn memory_is_bounded()
 
 /// Each node has as many processors as the world was made with, after every list of steps.
 pub fn processors_stay()
-    ensures { (world : World) (reached : IsReached world) → (length world.source.guest.cpus ≡ reached.cpus) × (length world.destination.guest.cpus ≡ reached.cpus) }
+    ensures { (world : World) (reached : IsReached world) →
+        (length world.source.guest.cpus ≡ reached.cpus) ×
+        (length world.destination.guest.cpus ≡ reached.cpus) }
 {}

@@ -118,7 +118,8 @@ impl Owed {
     /// Removes the pair of a page of the source, wherever it belongs now. If that page is not owed, nothing changes. It takes no
     /// memory.
     pub fn settle(&mut self, origin: PageNo)
-        ensures settled { (q : ℕ) → map.get self.old q ≡ Some origin → self.new ≡ map.remove self.old q }
+        ensures settled { (q : ℕ) → map.get self.old q ≡ Some origin →
+            self.new ≡ map.remove self.old q }
         ensures none { ((q : ℕ) → map.get self.old q ≢ Some origin) → self.new ≡ self.old }
     {
         if let Some(page) = get_number(&self.links.back, origin) {

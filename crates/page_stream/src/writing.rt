@@ -36,9 +36,11 @@ const PAGE_BODY_LEN: u32 = 4 + PAGE_BYTES as u32;
 /// that room cannot be reserved, and leaves the bytes as they were.
 pub fn encode_into(frame: &Frame, epoch: u32, into: &mut Vec<u8>) -> Result<(), NoMemory>
     requires { IsFrame (frame_of frame.now) }
-    ensures ok { OnOk result (into.new.items ≡ into.old.items ++ text Two epoch (frame_of frame.now)) }
+    ensures ok { OnOk result (into.new.items ≡
+        into.old.items ++ text Two epoch (frame_of frame.now)) }
     ensures err { OnErr result (into.new.items ≡ into.old.items) }
-    ensures room { vec_len into.old + texts.text_len (frame_of frame.now) ≤ vec_capacity into.old → IsOk result }
+    ensures room { vec_len into.old + texts.text_len (frame_of frame.now) ≤ vec_capacity into.old →
+        IsOk result }
     ensures capacity { vec_capacity into.old ≤ vec_capacity into.new }
 {
     let len = frame.body_len();
@@ -59,9 +61,11 @@ pub fn encode_page_into(
     epoch: u32,
     into: &mut Vec<u8>,
 ) -> Result<(), NoMemory>
-    ensures ok { OnOk result (into.new.items ≡ into.old.items ++ text Two epoch (machine.Frame.Page page bytes.now)) }
+    ensures ok { OnOk result (into.new.items ≡
+        into.old.items ++ text Two epoch (machine.Frame.Page page bytes.now)) }
     ensures err { OnErr result (into.new.items ≡ into.old.items) }
-    ensures room { vec_len into.old + texts.text_len (machine.Frame.Page page bytes.now) ≤ vec_capacity into.old → IsOk result }
+    ensures room { vec_len into.old + texts.text_len (machine.Frame.Page page bytes.now) ≤
+        vec_capacity into.old → IsOk result }
     ensures capacity { vec_capacity into.old ≤ vec_capacity into.new }
 {
     into.try_reserve(HEADER_LEN as usize + PAGE_BODY_LEN as usize)?;
@@ -111,7 +115,8 @@ fn put_header(into: &mut Vec<u8>, tag: u8, epoch: u32, len: u32)
 
 /// The body, which stands after the header.
 fn put_body(into: &mut Vec<u8>, frame: &Frame)
-    requires room { vec_len into.old + length (body_text (frame_of frame.now)) ≤ vec_capacity into.old }
+    requires room { vec_len into.old + length (body_text (frame_of frame.now)) ≤ vec_capacity
+        into.old }
     requires right { IsFrame (frame_of frame.now) }
     ensures { Puts into.old into.new (body_text (frame_of frame.now)) }
 {
@@ -136,9 +141,11 @@ fn put_body(into: &mut Vec<u8>, frame: &Frame)
 
 /// The body of a Package: the mapped pages, the owed ones, and what each processor waits for.
 fn put_package(into: &mut Vec<u8>, areas: &AreaMap, owed: &PageSet, commands: &[Option<Command>])
-    requires room { vec_len into.old + length (areas_text (areas_of areas.now) ++ runs_text (runs_of owed.now) ++ commands_text commands.now) ≤ vec_capacity into.old }
+    requires room { vec_len into.old + length (areas_text (areas_of areas.now) ++
+        runs_text (runs_of owed.now) ++ commands_text commands.now) ≤ vec_capacity into.old }
     requires few { length commands.now < 256 }
-    ensures { Puts into.old into.new (areas_text (areas_of areas.now) ++ runs_text (runs_of owed.now) ++ commands_text commands.now) }
+    ensures { Puts into.old into.new (areas_text (areas_of areas.now) ++
+        runs_text (runs_of owed.now) ++ commands_text commands.now) }
 {
     put_areas(into, areas.areas());
     put_runs(into, owed);
@@ -147,7 +154,8 @@ fn put_package(into: &mut Vec<u8>, areas: &AreaMap, owed: &PageSet, commands: &[
 
 /// A page number and the bytes of the page.
 fn put_page(into: &mut Vec<u8>, page: PageNo, bytes: &[u8; PAGE_BYTES])
-    requires { vec_len into.old + length (to_be_bytes w32 page ++ bytes.now) ≤ vec_capacity into.old }
+    requires { vec_len into.old + length (to_be_bytes w32 page ++
+        bytes.now) ≤ vec_capacity into.old }
     ensures { Puts into.old into.new (to_be_bytes w32 page ++ bytes.now) }
 {
     put(into, &page.to_be_bytes());
@@ -156,9 +164,12 @@ fn put_page(into: &mut Vec<u8>, page: PageNo, bytes: &[u8; PAGE_BYTES])
 
 /// The first page, the number of pages, and the bytes of each page.
 fn put_pages(into: &mut Vec<u8>, first: PageNo, pages: &Pages)
-    requires room { vec_len into.old + length (to_be_bytes w32 first ++ to_be_bytes w32 (length pages.now) ++ flat_map (λ bytes. bytes) pages.now) ≤ vec_capacity into.old }
+    requires room { vec_len into.old + length (to_be_bytes w32 first ++
+        to_be_bytes w32 (length pages.now) ++
+        flat_map (λ bytes. bytes) pages.now) ≤ vec_capacity into.old }
     requires few { length pages.now < 2 ^ 32 }
-    ensures { Puts into.old into.new (to_be_bytes w32 first ++ to_be_bytes w32 (length pages.now) ++ flat_map (λ bytes. bytes) pages.now) }
+    ensures { Puts into.old into.new (to_be_bytes w32 first ++ to_be_bytes w32 (length pages.now) ++
+        flat_map (λ bytes. bytes) pages.now) }
 {
     put(into, &first.to_be_bytes());
     put(into, &(pages.len() as u32).to_be_bytes());

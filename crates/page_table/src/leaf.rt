@@ -30,7 +30,8 @@ pub struct Leaf {
 
 /// A list of `CHUNK` missing pages. `NoMemory` if it cannot be allocated.
 pub fn missing_pages(alloc: Global) -> Result<Vec<Page>, NoMemory>
-    ensures { IfOk result (λ pages. (length pages.items ≡ CHUNK) × ((i : ℕ) → slice_index_or pages.items i None ≡ None)) }
+    ensures { IfOk result (λ pages.
+        (length pages.items ≡ CHUNK) × ((i : ℕ) → slice_index_or pages.items i None ≡ None)) }
 {
     let mut pages = Vec::with_capacity(alloc, CHUNK as usize)?;
     for _ in 0..CHUNK {
@@ -70,8 +71,11 @@ pub fn put_page(pages: &mut Vec<Page>, i: usize, page: Page)
 pub fn write_page(pages: &mut Vec<Page>, i: usize, offset: usize, bytes: &[u8])
     requires place { i < length pages.old.items }
     requires inside { offset + length bytes.now ≤ PAGE_SIZE }
-    ensures here { slice_index_or pages.new.items i None ≡ option_map (λ held. overwrite held offset bytes.now) (slice_index_or pages.old.items i None) }
-    ensures others { (j : ℕ) → j ≢ i → slice_index_or pages.new.items j None ≡ slice_index_or pages.old.items j None }
+    ensures here { slice_index_or pages.new.items i None ≡
+        option_map (λ held.
+        overwrite held offset bytes.now) (slice_index_or pages.old.items i None) }
+    ensures others { (j : ℕ) → j ≢ i →
+        slice_index_or pages.new.items j None ≡ slice_index_or pages.old.items j None }
     ensures size { length pages.new.items ≡ length pages.old.items }
 {
     write_bytes(&mut pages[i], offset, bytes);
@@ -102,7 +106,9 @@ pub fn set_member(set: &mut Chunk, i: u32, member: bool)
 /// Makes the pages of a range missing.
 pub fn clear_list(pages: &mut Vec<Page>, first: u32, count: u32)
     requires { (first + count ≤ length pages.old.items) × (first + count ≤ CHUNK) }
-    ensures pages { (i : ℕ) → slice_index_or pages.new.items i None ≡ (if in_range first count i then None else slice_index_or pages.old.items i None) }
+    ensures pages { (i : ℕ) →
+        slice_index_or pages.new.items i None ≡
+        (if in_range first count i then None else slice_index_or pages.old.items i None) }
     ensures size { length pages.new.items ≡ length pages.old.items }
 {
     for i in first..first + count {

@@ -80,7 +80,8 @@ impl PageTable {
         ensures present { result ≡ true → IsTrue (map.contains_key self.now.bytes page) }
 
         // The invariant of every table: protected pages are present.
-        ensures law { (q : ℕ) → IsTrue (set.contains self.now.protected q) → IsTrue (map.contains_key self.now.bytes q) }
+        ensures law { (q : ℕ) → IsTrue (set.contains self.now.protected q) →
+            IsTrue (map.contains_key self.now.bytes q) }
     {
         is_protected_at(&self.places, page)
     }
@@ -89,7 +90,8 @@ impl PageTable {
     ///
     /// `NoMemory` only if the set cannot grow.
     pub fn present(&self) -> Result<PageSet, NoMemory>
-        ensures { IfOk result (λ pages. (q : ℕ) → set.contains pages q ≡ map.contains_key self.now.bytes q) }
+        ensures { IfOk result (λ pages. (q : ℕ) →
+            set.contains pages q ≡ map.contains_key self.now.bytes q) }
     {
         present_of(self.alloc, &self.places)
     }
@@ -113,7 +115,9 @@ impl PageTable {
         requires { page < HIGH_PAGE }
         ensures ok { OnOk result (self.new.bytes ≡ map.insert self.old.bytes page bytes) }
         ensures protected { self.new.protected ≡ self.old.protected }
-        ensures fault { IfErr result (λ e. (e.1 ≡ bytes) × (self.new.bytes ≡ self.old.bytes) × ((e.0 ≡ PutFault.Present) ↔ IsTrue (map.contains_key self.old.bytes page))) }
+        ensures fault { IfErr result (λ e.
+            (e.1 ≡ bytes) × (self.new.bytes ≡ self.old.bytes) ×
+            ((e.0 ≡ PutFault.Present) ↔ IsTrue (map.contains_key self.old.bytes page))) }
         ensures missing { OnOk result (map.contains_key self.old.bytes page ≡ false) }
     {
         if is_present_at(&self.places, page) {
@@ -135,7 +139,9 @@ impl PageTable {
         requires { page < HIGH_PAGE }
         ensures ok { OnOk result (self.new.bytes ≡ map.insert self.old.bytes page zero_page) }
         ensures protected { self.new.protected ≡ self.old.protected }
-        ensures fault { IfErr result (λ e. (self.new.bytes ≡ self.old.bytes) × ((e ≡ PutFault.Present) ↔ IsTrue (map.contains_key self.old.bytes page))) }
+        ensures fault { IfErr result (λ e.
+            (self.new.bytes ≡ self.old.bytes) ×
+            ((e ≡ PutFault.Present) ↔ IsTrue (map.contains_key self.old.bytes page))) }
         ensures missing { OnOk result (map.contains_key self.old.bytes page ≡ false) }
     {
         if is_present_at(&self.places, page) {
@@ -170,7 +176,9 @@ impl PageTable {
     pub fn write(&mut self, page: PageNo, offset: usize, bytes: &[u8])
         requires present { IsTrue (map.contains_key self.old.bytes page) }
         requires inside { offset + length bytes.now ≤ PAGE_SIZE }
-        ensures bytes { self.new.bytes ≡ map.insert self.old.bytes page (overwrite (page_at self.old.bytes page) offset bytes.now) }
+        ensures bytes { self.new.bytes ≡
+            map.insert self.old.bytes page
+            (overwrite (page_at self.old.bytes page) offset bytes.now) }
         ensures protected { self.new.protected ≡ self.old.protected }
     {
         write_at(&mut self.places, page, offset, bytes);
@@ -207,7 +215,8 @@ impl PageTable {
 
     /// The invariant of every table: a present page has `PAGE_SIZE` bytes and lies below `HIGH_PAGE`. The call does nothing.
     pub fn has_whole_pages(&self)
-        ensures whole { (q : ℕ) (bytes : List ℕ) → map.get self.now.bytes q ≡ Some bytes → length bytes ≡ PAGE_SIZE }
+        ensures whole { (q : ℕ) (bytes : List ℕ) → map.get self.now.bytes q ≡ Some bytes →
+            length bytes ≡ PAGE_SIZE }
         ensures inside { (q : ℕ) → HIGH_PAGE ≤ q → map.get self.now.bytes q ≡ None }
     {
         let _ = &self.places;
@@ -221,8 +230,14 @@ impl PageTable {
     pub fn move_range(&mut self, from: PageNo, to: PageNo, count: u32) -> Result<(), NoMemory>
         requires inside { (from + count ≤ HIGH_PAGE) × (to + count ≤ HIGH_PAGE) }
         requires apart { (from + count ≤ to) ⊎ (to + count ≤ from) }
-        ensures bytes { OnOk result ((q : ℕ) → map.get self.new.bytes q ≡ (if in_range to count q then map.get self.old.bytes (from + (q - to)) else if in_range from count q then None else map.get self.old.bytes q)) }
-        ensures protected { OnOk result ((q : ℕ) → set.contains self.new.protected q ≡ (if in_range to count q then set.contains self.old.protected (from + (q - to)) else if in_range from count q then false else set.contains self.old.protected q)) }
+        ensures bytes { OnOk result ((q : ℕ) →
+            map.get self.new.bytes q ≡
+            (if in_range to count q then map.get self.old.bytes (from + (q - to)) else if in_range
+            from count q then None else map.get self.old.bytes q)) }
+        ensures protected { OnOk result ((q : ℕ) →
+            set.contains self.new.protected q ≡
+            (if in_range to count q then set.contains self.old.protected (from + (q - to)) else if
+            in_range from count q then false else set.contains self.old.protected q)) }
         ensures err { OnErr result (self.new ≡ self.old) }
     {
         make_places(self.alloc, &mut self.places, to, count)?;

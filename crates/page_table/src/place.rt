@@ -32,7 +32,8 @@ impl Leaf {
 
     /// A leaf with the same pages, in memory of its own. `NoMemory` if that cannot be allocated.
     pub fn copy(&self, alloc: Global) -> Result<Self, NoMemory>
-        ensures { IfOk result (λ copy. (i : ℕ) → i < CHUNK → leaf_cell copy i ≡ leaf_cell self.now i) }
+        ensures { IfOk result (λ copy. (i : ℕ) → i < CHUNK →
+            leaf_cell copy i ≡ leaf_cell self.now i) }
     {
         let mut copy = Leaf::new(alloc)?;
         for i in 0..CHUNK {
@@ -53,7 +54,10 @@ impl Leaf {
     /// Puts the present pages into a set. The leaf is number `at` of its table. `NoMemory` may leave some of them in the set.
     pub fn gather(&self, at: u32, pages: &mut PageSet) -> Result<(), NoMemory>
         requires { at < CHUNK }
-        ensures { OnOk result ((q : ℕ) → contains pages.new q ≡ (contains pages.old q || (in_range (CHUNK * at) CHUNK q && is_some (leaf_cell self.now (q % CHUNK)).0))) }
+        ensures { OnOk result ((q : ℕ) →
+            contains pages.new q ≡
+            (contains pages.old q ||
+            (in_range (CHUNK * at) CHUNK q && is_some (leaf_cell self.now (q % CHUNK)).0))) }
     {
         for i in 0..CHUNK {
             if self.has(i) {
@@ -68,7 +72,8 @@ impl Leaf {
         requires { i < CHUNK }
         ensures taken { result ≡ leaf_cell self.old i }
         ensures whole { IsWhole result.0 }
-        ensures left { (j : ℕ) → leaf_cell self.new j ≡ (if nat_eq j i then no_cell else leaf_cell self.old j) }
+        ensures left { (j : ℕ) →
+            leaf_cell self.new j ≡ (if nat_eq j i then no_cell else leaf_cell self.old j) }
     {
         let flag = self.protected.contains(i);
         set_member(&mut self.protected, i, false);
@@ -80,7 +85,8 @@ impl Leaf {
     pub fn put(&mut self, i: u32, page: Page, protected: bool)
         requires inside { i < CHUNK }
         requires whole { IsWhole page }
-        ensures { (j : ℕ) → leaf_cell self.new j ≡ (if nat_eq j i then (page, protected) else leaf_cell self.old j) }
+        ensures { (j : ℕ) → leaf_cell self.new j ≡
+            (if nat_eq j i then (page, protected) else leaf_cell self.old j) }
     {
         put_page(&mut self.pages, i as usize, page);
         set_member(&mut self.protected, i, protected);
@@ -90,7 +96,9 @@ impl Leaf {
     pub fn write(&mut self, i: u32, offset: usize, bytes: &[u8])
         requires place { i < CHUNK }
         requires inside { offset + length bytes.now ≤ PAGE_SIZE }
-        ensures { (j : ℕ) → leaf_cell self.new j ≡ (if nat_eq j i then written_cell (leaf_cell self.old i) offset bytes.now else leaf_cell self.old j) }
+        ensures { (j : ℕ) → leaf_cell self.new j ≡
+            (if nat_eq j i then written_cell (leaf_cell self.old i) offset bytes.now else leaf_cell
+            self.old j) }
     {
         write_page(&mut self.pages, i as usize, offset, bytes);
     }
@@ -98,7 +106,9 @@ impl Leaf {
     /// Protects a page, or ends its protection.
     pub fn protect(&mut self, i: u32, protected: bool)
         requires { i < CHUNK }
-        ensures { (j : ℕ) → leaf_cell self.new j ≡ (if nat_eq j i then with_protection (leaf_cell self.old i) protected else leaf_cell self.old j) }
+        ensures { (j : ℕ) → leaf_cell self.new j ≡
+            (if nat_eq j i then with_protection (leaf_cell self.old i) protected else leaf_cell
+            self.old j) }
     {
         set_member(&mut self.protected, i, protected);
     }
@@ -106,7 +116,8 @@ impl Leaf {
     /// Makes the pages of a range missing.
     pub fn clear(&mut self, first: u32, count: u32)
         requires { first + count ≤ CHUNK }
-        ensures { (j : ℕ) → leaf_cell self.new j ≡ (if in_range first count j then no_cell else leaf_cell self.old j) }
+        ensures { (j : ℕ) → leaf_cell self.new j ≡
+            (if in_range first count j then no_cell else leaf_cell self.old j) }
     {
         clear_list(&mut self.pages, first, count);
         self.protected.remove_range(first, count);
@@ -166,7 +177,10 @@ pub fn place_copy(alloc: Global, place: &Place) -> Result<Place, NoMemory>
 /// Puts the present pages of place number `at` into a set. `NoMemory` may leave some of them in the set.
 pub fn place_gather(place: &Place, at: u32, pages: &mut PageSet) -> Result<(), NoMemory>
     requires { at < CHUNK }
-    ensures { OnOk result ((q : ℕ) → contains pages.new q ≡ (contains pages.old q || (in_range (CHUNK * at) CHUNK q && is_some (cell_in place.now (q % CHUNK)).0))) }
+    ensures { OnOk result ((q : ℕ) →
+        contains pages.new q ≡
+        (contains pages.old q ||
+        (in_range (CHUNK * at) CHUNK q && is_some (cell_in place.now (q % CHUNK)).0))) }
 {
     match place {
         Some(leaf) => leaf.gather(at, pages),
@@ -179,7 +193,8 @@ pub fn place_take(place: &mut Place, i: u32) -> (Page, bool)
     requires { i < CHUNK }
     ensures taken { result ≡ cell_in place.old i }
     ensures whole { IsWhole result.0 }
-    ensures left { (j : ℕ) → cell_in place.new j ≡ (if nat_eq j i then no_cell else cell_in place.old j) }
+    ensures left { (j : ℕ) →
+        cell_in place.new j ≡ (if nat_eq j i then no_cell else cell_in place.old j) }
     ensures stays { is_place place.new ≡ is_place place.old }
 {
     match place {
@@ -193,7 +208,8 @@ pub fn place_put(place: &mut Place, i: u32, page: Page, protected: bool)
     requires inside { i < CHUNK }
     requires whole { IsWhole page }
     requires there { is_place place.old ≡ true }
-    ensures put { (j : ℕ) → cell_in place.new j ≡ (if nat_eq j i then (page, protected) else cell_in place.old j) }
+    ensures put { (j : ℕ) →
+        cell_in place.new j ≡ (if nat_eq j i then (page, protected) else cell_in place.old j) }
     ensures stays { is_place place.new ≡ true }
 {
     if let Some(leaf) = place {
@@ -205,7 +221,9 @@ pub fn place_put(place: &mut Place, i: u32, page: Page, protected: bool)
 pub fn place_write(place: &mut Place, i: u32, offset: usize, bytes: &[u8])
     requires place { i < CHUNK }
     requires inside { offset + length bytes.now ≤ PAGE_SIZE }
-    ensures { (j : ℕ) → cell_in place.new j ≡ (if nat_eq j i then written_cell (cell_in place.old i) offset bytes.now else cell_in place.old j) }
+    ensures { (j : ℕ) → cell_in place.new j ≡
+        (if nat_eq j i then written_cell (cell_in place.old i) offset bytes.now else cell_in
+        place.old j) }
 {
     if let Some(leaf) = place {
         leaf.write(i, offset, bytes);
@@ -216,7 +234,10 @@ pub fn place_write(place: &mut Place, i: u32, offset: usize, bytes: &[u8])
 pub fn place_protect(place: &mut Place, i: u32, protected: bool)
     requires inside { i < CHUNK }
     requires there { is_place place.old ≡ true }
-    ensures put { (j : ℕ) → cell_in place.new j ≡ (if nat_eq j i then with_protection (cell_in place.old i) protected else cell_in place.old j) }
+    ensures put { (j : ℕ) →
+        cell_in place.new j ≡
+        (if nat_eq j i then with_protection (cell_in place.old i) protected else cell_in place.old
+        j) }
     ensures stays { is_place place.new ≡ true }
 {
     if let Some(leaf) = place {
@@ -227,7 +248,8 @@ pub fn place_protect(place: &mut Place, i: u32, protected: bool)
 /// Makes the pages of a range missing.
 pub fn place_clear(place: &mut Place, first: u32, count: u32)
     requires { first + count ≤ CHUNK }
-    ensures cleared { (j : ℕ) → cell_in place.new j ≡ (if in_range first count j then no_cell else cell_in place.old j) }
+    ensures cleared { (j : ℕ) →
+        cell_in place.new j ≡ (if in_range first count j then no_cell else cell_in place.old j) }
     ensures stays { is_place place.new ≡ is_place place.old }
 {
     if let Some(leaf) = place {

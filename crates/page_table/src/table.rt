@@ -59,7 +59,8 @@ pub fn make_place(alloc: Global, places: &mut Vec<Place>, page: PageNo) -> Resul
     ensures same { (q : ℕ) → cell_at places.new.items q ≡ cell_at places.old.items q }
     ensures few { length places.new.items ≤ CHUNKS }
     ensures there { OnOk result (has_place places.new.items page ≡ true) }
-    ensures stay { (q : ℕ) → has_place places.old.items q ≡ true → has_place places.new.items q ≡ true }
+    ensures stay { (q : ℕ) → has_place places.old.items q ≡ true →
+        has_place places.new.items q ≡ true }
 {
     let at = (page / CHUNK) as usize;
     while places.len() <= at {
@@ -72,7 +73,9 @@ pub fn make_place(alloc: Global, places: &mut Vec<Place>, page: PageNo) -> Resul
 pub fn take_at(places: &mut Vec<Place>, page: PageNo) -> (Page, bool)
     ensures taken { result ≡ cell_at places.old.items page }
     ensures whole { IsWhole result.0 }
-    ensures left { (q : ℕ) → cell_at places.new.items q ≡ (if nat_eq q page then no_cell else cell_at places.old.items q) }
+    ensures left { (q : ℕ) →
+        cell_at places.new.items q ≡
+        (if nat_eq q page then no_cell else cell_at places.old.items q) }
     ensures stay { (q : ℕ) → has_place places.new.items q ≡ has_place places.old.items q }
     ensures size { length places.new.items ≡ length places.old.items }
 {
@@ -88,7 +91,9 @@ pub fn take_at(places: &mut Vec<Place>, page: PageNo) -> (Page, bool)
 pub fn put_at(places: &mut Vec<Place>, page: PageNo, bytes: Page, protected: bool)
     requires whole { IsWhole bytes }
     requires there { has_place places.old.items page ≡ true }
-    ensures put { (q : ℕ) → cell_at places.new.items q ≡ (if nat_eq q page then (bytes, protected) else cell_at places.old.items q) }
+    ensures put { (q : ℕ) →
+        cell_at places.new.items q ≡
+        (if nat_eq q page then (bytes, protected) else cell_at places.old.items q) }
     ensures stay { (q : ℕ) → has_place places.new.items q ≡ has_place places.old.items q }
     ensures size { length places.new.items ≡ length places.old.items }
 {
@@ -103,7 +108,10 @@ pub fn put_at(places: &mut Vec<Place>, page: PageNo, bytes: Page, protected: boo
 /// Writes bytes into a page, from byte `offset` on. A missing page stays missing.
 pub fn write_at(places: &mut Vec<Place>, page: PageNo, offset: usize, bytes: &[u8])
     requires { offset + length bytes.now ≤ PAGE_SIZE }
-    ensures written { (q : ℕ) → cell_at places.new.items q ≡ (if nat_eq q page then written_cell (cell_at places.old.items page) offset bytes.now else cell_at places.old.items q) }
+    ensures written { (q : ℕ) →
+        cell_at places.new.items q ≡
+        (if nat_eq q page then written_cell (cell_at places.old.items page) offset bytes.now else
+        cell_at places.old.items q) }
     ensures size { length places.new.items ≡ length places.old.items }
 {
     let at = (page / CHUNK) as usize;
@@ -115,7 +123,10 @@ pub fn write_at(places: &mut Vec<Place>, page: PageNo, offset: usize, bytes: &[u
 /// Protects a page, or ends its protection.
 pub fn protect_at(places: &mut Vec<Place>, page: PageNo, protected: bool)
     requires { has_place places.old.items page ≡ true }
-    ensures put { (q : ℕ) → cell_at places.new.items q ≡ (if nat_eq q page then with_protection (cell_at places.old.items page) protected else cell_at places.old.items q) }
+    ensures put { (q : ℕ) →
+        cell_at places.new.items q ≡
+        (if nat_eq q page then with_protection (cell_at places.old.items page) protected else
+        cell_at places.old.items q) }
     ensures size { length places.new.items ≡ length places.old.items }
 {
     place_protect(
@@ -128,7 +139,9 @@ pub fn protect_at(places: &mut Vec<Place>, page: PageNo, protected: bool)
 /// Makes the pages of a range missing.
 pub fn clear_range(places: &mut Vec<Place>, first: PageNo, count: u32)
     requires { first + count ≤ HIGH_PAGE }
-    ensures cleared { (q : ℕ) → cell_at places.new.items q ≡ (if in_range first count q then no_cell else cell_at places.old.items q) }
+    ensures cleared { (q : ℕ) →
+        cell_at places.new.items q ≡
+        (if in_range first count q then no_cell else cell_at places.old.items q) }
     ensures stay { (q : ℕ) → has_place places.new.items q ≡ has_place places.old.items q }
     ensures size { length places.new.items ≡ length places.old.items }
 {
@@ -153,7 +166,8 @@ pub fn make_places(
     requires { (first + count ≤ HIGH_PAGE) × (length places.old.items ≤ CHUNKS) }
     ensures same { (q : ℕ) → cell_at places.new.items q ≡ cell_at places.old.items q }
     ensures few { length places.new.items ≤ CHUNKS }
-    ensures there { OnOk result ((q : ℕ) → first ≤ q → q < first + count → has_place places.new.items q ≡ true) }
+    ensures there { OnOk result ((q : ℕ) → first ≤ q → q < first + count →
+        has_place places.new.items q ≡ true) }
 {
     let end = first + count;
     for at in first / CHUNK..(end + (CHUNK - 1)) / CHUNK {
@@ -167,7 +181,8 @@ pub fn move_cells(places: &mut Vec<Place>, from: PageNo, to: PageNo, count: u32)
     requires inside { (from + count ≤ HIGH_PAGE) × (to + count ≤ HIGH_PAGE) }
     requires apart { (from + count ≤ to) ⊎ (to + count ≤ from) }
     requires there { (q : ℕ) → to ≤ q → q < to + count → has_place places.old.items q ≡ true }
-    ensures moved { (q : ℕ) → cell_at places.new.items q ≡ moved_cell (cell_at places.old.items) from to count q }
+    ensures moved { (q : ℕ) →
+        cell_at places.new.items q ≡ moved_cell (cell_at places.old.items) from to count q }
     ensures size { length places.new.items ≡ length places.old.items }
 {
     for i in 0..count {
@@ -179,8 +194,10 @@ pub fn move_cells(places: &mut Vec<Place>, from: PageNo, to: PageNo, count: u32)
 /// Puts these bytes at the pages from `first` on, which have their leaves, the last page first. None is protected afterwards.
 pub fn put_cells(places: &mut Vec<Place>, first: PageNo, mut run: Vec<PageBytes>)
     requires inside { first + length run.items ≤ HIGH_PAGE }
-    requires there { (q : ℕ) → first ≤ q → q < first + length run.items → has_place places.old.items q ≡ true }
-    ensures put { (q : ℕ) → cell_at places.new.items q ≡ put_cell (cell_at places.old.items) first run.items q }
+    requires there { (q : ℕ) → first ≤ q → q < first + length run.items →
+        has_place places.old.items q ≡ true }
+    ensures put { (q : ℕ) →
+        cell_at places.new.items q ≡ put_cell (cell_at places.old.items) first run.items q }
     ensures size { length places.new.items ≡ length places.old.items }
 {
     while let Some(bytes) = run.pop() {
@@ -192,7 +209,8 @@ pub fn put_cells(places: &mut Vec<Place>, first: PageNo, mut run: Vec<PageBytes>
 
 /// Places with the same pages, in memory of their own. On `NoMemory` there are none.
 pub fn copy_places(alloc: Global, places: &Vec<Place>) -> Result<Vec<Place>, NoMemory>
-    ensures same { IfOk result (λ copy. (q : ℕ) → cell_at copy.items q ≡ cell_at places.now.items q) }
+    ensures same { IfOk result (λ copy. (q : ℕ) →
+        cell_at copy.items q ≡ cell_at places.now.items q) }
     ensures size { IfOk result (λ copy. length copy.items ≡ length places.now.items) }
 {
     let mut copies = Vec::new(alloc);
@@ -205,7 +223,8 @@ pub fn copy_places(alloc: Global, places: &Vec<Place>) -> Result<Vec<Place>, NoM
 /// The present pages, as a set. The call visits only the places that have a leaf. `NoMemory` if the set cannot grow.
 pub fn present_of(alloc: Global, places: &Vec<Place>) -> Result<PageSet, NoMemory>
     requires { length places.now.items ≤ CHUNKS }
-    ensures { IfOk result (λ pages. (q : ℕ) → contains pages q ≡ is_some (cell_at places.now.items q).0) }
+    ensures { IfOk result (λ pages. (q : ℕ) →
+        contains pages q ≡ is_some (cell_at places.now.items q).0) }
 {
     let mut pages = PageSet::new(alloc);
     for at in 0..places.len() {

@@ -12,7 +12,9 @@ use mig_base::chunk::CHUNK;
 /// Ends the protection of the pages of a range.
 pub fn unprotect_cells(places: &mut Vec<Place>, first: PageNo, count: u32)
     requires { first + count ≤ HIGH_PAGE }
-    ensures opened { (q : ℕ) → cell_at places.new.items q ≡ opened_cell (cell_at places.old.items q) (in_range first count q) }
+    ensures opened { (q : ℕ) →
+        cell_at places.new.items q ≡
+        opened_cell (cell_at places.old.items q) (in_range first count q) }
     ensures size { length places.new.items ≡ length places.old.items }
 {
     let end = first + count;
@@ -29,7 +31,8 @@ pub fn unprotect_cells(places: &mut Vec<Place>, first: PageNo, count: u32)
 /// Ends the protection of the pages of a range.
 fn place_unprotect(place: &mut Place, first: u32, count: u32)
     requires { first + count ≤ 1024 }
-    ensures { (j : ℕ) → cell_in place.new j ≡ opened_cell (cell_in place.old j) (in_range first count j) }
+    ensures { (j : ℕ) → cell_in place.new j ≡
+        opened_cell (cell_in place.old j) (in_range first count j) }
 {
     if let Some(leaf) = place {
         leaf_unprotect(leaf, first, count);
@@ -38,7 +41,8 @@ fn place_unprotect(place: &mut Place, first: u32, count: u32)
 
 fn leaf_unprotect(leaf: &mut Leaf, first: u32, count: u32)
     requires { first + count ≤ 1024 }
-    ensures { (j : ℕ) → leaf_cell leaf.new j ≡ opened_cell (leaf_cell leaf.old j) (in_range first count j) }
+    ensures { (j : ℕ) → leaf_cell leaf.new j ≡
+        opened_cell (leaf_cell leaf.old j) (in_range first count j) }
 {
     leaf.protected.remove_range(first, count);
 }

@@ -41,9 +41,11 @@ pub extern "C" fn postmig_run(
     written: &mut usize,
 ) -> u32
     ensures ok { result ≡ 0 →
-        (text : List ℕ) × Writes (tested_mode is_transcript) (first_world cpus) script.now (Just []) (Just text) × Fills text written.new out.new }
+        (text : List ℕ) × Writes (tested_mode is_transcript) (first_world cpus) script.now (Just [])
+        (Just text) × Fills text written.new out.new }
     ensures long { result ≡ 1 →
-        (text : List ℕ) × Writes (tested_mode is_transcript) (first_world cpus) script.now (Just []) (Just text) × IsTooLong text written.new out.new }
+        (text : List ℕ) × Writes (tested_mode is_transcript) (first_world cpus) script.now (Just [])
+        (Just text) × IsTooLong text written.new out.new }
     ensures no_line { result ≡ 3 →
         StopsAtLine (tested_mode is_transcript) (first_world cpus) script.now written.new }
     ensures range { result ≤ 5 }

@@ -70,7 +70,8 @@ pub extern "C" fn postmig_world_new(
     handle: &mut Handle,
 ) -> u32
     ensures ok { result ≡ 0 →
-        handle.new.content ≡ Just (a_world (Running (tested_mode is_transcript) (first_world cpus))) }
+        handle.new.content ≡
+        Just (a_world (Running (tested_mode is_transcript) (first_world cpus))) }
     ensures refused { result ≢ 0 → handle.new.content ≡ handle.old.content }
 {
     if cpus < 1 || cpus > 16 {

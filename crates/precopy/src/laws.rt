@@ -19,19 +19,40 @@ ghost use Rattle.mig_model.specs.Wire.{Frame};
 /// A step of the source in a world is the source's own: its frames go to the end of their wire, and a step that sends or serves needs the
 /// link. Commands are the source's while the destination has not run.
 pub fn a_step_of_the_source()
-    ensures start { (world : World) → answer world Step.Start ≡ source_sends world (source.start world.source) }
-    ensures round { (world : World) → answer world Step.Round ≡ source_acts world (source.round world.source) }
-    ensures send { (world : World) → answer world Step.Send ≡ source_sends world (while_up world.up (source.send world.source)) }
-    ensures send_run { (world : World) (count : ℕ) → answer world (Step.SendRun count) ≡ source_sends world (while_up world.up (source.send_run world.source count)) }
-    ensures read { (world : World) → answer world Step.SourceRead ≡ source_acts world (source.read world.source) }
-    ensures act { (world : World) → answer world Step.SourceAct ≡ source_acts world (source.act world.source) }
-    ensures switch { (world : World) → answer world Step.Switch ≡ source_sends world (while_up world.up (source.switch world.source)) }
-    ensures push { (world : World) (ticket : Ticket) → answer world (Step.Push ticket) ≡ source_sends world (while_up world.up (source.push world.source ticket)) }
-    ensures push_urgent { (world : World) (ticket : Ticket) → answer world (Step.PushUrgent ticket) ≡ source_sends_urgently world (while_up world.up (source.push_urgent world.source ticket)) }
-    ensures serve { (world : World) → answer world Step.Serve ≡ source_acts world (while_up world.up (source.serve world.source)) }
-    ensures end { (world : World) → answer world Step.End ≡ source_sends world (while_up world.up (source.end world.source)) }
-    ensures issue { (world : World) (cpu : ℕ) (command : Command) → world.destination.has_run ≡ false → answer world (Step.Issue cpu command) ≡ guest_tries world (issue world.source.guest (not world.source.switched) cpu command) }
-    ensures retry { (world : World) (cpu : ℕ) → world.destination.has_run ≡ false → answer world (Step.Retry cpu) ≡ guest_tries world (retry world.source.guest (not world.source.switched) cpu) }
+    ensures start { (world : World) →
+        answer world Step.Start ≡ source_sends world (source.start world.source) }
+    ensures round { (world : World) →
+        answer world Step.Round ≡ source_acts world (source.round world.source) }
+    ensures send { (world : World) →
+        answer world Step.Send ≡ source_sends world (while_up world.up (source.send world.source)) }
+    ensures send_run { (world : World) (count : ℕ) →
+        answer world (Step.SendRun count) ≡
+        source_sends world (while_up world.up (source.send_run world.source count)) }
+    ensures read { (world : World) →
+        answer world Step.SourceRead ≡ source_acts world (source.read world.source) }
+    ensures act { (world : World) →
+        answer world Step.SourceAct ≡ source_acts world (source.act world.source) }
+    ensures switch { (world : World) →
+        answer world Step.Switch ≡
+        source_sends world (while_up world.up (source.switch world.source)) }
+    ensures push { (world : World) (ticket : Ticket) →
+        answer world (Step.Push ticket) ≡
+        source_sends world (while_up world.up (source.push world.source ticket)) }
+    ensures push_urgent { (world : World) (ticket : Ticket) →
+        answer world (Step.PushUrgent ticket) ≡
+        source_sends_urgently world (while_up world.up (source.push_urgent world.source ticket)) }
+    ensures serve { (world : World) →
+        answer world Step.Serve ≡
+        source_acts world (while_up world.up (source.serve world.source)) }
+    ensures end { (world : World) →
+        answer world Step.End ≡ source_sends world (while_up world.up (source.end world.source)) }
+    ensures issue { (world : World) (cpu : ℕ) (command : Command) →
+        world.destination.has_run ≡ false →
+        answer world (Step.Issue cpu command) ≡
+        guest_tries world (issue world.source.guest (not world.source.switched) cpu command) }
+    ensures retry { (world : World) (cpu : ℕ) → world.destination.has_run ≡ false →
+        answer world (Step.Retry cpu) ≡
+        guest_tries world (retry world.source.guest (not world.source.switched) cpu) }
 {}
 
 /// A broken channel and the recovery from it change a source as its calls do. Its step of a Notice changes it as `pause` does, and the
@@ -39,11 +60,34 @@ pub fn a_step_of_the_source()
 /// destination has not run, a source that has not switched changes as by `to_precopy`, and one that has switched as by `to_stopped`, with
 /// all its present pages. If the destination runs, as by `to_stopped`, and the last Package stands. If it has ended, as by `release`.
 pub fn a_recovery_of_the_source()
-    ensures notice { (node : Source) → IfOk (source.pause node) (λ paused. paused.node ≡ record node { phase = SourcePhase.Paused }) }
-    ensures noticed { (node : Source) → IfOk (source.pause node) (λ paused. is_released node.phase ≡ false) }
-    ensures resume { (node : Source) → IfOk (source.resume node) (λ resumes. resumes.node ≡ record node { epoch = node.epoch + 1; urgent_sent = 0 }) }
-    ensures not_switched { (node : Source) (owed : FinSet nat_cmp) → node.switched ≡ false → source_took node (Frame.Recv Received.NotRun owed) ≡ record node { phase = SourcePhase.Precopy; asked = []; log = forgotten node.log } }
-    ensures not_run { (node : Source) (owed : FinSet nat_cmp) → node.switched ≡ true → source_took node (Frame.Recv Received.NotRun owed) ≡ record node { phase = SourcePhase.Stopped; asked = []; remaining = present (space_of node); packaged = len (present (space_of node)) } }
-    ensures running { (node : Source) (owed : FinSet nat_cmp) → source_took node (Frame.Recv Received.Running owed) ≡ record node { phase = SourcePhase.Stopped; asked = []; remaining = owed; packaged = node.packaged } }
-    ensures ended { (node : Source) (owed : FinSet nat_cmp) → source_took node (Frame.Recv Received.Ended owed) ≡ released node }
+    ensures notice { (node : Source) →
+        IfOk (source.pause node) (λ paused.
+        paused.node ≡ record node { phase = SourcePhase.Paused }) }
+    ensures noticed { (node : Source) →
+        IfOk (source.pause node) (λ paused. is_released node.phase ≡ false) }
+    ensures resume { (node : Source) →
+        IfOk (source.resume node) (λ resumes.
+        resumes.node ≡ record node { epoch = node.epoch + 1; urgent_sent = 0 }) }
+    ensures not_switched { (node : Source) (owed : FinSet nat_cmp) → node.switched ≡ false →
+        source_took node (Frame.Recv Received.NotRun owed) ≡
+        record node { phase = SourcePhase.Precopy; asked = []; log = forgotten node.log } }
+    ensures not_run { (node : Source) (owed : FinSet nat_cmp) → node.switched ≡ true →
+        source_took node (Frame.Recv Received.NotRun owed) ≡
+        record node {
+          phase = SourcePhase.Stopped;
+          asked = [];
+          remaining = present (space_of node);
+          packaged = len (present (space_of node));
+        } }
+    ensures running { (node : Source) (owed : FinSet nat_cmp) →
+        source_took node (Frame.Recv Received.Running owed) ≡
+        record node {
+          phase = SourcePhase.Stopped;
+          asked = [];
+          remaining = owed;
+          packaged =
+              node.packaged;
+        } }
+    ensures ended { (node : Source) (owed : FinSet nat_cmp) →
+        source_took node (Frame.Recv Received.Ended owed) ≡ released node }
 {}

@@ -47,7 +47,8 @@ impl Claims {
     ) -> Result<(Claims, ClaimSeat), NoMemory>
         requires { AllPairs ◌≢◌ pages.items }
         ensures claims { IfOk result (λ r. (r.0.epoch ≡ epoch) × (r.0.pages ≡ pages.items)) }
-        ensures seat { IfOk result (λ r. IsSeatOf r.0 r.1 × (r.1.claimed ≡ []) × (r.1.seen ≡ []) × (r.1.share ≡ 0 ∷ [])) }
+        ensures seat { IfOk result (λ r.
+            IsSeatOf r.0 r.1 × (r.1.claimed ≡ []) × (r.1.seen ≡ []) × (r.1.share ≡ 0 ∷ [])) }
     {
         let count = pages.len();
         let by_page = sorted_entries(alloc, pages.as_slice())?;
@@ -94,7 +95,8 @@ impl Claims {
 
     /// The index of a page, or `None` if it is not a starting page. It is a binary search, without an atomic step.
     pub fn index_of(&self, page: PageNo) -> Option<usize>
-        ensures some { IfSome result (λ i. (i < length self.now.pages) × (slice_index self.now.pages i ≡ page)) }
+        ensures some { IfSome result (λ i.
+            (i < length self.now.pages) × (slice_index self.now.pages i ≡ page)) }
         ensures none { IfNone result (Contains self.now.pages page → ⊥) }
     {
         find(self.by_page.as_slice(), page)
@@ -106,10 +108,14 @@ impl Claims {
         requires index { index < length self.now.pages }
         ensures seat { IsSeatOf self.now seat.new }
         ensures share { seat.new.share ≡ seat.old.share }
-        ensures ticket { IfSome result (λ t. (t.epoch ≡ self.now.epoch) × (t.page ≡ slice_index self.now.pages index)) }
-        ensures won { IfSome result (λ _. (seat.new.claimed ≡ seat.old.claimed ++ index ∷ []) × (seat.new.seen ≡ seat.old.seen)) }
-        ensures first { IfSome result (λ _. (Contains seat.old.claimed index → ⊥) × (Contains seat.old.seen index → ⊥)) }
-        ensures lost { IfNone result ((seat.new.claimed ≡ seat.old.claimed) × (seat.new.seen ≡ seat.old.seen ++ index ∷ [])) }
+        ensures ticket { IfSome result (λ t.
+            (t.epoch ≡ self.now.epoch) × (t.page ≡ slice_index self.now.pages index)) }
+        ensures won { IfSome result (λ _.
+            (seat.new.claimed ≡ seat.old.claimed ++ index ∷ []) × (seat.new.seen ≡ seat.old.seen)) }
+        ensures first { IfSome result (λ _.
+            (Contains seat.old.claimed index → ⊥) × (Contains seat.old.seen index → ⊥)) }
+        ensures lost { IfNone result ((seat.new.claimed ≡ seat.old.claimed) ×
+            (seat.new.seen ≡ seat.old.seen ++ index ∷ [])) }
     {
         let bit = index % 64;
         let found = self
@@ -134,7 +140,8 @@ impl Claims {
         ensures same { (seat.new.claimed ≡ seat.old.claimed) × (seat.new.share ≡ seat.old.share) }
         ensures seen { (i : ℕ) → Contains seat.old.seen i → Contains seat.new.seen i }
         ensures taken { result ≡ false → Contains seat.new.seen index }
-        ensures known { Contains seat.old.claimed index ⊎ Contains seat.old.seen index → result ≡ false }
+        ensures known { Contains seat.old.claimed index ⊎ Contains seat.old.seen index →
+            result ≡ false }
     {
         let found = self.table.shared.load::<Look>(&mut seat.seat, index / 64);
         is_set(found, index % 64)
@@ -156,7 +163,8 @@ impl Claims {
         ensures seat { IsSeatOf self.now seat.new }
         ensures same { (seat.new.claimed ≡ seat.old.claimed) × (seat.new.seen ≡ seat.old.seen) }
         ensures new { IfOk result (λ s. IsSeatOf self.now s × (s.claimed ≡ []) × (s.seen ≡ [])) }
-        ensures shares { IfOk result (λ s. (seat.new.share ≡ kept_share seat.old.share) × (s.share ≡ given_share seat.old.share)) }
+        ensures shares { IfOk result (λ s.
+            (seat.new.share ≡ kept_share seat.old.share) × (s.share ≡ given_share seat.old.share)) }
         ensures err { OnErr result (seat.new ≡ seat.old) }
     {
         let Ok(held) = Vec::from_elem(alloc, false, self.pages.len()) else {
@@ -171,7 +179,9 @@ impl Claims {
         requires seat { IsSeatOf self.now seat.old }
         requires other { IsSeatOf self.now other }
         ensures seat { IsSeatOf self.now seat.new }
-        ensures lists { (seat.new.claimed ≡ seat.old.claimed ++ other.claimed) × (seat.new.seen ≡ seat.old.seen ++ other.seen) × (seat.new.share ≡ seat.old.share ++ other.share) }
+        ensures lists { (seat.new.claimed ≡ seat.old.claimed ++ other.claimed) ×
+            (seat.new.seen ≡ seat.old.seen ++ other.seen) ×
+            (seat.new.share ≡ seat.old.share ++ other.share) }
     {
         let ClaimSeat {
             seat: other_seat,
@@ -195,10 +205,13 @@ impl Claims {
         ensures rule { IfOk result (λ r.
             AreLeft self.pages (known seat.claimed seat.seen seat.share) r.0.items) }
         ensures within { IfOk result (λ _. All (λ i. i < length self.pages) seat.claimed) }
-        ensures claimed { IfOk result (λ r. IsPermutation (map (slice_index self.pages) seat.claimed) r.1.items) }
+        ensures claimed { IfOk result (λ r.
+            IsPermutation (map (slice_index self.pages) seat.claimed) r.1.items) }
         ensures once { IfOk result (λ r. AllPairs ◌≢◌ (r.0.items ++ r.1.items)) }
-        ensures whole { IfOk result (λ r. length r.0.items + length r.1.items ≡ length self.pages → IsPermutation self.pages (r.0.items ++ r.1.items)) }
-        ensures all { IfOk result (λ r. IsWhole seat.share → IsPermutation self.pages (r.0.items ++ r.1.items)) }
+        ensures whole { IfOk result (λ r. length r.0.items + length r.1.items ≡ length self.pages →
+            IsPermutation self.pages (r.0.items ++ r.1.items)) }
+        ensures all { IfOk result (λ r. IsWhole seat.share →
+            IsPermutation self.pages (r.0.items ++ r.1.items)) }
         ensures err { IfErr result (λ r. (r.0 ≡ self) × (r.1 ≡ seat)) }
     {
         let count = self.pages.len();

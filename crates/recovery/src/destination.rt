@@ -25,8 +25,10 @@ use std::alloc::Global;
 /// start and once the migration is complete, both of which the source knows, and if the destination is paused already. The caller
 /// knows that the channel is broken.
 pub fn notice_dest(source: &Source, destination: &mut Destination) -> Result<Effect, Refusal>
-    ensures made { IfOk result (λ effect. in_phase (is_under_way source.now) (pause destination.old) ≡ acted effect destination.new) }
-    ensures refused { IfErr result (λ refusal. in_phase (is_under_way source.now) (pause destination.old) ≡ Err refusal) }
+    ensures made { IfOk result (λ effect.
+        in_phase (is_under_way source.now) (pause destination.old) ≡ acted effect destination.new) }
+    ensures refused { IfErr result (λ refusal.
+        in_phase (is_under_way source.now) (pause destination.old) ≡ Err refusal) }
     ensures err { OnErr result (destination.new ≡ destination.old) }
 {
     check_notice_dest(source, destination)?;
@@ -66,7 +68,8 @@ pub fn report_received(alloc: Global, destination: &Destination) -> Result<Frame
 
 /// The requests of the destination once more, in order: it sends them after a Recv if it runs. `NoMemory` comes if room is refused.
 pub fn rerequest(alloc: Global, destination: &Destination) -> Result<Vec<Frame>, NoMemory>
-    ensures frames { IfOk result (λ frames. frames_of frames.items ≡ map wire.Frame.Request destination.now.requests) }
+    ensures frames { IfOk result (λ frames.
+        frames_of frames.items ≡ map wire.Frame.Request destination.now.requests) }
     ensures well_formed { IfOk result (λ frames. AreWellFormed (frames_of frames.items)) }
 {
     requests_for(alloc, destination.requests())

@@ -8,6 +8,9 @@ ghost use Rattle.recovery.specs.Breaks.{received_frame};
 
 /// For a Resume the machine's destination sends its Recv, and after it, if it runs, its requests once more.
 pub fn what_a_resume_sends()
-    ensures running { (node : Destination) → received_of node ≡ Received.Running → destination_answers node wire.Frame.Resume ≡ received_frame node ∷ map wire.Frame.Request node.requests }
-    ensures otherwise { (node : Destination) → received_of node ≢ Received.Running → destination_answers node wire.Frame.Resume ≡ received_frame node ∷ [] }
+    ensures running { (node : Destination) → received_of node ≡ Received.Running →
+        destination_answers node wire.Frame.Resume ≡
+        received_frame node ∷ map wire.Frame.Request node.requests }
+    ensures otherwise { (node : Destination) → received_of node ≢ Received.Running →
+        destination_answers node wire.Frame.Resume ≡ received_frame node ∷ [] }
 {}

@@ -17,9 +17,12 @@ use precopy::Source;
 /// Begins the next epoch, in which both sides continue over a new channel, and returns the frame to send, a Resume. Both stay paused until
 /// they take the Resume or the Recv that answers it. Refused as `Phase` unless both are paused, and as `CountUsed` if no epoch is left.
 pub fn resume(source: &mut Source, destination: &Destination) -> Result<(Effect, Frame), Refusal>
-    ensures made { IfOk result (λ made. in_phase (is_dest_paused destination.now.phase) (step.resume source.old) ≡ sent made.0 (frame_of made.1 ∷ []) source.new) }
+    ensures made { IfOk result (λ made.
+        in_phase (is_dest_paused destination.now.phase) (step.resume source.old) ≡
+        sent made.0 (frame_of made.1 ∷ []) source.new) }
     ensures frame { IfOk result (λ made. IsFrame (frame_of made.1)) }
-    ensures refused { IfErr result (λ refusal. in_phase (is_dest_paused destination.now.phase) (step.resume source.old) ≡ Err refusal) }
+    ensures refused { IfErr result (λ refusal.
+        in_phase (is_dest_paused destination.now.phase) (step.resume source.old) ≡ Err refusal) }
     ensures err { OnErr result (source.new ≡ source.old) }
 {
     check_resume(source, destination)?;
@@ -30,7 +33,8 @@ pub fn resume(source: &mut Source, destination: &Destination) -> Result<(Effect,
 
 /// Whether both sides can continue: the refusal of [`resume`].
 pub fn check_resume(source: &Source, destination: &Destination) -> Result<(), Refusal>
-    ensures { result ≡ checked (in_phase (is_dest_paused destination.now.phase) (step.resume source.now)) }
+    ensures { result ≡ checked
+        (in_phase (is_dest_paused destination.now.phase) (step.resume source.now)) }
 {
     if source.phase() != SourcePhase::Paused || destination.phase() != DestPhase::Paused {
         return Err(Refusal::Phase);

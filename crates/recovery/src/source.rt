@@ -60,10 +60,13 @@ pub fn rebuild(
 ) -> Result<Vec<Frame>, RebuildFault>
     requires { machine.is_released source.old.phase ≡ false }
     ensures accepted { OnOk result (rebuild_fault source.old state owed.now ≡ None) }
-    ensures refused { IfErr result (λ fault. fault ≡ unwrap_or (rebuild_fault source.old state owed.now) RebuildFault.NoMemory) }
-    ensures memory { result ≡ Err RebuildFault.NoMemory → takes_pages state source.old.switched ≡ true }
+    ensures refused { IfErr result (λ fault.
+        fault ≡ unwrap_or (rebuild_fault source.old state owed.now) RebuildFault.NoMemory) }
+    ensures memory { result ≡ Err RebuildFault.NoMemory →
+        takes_pages state source.old.switched ≡ true }
     ensures rebuilt { OnOk result (source.new ≡ machine.source_rebuilt state owed.now source.old) }
-    ensures frames { IfOk result (λ frames. frames_of frames.items ≡ machine.rebuild_frames state source.old) }
+    ensures frames { IfOk result (λ frames.
+        frames_of frames.items ≡ machine.rebuild_frames state source.old) }
     ensures well_formed { IfOk result (λ frames. AreWellFormed (frames_of frames.items)) }
     ensures err { OnErr result (source.new ≡ source.old) }
 {
@@ -107,7 +110,8 @@ fn go_on(
     requires kept { machine.is_released source.old.phase ≡ false }
     requires right { is_bad_owed source.old state owed.now ≡ false }
     ensures rebuilt { OnOk result (source.new ≡ machine.source_rebuilt state owed.now source.old) }
-    ensures frames { IfOk result (λ frames. frames_of frames.items ≡ machine.rebuild_frames state source.old) }
+    ensures frames { IfOk result (λ frames.
+        frames_of frames.items ≡ machine.rebuild_frames state source.old) }
     ensures well_formed { IfOk result (λ frames. AreWellFormed (frames_of frames.items)) }
     ensures memory { OnErr result (takes_pages state source.old.switched ≡ true) }
     ensures err { OnErr result (source.new ≡ source.old) }
@@ -134,8 +138,19 @@ fn go_on(
 fn begin_again(alloc: Global, source: &mut Source) -> Result<Vec<Frame>, NoMemory>
     requires kept { machine.is_released source.old.phase ≡ false }
     requires switched { source.old.switched ≡ true }
-    ensures rebuilt { OnOk result (source.new ≡ record source.old { phase = SourcePhase.Stopped; asked = []; remaining = log.present (machine.space_of source.old); packaged = len (log.present (machine.space_of source.old)) }) }
-    ensures frames { IfOk result (λ frames. frames_of frames.items ≡ machine.package_frames source.old log.no_pages (log.present (machine.space_of source.old))) }
+    ensures rebuilt { OnOk result (source.new ≡
+        record source.old {
+          phase = SourcePhase.Stopped;
+          asked = [];
+          remaining = log.present
+              (machine.space_of source.old);
+          packaged = len
+              (log.present (machine.space_of source.old));
+        }) }
+    ensures frames { IfOk result (λ frames.
+        frames_of frames.items ≡
+        machine.package_frames source.old log.no_pages
+        (log.present (machine.space_of source.old))) }
     ensures well_formed { IfOk result (λ frames. AreWellFormed (frames_of frames.items)) }
     ensures err { OnErr result (source.new ≡ source.old) }
 {

@@ -81,10 +81,12 @@ pub(crate) fn first_wrong(
     cpus: u8,
 ) -> Option<u8>
     ensures none { IfNone result ((k : ℕ) → k < MAX_CPUS →
-        IsRight (record { opening = opening.now; handed = handed.now }) seats.now entries.now cpus k) }
+        IsRight (record { opening = opening.now; handed = handed.now }) seats.now entries.now cpus
+        k) }
     ensures numbers { IfNone result (All (λ s. s.cpu < MAX_CPUS) seats.now) }
     ensures some { IfSome result (λ k.
-        IsLeastWrong (record { opening = opening.now; handed = handed.now }) seats.now entries.now cpus k) }
+        IsLeastWrong (record { opening = opening.now; handed = handed.now }) seats.now entries.now
+        cpus k) }
 {
     read_numbers(seats);
     for cpu in 0..MAX_CPUS {
@@ -106,9 +108,11 @@ fn is_right(
     cpu: u8,
 ) -> bool
     ensures yes { result ≡ true →
-        IsRight (record { opening = opening.now; handed = handed.now }) seats.now entries.now cpus cpu }
+        IsRight (record { opening = opening.now; handed = handed.now }) seats.now entries.now cpus
+        cpu }
     ensures no { result ≡ false →
-        IsRight (record { opening = opening.now; handed = handed.now }) seats.now entries.now cpus cpu → ⊥ }
+        IsRight (record { opening = opening.now; handed = handed.now }) seats.now entries.now cpus
+        cpu → ⊥ }
 {
     let was_handed = usize::from(cpu) < handed.len() && handed[usize::from(cpu)];
     let count = count_seats(seats, cpu);

@@ -136,7 +136,8 @@ impl Rig {
     ) -> Result<Reply, Refusal>
         ensures cpu { seat.new.cpu ≡ seat.old.cpu }
         ensures ok { IfOk result (λ reply.
-            seat.new.answers ≡ seat.old.answers ++ record { command = command; reply = reply } ∷ []) }
+            seat.new.answers ≡ seat.old.answers ++
+            record { command = command; reply = reply } ∷ []) }
         ensures entered { IfOk result (λ reply. IsReplyOf seat.old.cpu reply) }
         ensures err { OnErr result (seat.new ≡ seat.old) }
     {
@@ -159,7 +160,9 @@ impl Rig {
         ensures cpu { seat.new.cpu ≡ seat.old.cpu }
         ensures ok { IfOk result (λ reply.
             (command : Command) ×
-            (seat.new.answers ≡ seat.old.answers ++ record { command = command; reply = reply } ∷ []) × IsReplyTo seat.old.cpu command reply) }
+            (seat.new.answers ≡ seat.old.answers ++
+            record { command = command; reply = reply } ∷ []) ×
+            IsReplyTo seat.old.cpu command reply) }
         ensures err { OnErr result (seat.new ≡ seat.old) }
     {
         if seat.answers.try_reserve(1).is_err() {

@@ -56,7 +56,8 @@ fn print_seat(text: &mut String, seat: &CpuSeat) -> Result<(), RunFault>
 /// Appends the report of a run to a text.
 pub(crate) fn print_run(text: &mut String, run: &Run) -> Result<(), RunFault>
     ensures ok { OnOk result (string_bytes text.new ≡
-        string_bytes text.old ++ report_lines run.now.seats.items (length run.now.world.transcript) run.now.fault) }
+        string_bytes text.old ++
+        report_lines run.now.seats.items (length run.now.world.transcript) run.now.fault) }
     ensures err { IfErr result (λ fault. fault ≡ OutOfMemory) }
 {
     print_seats(text, &run.seats)?;

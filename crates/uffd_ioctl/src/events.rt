@@ -27,7 +27,8 @@ pub(crate) fn queue_if_due(
     message: Message,
     cpu: u8,
 ) -> Result<u8, NoMemory>
-    ensures object { OnOk result (object.new ≡ all_queued object.old (message_if is_due message) cpu) }
+    ensures object { OnOk result (object.new ≡
+        all_queued object.old (message_if is_due message) cpu) }
     ensures count { IfOk result (λ count. count ≡ length (message_if is_due message)) }
     ensures due { OnErr result (is_due ≡ true) }
     ensures err { OnErr result (object.new ≡ object.old) }
@@ -50,9 +51,11 @@ fn queue_more(
 ) -> Result<u8, NoMemory>
     requires few { queued ≤ 2 }
     requires queued { queued ≤ changing object.old }
-    ensures object { OnOk result (object.new ≡ all_queued object.old (message_if is_due message) cpu) }
+    ensures object { OnOk result (object.new ≡
+        all_queued object.old (message_if is_due message) cpu) }
     ensures count { IfOk result (λ count. count ≡ queued + length (message_if is_due message)) }
-    ensures err { OnErr result (object.new ≡ record object.old { events = take (changing object.old - queued) object.old.events }) }
+    ensures err { OnErr result (object.new ≡
+        record object.old { events = take (changing object.old - queued) object.old.events }) }
 {
     let Ok(more) = queue_if_due(object, is_due, message, cpu) else {
         object.take_back_events(queued);
@@ -72,14 +75,25 @@ pub(crate) fn remapped(
 ) -> Result<u8, NoMemory>
     requires range { IsRemap range }
     requires prot { HasProt areas.old range.from range.count }
-    requires protected { (page : ℕ) → HIGH_PAGE ≤ page → set.contains pages.old.protected page ≡ false }
+    requires protected { (page : ℕ) → HIGH_PAGE ≤ page →
+        set.contains pages.old.protected page ≡ false }
     requires low { AreLow object.old }
-    ensures areas { OnOk result (areas.new ≡ moved_range areas.old range.from range.count range.to range.new_count (map.get areas.old range.from)) }
-    ensures pages { OnOk result (pages.new.bytes ≡ moved_range pages.old.bytes range.from range.count range.to range.new_count None) }
-    ensures protected { OnOk result (pages.new.protected ≡ moved_set pages.old.protected range.from range.count range.to range.new_count false) }
-    ensures object { OnOk result (object.new ≡ all_queued (modes_of object.old range) (remap_messages object.old (4096 * range.from) range.count (4096 * range.to) range.new_count) cpu) }
-    ensures count { IfOk result (λ count. count ≡ length (remap_messages object.old (4096 * range.from) range.count (4096 * range.to) range.new_count)) }
-    ensures err { OnErr result ((areas.new ≡ areas.old) × (pages.new ≡ pages.old) × (object.new ≡ object.old)) }
+    ensures areas { OnOk result (areas.new ≡
+        moved_range areas.old range.from range.count range.to range.new_count
+        (map.get areas.old range.from)) }
+    ensures pages { OnOk result (pages.new.bytes ≡
+        moved_range pages.old.bytes range.from range.count range.to range.new_count None) }
+    ensures protected { OnOk result (pages.new.protected ≡
+        moved_set pages.old.protected range.from range.count range.to range.new_count false) }
+    ensures object { OnOk result (object.new ≡
+        all_queued (modes_of object.old range)
+        (remap_messages object.old (4096 * range.from) range.count (4096 * range.to)
+        range.new_count) cpu) }
+    ensures count { IfOk result (λ count.
+        count ≡ length (remap_messages object.old (4096 * range.from) range.count (4096 * range.to)
+        range.new_count)) }
+    ensures err { OnErr result ((areas.new ≡ areas.old) × (pages.new ≡ pages.old) ×
+        (object.new ≡ object.old)) }
 {
     let is_watched = object.is_any_registered(range.from, range.count);
     if !is_watched && !object.is_any_registered(range.to, range.new_count) {
@@ -106,7 +120,9 @@ pub(crate) fn remapped(
 fn move_modes(object: &mut Userfault, range: Remap)
     requires range { IsRemap range }
     requires open { IsOpen object.old (room_first range) (room_count range) }
-    ensures { (before : Object) → AreLow before → object.old ≡ opened before (room_first range) (room_count range) → object.new ≡ modes_of before range }
+    ensures { (before : Object) → AreLow before →
+        object.old ≡ opened before (room_first range) (room_count range) →
+        object.new ≡ modes_of before range }
 {
     let last = object.mode_at(range.from + (range.count - 1));
     let kept = range.count.min(range.new_count);
@@ -120,7 +136,8 @@ fn move_modes(object: &mut Userfault, range: Remap)
 /// Queues the messages of a remap, and returns their number. `NoMemory` changes nothing.
 fn queue_remap(object: &mut Userfault, range: Remap, cpu: u8) -> Result<u8, NoMemory>
     requires { IsRemap range }
-    ensures object { OnOk result (object.new ≡ all_queued object.old (three_messages object.old range) cpu) }
+    ensures object { OnOk result (object.new ≡
+        all_queued object.old (three_messages object.old range) cpu) }
     ensures count { IfOk result (λ count. count ≡ length (three_messages object.old range)) }
     ensures err { OnErr result (object.new ≡ object.old) }
 {

@@ -25,7 +25,9 @@ pub(crate) fn put_copies(
     requires { first + length bytes.now / 4096 ≤ HIGH_PAGE }
     ensures put { IsPut pages.old.bytes first (length bytes.now / 4096) result.0 result.1 }
     ensures bytes { pages.new.bytes ≡ put_pages pages.old.bytes first result.0 (handed bytes.now) }
-    ensures protected { (q : ℕ) → set.contains pages.new.protected q ≡ (set.contains pages.old.protected q || (protect && in_range first result.0 q)) }
+    ensures protected { (q : ℕ) →
+        set.contains pages.new.protected q ≡
+        (set.contains pages.old.protected q || (protect && in_range first result.0 q)) }
 {
     let count = (bytes.len() / PAGE_BYTES) as u32;
     let mut done = 0;
@@ -58,9 +60,13 @@ fn put_copy(
     requires page { page < HIGH_PAGE }
     requires whole { length bytes.now ≡ 4096 }
     ensures bytes { OnOk result (pages.new.bytes ≡ map.insert pages.old.bytes page bytes.now) }
-    ensures protected { OnOk result ((q : ℕ) → set.contains pages.new.protected q ≡ (set.contains pages.old.protected q || (protect && in_range page 1 q))) }
+    ensures protected { OnOk result ((q : ℕ) →
+        set.contains pages.new.protected q ≡
+        (set.contains pages.old.protected q || (protect && in_range page 1 q))) }
     ensures missing { OnOk result (map.contains_key pages.old.bytes page ≡ false) }
-    ensures fault { IfErr result (λ fault. (pages.new ≡ pages.old) × ((fault ≡ PutFault.Present) ↔ IsTrue (map.contains_key pages.old.bytes page))) }
+    ensures fault { IfErr result (λ fault.
+        (pages.new ≡ pages.old) ×
+        ((fault ≡ PutFault.Present) ↔ IsTrue (map.contains_key pages.old.bytes page))) }
 {
     if pages.get(page).is_some() {
         return Err(PutFault::Present);

@@ -60,7 +60,8 @@ fn free_place(areas: &AreaMap, len: u64) -> Result<Addr, Errno>
 
 /// The address itself: what is mapped there is replaced.
 fn fixed_place(areas: &AreaMap, addr: Addr, len: u64) -> Result<Addr, Errno>
-    ensures { (prot : Prot) → Answers areas.now (reply_at result) (Mmap len prot (Place.Fixed addr)) }
+    ensures { (prot : Prot) →
+        Answers areas.now (reply_at result) (Mmap len prot (Place.Fixed addr)) }
 {
     if let Some(errno) = place_refusal(addr, len) {
         return Err(errno);
@@ -75,7 +76,8 @@ fn fixed_place(areas: &AreaMap, addr: Addr, len: u64) -> Result<Addr, Errno>
 
 /// The address itself, if nothing is mapped there.
 fn unmapped_place(areas: &AreaMap, addr: Addr, len: u64) -> Result<Addr, Errno>
-    ensures { (prot : Prot) → Answers areas.now (reply_at result) (Mmap len prot (Place.NoReplace addr)) }
+    ensures { (prot : Prot) →
+        Answers areas.now (reply_at result) (Mmap len prot (Place.NoReplace addr)) }
 {
     if let Some(errno) = place_refusal(addr, len) {
         return Err(errno);
@@ -89,8 +91,11 @@ fn unmapped_place(areas: &AreaMap, addr: Addr, len: u64) -> Result<Addr, Errno>
 
 /// The error for a requested place that does not depend on what is mapped.
 fn place_refusal(addr: Addr, len: u64) -> Option<Errno>
-    ensures inside { IfNone result ((addr % 4096 ≡ 0) × (LOW ≤ addr) × (addr + rounded len ≤ HIGH)) }
-    ensures refusal { (answer : Reply) → unless_refused result answer ≡ flat.first_refusal ((len == 0, Einval) ∷ flat.place_refusals addr (rounded len)) answer }
+    ensures inside { IfNone result ((addr % 4096 ≡ 0) × (LOW ≤ addr) ×
+        (addr + rounded len ≤ HIGH)) }
+    ensures refusal { (answer : Reply) →
+        unless_refused result answer ≡
+        flat.first_refusal ((len == 0, Einval) ∷ flat.place_refusals addr (rounded len)) answer }
 {
     if len == 0 || addr % PAGE_SIZE != 0 {
         return Some(Errno::Einval);
@@ -230,7 +235,9 @@ fn resized_place(
     requires whole { addr % 4096 ≡ 0 }
     requires some { 0 < old_len }
     requires inside { addr + rounded old_len ≤ HIGH }
-    ensures { Tells areas.now (λ memory. flat.has_one_prot memory addr (rounded old_len) ≡ true → reply_at result ≡ flat.mremap_target memory addr (rounded old_len) (rounded new_len) may_move None) }
+    ensures { Tells areas.now (λ memory. flat.has_one_prot memory addr (rounded old_len) ≡ true →
+        reply_at result ≡
+        flat.mremap_target memory addr (rounded old_len) (rounded new_len) may_move None) }
 {
     let count = page_count(old_len);
     let new_count = page_count(new_len);
@@ -253,7 +260,8 @@ fn resized_place(
 fn can_grow(areas: &AreaMap, addr: Addr, old_len: u64, new_len: u64) -> bool
     requires whole { addr % 4096 ≡ 0 }
     requires longer { pages_of old_len < pages_of new_len }
-    ensures { Tells areas.now (λ memory. result ≡ flat.can_grow memory addr (rounded old_len) (rounded new_len)) }
+    ensures { Tells areas.now (λ memory.
+        result ≡ flat.can_grow memory addr (rounded old_len) (rounded new_len)) }
 {
     if !ends_inside(addr, new_len) {
         return false;
@@ -273,8 +281,12 @@ fn moved_place(
 ) -> Result<Addr, Errno>
     requires whole { addr % 4096 ≡ 0 }
     requires some { 0 < old_len }
-    requires target { flat.is_bad_target addr (rounded old_len) (rounded new_len) true (Some target) ≡ false }
-    ensures { Tells areas.now (λ memory. flat.has_one_prot memory addr (rounded old_len) ≡ true → (may_move : Bool) → reply_at result ≡ flat.mremap_target memory addr (rounded old_len) (rounded new_len) may_move (Some target)) }
+    requires target { flat.is_bad_target addr (rounded old_len) (rounded new_len) true (Some target)
+        ≡ false }
+    ensures { Tells areas.now (λ memory. flat.has_one_prot memory addr (rounded old_len) ≡ true →
+        (may_move : Bool) →
+        reply_at result ≡
+        flat.mremap_target memory addr (rounded old_len) (rounded new_len) may_move (Some target)) }
 {
     let new_count = page_count(new_len);
     let replaced = areas.mapped_in((target / PAGE_SIZE) as PageNo, new_count as u32);

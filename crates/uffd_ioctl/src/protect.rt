@@ -13,9 +13,13 @@ use userfault::Userfault;
 /// Write-protects the present pages of a range, or ends their protection.
 pub(crate) fn set_protection(pages: &mut PageTable, range: Run, protect: bool)
     requires range { range.first + range.count ≤ HIGH_PAGE }
-    requires present { (q : ℕ) → set.contains pages.old.protected q ≡ true → map.contains_key pages.old.bytes q ≡ true }
+    requires present { (q : ℕ) → set.contains pages.old.protected q ≡ true →
+        map.contains_key pages.old.bytes q ≡ true }
     ensures bytes { pages.new.bytes ≡ pages.old.bytes }
-    ensures protected { (q : ℕ) → set.contains pages.new.protected q ≡ (if in_range range.first range.count q then protect && map.contains_key pages.old.bytes q else set.contains pages.old.protected q) }
+    ensures protected { (q : ℕ) →
+        set.contains pages.new.protected q ≡
+        (if in_range range.first range.count q then protect && map.contains_key pages.old.bytes q
+        else set.contains pages.old.protected q) }
 {
     if protect {
         protect_present(pages, range);
@@ -28,7 +32,10 @@ pub(crate) fn set_protection(pages: &mut PageTable, range: Run, protect: bool)
 fn protect_present(pages: &mut PageTable, range: Run)
     requires { range.first + range.count ≤ HIGH_PAGE }
     ensures bytes { pages.new.bytes ≡ pages.old.bytes }
-    ensures protected { (q : ℕ) → set.contains pages.new.protected q ≡ (in_range range.first range.count q && map.contains_key pages.old.bytes q || set.contains pages.old.protected q) }
+    ensures protected { (q : ℕ) →
+        set.contains pages.new.protected q ≡
+        (in_range range.first range.count q && map.contains_key pages.old.bytes q || set.contains
+        pages.old.protected q) }
 {
     for page in range.first..range.first + range.count {
         if pages.get(page).is_some() {
@@ -41,7 +48,10 @@ fn protect_present(pages: &mut PageTable, range: Run)
 pub(crate) fn open_unwatched(pages: &mut PageTable, object: &Userfault, range: Run)
     requires { range.first + range.count ≤ HIGH_PAGE }
     ensures bytes { pages.new.bytes ≡ pages.old.bytes }
-    ensures protected { (q : ℕ) → set.contains pages.new.protected q ≡ (set.contains pages.old.protected q && (not (in_range range.first range.count q) || set.contains object.now.protect q)) }
+    ensures protected { (q : ℕ) →
+        set.contains pages.new.protected q ≡
+        (set.contains pages.old.protected q &&
+        (not (in_range range.first range.count q) || set.contains object.now.protect q)) }
 {
     let end = range.first + range.count;
     let mut at = range.first;

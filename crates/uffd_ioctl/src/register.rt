@@ -21,7 +21,9 @@ pub(crate) fn registered(
 ) -> Result<Userfault, NoMemory>
     requires low { (page : ℕ) → HIGH_PAGE ≤ page → is_registered object.now page ≡ false }
     requires range { range.first + range.count ≤ HIGH_PAGE }
-    ensures { IfOk result (λ after. after ≡ registered_where object.now (λ page. in_range range.first range.count page && contains_key areas.now page) (mode_of mode)) }
+    ensures { IfOk result (λ after.
+        after ≡ registered_where object.now (λ page.
+        in_range range.first range.count page && contains_key areas.now page) (mode_of mode)) }
 {
     let mut after = object.copy()?;
     for area in areas.areas_in(range.first, range.count) {
@@ -40,7 +42,10 @@ fn register_area(
     requires low { (page : ℕ) → HIGH_PAGE ≤ page → is_registered object page ≡ false }
     requires area { area.first + area.count ≤ HIGH_PAGE }
     requires range { range.first + range.count ≤ HIGH_PAGE }
-    ensures { IfOk result (λ after. after ≡ registered_where object (λ page. in_range range.first range.count page && in_range area.first area.count page) (mode_of mode)) }
+    ensures { IfOk result (λ after.
+        after ≡ registered_where object (λ page.
+        in_range range.first range.count page && in_range area.first area.count page)
+        (mode_of mode)) }
 {
     let first = range.first.max(area.first);
     let end = (range.first + range.count).min(area.first + area.count);

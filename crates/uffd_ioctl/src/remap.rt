@@ -53,10 +53,15 @@ pub(crate) fn apply(
 ) -> Result<(), NoMemory>
     requires range { IsRemap range }
     requires prot { HasProt areas.old range.from range.count }
-    requires protected { (page : ℕ) → HIGH_PAGE ≤ page → set.contains pages.old.protected page ≡ false }
-    ensures areas { OnOk result (areas.new ≡ moved_range areas.old range.from range.count range.to range.new_count (map.get areas.old range.from)) }
-    ensures pages { OnOk result (pages.new.bytes ≡ moved_range pages.old.bytes range.from range.count range.to range.new_count None) }
-    ensures protected { OnOk result (pages.new.protected ≡ moved_set pages.old.protected range.from range.count range.to range.new_count false) }
+    requires protected { (page : ℕ) → HIGH_PAGE ≤ page →
+        set.contains pages.old.protected page ≡ false }
+    ensures areas { OnOk result (areas.new ≡
+        moved_range areas.old range.from range.count range.to range.new_count
+        (map.get areas.old range.from)) }
+    ensures pages { OnOk result (pages.new.bytes ≡
+        moved_range pages.old.bytes range.from range.count range.to range.new_count None) }
+    ensures protected { OnOk result (pages.new.protected ≡
+        moved_set pages.old.protected range.from range.count range.to range.new_count false) }
     ensures err { OnErr result ((areas.new ≡ areas.old) × (pages.new ≡ pages.old)) }
 {
     let Some(prot) = areas.one_prot(range.from, range.count) else {
@@ -77,10 +82,15 @@ fn shrink(areas: &mut AreaMap, pages: &mut PageTable, range: Remap) -> Result<()
     requires prot { HasProt areas.old range.from range.count }
     requires place { range.to ≡ range.from }
     requires shorter { range.new_count ≤ range.count }
-    requires protected { (page : ℕ) → HIGH_PAGE ≤ page → set.contains pages.old.protected page ≡ false }
-    ensures areas { OnOk result (areas.new ≡ moved_range areas.old range.from range.count range.to range.new_count (map.get areas.old range.from)) }
-    ensures pages { OnOk result (pages.new.bytes ≡ moved_range pages.old.bytes range.from range.count range.to range.new_count None) }
-    ensures protected { OnOk result (pages.new.protected ≡ moved_set pages.old.protected range.from range.count range.to range.new_count false) }
+    requires protected { (page : ℕ) → HIGH_PAGE ≤ page →
+        set.contains pages.old.protected page ≡ false }
+    ensures areas { OnOk result (areas.new ≡
+        moved_range areas.old range.from range.count range.to range.new_count
+        (map.get areas.old range.from)) }
+    ensures pages { OnOk result (pages.new.bytes ≡
+        moved_range pages.old.bytes range.from range.count range.to range.new_count None) }
+    ensures protected { OnOk result (pages.new.protected ≡
+        moved_set pages.old.protected range.from range.count range.to range.new_count false) }
     ensures err { OnErr result ((areas.new ≡ areas.old) × (pages.new ≡ pages.old)) }
 {
     let end = range.from + range.new_count;
@@ -101,10 +111,15 @@ fn grow(
     requires prot { HasOneProt (λ page. map.get areas.old page) range.from range.count prot }
     requires place { range.to ≡ range.from }
     requires longer { range.count < range.new_count }
-    requires protected { (page : ℕ) → HIGH_PAGE ≤ page → set.contains pages.old.protected page ≡ false }
-    ensures areas { OnOk result (areas.new ≡ moved_range areas.old range.from range.count range.to range.new_count (map.get areas.old range.from)) }
-    ensures pages { OnOk result (pages.new.bytes ≡ moved_range pages.old.bytes range.from range.count range.to range.new_count None) }
-    ensures protected { OnOk result (pages.new.protected ≡ moved_set pages.old.protected range.from range.count range.to range.new_count false) }
+    requires protected { (page : ℕ) → HIGH_PAGE ≤ page →
+        set.contains pages.old.protected page ≡ false }
+    ensures areas { OnOk result (areas.new ≡
+        moved_range areas.old range.from range.count range.to range.new_count
+        (map.get areas.old range.from)) }
+    ensures pages { OnOk result (pages.new.bytes ≡
+        moved_range pages.old.bytes range.from range.count range.to range.new_count None) }
+    ensures protected { OnOk result (pages.new.protected ≡
+        moved_set pages.old.protected range.from range.count range.to range.new_count false) }
     ensures err { OnErr result ((areas.new ≡ areas.old) × (pages.new ≡ pages.old)) }
 {
     let end = range.from + range.count;
@@ -123,11 +138,17 @@ fn relocate(
 ) -> Result<(), NoMemory>
     requires range { IsRemap range }
     requires prot { HasOneProt (λ page. map.get areas.old page) range.from range.count prot }
-    requires apart { (range.from + range.count ≤ range.to) ⊎ (range.to + range.new_count ≤ range.from) }
-    requires protected { (page : ℕ) → HIGH_PAGE ≤ page → set.contains pages.old.protected page ≡ false }
-    ensures areas { OnOk result (areas.new ≡ moved_range areas.old range.from range.count range.to range.new_count (map.get areas.old range.from)) }
-    ensures pages { OnOk result (pages.new.bytes ≡ moved_range pages.old.bytes range.from range.count range.to range.new_count None) }
-    ensures protected { OnOk result (pages.new.protected ≡ moved_set pages.old.protected range.from range.count range.to range.new_count false) }
+    requires apart { (range.from + range.count ≤ range.to) ⊎
+        (range.to + range.new_count ≤ range.from) }
+    requires protected { (page : ℕ) → HIGH_PAGE ≤ page →
+        set.contains pages.old.protected page ≡ false }
+    ensures areas { OnOk result (areas.new ≡
+        moved_range areas.old range.from range.count range.to range.new_count
+        (map.get areas.old range.from)) }
+    ensures pages { OnOk result (pages.new.bytes ≡
+        moved_range pages.old.bytes range.from range.count range.to range.new_count None) }
+    ensures protected { OnOk result (pages.new.protected ≡
+        moved_set pages.old.protected range.from range.count range.to range.new_count false) }
     ensures err { OnErr result ((areas.new ≡ areas.old) × (pages.new ≡ pages.old)) }
 {
     let roomy = areas.with_room()?;

@@ -77,7 +77,13 @@ impl Space {
         requires mapped { (page : ℕ) → map.get areas page ≡ None → map.get pages.bytes page ≡ None }
         requires open { pages.protected ≡ set.empty }
         requires mode { mode ≤ 3 }
-        ensures ok { IfOk result (λ space. space ≡ record { host = record { areas = areas; bytes = pages.bytes }; protected = set.empty; object = assembled_object areas mode }) }
+        ensures ok { IfOk result (λ space.
+            space ≡ record {
+              host = record { areas = areas; bytes = pages.bytes };
+              protected =
+                  set.empty;
+              object = assembled_object areas mode;
+            }) }
         ensures err { IfErr result (λ back. back.1 ≡ pages) }
         ensures takes { OnErr result (0 < mode) }
     {
@@ -141,7 +147,8 @@ impl Space {
 
     /// The message that is read next, if there is one. It stays unread.
     pub fn next_message(&self) -> Option<Message>
-        ensures { result ≡ option_map (λ noted. noted.message) (object.next_message self.now.object) }
+        ensures { result ≡ option_map (λ noted.
+            noted.message) (object.next_message self.now.object) }
     {
         self.object.next_message()
     }
@@ -177,7 +184,8 @@ impl Space {
 
     /// The set of the present pages. `NoMemory` if the allocation fails.
     pub fn present(&self) -> Result<PageSet, NoMemory>
-        ensures { IfOk result (λ pages. (q : ℕ) → set.contains pages q ≡ map.contains_key self.now.host.bytes q) }
+        ensures { IfOk result (λ pages. (q : ℕ) →
+            set.contains pages q ≡ map.contains_key self.now.host.bytes q) }
     {
         self.pages.present()
     }

@@ -31,7 +31,8 @@ pub fn registered(
     other_asked: bool,
 ) -> Result<PageSet, NoMemory>
     requires { first + count ≤ HIGH_PAGE }
-    ensures { IfOk result (λ set. set ≡ registered_set own.now other.now first count asked other_asked) }
+    ensures { IfOk result (λ set.
+        set ≡ registered_set own.now other.now first count asked other_asked) }
 {
     let mut set = own.copy()?;
     if asked {
@@ -45,7 +46,8 @@ pub fn registered(
 /// Removes the pages of a range that are not in `other`. It takes no memory.
 pub fn remove_unless_in(set: &mut PageSet, other: &PageSet, first: PageNo, count: u32)
     requires { first + count ≤ HIGH_PAGE }
-    ensures { (q : ℕ) → contains set.new q ≡ (contains set.old q && not (in_range first count q && not (contains other.now q))) }
+    ensures { (q : ℕ) → contains set.new q ≡
+        (contains set.old q && not (in_range first count q && not (contains other.now q))) }
 {
     let end = first + count;
     let mut at = first;
@@ -78,7 +80,8 @@ pub fn move_into(set: &mut PageSet, from: PageNo, to: PageNo, count: u32)
 /// The pages of a range that are in `set`. `NoMemory` if the new set cannot be allocated.
 pub fn part_of(alloc: Global, set: &PageSet, first: PageNo, count: u32) -> Result<PageSet, NoMemory>
     requires { first + count ≤ HIGH_PAGE }
-    ensures { IfOk result (λ part. (q : ℕ) → contains part q ≡ (in_range first count q && contains set.now q)) }
+    ensures { IfOk result (λ part. (q : ℕ) →
+        contains part q ≡ (in_range first count q && contains set.now q)) }
 {
     let mut part = PageSet::new(alloc);
     let end = first + count;
@@ -118,7 +121,8 @@ pub fn has_all(set: &PageSet, first: PageNo, count: u32, asked: bool) -> bool
 /// Whether a set has all pages of a range, or none of them.
 pub fn is_one_run(set: &PageSet, first: PageNo, count: u32) -> bool
     requires { first + count ≤ HIGH_PAGE }
-    ensures { result ≡ is_every (λ page. same_bool (contains set.now first) (contains set.now page)) first count }
+    ensures { result ≡ is_every (λ page.
+        same_bool (contains set.now first) (contains set.now page)) first count }
 {
     set.next_before(first, !set.contains(first), first + count) >= first + count
 }

@@ -1,6 +1,6 @@
 //! The type that callers see: one userfault object.
 
-ghost use Rattle.std.specs.Prelude.{◌≡◌, false, ℕ, ◌+◌, ◌-◌, ◌≤◌, if◌then◌else◌, Some, None, [], take, OnOk, OnErr, IfOk};
+ghost use Rattle.std.specs.Prelude.{◌≡◌, true, false, ℕ, ◌+◌, ◌-◌, ◌≤◌, if◌then◌else◌, Some, None, [], take, OnOk, OnErr, IfOk};
 ghost use Rattle.std.specs.Option.{option_map};
 ghost use Rattle.mig_base.specs.Ranges.{in_range};
 ghost use Rattle.mig_base.specs.declared.TheConstants.{HIGH_PAGE};
@@ -81,7 +81,8 @@ impl Userfault {
     /// has, any other page gets exactly `mode`. If `mode` has neither mode, nothing changes. `NoMemory` changes nothing.
     pub fn register(&mut self, first: PageNo, count: u32, mode: Mode) -> Result<(), NoMemory>
         requires { first + count ≤ HIGH_PAGE }
-        ensures ok { OnOk result (self.new ≡ machine.registered_where self.old (in_range first count) (mode_of mode)) }
+        ensures ok { OnOk result (self.new ≡
+            machine.registered_where self.old (in_range first count) (mode_of mode)) }
         ensures err { OnErr result (self.new ≡ self.old) }
     {
         let missing = registered(
@@ -145,7 +146,8 @@ impl Userfault {
     /// Whether each of the `count` pages from `first` on has all modes of `mode`.
     pub fn has_modes(&self, first: PageNo, count: u32, mode: Mode) -> bool
         requires { first + count ≤ HIGH_PAGE }
-        ensures { result ≡ is_every (λ page. machine.has_modes self.now page (mode_of mode)) first count }
+        ensures { result ≡ is_every (λ page.
+            machine.has_modes self.now page (mode_of mode)) first count }
     {
         let missing = has_all(&self.missing, first, count, mode.missing);
         let protect = has_all(&self.protect, first, count, mode.protect);
@@ -228,7 +230,8 @@ impl Userfault {
     /// Removes the last `count` events, as if they had not been queued.
     pub fn take_back_events(&mut self, count: u8)
         requires { count ≤ machine.changing self.old }
-        ensures { self.new ≡ record self.old { events = take (machine.changing self.old - count) self.old.events } }
+        ensures { self.new ≡
+            record self.old { events = take (machine.changing self.old - count) self.old.events } }
     {
         let kept = self.events.len() - usize::from(count);
         self.events.truncate(kept);
@@ -247,7 +250,8 @@ impl Userfault {
     /// Reads a message, page faults before events and each kind in the order of its queue, and the processor that caused it. If
     /// there is no message, nothing changes.
     pub fn read_message(&mut self) -> Option<(Message, u8)>
-        ensures message { result ≡ option_map (λ noted. (noted.message, noted.cpu)) (machine.next_message self.old) }
+        ensures message { result ≡
+            option_map (λ noted. (noted.message, noted.cpu)) (machine.next_message self.old) }
         ensures rest { self.new ≡ machine.message_read self.old }
     {
         let noted = match self.faults.pop_front() {

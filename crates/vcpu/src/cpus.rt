@@ -188,7 +188,8 @@ impl Cpus {
     /// processor idle. `NoCpu` if there is no such processor, `NotAsleep` unless it is in a map call.
     pub fn message_read(&mut self, k: u8) -> Result<Option<Reply>, Refusal>
         ensures answer { result ≡ message_answer self.old k }
-        ensures ok { OnOk result (self.new ≡ set self.old k (message_less (processor_at self.old k))) }
+        ensures ok { OnOk result (self.new ≡
+            set self.old k (message_less (processor_at self.old k))) }
         ensures err { OnErr result (self.new ≡ self.old) }
     {
         let CpuState::InCall { reply, left } = self.state(k)? else {

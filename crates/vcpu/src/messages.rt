@@ -27,7 +27,9 @@ impl Cpus {
     fn read_event(&mut self, event: Message, cpu: u8) -> Effect
         requires { fault_count event ≡ 0 }
         ensures effect { result ≡ event_effect event cpu (handed_over (processor_at self.old cpu)) }
-        ensures cpus { self.new ≡ all_woken (is_left_by event) (set self.old cpu (message_less (processor_at self.old cpu))) }
+        ensures cpus { self.new ≡
+            all_woken (is_left_by event)
+            (set self.old cpu (message_less (processor_at self.old cpu))) }
     {
         let reply = self.message_read(cpu).unwrap_or(None);
         self.wake_left(event);

@@ -116,7 +116,8 @@ impl Chunks {
         requires { AreChunks self.old }
         ensures chunks { AreChunks self.new }
         ensures stays { in_flight self.new ≡ in_flight self.old }
-        ensures room { OnOk result (wanted ≤ vec_capacity self.new.writing - vec_len self.new.writing) }
+        ensures room { OnOk result
+            (wanted ≤ vec_capacity self.new.writing - vec_len self.new.writing) }
     {
         if wanted <= self.writing.capacity() - self.writing.len() {
             return Ok(());
@@ -140,7 +141,8 @@ impl Chunks {
         requires well_formed { IsFrame (frame_of frame.now) }
         requires room { 0 < room self.old }
         ensures chunks { AreChunks self.new }
-        ensures written { in_flight self.new ≡ in_flight self.old ++ record { epoch = epoch; frame = frame_of frame.now } ∷ [] }
+        ensures written { in_flight self.new ≡
+            in_flight self.old ++ record { epoch = epoch; frame = frame_of frame.now } ∷ [] }
         ensures room { room self.old ≤ room self.new + 1 }
     {
         let Ok(()) = encode_into(frame, epoch, &mut self.writing) else {
@@ -154,7 +156,9 @@ impl Chunks {
         requires well_formed { IsFrame (machine.Frame.Page page bytes.now) }
         requires room { 0 < room self.old }
         ensures chunks { AreChunks self.new }
-        ensures written { in_flight self.new ≡ in_flight self.old ++ record { epoch = epoch; frame = machine.Frame.Page page bytes.now } ∷ [] }
+        ensures written { in_flight self.new ≡
+            in_flight self.old ++
+            record { epoch = epoch; frame = machine.Frame.Page page bytes.now } ∷ [] }
         ensures room { room self.old ≤ room self.new + 1 }
     {
         let Ok(()) = encode_page_into(page, bytes, epoch, &mut self.writing) else {
@@ -229,7 +233,8 @@ impl Chunks {
 
 /// A copy of full chunks. `NoMemory` if it cannot be allocated.
 fn copy_full(alloc: Global, chunks: &VecDeque<Vec<u8>>) -> Result<VecDeque<Vec<u8>>, NoMemory>
-    ensures { IfOk result (λ copy. map (λ chunk. chunk.items) copy.items ≡ map (λ chunk. chunk.items) chunks.now.items) }
+    ensures { IfOk result (λ copy.
+        map (λ chunk. chunk.items) copy.items ≡ map (λ chunk. chunk.items) chunks.now.items) }
 {
     let mut copy = VecDeque::with_capacity(alloc, chunks.len())?;
     for i in 0..chunks.len() {

@@ -114,7 +114,8 @@ impl Wire {
     pub fn held(&self) -> u64
         ensures count { result ≡ self.now.wire.held }
         ensures short { HeldFits self.now.wire.frames self.now.wire.held }
-        ensures decoded { Decodes (take self.now.wire.held (bytes_of self.now)) [] (take self.now.wire.held (bytes_of self.now)) }
+        ensures decoded { Decodes (take self.now.wire.held (bytes_of self.now)) []
+            (take self.now.wire.held (bytes_of self.now)) }
     {
         self.held
     }
@@ -133,7 +134,8 @@ impl Wire {
         requires well_formed { IsFrame (frame_of frame) }
         requires room { 0 < self.old.room }
         ensures wire { self.new.wire ≡ machine.wire_with self.old.wire epoch (frame_of frame ∷ []) }
-        ensures bytes { bytes_of self.new ≡ bytes_of self.old ++ written.text written.Version.Two epoch (frame_of frame) }
+        ensures bytes { bytes_of self.new ≡
+            bytes_of self.old ++ written.text written.Version.Two epoch (frame_of frame) }
         ensures room { self.old.room ≤ self.new.room + 1 }
     {
         self.chunks.write(epoch, &frame);
@@ -143,8 +145,11 @@ impl Wire {
     pub fn push_page(&mut self, epoch: u32, page: PageNo, bytes: &[u8; PAGE_BYTES])
         requires well_formed { IsFrame (machine.Frame.Page page bytes.now) }
         requires room { 0 < self.old.room }
-        ensures wire { self.new.wire ≡ machine.wire_with self.old.wire epoch (machine.Frame.Page page bytes.now ∷ []) }
-        ensures bytes { bytes_of self.new ≡ bytes_of self.old ++ written.text written.Version.Two epoch (machine.Frame.Page page bytes.now) }
+        ensures wire { self.new.wire ≡
+            machine.wire_with self.old.wire epoch (machine.Frame.Page page bytes.now ∷ []) }
+        ensures bytes { bytes_of self.new ≡
+            bytes_of self.old ++
+            written.text written.Version.Two epoch (machine.Frame.Page page bytes.now) }
         ensures room { self.old.room ≤ self.new.room + 1 }
     {
         self.chunks.write_page(epoch, page, bytes);
@@ -180,8 +185,12 @@ impl Wire {
 
     /// Removes the first frame from the wire, with all of its bytes. If nothing is in flight, nothing changes.
     pub fn drop_first(&mut self)
-        ensures first { (sent : machine.Sent) (rest : List machine.Sent) → self.old.wire.frames ≡ sent ∷ rest → self.new.wire ≡ machine.wire_behind rest }
-        ensures bytes { (sent : machine.Sent) (rest : List machine.Sent) → self.old.wire.frames ≡ sent ∷ rest → bytes_of self.old ≡ written.text written.Version.Two sent.epoch sent.frame ++ bytes_of self.new }
+        ensures first { (sent : machine.Sent) (rest : List machine.Sent) →
+            self.old.wire.frames ≡ sent ∷ rest → self.new.wire ≡ machine.wire_behind rest }
+        ensures bytes { (sent : machine.Sent) (rest : List machine.Sent) →
+            self.old.wire.frames ≡ sent ∷ rest →
+            bytes_of self.old ≡
+            written.text written.Version.Two sent.epoch sent.frame ++ bytes_of self.new }
         ensures none { self.old.wire.frames ≡ [] → self.new.wire ≡ self.old.wire }
     {
         self.chunks.turn();

@@ -8,7 +8,8 @@ ghost use Rattle.wiretap.specs.Traffic.{IsPut, put_on};
 /// takes frames, as a delivery and a break do.
 pub fn what_a_step_puts()
     ensures forward { (world : World) (step : Step) →
-        IsPut world.forward (next world step).forward (put_on world.forward (next world step).forward) }
+        IsPut world.forward (next world step).forward
+        (put_on world.forward (next world step).forward) }
     ensures back { (world : World) (step : Step) →
         IsPut world.back (next world step).back (put_on world.back (next world step).back) }
     ensures urgent { (world : World) (step : Step) →

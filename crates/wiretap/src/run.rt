@@ -37,7 +37,8 @@ pub fn run_tapped<R: Read, W: Write, T: Write + Drop>(
     ensures output { OnOk result (IfSome (R.remaining reader.old) (λ input.
         Writes mode (first_world cpus) input (W.contents writer.old) (W.contents writer.new))) }
     ensures wires { OnOk result (IfSome (R.remaining reader.old) (λ input.
-        IsTapped T.contents mode (first_world cpus) input (W.contents writer.old) (W.contents writer.new) taps.old taps.new)) }
+        IsTapped T.contents mode (first_world cpus) input (W.contents writer.old)
+        (W.contents writer.new) taps.old taps.new)) }
 {
     let runner = LineRunner::on_world(alloc, cpus, mode)?;
     let mut script = ScriptReader::new(alloc, runner);
@@ -54,7 +55,8 @@ fn read_lines<R: Read, W: Write, T: Write + Drop>(
     requires start { script.old ≡ start_of script.old.work }
     requires runs { IsRunning script.old.work }
     ensures { OnOk result (IfSome (R.remaining reader.old) (λ input.
-        ReadsAll T.contents script.old.work input script.new.work (W.contents writer.old) (W.contents writer.new) taps.old taps.new)) }
+        ReadsAll T.contents script.old.work input script.new.work (W.contents writer.old)
+        (W.contents writer.new) taps.old taps.new)) }
 {
     let mut buffer = [0u8; PIECE];
     for _ in 0..u32::MAX {

@@ -41,9 +41,11 @@ pub(crate) fn receive(
     requires right { frame_fault destination.old sent.epoch (frame_of sent.frame) ≡ None }
     ensures took { IfOk result (λ effect.
         destinations.take destination.old sent.epoch (frame_of sent.frame) ≡
-        steps.sent effect (to.destination_answers destination.old (frame_of sent.frame)) destination.new) }
+        steps.sent effect (to.destination_answers destination.old (frame_of sent.frame))
+        destination.new) }
     ensures answered { OnOk result (back.new.wire ≡
-        machine.wire_with back.old.wire destination.new.epoch (to.destination_answers destination.old (frame_of sent.frame))) }
+        machine.wire_with back.old.wire destination.new.epoch
+        (to.destination_answers destination.old (frame_of sent.frame))) }
     ensures refused { IfErr result (λ refusal.
         (refusal ≡ refusals.Refusal.NoMemory) ⊎
         (destinations.take destination.old sent.epoch (frame_of sent.frame) ≡ Err refusal)) }
@@ -83,7 +85,8 @@ pub(crate) fn receive_back(
         sources.take source.old (frame_of sent.now.frame) ≡
         steps.sent effect (from.source_answers source.old (frame_of sent.now.frame)) source.new) }
     ensures answered { OnOk result (forward.new.wire ≡
-        machine.wire_with forward.old.wire source.new.epoch (from.source_answers source.old (frame_of sent.now.frame))) }
+        machine.wire_with forward.old.wire source.new.epoch
+        (from.source_answers source.old (frame_of sent.now.frame))) }
     ensures err { OnErr result ((source.new ≡ source.old) × (forward.new.wire ≡ forward.old.wire)) }
 {
     let effect = sent.frame.effect();
@@ -129,7 +132,8 @@ fn answers_to(
         frames_of answers.items ++ answered_at_once destination.now (frame_of frame.now) ≡
         to.destination_answers destination.now (frame_of frame.now)) }
     ensures well_formed { IfOk result (λ answers. AreWellFormed (frames_of answers.items)) }
-    ensures room { OnOk result (length (to.destination_answers destination.now (frame_of frame.now)) ≤ back.new.room) }
+    ensures room { OnOk result
+        (length (to.destination_answers destination.now (frame_of frame.now)) ≤ back.new.room) }
     ensures stays { back.new.wire ≡ back.old.wire }
 {
     match frame {

@@ -27,12 +27,24 @@ impl DirtyLog {
     /// processor is handed its reply. Refused with `NothingThere` if there is no message, with `NoMemory` if a page fault cannot be held.
     pub fn read(&mut self, space: &mut Space, cpus: &mut Cpus) -> Result<Effect, Refusal>
         requires { IsLent space.old }
-        ensures answer { (result ≡ read_answer (record { space = space.old; cpus = cpus.old }) (next_message space.old.object)) ⊎ ((result ≡ Err Refusal.NoMemory) × IsSome (next_message space.old.object)) }
-        ensures log { (noted : Noted) → next_message space.old.object ≡ Some noted → OnOk result (self.new ≡ machine.log_read self.old noted.message) }
-        ensures space { (noted : Noted) → next_message space.old.object ≡ Some noted → OnOk result (space.new ≡ (guest.read_guest (record { space = space.old; cpus = cpus.old }) noted.cpu noted.message).space) }
-        ensures cpus { (noted : Noted) → next_message space.old.object ≡ Some noted → OnOk result (cpus.new ≡ (guest.read_guest (record { space = space.old; cpus = cpus.old }) noted.cpu noted.message).cpus) }
-        ensures memory { (noted : Noted) → next_message space.old.object ≡ Some noted → result ≡ Err Refusal.NoMemory → guest.fault_count noted.message ≡ 1 }
-        ensures err { OnErr result ((self.new ≡ self.old) × (space.new ≡ space.old) × (cpus.new ≡ cpus.old)) }
+        ensures answer { (result ≡
+            read_answer (record { space = space.old; cpus = cpus.old })
+            (next_message space.old.object)) ⊎
+            ((result ≡ Err Refusal.NoMemory) × IsSome (next_message space.old.object)) }
+        ensures log { (noted : Noted) → next_message space.old.object ≡ Some noted →
+            OnOk result (self.new ≡ machine.log_read self.old noted.message) }
+        ensures space { (noted : Noted) → next_message space.old.object ≡ Some noted →
+            OnOk result (space.new ≡
+            (guest.read_guest (record { space = space.old; cpus = cpus.old }) noted.cpu
+            noted.message).space) }
+        ensures cpus { (noted : Noted) → next_message space.old.object ≡ Some noted →
+            OnOk result (cpus.new ≡
+            (guest.read_guest (record { space = space.old; cpus = cpus.old }) noted.cpu
+            noted.message).cpus) }
+        ensures memory { (noted : Noted) → next_message space.old.object ≡ Some noted →
+            result ≡ Err Refusal.NoMemory → guest.fault_count noted.message ≡ 1 }
+        ensures err { OnErr result ((self.new ≡ self.old) × (space.new ≡ space.old) ×
+            (cpus.new ≡ cpus.old)) }
         ensures lent { IsLent space.new }
     {
         let Some(message) = space.next_message() else {
@@ -50,7 +62,8 @@ impl DirtyLog {
 
     /// Holds a message if it is a page fault. `NoMemory` changes nothing.
     fn hold(&mut self, message: Message) -> Result<(), NoMemory>
-        ensures ok { OnOk result (self.new ≡ record self.old { held = guest.held_after self.old.held message }) }
+        ensures ok { OnOk result (self.new ≡
+            record self.old { held = guest.held_after self.old.held message }) }
         ensures memory { OnErr result (guest.fault_count message ≡ 1) }
         ensures err { OnErr result (self.new ≡ self.old) }
     {
@@ -66,11 +79,22 @@ impl DirtyLog {
     pub fn act(&mut self, space: &mut Space, cpus: &mut Cpus) -> Result<(Act, Addr), Refusal>
         requires lent { IsLent space.old }
         ensures accepted { OnOk result (act_refusal self.old space.old ≡ None) }
-        ensures refused { IfErr result (λ refusal. IsRefusedFor (act_refusal self.old space.old) refusal) }
-        ensures act { (fault : guest.Fault) (rest : List guest.Fault) → self.old.held ≡ fault ∷ rest → IfOk result (λ done. (act_is done.0 ≡ source_act (source_of self.old space.old cpus.old) fault) × (done.1 ≡ 4096 * fault.page)) }
-        ensures acted { (fault : guest.Fault) (rest : List guest.Fault) → self.old.held ≡ fault ∷ rest → OnOk result (source_of self.new space.new cpus.new ≡ source_acted (source_of self.old space.old cpus.old) fault) }
-        ensures memory { (fault : guest.Fault) (rest : List guest.Fault) → self.old.held ≡ fault ∷ rest → result ≡ Err Refusal.NoMemory → source_act (source_of self.old space.old cpus.old) fault ≡ guest.Act.Zeroed }
-        ensures err { OnErr result ((self.new ≡ self.old) × (space.new ≡ space.old) × (cpus.new ≡ cpus.old)) }
+        ensures refused { IfErr result (λ refusal.
+            IsRefusedFor (act_refusal self.old space.old) refusal) }
+        ensures act { (fault : guest.Fault) (rest : List guest.Fault) →
+            self.old.held ≡ fault ∷ rest →
+            IfOk result (λ done.
+            (act_is done.0 ≡ source_act (source_of self.old space.old cpus.old) fault) ×
+            (done.1 ≡ 4096 * fault.page)) }
+        ensures acted { (fault : guest.Fault) (rest : List guest.Fault) →
+            self.old.held ≡ fault ∷ rest →
+            OnOk result (source_of self.new space.new cpus.new ≡
+            source_acted (source_of self.old space.old cpus.old) fault) }
+        ensures memory { (fault : guest.Fault) (rest : List guest.Fault) →
+            self.old.held ≡ fault ∷ rest → result ≡ Err Refusal.NoMemory →
+            source_act (source_of self.old space.old cpus.old) fault ≡ guest.Act.Zeroed }
+        ensures err { OnErr result ((self.new ≡ self.old) × (space.new ≡ space.old) ×
+            (cpus.new ≡ cpus.old)) }
         ensures lent { IsLent space.new }
     {
         let Some(fault) = self.held.front() else {

@@ -86,7 +86,8 @@ impl DirtyLog {
         requires lent { IsLent space.old }
         requires page { page < HIGH_PAGE }
         ensures accepted { OnOk result (send_refusal space.old page 1 ≡ None) }
-        ensures refused { IfErr result (λ refusal. IsRefusedFor (send_refusal space.old page 1) refusal) }
+        ensures refused { IfErr result (λ refusal.
+            IsRefusedFor (send_refusal space.old page 1) refusal) }
         ensures log { OnOk result (self.new ≡ machine.log_sent self.old page) }
         ensures space { OnOk result (space.new ≡ protected_in space.old page 1 true) }
         ensures err { OnErr result ((self.new ≡ self.old) × (space.new ≡ space.old)) }
@@ -94,7 +95,8 @@ impl DirtyLog {
 
         // The same for a reader: the page is protected, and has the bytes that it had.
         ensures protected { OnOk result (contains space.new.protected page ≡ true) }
-        ensures bytes { OnOk result (get space.new.host.bytes page ≡ Some (contents space.old.host.bytes page)) }
+        ensures bytes { OnOk result (get space.new.host.bytes page ≡
+            Some (contents space.old.host.bytes page)) }
         ensures present { OnOk result ((is_present space.new page ≡ true) × IsPage page) }
     {
         space.is_in_order();
@@ -112,16 +114,20 @@ impl DirtyLog {
     ) -> Result<Sent<'a>, Refusal>
         requires lent { IsLent space.old }
         requires page { page < HIGH_PAGE }
-        ensures* space { sem 𝓛 (LeavesSpace space.entry result (λ last. (last ≡ protected_in space.old page 1 true) × IsLent last)) }
+        ensures* space { sem 𝓛 (LeavesSpace space.entry result (λ last.
+            (last ≡ protected_in space.old page 1 true) × IsLent last)) }
         ensures accepted { OnOk result (send_refusal space.old page 1 ≡ None) }
-        ensures refused { IfErr result (λ refusal. IsRefusedFor (send_refusal space.old page 1) refusal) }
+        ensures refused { IfErr result (λ refusal.
+            IsRefusedFor (send_refusal space.old page 1) refusal) }
         ensures log { OnOk result (log.new ≡ machine.log_sent log.old page) }
-        ensures sent { IfOk result (λ sent. frame_sent page sent ≡ page_frame page (contents space.old.host.bytes page)) }
+        ensures sent { IfOk result (λ sent.
+            frame_sent page sent ≡ page_frame page (contents space.old.host.bytes page)) }
         ensures frame { IfOk result (λ sent. IsFrame (frame_sent page sent)) }
         ensures err { OnErr result (log.new ≡ log.old) }
 
         // The same for a reader: `Zero` is returned exactly if all bytes of the page are zero.
-        ensures zero { IfOk result (λ sent. (sent ≡ Sent.Zero) ↔ (contents space.old.host.bytes page ≡ zero_page)) }
+        ensures zero { IfOk result (λ sent.
+            (sent ≡ Sent.Zero) ↔ (contents space.old.host.bytes page ≡ zero_page)) }
     {
         space.is_in_order();
         log.protect_page(space, page)?;
@@ -140,10 +146,12 @@ impl DirtyLog {
         requires some { 0 < count }
         requires inside { first + count ≤ HIGH_PAGE }
         ensures accepted { OnOk result (send_refusal space.old first count ≡ None) }
-        ensures refused { IfErr result (λ refusal. IsRefusedFor (send_refusal space.old first count) refusal) }
+        ensures refused { IfErr result (λ refusal.
+            IsRefusedFor (send_refusal space.old first count) refusal) }
         ensures log { OnOk result (self.new ≡ machine.log_run_sent self.old first count) }
         ensures space { OnOk result (space.new ≡ protected_in space.old first count true) }
-        ensures bytes { IfOk result (λ pages. (node : Source) → space_of node ≡ space.old → pages.items ≡ run_of node first count) }
+        ensures bytes { IfOk result (λ pages. (node : Source) → space_of node ≡ space.old →
+            pages.items ≡ run_of node first count) }
         ensures err { OnErr result ((self.new ≡ self.old) × (space.new ≡ space.old)) }
         ensures lent { IsLent space.new }
     {

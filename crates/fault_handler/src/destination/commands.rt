@@ -16,10 +16,14 @@ impl Destination {
     /// A processor makes a command. `NoCpu` if there is no such processor, `Busy` unless it is idle, `Phase` before the destination has
     /// run, and then `NoMemory`, only if the command needs memory.
     pub fn issue(&mut self, cpu: u8, command: Command) -> Result<Tried, Refusal>
-        ensures made { IfOk result (λ tried. issue self.old.guest self.old.has_run cpu command ≡ tried_with tried.effect (option_to_list tried.entry) self.new.guest) }
+        ensures made { IfOk result (λ tried.
+            issue self.old.guest self.old.has_run cpu command ≡
+            tried_with tried.effect (option_to_list tried.entry) self.new.guest) }
         ensures guest_alone { self.new ≡ record self.old { guest = self.new.guest } }
-        ensures refused { IfErr result (λ refusal. IsRefusedFor (issue self.old.guest self.old.has_run cpu command) refusal) }
-        ensures memory { result ≡ Err Refusal.NoMemory → command_needs_room self.old.guest.space command ≡ true }
+        ensures refused { IfErr result (λ refusal.
+            IsRefusedFor (issue self.old.guest self.old.has_run cpu command) refusal) }
+        ensures memory { result ≡ Err Refusal.NoMemory →
+            command_needs_room self.old.guest.space command ≡ true }
         ensures err { OnErr result (self.new ≡ self.old) }
     {
         self.space.is_in_order();
@@ -30,10 +34,14 @@ impl Destination {
     /// call, `NotWoken` if it still sleeps, `Phase` before the destination has run, and then `NoMemory`, only if the command needs
     /// memory.
     pub fn retry(&mut self, cpu: u8) -> Result<Tried, Refusal>
-        ensures made { IfOk result (λ tried. retry self.old.guest self.old.has_run cpu ≡ tried_with tried.effect (option_to_list tried.entry) self.new.guest) }
+        ensures made { IfOk result (λ tried.
+            retry self.old.guest self.old.has_run cpu ≡
+            tried_with tried.effect (option_to_list tried.entry) self.new.guest) }
         ensures guest_alone { self.new ≡ record self.old { guest = self.new.guest } }
-        ensures refused { IfErr result (λ refusal. IsRefusedFor (retry self.old.guest self.old.has_run cpu) refusal) }
-        ensures memory { (command : Command) → woken_answer self.old.guest.cpus cpu ≡ Ok command → result ≡ Err Refusal.NoMemory → command_needs_room self.old.guest.space command ≡ true }
+        ensures refused { IfErr result (λ refusal.
+            IsRefusedFor (retry self.old.guest self.old.has_run cpu) refusal) }
+        ensures memory { (command : Command) → woken_answer self.old.guest.cpus cpu ≡ Ok command →
+            result ≡ Err Refusal.NoMemory → command_needs_room self.old.guest.space command ≡ true }
         ensures err { OnErr result (self.new ≡ self.old) }
     {
         self.space.is_in_order();

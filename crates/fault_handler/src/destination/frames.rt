@@ -32,11 +32,15 @@ impl Destination {
     pub fn take(&mut self, epoch: u32, frame: Frame) -> Result<Option<Frame>, TakeFault>
         requires { IsFrame (frame_of frame) }
         ensures accepted { OnOk result (take_fault self.old epoch (frame_of frame) ≡ None) }
-        ensures refused { IfErr result (λ fault. fault ≡ unwrap_or (take_fault self.old epoch (frame_of frame)) TakeFault.NoMemory) }
-        ensures memory { IfErr result (λ fault. fault ≡ TakeFault.NoMemory → takes_memory (frame_of frame) ≡ true) }
+        ensures refused { IfErr result (λ fault.
+            fault ≡ unwrap_or (take_fault self.old epoch (frame_of frame)) TakeFault.NoMemory) }
+        ensures memory { IfErr result (λ fault. fault ≡ TakeFault.NoMemory →
+            takes_memory (frame_of frame) ≡ true) }
         ensures took { OnOk result (self.new ≡ destination_took self.old epoch (frame_of frame)) }
-        ensures answer { IfOk result (λ answer. map frame_of (option_to_list answer) ≡ answered_at_once self.old (frame_of frame)) }
-        ensures well_formed { IfOk result (λ answer. IfSome answer (λ frame. IsFrame (frame_of frame))) }
+        ensures answer { IfOk result (λ answer.
+            map frame_of (option_to_list answer) ≡ answered_at_once self.old (frame_of frame)) }
+        ensures well_formed { IfOk result (λ answer.
+            IfSome answer (λ frame. IsFrame (frame_of frame))) }
         ensures err { OnErr result (self.new ≡ self.old) }
     {
         if let Some(fault) = self.take_fault(epoch, &frame) {
@@ -55,7 +59,8 @@ impl Destination {
     pub fn take_urgent(&mut self, epoch: u32, frame: Frame) -> Result<(), TakeFault>
         requires { IsFrame (frame_of frame) }
         ensures accepted { OnOk result (urgent_fault self.old epoch (frame_of frame) ≡ None) }
-        ensures refused { IfErr result (λ fault. fault ≡ unwrap_or (urgent_fault self.old epoch (frame_of frame)) TakeFault.NoMemory) }
+        ensures refused { IfErr result (λ fault.
+            fault ≡ unwrap_or (urgent_fault self.old epoch (frame_of frame)) TakeFault.NoMemory) }
         ensures took { OnOk result (self.new ≡ urgent_took self.old (frame_of frame)) }
         ensures err { OnErr result (self.new ≡ self.old) }
     {
@@ -126,7 +131,8 @@ impl Destination {
 
 /// The frame to send back at once, if any: Done for an End.
 fn answer_to(frame: &Frame) -> Option<Frame>
-    ensures answer { (node : Destination) → map frame_of (option_to_list result) ≡ answered_at_once node (frame_of frame.now) }
+    ensures answer { (node : Destination) →
+        map frame_of (option_to_list result) ≡ answered_at_once node (frame_of frame.now) }
     ensures well_formed { IfSome result (λ frame. IsFrame (frame_of frame)) }
 {
     match frame {

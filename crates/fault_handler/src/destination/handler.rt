@@ -38,7 +38,8 @@ impl Destination {
     pub fn read(&mut self) -> Result<Effect, Refusal>
         ensures made { IfOk result (λ effect. read self.old ≡ acted effect self.new) }
         ensures refused { IfErr result (λ refusal. IsRefusedFor (read self.old) refusal) }
-        ensures memory { (noted : Noted) → next_message self.old.guest.space.object ≡ Some noted → result ≡ Err Refusal.NoMemory → read_grows noted.message ≡ true }
+        ensures memory { (noted : Noted) → next_message self.old.guest.space.object ≡ Some noted →
+            result ≡ Err Refusal.NoMemory → read_grows noted.message ≡ true }
         ensures err { OnErr result (self.new ≡ self.old) }
 
         // For a reader: the settled relation, which page is owed which page of the source once the unread events are applied, stays.
@@ -78,14 +79,20 @@ impl Destination {
     /// Refused as `Phase` before it has run, as `NothingThere` if no fault is held, and as `Changing` while an event is unread; then as
     /// `NoMemory`, for a page that becomes zeros or was not requested before.
     pub fn act(&mut self) -> Result<(Effect, Option<Frame>), Refusal>
-        ensures made { IfOk result (λ made. act self.old ≡ sent made.0 (map frame_of (option_to_list made.1)) self.new) }
-        ensures well_formed { IfOk result (λ made. IfSome made.1 (λ frame. IsFrame (frame_of frame))) }
+        ensures made { IfOk result (λ made.
+            act self.old ≡ sent made.0 (map frame_of (option_to_list made.1)) self.new) }
+        ensures well_formed { IfOk result (λ made.
+            IfSome made.1 (λ frame. IsFrame (frame_of frame))) }
         ensures refused { IfErr result (λ refusal. IsRefusedFor (act self.old) refusal) }
-        ensures memory { (fault : machine.Fault) (rest : List machine.Fault) → self.old.held ≡ fault ∷ rest → result ≡ Err Refusal.NoMemory → act_grows (destination_act self.old fault) self.old ≡ true }
+        ensures memory { (fault : machine.Fault) (rest : List machine.Fault) →
+            self.old.held ≡ fault ∷ rest → result ≡ Err Refusal.NoMemory →
+            act_grows (destination_act self.old fault) self.old ≡ true }
         ensures err { OnErr result (self.new ≡ self.old) }
 
         // For a reader: no page that is owed or present becomes zeros.
-        ensures zeroed { IfOk result (λ made. (page : ℕ) → made.0 ≡ effects.Effect.Zeroed (PAGE_SIZE * page) → (settled self.old page ≡ None) × (is_present self.old.guest.space page ≡ false)) }
+        ensures zeroed { IfOk result (λ made. (page : ℕ) →
+            made.0 ≡ effects.Effect.Zeroed (PAGE_SIZE * page) →
+            (settled self.old page ≡ None) × (is_present self.old.guest.space page ≡ false)) }
     {
         let fault = self.next_fault()?;
         let act = Act::of(&self.space, &self.owed, &fault);
@@ -120,7 +127,8 @@ impl Destination {
     /// The first held fault, or why none can be resolved.
     #[tactic(auto, unfolding(mig_model::specs::NodeSteps::unless))]
     fn next_fault(&self) -> Result<PageFault, Refusal>
-        ensures { result ≡ in_phase self.now.has_run (when_quiet self.now.guest (first_of self.now.held)) }
+        ensures { result ≡ in_phase self.now.has_run
+            (when_quiet self.now.guest (first_of self.now.held)) }
     {
         self.ensure_run()?;
         let Some(fault) = self.held.front() else {
@@ -136,9 +144,13 @@ impl Destination {
     /// destination is paused or has ended. `NoMemory` changes nothing.
     fn request(&mut self, origin: PageNo) -> Result<Option<Frame>, Refusal>
         requires page { IsPage origin }
-        ensures frame { IfOk result (λ frame. map frame_of (option_to_list frame) ≡ act_frames (machine.Act.Requested origin) self.old) }
-        ensures well_formed { IfOk result (λ frame. IfSome frame (λ frame. IsFrame (frame_of frame))) }
-        ensures ok { OnOk result (self.new ≡ record self.old { requests = requesting self.old.requests origin }) }
+        ensures frame { IfOk result (λ frame.
+            map frame_of (option_to_list frame) ≡
+            act_frames (machine.Act.Requested origin) self.old) }
+        ensures well_formed { IfOk result (λ frame.
+            IfSome frame (λ frame. IsFrame (frame_of frame))) }
+        ensures ok { OnOk result (self.new ≡
+            record self.old { requests = requesting self.old.requests origin }) }
         ensures refused { IfErr result (λ refusal. refusal ≡ Refusal.NoMemory) }
         ensures absent { OnErr result (is_requested self.old.requests origin ≡ false) }
         ensures err { OnErr result (self.new ≡ self.old) }

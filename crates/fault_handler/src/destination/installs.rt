@@ -32,13 +32,19 @@ impl Destination {
     pub fn install(&mut self) -> Result<Effect, Refusal>
         ensures made { IfOk result (λ effect. install self.old ≡ acted effect self.new) }
         ensures refused { IfErr result (λ refusal. IsRefusedFor (install self.old) refusal) }
-        ensures memory { (copy : wire.Copy) (rest : List wire.Copy) → self.old.arrivals ≡ copy ∷ rest → result ≡ Err Refusal.NoMemory → is_some (home self.old.owed copy.page) ≡ true }
+        ensures memory { (copy : wire.Copy) (rest : List wire.Copy) →
+            self.old.arrivals ≡ copy ∷ rest → result ≡ Err Refusal.NoMemory →
+            is_some (home self.old.owed copy.page) ≡ true }
         ensures err { OnErr result (self.new ≡ self.old) }
 
         // For a reader: a copy is installed at the page where its page of the source is owed, and never over a page that is present;
         // afterwards that page is owed nothing.
-        ensures pair { IfOk result (λ effect. (page origin : ℕ) → effect ≡ effects.Effect.Installed (PAGE_SIZE * page) (PAGE_SIZE * origin) → (settled self.old page ≡ Some origin) × (settled self.new page ≡ None)) }
-        ensures missing { IfOk result (λ effect. (page origin : ℕ) → effect ≡ effects.Effect.Installed (PAGE_SIZE * page) (PAGE_SIZE * origin) → is_present self.old.guest.space page ≡ false) }
+        ensures pair { IfOk result (λ effect. (page origin : ℕ) →
+            effect ≡ effects.Effect.Installed (PAGE_SIZE * page) (PAGE_SIZE * origin) →
+            (settled self.old page ≡ Some origin) × (settled self.new page ≡ None)) }
+        ensures missing { IfOk result (λ effect. (page origin : ℕ) →
+            effect ≡ effects.Effect.Installed (PAGE_SIZE * page) (PAGE_SIZE * origin) →
+            is_present self.old.guest.space page ≡ false) }
     {
         let origin = self.next_arrival()?;
         let Some(page) = self.owed.home(origin) else {
@@ -71,7 +77,9 @@ impl Destination {
     /// The page at the source of the first copy that has arrived, or why none can be installed.
     #[tactic(auto, unfolding(mig_model::specs::NodeSteps::unless))]
     fn next_arrival(&self) -> Result<PageNo, Refusal>
-        ensures { result ≡ and_then (in_phase self.now.has_run (when_quiet self.now.guest (first_of self.now.arrivals))) (λ copy. Ok copy.page) }
+        ensures { result ≡ and_then
+            (in_phase self.now.has_run (when_quiet self.now.guest (first_of self.now.arrivals)))
+            (λ copy. Ok copy.page) }
     {
         self.ensure_run()?;
         let Some(arrival) = self.arrivals.front() else {
@@ -94,9 +102,12 @@ fn put_first(
     requires quiet { object.changing space.old.object ≡ 0 }
     requires watched { is_forgotten space.old page ≡ false }
     requires missing { is_present space.old page ≡ false }
-    ensures space { (copy : wire.Copy) (rest : List wire.Copy) → arrivals.old.items ≡ copy ∷ rest → OnOk result (space.new ≡ installed space.old page 1 (λ i. copy.bytes) false) }
-    ensures arrivals { (copy : wire.Copy) (rest : List wire.Copy) → arrivals.old.items ≡ copy ∷ rest → OnOk result (arrivals.new.items ≡ rest) }
-    ensures err { OnErr result ((space.new ≡ space.old) × (arrivals.new.items ≡ arrivals.old.items)) }
+    ensures space { (copy : wire.Copy) (rest : List wire.Copy) → arrivals.old.items ≡ copy ∷ rest →
+        OnOk result (space.new ≡ installed space.old page 1 (λ i. copy.bytes) false) }
+    ensures arrivals { (copy : wire.Copy) (rest : List wire.Copy) →
+        arrivals.old.items ≡ copy ∷ rest → OnOk result (arrivals.new.items ≡ rest) }
+    ensures err { OnErr result ((space.new ≡ space.old) ×
+        (arrivals.new.items ≡ arrivals.old.items)) }
 {
     if let Some(arrival) = arrivals.front_mut() {
         put(space, arrival, page)?;
@@ -111,7 +122,8 @@ fn put(space: &mut Space, arrival: &mut Arrival, page: PageNo) -> Result<(), NoM
     requires quiet { object.changing space.old.object ≡ 0 }
     requires watched { is_forgotten space.old page ≡ false }
     requires missing { is_present space.old page ≡ false }
-    ensures ok { OnOk result (space.new ≡ installed space.old page 1 (λ i. arrival.old.bytes) false) }
+    ensures ok { OnOk result (space.new ≡
+        installed space.old page 1 (λ i. arrival.old.bytes) false) }
     ensures err { OnErr result ((space.new ≡ space.old) × (arrival.new ≡ arrival.old)) }
 {
     let Some(bytes) = arrival.take() else {

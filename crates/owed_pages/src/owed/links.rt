@@ -41,7 +41,8 @@ impl Links {
 
     /// The same pairs, in memory of their own. `NoMemory` if that cannot be allocated.
     pub fn copy(&self, alloc: Global) -> Result<Self, NoMemory>
-        ensures { IfOk result (λ copy. (q : ℕ) → number_at copy.forth.items q ≡ number_at self.now.forth.items q) }
+        ensures { IfOk result (λ copy. (q : ℕ) →
+            number_at copy.forth.items q ≡ number_at self.now.forth.items q) }
     {
         let forth = copy_places(alloc, &self.forth)?;
         Ok(Links {
@@ -53,10 +54,15 @@ impl Links {
 
     /// Removes the pair of a page, if there is one.
     pub fn unlink(&mut self, page: PageNo)
-        ensures pairs { (q : ℕ) → number_at self.new.forth.items q ≡ (if nat_eq q page then None else number_at self.old.forth.items q) }
-        ensures free { (s : ℕ) → number_at self.old.forth.items page ≡ Some s → number_at self.new.back.items s ≡ None }
-        ensures stay { (q : ℕ) → has_place self.new.forth.items q ≡ has_place self.old.forth.items q }
-        ensures stay_back { (s : ℕ) → has_place self.new.back.items s ≡ has_place self.old.back.items s }
+        ensures pairs { (q : ℕ) →
+            number_at self.new.forth.items q ≡
+            (if nat_eq q page then None else number_at self.old.forth.items q) }
+        ensures free { (s : ℕ) → number_at self.old.forth.items page ≡ Some s →
+            number_at self.new.back.items s ≡ None }
+        ensures stay { (q : ℕ) →
+            has_place self.new.forth.items q ≡ has_place self.old.forth.items q }
+        ensures stay_back { (s : ℕ) →
+            has_place self.new.back.items s ≡ has_place self.old.back.items s }
     {
         if let Some(origin) = get_number(&self.forth, page) {
             put_number(&mut self.forth, page, None);
@@ -67,10 +73,15 @@ impl Links {
 
     /// Inserts a pair.
     pub fn link(&mut self, page: PageNo, origin: PageNo)
-        requires room { (has_place self.old.forth.items page ≡ true) × (has_place self.old.back.items origin ≡ true) }
-        requires free { (number_at self.old.forth.items page ≡ None) × (number_at self.old.back.items origin ≡ None) }
-        ensures pairs { (q : ℕ) → number_at self.new.forth.items q ≡ (if nat_eq q page then Some origin else number_at self.old.forth.items q) }
-        ensures stay { (q : ℕ) → has_place self.new.forth.items q ≡ has_place self.old.forth.items q }
+        requires room { (has_place self.old.forth.items page ≡ true) ×
+            (has_place self.old.back.items origin ≡ true) }
+        requires free { (number_at self.old.forth.items page ≡ None) ×
+            (number_at self.old.back.items origin ≡ None) }
+        ensures pairs { (q : ℕ) →
+            number_at self.new.forth.items q ≡
+            (if nat_eq q page then Some origin else number_at self.old.forth.items q) }
+        ensures stay { (q : ℕ) →
+            has_place self.new.forth.items q ≡ has_place self.old.forth.items q }
     {
         put_number(&mut self.forth, page, Some(origin));
         put_number(&mut self.back, origin, Some(page));
@@ -80,8 +91,11 @@ impl Links {
     /// Inserts the pair of a page with itself. `NoMemory` leaves the pairs as they were.
     pub fn link_itself(&mut self, alloc: Global, page: PageNo) -> Result<(), NoMemory>
         requires page { page < HIGH_PAGE }
-        requires free { (number_at self.old.forth.items page ≡ None) × (number_at self.old.back.items page ≡ None) }
-        ensures pairs { OnOk result ((q : ℕ) → number_at self.new.forth.items q ≡ (if nat_eq q page then Some page else number_at self.old.forth.items q)) }
+        requires free { (number_at self.old.forth.items page ≡ None) ×
+            (number_at self.old.back.items page ≡ None) }
+        ensures pairs { OnOk result ((q : ℕ) →
+            number_at self.new.forth.items q ≡
+            (if nat_eq q page then Some page else number_at self.old.forth.items q)) }
     {
         make_leaf(alloc, &mut self.forth, page)?;
         make_leaf(alloc, &mut self.back, page)?;
@@ -99,8 +113,11 @@ impl Links {
         count: u32,
     ) -> Result<(), NoMemory>
         requires inside { (from + count ≤ HIGH_PAGE) × (to + count ≤ HIGH_PAGE) }
-        ensures same { (q : ℕ) → number_at self.new.forth.items q ≡ number_at self.old.forth.items q }
-        ensures room { OnOk result (HasRoom (number_at self.new.forth.items) (has_place self.new.forth.items) from to count) }
+        ensures same { (q : ℕ) →
+            number_at self.new.forth.items q ≡ number_at self.old.forth.items q }
+        ensures room { OnOk result
+            (HasRoom (number_at self.new.forth.items) (has_place self.new.forth.items) from to
+            count) }
     {
         let mut made = 0;
         while made < count {
@@ -116,8 +133,11 @@ impl Links {
     /// Removes the pairs of a range of pages, page by page.
     fn unlink_run(&mut self, first: PageNo, count: u32)
         requires { first + count ≤ HIGH_PAGE }
-        ensures pairs { (q : ℕ) → number_at self.new.forth.items q ≡ (if in_range first count q then None else number_at self.old.forth.items q) }
-        ensures stay { (q : ℕ) → has_place self.new.forth.items q ≡ has_place self.old.forth.items q }
+        ensures pairs { (q : ℕ) →
+            number_at self.new.forth.items q ≡
+            (if in_range first count q then None else number_at self.old.forth.items q) }
+        ensures stay { (q : ℕ) →
+            has_place self.new.forth.items q ≡ has_place self.old.forth.items q }
     {
         for i in 0..count {
             self.unlink(first + i);
@@ -127,8 +147,11 @@ impl Links {
     /// Removes the pairs of a range of pages, leaf by leaf. Missing leaves are skipped.
     pub fn unlink_range(&mut self, first: PageNo, count: u32)
         requires { first + count ≤ HIGH_PAGE }
-        ensures pairs { (q : ℕ) → number_at self.new.forth.items q ≡ (if in_range first count q then None else number_at self.old.forth.items q) }
-        ensures stay { (q : ℕ) → has_place self.new.forth.items q ≡ has_place self.old.forth.items q }
+        ensures pairs { (q : ℕ) →
+            number_at self.new.forth.items q ≡
+            (if in_range first count q then None else number_at self.old.forth.items q) }
+        ensures stay { (q : ℕ) →
+            has_place self.new.forth.items q ≡ has_place self.old.forth.items q }
     {
         let end = first + count;
         let mut page = first;
@@ -143,11 +166,15 @@ impl Links {
 
     /// Moves the pair of a page, if there is one, to another page that has none.
     fn move_link(&mut self, from: PageNo, to: PageNo)
-        requires room { (s : ℕ) → number_at self.old.forth.items from ≡ Some s → has_place self.old.forth.items to ≡ true }
+        requires room { (s : ℕ) → number_at self.old.forth.items from ≡ Some s →
+            has_place self.old.forth.items to ≡ true }
         requires free { number_at self.old.forth.items to ≡ None }
         requires apart { from ≢ to }
-        ensures moved { (q : ℕ) → number_at self.new.forth.items q ≡ moved_number (number_at self.old.forth.items) from to 1 q }
-        ensures stay { (q : ℕ) → has_place self.new.forth.items q ≡ has_place self.old.forth.items q }
+        ensures moved { (q : ℕ) →
+            number_at self.new.forth.items q ≡
+            moved_number (number_at self.old.forth.items) from to 1 q }
+        ensures stay { (q : ℕ) →
+            has_place self.new.forth.items q ≡ has_place self.old.forth.items q }
     {
         if let Some(origin) = get_number(&self.forth, from) {
             self.unlink(from);
@@ -159,10 +186,15 @@ impl Links {
     fn move_run(&mut self, from: PageNo, to: PageNo, count: u32)
         requires inside { (from + count ≤ HIGH_PAGE) × (to + count ≤ HIGH_PAGE) }
         requires apart { (from + count ≤ to) ⊎ (to + count ≤ from) }
-        requires room { HasRoom (number_at self.old.forth.items) (has_place self.old.forth.items) from to count }
-        requires free { (q : ℕ) → to ≤ q → q < to + count → number_at self.old.forth.items q ≡ None }
-        ensures moved { (q : ℕ) → number_at self.new.forth.items q ≡ moved_number (number_at self.old.forth.items) from to count q }
-        ensures stay { (q : ℕ) → has_place self.new.forth.items q ≡ has_place self.old.forth.items q }
+        requires room { HasRoom (number_at self.old.forth.items) (has_place self.old.forth.items)
+            from to count }
+        requires free { (q : ℕ) → to ≤ q → q < to + count →
+            number_at self.old.forth.items q ≡ None }
+        ensures moved { (q : ℕ) →
+            number_at self.new.forth.items q ≡
+            moved_number (number_at self.old.forth.items) from to count q }
+        ensures stay { (q : ℕ) →
+            has_place self.new.forth.items q ≡ has_place self.old.forth.items q }
     {
         for i in 0..count {
             self.move_link(from + i, to + i);
@@ -173,9 +205,13 @@ impl Links {
     pub fn move_links(&mut self, from: PageNo, to: PageNo, count: u32)
         requires inside { (from + count ≤ HIGH_PAGE) × (to + count ≤ HIGH_PAGE) }
         requires apart { (from + count ≤ to) ⊎ (to + count ≤ from) }
-        requires room { HasRoom (number_at self.old.forth.items) (has_place self.old.forth.items) from to count }
-        requires free { (q : ℕ) → to ≤ q → q < to + count → number_at self.old.forth.items q ≡ None }
-        ensures moved { (q : ℕ) → number_at self.new.forth.items q ≡ moved_number (number_at self.old.forth.items) from to count q }
+        requires room { HasRoom (number_at self.old.forth.items) (has_place self.old.forth.items)
+            from to count }
+        requires free { (q : ℕ) → to ≤ q → q < to + count →
+            number_at self.old.forth.items q ≡ None }
+        ensures moved { (q : ℕ) →
+            number_at self.new.forth.items q ≡
+            moved_number (number_at self.old.forth.items) from to count q }
     {
         let mut moved = 0;
         while moved < count {

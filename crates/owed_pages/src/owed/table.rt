@@ -30,7 +30,8 @@ fn place_get(place: &Place, i: u32) -> Option<PageNo>
 fn place_put(place: &mut Place, i: u32, number: Option<PageNo>)
     requires inside { i < CHUNK }
     requires there { is_place place.old ≡ true }
-    ensures put { (j : ℕ) → number_in place.new j ≡ (if nat_eq j i then number else number_in place.old j) }
+    ensures put { (j : ℕ) →
+        number_in place.new j ≡ (if nat_eq j i then number else number_in place.old j) }
     ensures stays { is_place place.new ≡ true }
 {
     if let Some(leaf) = place {
@@ -40,7 +41,8 @@ fn place_put(place: &mut Place, i: u32, number: Option<PageNo>)
 
 fn leaf_put(leaf: &mut Leaf, i: u32, number: Option<PageNo>)
     requires { i < CHUNK }
-    ensures { (j : ℕ) → slice_index_or leaf.new j None ≡ (if nat_eq j i then number else slice_index_or leaf.old j None) }
+    ensures { (j : ℕ) → slice_index_or leaf.new j None ≡
+        (if nat_eq j i then number else slice_index_or leaf.old j None) }
 {
     leaf[i as usize] = number;
 }
@@ -80,7 +82,8 @@ fn place_copy(alloc: Global, place: &Place) -> Result<Place, NoMemory>
 
 /// Places with the same numbers, in memory of their own. On `NoMemory` there are none.
 pub fn copy_places(alloc: Global, places: &Vec<Place>) -> Result<Vec<Place>, NoMemory>
-    ensures same { IfOk result (λ copy. (q : ℕ) → number_at copy.items q ≡ number_at places.now.items q) }
+    ensures same { IfOk result (λ copy. (q : ℕ) →
+        number_at copy.items q ≡ number_at places.now.items q) }
     ensures size { IfOk result (λ copy. length copy.items ≡ length places.now.items) }
 {
     let mut copies = Vec::new(alloc);
@@ -117,7 +120,9 @@ pub fn has_leaf(places: &Vec<Place>, page: PageNo) -> bool
 /// Sets the number of a page, or clears it.
 pub fn put_number(places: &mut Vec<Place>, page: PageNo, number: Option<PageNo>)
     requires { has_place places.old.items page ≡ true }
-    ensures put { (q : ℕ) → number_at places.new.items q ≡ (if nat_eq q page then number else number_at places.old.items q) }
+    ensures put { (q : ℕ) →
+        number_at places.new.items q ≡
+        (if nat_eq q page then number else number_at places.old.items q) }
     ensures stay { (q : ℕ) → has_place places.new.items q ≡ has_place places.old.items q }
     ensures size { length places.new.items ≡ length places.old.items }
 {
@@ -130,7 +135,8 @@ pub fn make_leaf(alloc: Global, places: &mut Vec<Place>, page: PageNo) -> Result
     ensures same { (q : ℕ) → number_at places.new.items q ≡ number_at places.old.items q }
     ensures few { length places.new.items ≤ CHUNKS }
     ensures there { OnOk result (has_place places.new.items page ≡ true) }
-    ensures stay { (q : ℕ) → has_place places.old.items q ≡ true → has_place places.new.items q ≡ true }
+    ensures stay { (q : ℕ) → has_place places.old.items q ≡ true →
+        has_place places.new.items q ≡ true }
 {
     let at = (page / CHUNK) as usize;
     while places.len() <= at {
@@ -151,8 +157,10 @@ pub fn make_leaves(
     requires { (first + count ≤ HIGH_PAGE) × (length places.old.items ≤ CHUNKS) }
     ensures same { (q : ℕ) → number_at places.new.items q ≡ number_at places.old.items q }
     ensures few { length places.new.items ≤ CHUNKS }
-    ensures there { OnOk result ((q : ℕ) → first ≤ q → q < first + count → has_place places.new.items q ≡ true) }
-    ensures stay { (q : ℕ) → has_place places.old.items q ≡ true → has_place places.new.items q ≡ true }
+    ensures there { OnOk result ((q : ℕ) → first ≤ q → q < first + count →
+        has_place places.new.items q ≡ true) }
+    ensures stay { (q : ℕ) → has_place places.old.items q ≡ true →
+        has_place places.new.items q ≡ true }
 {
     let end = first + count;
     for at in first / CHUNK..(end + (CHUNK - 1)) / CHUNK {
@@ -177,7 +185,8 @@ pub fn next_leaf(page: PageNo, end: PageNo) -> PageNo
 /// grow.
 pub fn numbered(alloc: Global, places: &Vec<Place>) -> Result<PageSet, NoMemory>
     requires { length places.now.items ≤ CHUNKS }
-    ensures { IfOk result (λ pages. (q : ℕ) → contains pages q ≡ is_some (number_at places.now.items q)) }
+    ensures { IfOk result (λ pages. (q : ℕ) →
+        contains pages q ≡ is_some (number_at places.now.items q)) }
 {
     let mut pages = PageSet::new(alloc);
     let end = places.len() as u32 * CHUNK;
@@ -201,8 +210,10 @@ fn insert_numbered(
     end: PageNo,
 ) -> Result<(), NoMemory>
     requires range { (first ≤ end) × (end ≤ HIGH_PAGE) }
-    requires first { (q : ℕ) → contains pages.old q ≡ (nat_lt q first && is_some (number_at places.now.items q)) }
-    ensures { OnOk result ((q : ℕ) → contains pages.new q ≡ (nat_lt q end && is_some (number_at places.now.items q))) }
+    requires first { (q : ℕ) →
+        contains pages.old q ≡ (nat_lt q first && is_some (number_at places.now.items q)) }
+    ensures { OnOk result ((q : ℕ) →
+        contains pages.new q ≡ (nat_lt q end && is_some (number_at places.now.items q))) }
 {
     for page in first..end {
         if get_number(places, page).is_some() {

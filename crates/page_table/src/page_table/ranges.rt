@@ -18,8 +18,12 @@ impl PageTable {
     /// The call puts all pages or none: if the room of their leaves cannot be allocated, it returns the bytes and changes nothing.
     pub fn put_run(&mut self, first: PageNo, run: Vec<PageBytes>) -> Result<(), Vec<PageBytes>>
         requires { first + length run.items ≤ HIGH_PAGE }
-        ensures bytes { OnOk result ((q : ℕ) → map.get self.new.bytes q ≡ (if in_range first (length run.items) q then Some (slice_index_or run.items (q - first) []) else map.get self.old.bytes q)) }
-        ensures protected { OnOk result (self.new.protected ≡ without self.old.protected first (length run.items)) }
+        ensures bytes { OnOk result ((q : ℕ) →
+            map.get self.new.bytes q ≡
+            (if in_range first (length run.items) q then Some
+            (slice_index_or run.items (q - first) []) else map.get self.old.bytes q)) }
+        ensures protected { OnOk result (self.new.protected ≡
+            without self.old.protected first (length run.items)) }
         ensures err { IfErr result (λ back. (back ≡ run) × (self.new ≡ self.old)) }
     {
         let count = run.len() as u32;

@@ -22,7 +22,8 @@ impl Source {
     /// `StaleEpoch` for a frame of another epoch, and last `NoMemory`, for a Request alone. A refusal changes nothing.
     pub fn back(&mut self, epoch: u32, frame: &Frame) -> Result<(), BackFault>
         ensures accepted { OnOk result (back_fault self.old epoch (frame_of frame.now) ≡ None) }
-        ensures refused { IfErr result (λ fault. fault ≡ unwrap_or (back_fault self.old epoch (frame_of frame.now)) BackFault.NoMemory) }
+        ensures refused { IfErr result (λ fault.
+            fault ≡ unwrap_or (back_fault self.old epoch (frame_of frame.now)) BackFault.NoMemory) }
         ensures memory { result ≡ Err BackFault.NoMemory → is_request (frame_of frame.now) ≡ true }
         ensures took { OnOk result (self.new ≡ source_heard self.old (frame_of frame.now)) }
         ensures err { OnErr result (self.new ≡ self.old) }
@@ -60,8 +61,12 @@ impl Source {
     /// The Package that owes these pages: with it a destination can run. It has the mapped pages, and the commands that the processors
     /// still have to make. It is well formed if these pages may all be mapped. `NoMemory` if it cannot be allocated.
     pub fn package(&self, owed: &PageSet) -> Result<Frame, NoMemory>
-        ensures frame { IfOk result (λ frame. frame_of frame ≡ machine.Frame.Package (space_of self.now).host.areas owed.now (commands_of self.now.guest.cpus)) }
-        ensures well_formed { AreFewPages owed.now → IfOk result (λ frame. IsFrame (frame_of frame)) }
+        ensures frame { IfOk result (λ frame.
+            frame_of frame ≡
+            machine.Frame.Package (space_of self.now).host.areas owed.now
+            (commands_of self.now.guest.cpus)) }
+        ensures well_formed { AreFewPages owed.now →
+            IfOk result (λ frame. IsFrame (frame_of frame)) }
     {
         self.space.is_in_order();
         // Makes the bound on the number of processors known to the proof.

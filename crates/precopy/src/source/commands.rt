@@ -16,10 +16,14 @@ impl Source {
     /// Has a processor make a command. `NoCpu` if there is no such processor, `Busy` unless it is idle, `Phase` once the processors have
     /// stopped, and last `NoMemory`, only if the command needs memory.
     pub fn issue(&mut self, cpu: u8, command: Command) -> Result<Tried, Refusal>
-        ensures made { IfOk result (λ tried. issue self.old.guest (not self.old.switched) cpu command ≡ tried_with tried.effect (option_to_list tried.entry) self.new.guest) }
+        ensures made { IfOk result (λ tried.
+            issue self.old.guest (not self.old.switched) cpu command ≡
+            tried_with tried.effect (option_to_list tried.entry) self.new.guest) }
         ensures kept { self.new ≡ record self.old { guest = self.new.guest } }
-        ensures refused { IfErr result (λ refusal. IsRefusedFor (issue self.old.guest (not self.old.switched) cpu command) refusal) }
-        ensures memory { result ≡ Err Refusal.NoMemory → command_needs_room self.old.guest.space command ≡ true }
+        ensures refused { IfErr result (λ refusal.
+            IsRefusedFor (issue self.old.guest (not self.old.switched) cpu command) refusal) }
+        ensures memory { result ≡ Err Refusal.NoMemory →
+            command_needs_room self.old.guest.space command ≡ true }
         ensures err { OnErr result (self.new ≡ self.old) }
     {
         self.space.is_in_order();
@@ -37,10 +41,14 @@ impl Source {
     /// or in a map call, `NotWoken` if it still sleeps, `Phase` once the processors have stopped, and last `NoMemory`, only if the command
     /// needs memory.
     pub fn retry(&mut self, cpu: u8) -> Result<Tried, Refusal>
-        ensures made { IfOk result (λ tried. retry self.old.guest (not self.old.switched) cpu ≡ tried_with tried.effect (option_to_list tried.entry) self.new.guest) }
+        ensures made { IfOk result (λ tried.
+            retry self.old.guest (not self.old.switched) cpu ≡
+            tried_with tried.effect (option_to_list tried.entry) self.new.guest) }
         ensures kept { self.new ≡ record self.old { guest = self.new.guest } }
-        ensures refused { IfErr result (λ refusal. IsRefusedFor (retry self.old.guest (not self.old.switched) cpu) refusal) }
-        ensures memory { (command : Command) → woken_answer self.old.guest.cpus cpu ≡ Ok command → result ≡ Err Refusal.NoMemory → command_needs_room self.old.guest.space command ≡ true }
+        ensures refused { IfErr result (λ refusal.
+            IsRefusedFor (retry self.old.guest (not self.old.switched) cpu) refusal) }
+        ensures memory { (command : Command) → woken_answer self.old.guest.cpus cpu ≡ Ok command →
+            result ≡ Err Refusal.NoMemory → command_needs_room self.old.guest.space command ≡ true }
         ensures err { OnErr result (self.new ≡ self.old) }
     {
         self.space.is_in_order();

@@ -27,7 +27,8 @@ impl Source {
     pub fn read(&mut self) -> Result<Effect, Refusal>
         ensures made { IfOk result (λ effect. read self.old ≡ acted effect self.new) }
         ensures refused { IfErr result (λ refusal. IsRefusedFor (read self.old) refusal) }
-        ensures memory { (noted : Noted) → next_message self.old.guest.space.object ≡ Some noted → result ≡ Err Refusal.NoMemory → fault_count noted.message ≡ 1 }
+        ensures memory { (noted : Noted) → next_message self.old.guest.space.object ≡ Some noted →
+            result ≡ Err Refusal.NoMemory → fault_count noted.message ≡ 1 }
         ensures err { OnErr result (self.new ≡ self.old) }
     {
         if !self.is_handling() {
@@ -45,7 +46,8 @@ impl Source {
     pub fn act(&mut self) -> Result<Effect, Refusal>
         ensures made { IfOk result (λ effect. act self.old ≡ acted effect self.new) }
         ensures refused { IfErr result (λ refusal. IsRefusedFor (act self.old) refusal) }
-        ensures memory { (fault : Fault) (rest : List Fault) → self.old.log.held ≡ fault ∷ rest → result ≡ Err Refusal.NoMemory → source_act self.old fault ≡ guest.Act.Zeroed }
+        ensures memory { (fault : Fault) (rest : List Fault) → self.old.log.held ≡ fault ∷ rest →
+            result ≡ Err Refusal.NoMemory → source_act self.old fault ≡ guest.Act.Zeroed }
         ensures err { OnErr result (self.new ≡ self.old) }
     {
         if !self.is_handling() {
@@ -66,7 +68,8 @@ impl Source {
 
 /// 1 if a page fault was read, else 0.
 fn faults_in(effect: Effect) -> u64
-    ensures { (guest : Guest) (cpu : ℕ) (message : Message) → effect ≡ read_effect guest.cpus cpu message → result ≡ fault_count message }
+    ensures { (guest : Guest) (cpu : ℕ) (message : Message) →
+        effect ≡ read_effect guest.cpus cpu message → result ≡ fault_count message }
 {
     match effect {
         Effect::ReadFault { .. } => 1,

@@ -39,8 +39,10 @@ impl Source {
     /// still have to make. The destination takes these commands over, so unread and held faults are dropped. Refused with `Phase`
     /// outside pre-copy, with `Changing` while an event is unread, and last with `NoMemory`.
     pub fn switch(&mut self) -> Result<(Effect, Frame, Frame), Refusal>
-        ensures made { IfOk result (λ made. switch self.old ≡ sent made.0 (frame_of made.1 ∷ frame_of made.2 ∷ []) self.new) }
-        ensures frames { IfOk result (λ made. IsFrame (frame_of made.1) × IsFrame (frame_of made.2)) }
+        ensures made { IfOk result (λ made.
+            switch self.old ≡ sent made.0 (frame_of made.1 ∷ frame_of made.2 ∷ []) self.new) }
+        ensures frames { IfOk result (λ made.
+            IsFrame (frame_of made.1) × IsFrame (frame_of made.2)) }
         ensures refused { IfErr result (λ refusal. IsRefusedFor (switch self.old) refusal) }
         ensures err { OnErr result (self.new ≡ self.old) }
     {
@@ -82,8 +84,11 @@ impl Source {
     /// Refused with `Phase` unless the source is stopped, with `StaleEpoch` if the ticket names another epoch, with `PageNotSendable`
     /// if the page is not present here, and with `NotRemaining` if it is not owed or was sent in this epoch. It takes no memory.
     pub fn push(&mut self, ticket: Ticket) -> Result<(Effect, Sent<'_>), Refusal>
-        ensures* made { sem 𝓛 (LeavesSource self.entry result (λ made last. IsPushed self.old ticket made.0 (frame_sent ticket.page made.1) last)) }
-        ensures sent { IfOk result (λ made. frame_sent ticket.page made.1 ≡ page_frame ticket.page (bytes_of self.old ticket.page)) }
+        ensures* made { sem 𝓛 (LeavesSource self.entry result (λ made last.
+            IsPushed self.old ticket made.0 (frame_sent ticket.page made.1) last)) }
+        ensures sent { IfOk result (λ made.
+            frame_sent ticket.page made.1 ≡
+            page_frame ticket.page (bytes_of self.old ticket.page)) }
         ensures frame { IfOk result (λ made. IsFrame (frame_sent ticket.page made.1)) }
         ensures present { OnOk result (is_present self.old.guest.space ticket.page ≡ true) }
         ensures refused { IfErr result (λ refusal. push self.old ticket ≡ Err refusal) }
@@ -99,11 +104,17 @@ impl Source {
     /// `CountUsed` if the count of the epoch is at its greatest value. No source of a world reaches that value, because it sends each
     /// page at most once in an epoch.
     pub fn push_urgent(&mut self, ticket: Ticket) -> Result<(Effect, Sent<'_>), Refusal>
-        ensures* made { sem 𝓛 (LeavesSource self.entry result (λ made last. IsPushedUrgently self.old ticket made.0 (frame_sent ticket.page made.1) last)) }
-        ensures sent { IfOk result (λ made. frame_sent ticket.page made.1 ≡ page_frame ticket.page (bytes_of self.old ticket.page)) }
+        ensures* made { sem 𝓛 (LeavesSource self.entry result (λ made last.
+            IsPushedUrgently self.old ticket made.0 (frame_sent ticket.page made.1) last)) }
+        ensures sent { IfOk result (λ made.
+            frame_sent ticket.page made.1 ≡
+            page_frame ticket.page (bytes_of self.old ticket.page)) }
         ensures frame { IfOk result (λ made. IsFrame (frame_sent ticket.page made.1)) }
         ensures present { OnOk result (is_present self.old.guest.space ticket.page ≡ true) }
-        ensures refused { IfErr result (λ refusal. (push_urgent self.old ticket ≡ Err refusal) ⊎ ((refusal ≡ Refusal.CountUsed) × (is_used self.old.urgent_sent ≡ true) × IsOk (push_urgent self.old ticket))) }
+        ensures refused { IfErr result (λ refusal.
+            (push_urgent self.old ticket ≡ Err refusal) ⊎
+            ((refusal ≡ Refusal.CountUsed) × (is_used self.old.urgent_sent ≡ true) ×
+            IsOk (push_urgent self.old ticket))) }
     {
         self.check_push(ticket)?;
         if self.urgent_sent == u32::MAX {
@@ -148,7 +159,8 @@ impl Source {
     /// urgent wire in this epoch. Refused with `Phase` unless the source is stopped and has sent no End in this epoch, and with
     /// `PagesLeft` while pages remain. It takes no memory.
     pub fn end(&mut self) -> Result<(Effect, Frame), Refusal>
-        ensures made { IfOk result (λ made. end self.old ≡ sent made.0 (frame_of made.1 ∷ []) self.new) }
+        ensures made { IfOk result (λ made.
+            end self.old ≡ sent made.0 (frame_of made.1 ∷ []) self.new) }
         ensures frame { IfOk result (λ made. IsFrame (frame_of made.1)) }
         ensures refused { IfErr result (λ refusal. end self.old ≡ Err refusal) }
         ensures err { OnErr result (self.new ≡ self.old) }

@@ -40,7 +40,13 @@ impl Source {
     /// A source that has not switched begins pre-copy again, because the destination has kept nothing. Held faults stay.
     pub fn to_precopy(&mut self)
         requires { self.old.switched ≡ false }
-        ensures { self.new ≡ record self.old { phase = SourcePhase.Precopy; asked = []; log = forgotten self.old.log } }
+        ensures { self.new ≡
+            record self.old {
+              phase = SourcePhase.Precopy;
+              asked = [];
+              log = forgotten
+                  self.old.log;
+            } }
     {
         self.phase = SourcePhase::Precopy;
         self.asked.clear();
@@ -51,7 +57,13 @@ impl Source {
     pub fn to_stopped(&mut self, remaining: PageSet, packaged: u32)
         requires switched { self.old.switched ≡ true }
         requires kept { is_released self.old.phase ≡ false }
-        ensures { self.new ≡ record self.old { phase = SourcePhase.Stopped; asked = []; remaining = remaining; packaged = packaged } }
+        ensures { self.new ≡
+            record self.old {
+              phase = SourcePhase.Stopped;
+              asked = [];
+              remaining = remaining;
+              packaged = packaged;
+            } }
     {
         self.phase = SourcePhase::Stopped;
         self.asked.clear();

@@ -29,7 +29,8 @@ impl Source {
     /// and returns the frame Advise. Refused with `Phase` if a migration has begun, with `CountUsed` if no epoch is left, and last with
     /// `NoMemory`.
     pub fn start(&mut self) -> Result<(Effect, Frame), Refusal>
-        ensures made { IfOk result (λ made. start self.old ≡ sent made.0 (frame_of made.1 ∷ []) self.new) }
+        ensures made { IfOk result (λ made.
+            start self.old ≡ sent made.0 (frame_of made.1 ∷ []) self.new) }
         ensures frame { IfOk result (λ made. IsFrame (frame_of made.1)) }
         ensures refused { IfErr result (λ refusal. IsRefusedFor (start self.old) refusal) }
         ensures err { OnErr result (self.new ≡ self.old) }
@@ -69,13 +70,16 @@ impl Source {
     /// outside pre-copy, with `NothingThere` if the round has sent all its pages, with `Changing` while an event is unread, and last
     /// with `NoMemory`.
     pub fn send_next(&mut self) -> Result<(Effect, PageNo, Sent<'_>), Refusal>
-        ensures* made { sem 𝓛 (LeavesSource self.entry result (λ made last. IsPageSent self.old made.0 made.1 (frame_sent made.1 made.2) last)) }
-        ensures sent { IfOk result (λ made. frame_sent made.1 made.2 ≡ page_frame made.1 (bytes_of self.old made.1)) }
+        ensures* made { sem 𝓛 (LeavesSource self.entry result (λ made last.
+            IsPageSent self.old made.0 made.1 (frame_sent made.1 made.2) last)) }
+        ensures sent { IfOk result (λ made.
+            frame_sent made.1 made.2 ≡ page_frame made.1 (bytes_of self.old made.1)) }
         ensures frame { IfOk result (λ made. IsFrame (frame_sent made.1 made.2)) }
         ensures refused { IfErr result (λ refusal. IsRefusedFor (send self.old) refusal) }
 
         // The same for a reader: `Zero` is returned exactly if all bytes of the page are zero.
-        ensures zero { IfOk result (λ made. (made.2 ≡ Sent.Zero) ↔ (bytes_of self.old made.1 ≡ zero_page)) }
+        ensures zero { IfOk result (λ made.
+            (made.2 ≡ Sent.Zero) ↔ (bytes_of self.old made.1 ≡ zero_page)) }
     {
         let page = self.next_to_send()?;
         self.space.is_in_order();
@@ -105,7 +109,8 @@ impl Source {
 
 /// The effect of sending a page.
 pub(super) fn page_effect(page: PageNo, sent: Sent) -> Effect
-    ensures { (bytes : List ℕ) → frame_sent page sent.entry ≡ page_frame page bytes → result ≡ page_effect page bytes }
+    ensures { (bytes : List ℕ) → frame_sent page sent.entry ≡ page_frame page bytes →
+        result ≡ page_effect page bytes }
 {
     let addr = page_address(page);
     match sent {

@@ -20,7 +20,8 @@ impl Source {
     /// write-protects them, then reads them; they are clean from then on. A count of 0 means 1, and a count above [`MAX_RUN`] means
     /// [`MAX_RUN`]. Refused like [`Source::send_next`].
     pub fn send_run(&mut self, count: u8) -> Result<(Effect, Frame), Refusal>
-        ensures made { IfOk result (λ made. send_run self.old count ≡ sent made.0 (frame_of made.1 ∷ []) self.new) }
+        ensures made { IfOk result (λ made.
+            send_run self.old count ≡ sent made.0 (frame_of made.1 ∷ []) self.new) }
         ensures frame { IfOk result (λ made. IsFrame (frame_of made.1)) }
         ensures refused { IfErr result (λ refusal. IsRefusedFor (send_run self.old count) refusal) }
         ensures err { OnErr result (self.new ≡ self.old) }

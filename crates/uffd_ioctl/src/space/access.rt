@@ -30,7 +30,8 @@ impl Space {
         requires { is_access command ≡ true }
         ensures access { IfOk result (λ access. access ≡ machine.access_of self.old command) }
         ensures space { OnOk result (self.new ≡ machine.accessed self.old cpu command) }
-        ensures memory { IfOk result (λ access. memory self.new.host ≡ memory_after access (memory self.old.host) command) }
+        ensures memory { IfOk result (λ access.
+            memory self.new.host ≡ memory_after access (memory self.old.host) command) }
         ensures needs { OnErr result (needs_room self.old command ≡ true) }
         ensures err { OnErr result (self.new ≡ self.old) }
     {
@@ -127,7 +128,13 @@ impl Space {
         requires below { page < HIGH_PAGE }
         requires mapped { IsTrue (map.contains_key self.old.host.areas page) }
         ensures present { OnOk result (IsTrue (map.contains_key self.new.host.bytes page)) }
-        ensures ok { OnOk result (self.new ≡ record self.old { host = record self.old.host { bytes = map.insert self.old.host.bytes page (contents self.old.host.bytes page) } }) }
+        ensures ok { OnOk result (self.new ≡
+            record self.old {
+              host = record self.old.host {
+                bytes = map.insert self.old.host.bytes page
+                    (contents self.old.host.bytes page);
+              };
+            }) }
         ensures missing { OnErr result (map.contains_key self.old.host.bytes page ≡ false) }
         ensures err { OnErr result (self.new ≡ self.old) }
     {
@@ -144,8 +151,13 @@ impl Space {
         requires high { addr < HIGH }
         requires aligned { is_form addr width ≡ true }
         requires mapped { IsTrue (map.contains_key self.old.host.areas (addr / 4096)) }
-        ensures ok { OnOk result (self.new ≡ record self.old { host = host_changed self.old.host (Command.Store addr width value) Reply.Done }) }
-        ensures missing { OnErr result (map.contains_key self.old.host.bytes (addr / 4096) ≡ false) }
+        ensures ok { OnOk result (self.new ≡
+            record self.old {
+              host = host_changed self.old.host (Command.Store addr width value)
+                  Reply.Done;
+            }) }
+        ensures missing { OnErr result (map.contains_key self.old.host.bytes (addr / 4096) ≡
+            false) }
         ensures err { OnErr result (self.new ≡ self.old) }
     {
         let page = (addr / PAGE_SIZE) as PageNo;

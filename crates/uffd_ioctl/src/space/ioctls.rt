@@ -53,7 +53,10 @@ impl Space {
     /// EINVAL if the object is not enabled for the three events, the mode is not 1 to 3, the range is bad, or no page of it is mapped. A
     /// range is bad if it is empty, does not begin and end at a page boundary, or leaves the address space.
     pub fn register(&mut self, start: Addr, len: u64, mode: u64) -> Result<(), IoctlFault>
-        ensures answer { (result ≡ ioctl_result (table.answered_by (table.register_error self.old start len mode) tt)) ⊎ ((result ≡ Err IoctlFault.NoMemory) × (table.register_error self.old start len mode ≡ None)) }
+        ensures answer { (result ≡
+            ioctl_result (table.answered_by (table.register_error self.old start len mode) tt)) ⊎
+            ((result ≡ Err IoctlFault.NoMemory) ×
+            (table.register_error self.old start len mode ≡ None)) }
         ensures space { OnOk result (self.new ≡ table.registered self.old start len mode) }
         ensures err { OnErr result (self.new ≡ self.old) }
     {
@@ -135,7 +138,11 @@ impl Space {
     /// unread; ENOENT unless all pages are registered, with one protection and in one mode; EINVAL for bit 1 if they are not
     /// registered for write-protect faults.
     pub fn copy(&mut self, start: Addr, bytes: &[u8], mode: u64) -> Result<Copied, CopyFault>
-        ensures row { ((result ≡ result_of (table.copy_answer self.old start bytes.now mode)) × (self.new ≡ table.copied self.old start bytes.now mode)) ⊎ ((table.copy_error self.old start (length bytes.now) mode ≡ None) × IsShort self.old self.new start (length bytes.now / 4096) mode (table.handed bytes.now) (is_one mode 1) result) }
+        ensures row { ((result ≡ result_of (table.copy_answer self.old start bytes.now mode)) ×
+            (self.new ≡ table.copied self.old start bytes.now mode)) ⊎
+            ((table.copy_error self.old start (length bytes.now) mode ≡ None) ×
+            IsShort self.old self.new start (length bytes.now / 4096) mode (table.handed bytes.now)
+            (is_one mode 1) result) }
     {
         if let Some(errno) = self.copy_error(start, bytes.len() as u64, mode) {
             return Err(refused(errno));
@@ -176,7 +183,8 @@ impl Space {
         requires page { IsPage page }
         requires registered { object.is_registered self.old.object page ≡ true }
         requires missing { contains_key self.old.host.bytes page ≡ false }
-        ensures ok { OnOk result (self.new ≡ table.installed self.old page 1 (λ i. zero_page) false) }
+        ensures ok { OnOk result (self.new ≡
+            table.installed self.old page 1 (λ i. zero_page) false) }
         ensures err { OnErr result (self.new ≡ self.old) }
     {
         let Ok(()) = self.pages.put_zero(page) else {
@@ -223,7 +231,10 @@ impl Space {
     /// Before any page is put: EINVAL if the object is not enabled, the mode is above 1 or the range is bad; EAGAIN while an event is
     /// unread; ENOENT unless all pages are registered, with one protection and in one mode.
     pub fn zeropage(&mut self, start: Addr, len: u64, mode: u64) -> Result<Copied, CopyFault>
-        ensures row { ((result ≡ result_of (table.zeropage_answer self.old start len mode)) × (self.new ≡ table.zeropaged self.old start len mode)) ⊎ ((table.zeropage_error self.old start len mode ≡ None) × IsShort self.old self.new start (len / 4096) mode (λ i. zero_page) false result) }
+        ensures row { ((result ≡ result_of (table.zeropage_answer self.old start len mode)) ×
+            (self.new ≡ table.zeropaged self.old start len mode)) ⊎
+            ((table.zeropage_error self.old start len mode ≡ None) ×
+            IsShort self.old self.new start (len / 4096) mode (λ i. zero_page) false result) }
     {
         if let Some(errno) = self.zeropage_error(start, len, mode) {
             return Err(refused(errno));
@@ -296,7 +307,9 @@ impl Space {
     /// read(2) of the object: the next message, page faults before events, with the processor that caused it. EINVAL if the
     /// object is not enabled, EAGAIN if there is no message.
     pub fn read_message(&mut self) -> Result<(Message, u8), Errno>
-        ensures message { IfOk result (λ read. option_map (λ noted. (noted.message, noted.cpu)) (object.next_message self.old.object) ≡ Some read) }
+        ensures message { IfOk result (λ read.
+            option_map (λ noted. (noted.message, noted.cpu)) (object.next_message self.old.object) ≡
+            Some read) }
         ensures ok { OnOk result (table.read_error self.old ≡ None) }
         ensures err { IfErr result (λ errno. table.read_error self.old ≡ Some errno) }
         ensures space { self.new ≡ table.read_space self.old }

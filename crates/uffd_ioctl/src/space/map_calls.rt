@@ -53,10 +53,14 @@ impl Space {
     }
 
     fn mmap(&mut self, cpu: u8, len: u64, prot: Prot, place: Place) -> Result<(Reply, u8), NoMemory>
-        ensures reply { IfOk result (λ answer. answer.0 ≡ reply_of (memory self.old.host) (Command.Mmap len prot place)) }
-        ensures queued { IfOk result (λ answer. answer.1 ≡ machine.queued_by self.old (Command.Mmap len prot place)) }
-        ensures space { OnOk result (self.new ≡ machine.called self.old cpu (Command.Mmap len prot place)) }
-        ensures needs { OnErr result (call_needs_room self.old (Command.Mmap len prot place) ≡ true) }
+        ensures reply { IfOk result (λ answer.
+            answer.0 ≡ reply_of (memory self.old.host) (Command.Mmap len prot place)) }
+        ensures queued { IfOk result (λ answer.
+            answer.1 ≡ machine.queued_by self.old (Command.Mmap len prot place)) }
+        ensures space { OnOk result (self.new ≡
+            machine.called self.old cpu (Command.Mmap len prot place)) }
+        ensures needs { OnErr result (call_needs_room self.old (Command.Mmap len prot place) ≡
+            true) }
         ensures err { OnErr result (self.new ≡ self.old) }
     {
         match mmap_place(&self.areas, len, place) {
@@ -80,9 +84,12 @@ impl Space {
     }
 
     fn munmap(&mut self, cpu: u8, addr: Addr, len: u64) -> Result<(Reply, u8), NoMemory>
-        ensures reply { IfOk result (λ answer. answer.0 ≡ reply_of (memory self.old.host) (Command.Munmap addr len)) }
-        ensures queued { IfOk result (λ answer. answer.1 ≡ machine.queued_by self.old (Command.Munmap addr len)) }
-        ensures space { OnOk result (self.new ≡ machine.called self.old cpu (Command.Munmap addr len)) }
+        ensures reply { IfOk result (λ answer.
+            answer.0 ≡ reply_of (memory self.old.host) (Command.Munmap addr len)) }
+        ensures queued { IfOk result (λ answer.
+            answer.1 ≡ machine.queued_by self.old (Command.Munmap addr len)) }
+        ensures space { OnOk result (self.new ≡
+            machine.called self.old cpu (Command.Munmap addr len)) }
         ensures needs { OnErr result (call_needs_room self.old (Command.Munmap addr len) ≡ true) }
         ensures err { OnErr result (self.new ≡ self.old) }
     {
@@ -118,10 +125,16 @@ impl Space {
         may_move: bool,
         fixed: Option<Addr>,
     ) -> Result<(Reply, u8), NoMemory>
-        ensures reply { IfOk result (λ answer. answer.0 ≡ reply_of (memory self.old.host) (Command.Mremap addr old_len new_len may_move fixed)) }
-        ensures queued { IfOk result (λ answer. answer.1 ≡ machine.queued_by self.old (Command.Mremap addr old_len new_len may_move fixed)) }
-        ensures space { OnOk result (self.new ≡ machine.called self.old cpu (Command.Mremap addr old_len new_len may_move fixed)) }
-        ensures needs { OnErr result (call_needs_room self.old (Command.Mremap addr old_len new_len may_move fixed) ≡ true) }
+        ensures reply { IfOk result (λ answer.
+            answer.0 ≡ reply_of (memory self.old.host)
+            (Command.Mremap addr old_len new_len may_move fixed)) }
+        ensures queued { IfOk result (λ answer.
+            answer.1 ≡ machine.queued_by self.old
+            (Command.Mremap addr old_len new_len may_move fixed)) }
+        ensures space { OnOk result (self.new ≡
+            machine.called self.old cpu (Command.Mremap addr old_len new_len may_move fixed)) }
+        ensures needs { OnErr result
+            (call_needs_room self.old (Command.Mremap addr old_len new_len may_move fixed) ≡ true) }
         ensures err { OnErr result (self.new ≡ self.old) }
     {
         match mremap_place(&self.areas, addr, old_len, new_len, may_move, fixed) {
@@ -146,9 +159,12 @@ impl Space {
     }
 
     fn dontneed(&mut self, cpu: u8, addr: Addr, len: u64) -> Result<(Reply, u8), NoMemory>
-        ensures reply { IfOk result (λ answer. answer.0 ≡ reply_of (memory self.old.host) (Command.DontNeed addr len)) }
-        ensures queued { IfOk result (λ answer. answer.1 ≡ machine.queued_by self.old (Command.DontNeed addr len)) }
-        ensures space { OnOk result (self.new ≡ machine.called self.old cpu (Command.DontNeed addr len)) }
+        ensures reply { IfOk result (λ answer.
+            answer.0 ≡ reply_of (memory self.old.host) (Command.DontNeed addr len)) }
+        ensures queued { IfOk result (λ answer.
+            answer.1 ≡ machine.queued_by self.old (Command.DontNeed addr len)) }
+        ensures space { OnOk result (self.new ≡
+            machine.called self.old cpu (Command.DontNeed addr len)) }
         ensures needs { OnErr result (call_needs_room self.old (Command.DontNeed addr len) ≡ true) }
         ensures err { OnErr result (self.new ≡ self.old) }
     {

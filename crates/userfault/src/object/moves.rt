@@ -38,7 +38,8 @@ impl Userfault {
     /// Restores the modes that the pages of an open range had before. It takes no memory.
     pub fn close_range(&mut self, first: PageNo, count: u32, modes: &RangeModes)
         requires { first + count ≤ HIGH_PAGE }
-        ensures { (before : machine.Object) → self.old ≡ opened before first count → AreModesOf modes.now before first count → self.new ≡ before }
+        ensures { (before : machine.Object) → self.old ≡ opened before first count →
+            AreModesOf modes.now before first count → self.new ≡ before }
     {
         remove_unless_in(&mut self.missing, &modes.missing, first, count);
         remove_unless_in(&mut self.protect, &modes.protect, first, count);
@@ -74,7 +75,8 @@ impl Userfault {
     pub fn move_range(&mut self, from: PageNo, to: PageNo, count: u32) -> Result<(), NoMemory>
         requires inside { (from + count ≤ HIGH_PAGE) × (to + count ≤ HIGH_PAGE) }
         requires apart { (from + count ≤ to) ⊎ (to + count ≤ from) }
-        ensures ok { OnOk result (self.new ≡ machine.moved_modes self.old from count to count no_mode) }
+        ensures ok { OnOk result (self.new ≡
+            machine.moved_modes self.old from count to count no_mode) }
         ensures err { OnErr result (self.new ≡ self.old) }
     {
         self.open_range(to, count)?;

@@ -16,7 +16,8 @@ impl Userfault {
     /// `NoMemory` drops the object: call it on a copy.
     pub fn and_registered(self, first: PageNo, count: u32, mode: Mode) -> Result<Self, NoMemory>
         requires bound { first + count ≤ HIGH_PAGE }
-        ensures { IfOk result (λ object. object ≡ machine.registered_where self (in_range first count) (mode_of mode)) }
+        ensures { IfOk result (λ object.
+            object ≡ machine.registered_where self (in_range first count) (mode_of mode)) }
     {
         let mut object = self;
         object.missing.ends_by_high_page();
@@ -32,7 +33,8 @@ impl Userfault {
         ensures range { (from ≤ result.0) × (result.0 ≤ result.1) × (result.1 ≤ end) }
         ensures further { from < result.1 }
         ensures before { (q : ℕ) → from ≤ q → q < result.0 → contains self.now.protect q ≡ true }
-        ensures inside { (q : ℕ) → result.0 ≤ q → q < result.1 → contains self.now.protect q ≡ false }
+        ensures inside { (q : ℕ) → result.0 ≤ q → q < result.1 →
+            contains self.now.protect q ≡ false }
     {
         run_of(&self.protect, from, end, false)
     }
@@ -49,8 +51,10 @@ fn register_run(
     requires bound { first + count ≤ HIGH_PAGE }
     requires missing { (q : ℕ) → HIGH_PAGE ≤ q → contains missing.old q ≡ false }
     requires protect { (q : ℕ) → HIGH_PAGE ≤ q → contains protect.old q ≡ false }
-    ensures missing { OnOk result (missing.new ≡ registered_set missing.old protect.old first count mode.missing mode.protect) }
-    ensures protect { OnOk result (protect.new ≡ registered_set protect.old missing.old first count mode.protect mode.missing) }
+    ensures missing { OnOk result (missing.new ≡
+        registered_set missing.old protect.old first count mode.missing mode.protect) }
+    ensures protect { OnOk result (protect.new ≡
+        registered_set protect.old missing.old first count mode.protect mode.missing) }
 {
     match (mode.missing, mode.protect) {
         (true, true) => {

@@ -75,7 +75,10 @@ impl Parts {
     /// Whether bytes of a wire can arrive: `Phase` unless the phase allows it, then `Broken` unless the link is up, then `NothingThere`
     /// if nothing is in flight.
     pub(super) fn ensure_in_flight(&self, allowed: bool, wire: &Wire) -> Result<(), Refusal>
-        ensures { result ≡ checked (while_up self.now.up (in_phase allowed (ok_or (first_of wire.now.wire.frames) refusals.Refusal.NothingThere))) }
+        ensures { result ≡ checked
+            (while_up self.now.up
+            (in_phase allowed
+            (ok_or (first_of wire.now.wire.frames) refusals.Refusal.NothingThere))) }
     {
         if !allowed {
             return Err(Refusal::Phase);

@@ -31,7 +31,8 @@ impl Destination {
     /// The copy of a page has come. Before the run it is kept; from then on it waits to be installed.
     pub(super) fn page_came(&mut self, page: PageNo, bytes: PageBytes) -> Result<(), NoMemory>
         requires { page < HIGH_PAGE }
-        ensures ok { OnOk result (self.new ≡ copy_came self.old.has_run self.old (record { page = page; bytes = bytes })) }
+        ensures ok { OnOk result (self.new ≡
+            copy_came self.old.has_run self.old (record { page = page; bytes = bytes })) }
         ensures err { OnErr result (self.new ≡ self.old) }
     {
         if self.has_run {
@@ -44,7 +45,8 @@ impl Destination {
     /// A page of zeros has come. Before the run it is kept; from then on it waits to be installed.
     pub(super) fn zero_came(&mut self, page: PageNo) -> Result<(), NoMemory>
         requires { page < HIGH_PAGE }
-        ensures ok { OnOk result (self.new ≡ copy_came self.old.has_run self.old (record { page = page; bytes = zero_page })) }
+        ensures ok { OnOk result (self.new ≡
+            copy_came self.old.has_run self.old (record { page = page; bytes = zero_page })) }
         ensures err { OnErr result (self.new ≡ self.old) }
     {
         if self.has_run {
@@ -56,7 +58,8 @@ impl Destination {
 
     /// The copy of a page waits to be installed.
     pub(super) fn page_waits(&mut self, page: PageNo, bytes: PageBytes) -> Result<(), NoMemory>
-        ensures ok { OnOk result (self.new ≡ arrived self.old (record { page = page; bytes = bytes })) }
+        ensures ok { OnOk result (self.new ≡
+            arrived self.old (record { page = page; bytes = bytes })) }
         ensures err { OnErr result (self.new ≡ self.old) }
     {
         self.arrivals.push_back(Arrival::new(page, Some(bytes)))?;
@@ -65,7 +68,8 @@ impl Destination {
 
     /// A page of zeros waits to be installed.
     pub(super) fn zero_waits(&mut self, page: PageNo) -> Result<(), NoMemory>
-        ensures ok { OnOk result (self.new ≡ arrived self.old (record { page = page; bytes = zero_page })) }
+        ensures ok { OnOk result (self.new ≡
+            arrived self.old (record { page = page; bytes = zero_page })) }
         ensures err { OnErr result (self.new ≡ self.old) }
     {
         self.arrivals.push_back(Arrival::new(page, None))?;
@@ -75,7 +79,8 @@ impl Destination {
     /// Copies of neighbouring pages have come and are kept; a Run comes only before the run.
     pub(super) fn run_came(&mut self, first: PageNo, pages: Pages) -> Result<(), NoMemory>
         requires { first + length pages ≤ HIGH_PAGE }
-        ensures ok { OnOk result (self.new ≡ record self.old { kept = wire.kept_after self.old.kept (wire.Frame.Run first pages) }) }
+        ensures ok { OnOk result (self.new ≡
+            record self.old { kept = wire.kept_after self.old.kept (wire.Frame.Run first pages) }) }
         ensures err { OnErr result (self.new ≡ self.old) }
     {
         self.kept.keep_run(first, pages.into_vec())
@@ -83,7 +88,12 @@ impl Destination {
 
     /// Discards the copies that are out of date.
     pub(super) fn discard(&mut self, pages: &PageSet)
-        ensures { self.new ≡ record self.old { phase = DestPhase.Discarding; kept = wire.kept_after self.old.kept (wire.Frame.Discard pages.now) } }
+        ensures { self.new ≡
+            record self.old {
+              phase = DestPhase.Discarding;
+              kept = wire.kept_after self.old.kept
+                  (wire.Frame.Discard pages.now);
+            } }
     {
         self.kept.discard(pages);
         self.phase = DestPhase::Discarding;
@@ -100,7 +110,8 @@ impl Destination {
         requires few { AreFewPages owed.now }
         requires whole { is_torn self.old.kept areas.now owed.now ≡ false }
         requires cpus { length commands.now ≡ length self.old.guest.cpus }
-        ensures ok { OnOk result (self.new ≡ destination_ran self.old areas.now owed.now commands.now) }
+        ensures ok { OnOk result (self.new ≡
+            destination_ran self.old areas.now owed.now commands.now) }
         ensures err { OnErr result (self.new ≡ self.old) }
     {
         let owed = Owed::new(self.alloc, owed)?;
