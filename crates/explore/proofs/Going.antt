@@ -3,6 +3,7 @@ use Rattle.std.proofs.Common.{◌≡◌, ℕ, ◌+◌, ◌<◌, ◌≤◌, List,
 use Rattle.std.specs.Prelude.{Result, Ok, Err, OnOk, OnErr}
 use Rattle.std.specs.Io.KnownBytes.{Appends}
 use Rattle.std.proofs.KnownBytes.{Appends-nil, Appends-trans}
+use Rattle.std.proofs.lemmas.Bool.{or_from, or_left, or_right}
 use Rattle.grammar.specs.declared.line.Line.TheVariants.{Skipped, Do}
 use Rattle.grammar.specs.declared.order.Order.{Order}
 use Rattle.engine.specs.declared.line_runner.Mode.TheVariants.{Lines}
@@ -190,16 +191,6 @@ more_cut a steps m e w0 w1 w2 b c on front = λ start before p.
     let gone = on start steps before p in
     going_cut a true start gone.0 steps e before w1 w2 c gone.2 tt front
 
--- one of two tests holds
-or_left : (f g : Bool) → f ≡ true → (f || g) ≡ true
-or_left f g is = ap (λ (x : Bool). x || g) is
-
-or_right : (f g : Bool) → f ≡ false → g ≡ true → (f || g) ≡ true
-or_right f g isnt is = ap (λ (x : Bool). x || g) isnt ∙ is
-
-or_none : (f g : Bool) → f ≡ false → g ≡ false → (f || g) ≡ false
-or_none f g isnt is = ap (λ (x : Bool). x || g) isnt ∙ is
-
 -- ---- without answers, the text is a script
 
 explores_reads : (s : World) (xs : List (List ℕ)) (e : World) (t : List ℕ) → Explores false s xs e t → IsScript s e (length xs) t
@@ -256,7 +247,7 @@ pub end_fault : (r : Result (Unit {0}) RunFault) (a f g : Bool) (steps : ℕ) (m
     → f ≡ false → g ≡ false → OnErr r (Front b w0 w1) → OnErr r (CutOn a (f || g) steps m w0 b w1)
 end_fault (Ok done) a f g steps m w0 w1 b no_finish no_sweep p = tt
 end_fault (Err fault) a f g steps m w0 w1 b no_finish no_sweep p =
-    subst (λ (h : Bool). CutOn a h steps m w0 b w1) (sym (or_none f g no_finish no_sweep)) (end_cut a steps m w0 w1 b p)
+    subst (λ (h : Bool). CutOn a h steps m w0 b w1) (sym (or_from f g no_finish no_sweep)) (end_cut a steps m w0 w1 b p)
 
 pub finish_ok : (r : Result (Unit {0}) RunFault) (a f g : Bool) (steps : ℕ) (m e : World) (w0 w1 w2 : Option (List ℕ)) (b c : List ℕ)
     → f ≡ true → GoesOn a m w0 b e w1 c → IsComplete e ⊎ (needs_epoch e ≡ true) → OnOk r (Appends w1 w2 c) → OnOk r (DoneOn a f g steps m w0 b w2)
@@ -282,7 +273,7 @@ finish_fault r a f g steps m e w0 w1 w2 b c is on p = more_fault r a (f || g) st
 
 pub sweep_fault : (r : Result (Unit {0}) RunFault) (a f g : Bool) (steps : ℕ) (m e : World) (w0 w1 w2 : Option (List ℕ)) (b c : List ℕ)
     → f ≡ false → g ≡ true → GoesOn a m w0 b e w1 c → OnErr r (Front c w1 w2) → OnErr r (CutOn a (f || g) steps m w0 b w2)
-sweep_fault r a f g steps m e w0 w1 w2 b c no_finish is on p = more_fault r a (f || g) steps m e w0 w1 w2 b c (or_right f g no_finish is) on p
+sweep_fault r a f g steps m e w0 w1 w2 b c no_finish is on p = more_fault r a (f || g) steps m e w0 w1 w2 b c (or_right f g is) on p
 
 -- ---- it stops among the lines that follow the steps
 
@@ -295,7 +286,7 @@ finish_stopped a f g steps m w0 w1 b is stops = stopped a (f || g) steps m w0 w1
 
 pub sweep_stopped : (a f g : Bool) (steps : ℕ) (m : World) (w0 w1 : Option (List ℕ)) (b : List ℕ)
     → f ≡ false → g ≡ true → StopsOn a m w0 b w1 → CutOn a (f || g) steps m w0 b w1
-sweep_stopped a f g steps m w0 w1 b no_finish is stops = stopped a (f || g) steps m w0 w1 b (or_right f g no_finish is) stops
+sweep_stopped a f g steps m w0 w1 b no_finish is stops = stopped a (f || g) steps m w0 w1 b (or_right f g is) stops
 
 -- ---- the completion, the sweep, and the completion again
 

@@ -1,5 +1,5 @@
 -- Which steps the strategy has, and that they leave the transcript.
-use Rattle.std.proofs.Common.{◌≡◌, ℕ, Bool, true, false, not, Option, None, Some, ap, subst, if◌then◌else◌}
+use Rattle.std.proofs.Common.{◌≡◌, ℕ, Bool, true, false, not, Option, None, Some, refl, ap, subst, if◌then◌else◌}
 use Rattle.std.specs.Option.{IfSome}
 use Rattle.std.specs.Prelude.{◌==◌}
 use Rattle.mig_base.specs.Tests.{is_empty}
@@ -18,50 +18,86 @@ use Rattle.finish.specs.Finishing.{IsOfStrategy, all_bytes, delivering_step, dow
 
 -- Which steps it has
 
-either : (test : Bool) (a b : Step) → IsOfStrategy a → IsOfStrategy b → IsOfStrategy (if test then a else b)
-either true a b p q = p
-either false a b p q = q
+-- a claim holds of each step that the strategy may name in a world
+pub record OfEach (claim : Step → Type 0) (world : World) : Type 0 where
+  pub start : claim Step.Start
+  pub source_read : claim Step.SourceRead
+  pub switch : claim Step.Switch
+  pub push : (page : ℕ) → least_of world.source.remaining ≡ Some page → claim (Step.Push (record { epoch = world.source.epoch; page = page }))
+  pub end : claim Step.End
+  pub deliver : claim (Step.Deliver all_bytes)
+  pub deliver_urgent : claim (Step.DeliverUrgent all_bytes)
+  pub deliver_back : claim (Step.DeliverBack all_bytes)
+  pub dest_read : claim Step.DestRead
+  pub install : claim Step.Install
+  pub notice : (side : Side) → claim (Step.Notice side)
+  pub resume : claim Step.Resume
 
-either_some : (test : Bool) (a b : Option Step) → IfSome a IsOfStrategy → IfSome b IsOfStrategy → IfSome (if test then a else b) IsOfStrategy
-either_some true a b p q = p
-either_some false a b p q = q
+either : (claim : Step → Type 0) (test : Bool) (a b : Step) → claim a → claim b → claim (if test then a else b)
+either claim true a b p q = p
+either claim false a b p q = q
 
-unless : (world : World) (step : Step) → IsOfStrategy step → IfSome (unless_used world step) IsOfStrategy
-unless world step p = either_some (is_used world.source.epoch) None (Some step) tt p
+either_some : (claim : Step → Type 0) (test : Bool) (a b : Option Step) → IfSome a claim → IfSome b claim → IfSome (if test then a else b) claim
+either_some claim true a b p q = p
+either_some claim false a b p q = q
 
-running : (world : World) → IsOfStrategy (running_step world)
-running world =
-    either (not (is_empty world.urgent.frames)) (Step.DeliverUrgent all_bytes) _ tt (
-    either (is_empty world.destination.arrivals) (Step.Deliver all_bytes) _ tt (either (is_changing world.destination.guest) Step.DestRead Step.Install tt tt)
+unless : (claim : Step → Type 0) (world : World) (step : Step) → claim step → IfSome (unless_used world step) claim
+unless claim world step p = either_some claim (is_used world.source.epoch) None (Some step) tt p
+
+running : (claim : Step → Type 0) (world : World) → OfEach claim world → claim (running_step world)
+running claim world of =
+    either claim (not (is_empty world.urgent.frames)) (Step.DeliverUrgent all_bytes) _ of.deliver_urgent (
+    either claim (is_empty world.destination.arrivals) (Step.Deliver all_bytes) _ of.deliver (
+    either claim (is_changing world.destination.guest) Step.DestRead Step.Install of.dest_read of.install)
     )
 
-delivering : (phase : DestPhase) (world : World) → IsOfStrategy (delivering_step phase world)
-delivering DestPhase.Idle world = tt
-delivering DestPhase.Advised world = tt
-delivering DestPhase.Discarding world = tt
-delivering DestPhase.Running world = running world
-delivering DestPhase.Paused world = tt
-delivering DestPhase.Ended world = tt
+delivering : (claim : Step → Type 0) (phase : DestPhase) (world : World) → OfEach claim world → claim (delivering_step phase world)
+delivering claim DestPhase.Idle world of = of.deliver
+delivering claim DestPhase.Advised world of = of.deliver
+delivering claim DestPhase.Discarding world of = of.deliver
+delivering claim DestPhase.Running world of = running claim world of
+delivering claim DestPhase.Paused world of = of.deliver
+delivering claim DestPhase.Ended world of = of.deliver_back
 
-stopped : (least : Option ℕ) (world : World) → IsOfStrategy (stopped_by least world)
-stopped (Some page) world = tt
-stopped None world = either (world.source.end_epoch == world.source.epoch) _ Step.End (delivering world.destination.phase world) tt
+stopped : (claim : Step → Type 0) (least : Option ℕ) (world : World) → OfEach claim world → least_of world.source.remaining ≡ least → claim (stopped_by least world)
+stopped claim (Some page) world of is = of.push page is
+stopped claim None world of is = either claim (world.source.end_epoch == world.source.epoch) _ Step.End (delivering claim world.destination.phase world of) of.end
 
-up : (phase : SourcePhase) (world : World) → IfSome (up_step phase world) IsOfStrategy
-up SourcePhase.Idle world = unless world Step.Start tt
-up SourcePhase.Precopy world = either (is_changing world.source.guest) Step.SourceRead Step.Switch tt tt
-up SourcePhase.Stopped world = stopped (least_of world.source.remaining) world
-up SourcePhase.Paused world = either (is_empty world.forward.frames) (Step.DeliverBack all_bytes) (Step.Deliver all_bytes) tt tt
-up SourcePhase.Released world = tt
+up : (claim : Step → Type 0) (phase : SourcePhase) (world : World) → OfEach claim world → IfSome (up_step phase world) claim
+up claim SourcePhase.Idle world of = unless claim world Step.Start of.start
+up claim SourcePhase.Precopy world of = either claim (is_changing world.source.guest) Step.SourceRead Step.Switch of.source_read of.switch
+up claim SourcePhase.Stopped world of = stopped claim (least_of world.source.remaining) world of refl
+up claim SourcePhase.Paused world of = either claim (is_empty world.forward.frames) (Step.DeliverBack all_bytes) (Step.Deliver all_bytes) of.deliver_back of.deliver
+up claim SourcePhase.Released world of = tt
 
-down : (world : World) → IfSome (down_step world) IsOfStrategy
-down world =
-    either_some (not (is_source_paused world.source.phase)) (Some (Step.Notice Side.Source)) _ tt (
-    either_some (not (is_dest_paused world.destination.phase)) (Some (Step.Notice Side.Destination)) _ tt (unless world Step.Resume tt)
+down : (claim : Step → Type 0) (world : World) → OfEach claim world → IfSome (down_step world) claim
+down claim world of =
+    either_some claim (not (is_source_paused world.source.phase)) (Some (Step.Notice Side.Source)) _ (of.notice Side.Source) (
+    either_some claim (not (is_dest_paused world.destination.phase)) (Some (Step.Notice Side.Destination)) _ (of.notice Side.Destination) (
+    unless claim world Step.Resume of.resume)
     )
+
+-- a claim on each step that may be named holds of the one that is
+pub of_named : (claim : Step → Type 0) (world : World) → OfEach claim world → IfSome (finishing_step world) claim
+of_named claim world of = either_some claim world.up _ _ (up claim world.source.phase world of) (down claim world of)
 
 pub of_strategy : (world : World) → IfSome (finishing_step world) IsOfStrategy
-of_strategy world = either_some world.up _ _ (up world.source.phase world) (down world)
+of_strategy world =
+    of_named IsOfStrategy world
+    (record {
+      start = tt;
+      source_read = tt;
+      switch = tt;
+      push = λ page is. tt;
+      end = tt;
+      deliver = tt;
+      deliver_urgent = tt;
+      deliver_back = tt;
+      dest_read = tt;
+      install = tt;
+      notice = λ side. tt;
+      resume = tt;
+    })
 
 -- What they leave
 
