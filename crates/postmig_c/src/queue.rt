@@ -13,7 +13,7 @@ use std::marker::Model;
 
 /// Why a piece is not taken. Nothing changes then.
 #[derive(Clone, Copy)]
-pub enum FeedFault {
+pub(crate) enum FeedFault {
     /// Frames of the pieces before it wait.
     Waiting,
     /// An allocation failed.
@@ -22,7 +22,7 @@ pub enum FeedFault {
 
 /// A decoder, and the frames that it returned and that were not handed out yet.
 #[derive(Drop)]
-pub struct FrameQueue {
+pub(crate) struct FrameQueue {
     decoder: Decoder,
     /// The frames that the decoder returned last.
     frames: Vec<(u32, Frame)>,
@@ -56,7 +56,7 @@ fn taken_despite(fault: StreamFault) -> Result<(), FeedFault>
 
 impl FrameQueue {
     /// A queue of a stream of which nothing has come. It takes no memory.
-    pub fn new(alloc: Global) -> FrameQueue
+    pub(crate) fn new(alloc: Global) -> FrameQueue
         ensures { result ≡ empty_queue }
     {
         FrameQueue {
@@ -75,7 +75,7 @@ impl FrameQueue {
     }
 
     /// Takes the next piece, if no frame waits. A fault of the stream is not returned here, but by [`show`](FrameQueue::show).
-    pub fn feed(&mut self, piece: &[u8]) -> Result<(), FeedFault>
+    pub(crate) fn feed(&mut self, piece: &[u8]) -> Result<(), FeedFault>
         ensures ok { OnOk result (Feeds self.old piece.now self.new) }
         ensures err { OnErr result (self.new ≡ self.old) }
         ensures waiting { result ≡ Err FeedFault.Waiting → 0 < length self.old.waiting }
@@ -109,7 +109,7 @@ impl FrameQueue {
 
     /// Shows the first frame that waits: its numbers, and its text in [`text`](FrameQueue::text). `None` comes if no frame waits and the
     /// stream has no fault there.
-    pub fn show(&mut self) -> Result<Option<FrameNumbers>, StreamFault>
+    pub(crate) fn show(&mut self) -> Result<Option<FrameNumbers>, StreamFault>
         ensures some { IfOk result (λ shown.
             IfSome shown (λ numbers. Shows self.old numbers self.new)) }
         ensures none { IfOk result (λ shown. IfNone shown (IsFedUp self.old self.new)) }
@@ -126,14 +126,14 @@ impl FrameQueue {
     }
 
     /// The text of the frame that was shown last, in version 2 of the format.
-    pub fn text(&self) -> &[u8]
+    pub(crate) fn text(&self) -> &[u8]
         ensures { result.now ≡ self.now.text }
     {
         &self.text
     }
 
     /// Drops the first frame that waits, if any.
-    pub fn drop_first(&mut self)
+    pub(crate) fn drop_first(&mut self)
         ensures { DropsFirst self.old self.new }
     {
         if self.has_frame() {
