@@ -7,7 +7,7 @@ use crate::commands::{draw_command, draw_of, draw_page};
 use crate::course::{Course, Memo};
 use crate::random::{below, in_share};
 use crate::weights::REPAIR;
-use grammar::Order;
+use grammar::{ForwardWire, Order};
 use mig_base::{LOW_PAGE, MAX_RUN};
 use rand_core::Rng;
 use world::prelude::*;
@@ -61,6 +61,15 @@ fn total(weights: &crate::weights::Weights, link: u8) -> u32
         + u32::from(weights.wires)
         + u32::from(weights.dest_handler)
         + u32::from(link)
+}
+
+/// The wire of a push, by whether it is urgent.
+fn wire_if(urgent: bool) -> ForwardWire {
+    if urgent {
+        ForwardWire::Urgent
+    } else {
+        ForwardWire::Main
+    }
 }
 
 /// A processor of the guest.
@@ -163,7 +172,7 @@ fn draw_push<R: Rng>(rng: &mut R, course: &Course, memo: &Memo, world: &World) -
         _ => return Order::Make(Step::Serve),
     };
     Order::Push {
-        urgent: in_share(rng, course.weights.urgent),
+        wire: wire_if(in_share(rng, course.weights.urgent)),
         page,
         epoch: None,
     }
@@ -299,7 +308,7 @@ fn draw_any<R: Rng>(rng: &mut R, course: &Course, memo: &Memo, world: &World) ->
     let cpu = cpu as u8;
     match below(rng, 24) {
         0..=2 => Order::Push {
-            urgent: below(rng, 2) == 0,
+            wire: wire_if(below(rng, 2) == 0),
             page: draw_page(rng, course),
             epoch: draw_epoch(rng, world.epoch()),
         },

@@ -49,7 +49,7 @@ step_first step.Resume ts h = (_, _, h)
 
 order_first : (o : Order) (ts : List Token) → OrderForm o ts → (k : Keyword) × (more : List Token) × (ts ≡ Key k ∷ more)
 order_first (Make made) ts h = step_first made ts h
-order_first (Push urgent page epoch) ts h = (_, _, h.2)
+order_first (Push wire page epoch) ts h = (_, _, h.2)
 order_first Progress ts h = (_, _, h)
 
 first_byte : (b : ℕ) (bs : List ℕ) → 58 ≤ b → slice_get (b ∷ bs) 0 ≡ Some 35 → ⊥

@@ -11,6 +11,8 @@ use Rattle.grammar.specs.declared.keyword.Keyword.{Keyword}
 use Rattle.grammar.specs.declared.keyword.Keyword.TheVariants as key
 use Rattle.grammar.specs.declared.token.Token.{Token}
 use Rattle.grammar.specs.declared.token.Token.TheVariants.{Key, Number}
+use Rattle.grammar.specs.declared.order.ForwardWire.{ForwardWire}
+use Rattle.grammar.specs.declared.order.ForwardWire.TheVariants.{Main, Urgent}
 use Rattle.grammar.specs.declared.order.Order.{Order}
 use Rattle.grammar.specs.declared.order.Order.TheVariants.{Make, Push, Progress}
 use Rattle.grammar.specs.Words.{AreTokens}
@@ -104,20 +106,20 @@ notice_found (Key key.Source ∷ []) o e = subst (λ (x : Order). OrderForm x (K
 notice_found (Key key.Dest ∷ []) o e = subst (λ (x : Order). OrderForm x (Key key.Notice ∷ Key key.Dest ∷ [])) (some_is (Make (step.Notice side.Destination)) o e) refl
 notice_found _ o e = absurd cc
 
-push_found : (urgent : Bool) (ts : List Token) (o : Order) → push_from urgent ts ≡ Some o → OrderForm o (Key (push_key urgent) ∷ ts)
+push_found : (wire : ForwardWire) (ts : List Token) (o : Order) → push_from wire ts ≡ Some o → OrderForm o (Key (push_key wire) ∷ ts)
 unfolding push_from
-push_found urgent (Number addr ∷ epoch) o e =
-    let p = bind_some (page_from addr) (λ p. epoch_from epoch >>= λ at. Some (Push urgent p at)) o e in
-    let at = bind_some (epoch_from epoch) (λ at. Some (Push urgent p.0 at)) o p.2 in
+push_found wire (Number addr ∷ epoch) o e =
+    let p = bind_some (page_from addr) (λ p. epoch_from epoch >>= λ at. Some (Push wire p at)) o e in
+    let at = bind_some (epoch_from epoch) (λ at. Some (Push wire p.0 at)) o p.2 in
     let page = page_is addr p.0 p.1 in
     let written = epoch_found epoch at.0 at.1 in
-    subst (λ (x : Order). OrderForm x (Key (push_key urgent) ∷ Number addr ∷ epoch)) (some_is (Push urgent p.0 at.0) o at.2) (
+    subst (λ (x : Order). OrderForm x (Key (push_key wire) ∷ Number addr ∷ epoch)) (some_is (Push wire p.0 at.0) o at.2) (
       page.0,
       written.0,
-      ap (λ (n : ℕ). Key (push_key urgent) ∷ Number n ∷ epoch) page.1
-          ∙ ap (λ (xs : List Token). Key (push_key urgent) ∷ Number (PAGE_SIZE * p.0) ∷ xs) written.1,
+      ap (λ (n : ℕ). Key (push_key wire) ∷ Number n ∷ epoch) page.1
+          ∙ ap (λ (xs : List Token). Key (push_key wire) ∷ Number (PAGE_SIZE * p.0) ∷ xs) written.1,
     )
-push_found urgent _ o e = absurd cc
+push_found wire _ o e = absurd cc
 
 moves_found : (word : Keyword) (make : ℕ → Step) (ts : List Token) (o : Order) → ((n : ℕ) (all : List Token) → MovesForm word n all → OrderForm (Make (make n)) all)
     → (bytes_from ts >>= λ n. Some (Make (make n))) ≡ Some o → OrderForm o (Key word ∷ ts)
@@ -158,8 +160,8 @@ with_found key.SendRun ts o e = run_found ts o e
 with_found key.Deliver ts o e = moves_found key.Deliver (λ n. step.Deliver n) ts o (λ n all h. h) e
 with_found key.Back ts o e = moves_found key.Back (λ n. step.DeliverBack n) ts o (λ n all h. h) e
 with_found key.DeliverUrgent ts o e = moves_found key.DeliverUrgent (λ n. step.DeliverUrgent n) ts o (λ n all h. h) e
-with_found key.Push ts o e = push_found false ts o e
-with_found key.PushUrgent ts o e = push_found true ts o e
+with_found key.Push ts o e = push_found Main ts o e
+with_found key.PushUrgent ts o e = push_found Urgent ts o e
 with_found key.Notice ts o e = notice_found ts o e
 with_found word ts o e = alone_found word ts o e
 
@@ -198,15 +200,15 @@ step_again (step.Notice side.Source) ts h = rw h refl
 step_again (step.Notice side.Destination) ts h = rw h refl
 step_again step.Resume ts h = rw h refl
 
-pushed : (urgent : Bool) (addr : ℕ) (epoch : List Token) → order_from (Key (push_key urgent) ∷ Number addr ∷ epoch) ≡ (page_from addr >>= λ p. epoch_from epoch >>= λ e. Some (Push urgent p e))
+pushed : (wire : ForwardWire) (addr : ℕ) (epoch : List Token) → order_from (Key (push_key wire) ∷ Number addr ∷ epoch) ≡ (page_from addr >>= λ p. epoch_from epoch >>= λ e. Some (Push wire p e))
 unfolding order_from order_with push_from
-pushed false addr epoch = refl
-pushed true addr epoch = refl
+pushed Main addr epoch = refl
+pushed Urgent addr epoch = refl
 
 order_again : (o : Order) (ts : List Token) → OrderForm o ts → order_from ts ≡ Some o
 unfolding order_from order_with alone_from word_from
 order_again (Make made) ts h = step_again made ts h
-order_again (Push urgent page epoch) ts h = ap order_from h.2 ∙ pushed urgent (PAGE_SIZE * page) (epoch_form epoch) ∙ rw (page_again page h.0, epoch_again epoch h.1) refl
+order_again (Push wire page epoch) ts h = ap order_from h.2 ∙ pushed wire (PAGE_SIZE * page) (epoch_form epoch) ∙ rw (page_again page h.0, epoch_again epoch h.1) refl
 order_again Progress ts h = rw h refl
 
 -- ---- words

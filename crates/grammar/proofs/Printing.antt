@@ -24,6 +24,8 @@ use Rattle.grammar.specs.declared.keyword.Keyword.{Keyword}
 use Rattle.grammar.specs.declared.keyword.Keyword.TheVariants as key
 use Rattle.grammar.specs.declared.line.Language.TheVariants.{Script, Transcript}
 use Rattle.grammar.specs.declared.line.Line.TheVariants.{Do, Enter}
+use Rattle.grammar.specs.declared.order.ForwardWire.{ForwardWire}
+use Rattle.grammar.specs.declared.order.ForwardWire.TheVariants.{Main, Urgent}
 use Rattle.grammar.specs.declared.order.Order.{Order}
 use Rattle.grammar.specs.declared.order.Order.TheVariants.{Make, Push, Progress}
 use Rattle.grammar.specs.declared.token.Token.{Token}
@@ -146,8 +148,8 @@ abbrev epoch_words : Option ℕ → List Word
 epoch_words None = []
 epoch_words (Some epoch) = Dec epoch ∷ []
 
-abbrev push_words : Bool → ℕ → Option ℕ → List Word
-push_words urgent page epoch = Plain (push_key urgent) ∷ Hex (PAGE_SIZE * page) ∷ epoch_words epoch
+abbrev push_words : ForwardWire → ℕ → Option ℕ → List Word
+push_words wire page epoch = Plain (push_key wire) ∷ Hex (PAGE_SIZE * page) ∷ epoch_words epoch
 
 abbrev step_words : Step → List Word
 step_words (step.Issue cpu command) = Plain key.Cpu ∷ Dec cpu ∷ command_words command
@@ -164,8 +166,8 @@ step_words (step.DeliverBack n) = moves_words key.Back n
 step_words step.DestRead = Plain key.DestRead ∷ []
 step_words step.DestAct = Plain key.DestAct ∷ []
 step_words step.Install = Plain key.Install ∷ []
-step_words (step.Push pushed) = push_words false pushed.page (Some pushed.epoch)
-step_words (step.PushUrgent pushed) = push_words true pushed.page (Some pushed.epoch)
+step_words (step.Push pushed) = push_words Main pushed.page (Some pushed.epoch)
+step_words (step.PushUrgent pushed) = push_words Urgent pushed.page (Some pushed.epoch)
 step_words (step.DeliverUrgent n) = moves_words key.DeliverUrgent n
 step_words step.Serve = Plain key.Serve ∷ []
 step_words step.End = Plain key.End ∷ []
@@ -175,7 +177,7 @@ step_words step.Resume = Plain key.Resume ∷ []
 
 abbrev order_words : Order → List Word
 order_words (Make made) = step_words made
-order_words (Push urgent page epoch) = push_words urgent page epoch
+order_words (Push wire page epoch) = push_words wire page epoch
 order_words Progress = Plain key.Progress ∷ []
 
 bytes_written : (t : Bool) (n : ℕ) → cond t [] (codes " " ++ decimal n) ≡ spaced (bytes_by t n)
@@ -185,11 +187,11 @@ bytes_written false n = simp append-nil
 moves_written : (word : Keyword) (n : ℕ) → 32 ∷ (keyword_text word ++ bytes_text n) ≡ spaced (moves_words word n)
 moves_written word n = ap (λ (t : List ℕ). 32 ∷ (keyword_text word ++ t)) (bytes_written (eqb n greatest) n)
 
-push_written : (urgent : Bool) (page : ℕ) (epoch : Option ℕ) → 32 ∷ push_text urgent page epoch ≡ spaced (push_words urgent page epoch)
-push_written false page None = simp (append_assoc, append-nil)
-push_written false page (Some epoch) = simp (append_assoc, append-nil)
-push_written true page None = simp (append_assoc, append-nil)
-push_written true page (Some epoch) = simp (append_assoc, append-nil)
+push_written : (wire : ForwardWire) (page : ℕ) (epoch : Option ℕ) → 32 ∷ push_text wire page epoch ≡ spaced (push_words wire page epoch)
+push_written Main page None = simp (append_assoc, append-nil)
+push_written Main page (Some epoch) = simp (append_assoc, append-nil)
+push_written Urgent page None = simp (append_assoc, append-nil)
+push_written Urgent page (Some epoch) = simp (append_assoc, append-nil)
 
 step_written : (s : Step) → 32 ∷ step_text s ≡ spaced (step_words s)
 step_written (step.Issue cpu command) = simp append_assoc (ap (λ (t : List ℕ). 32 ∷ (keyword_text key.Cpu ++ (32 ∷ (decimal cpu ++ t)))) (command_written command))
@@ -198,15 +200,15 @@ step_written (step.SendRun count) = simp append-nil
 step_written (step.Deliver n) = moves_written key.Deliver n
 step_written (step.DeliverBack n) = moves_written key.Back n
 step_written (step.DeliverUrgent n) = moves_written key.DeliverUrgent n
-step_written (step.Push pushed) = push_written false pushed.page (Some pushed.epoch)
-step_written (step.PushUrgent pushed) = push_written true pushed.page (Some pushed.epoch)
+step_written (step.Push pushed) = push_written Main pushed.page (Some pushed.epoch)
+step_written (step.PushUrgent pushed) = push_written Urgent pushed.page (Some pushed.epoch)
 step_written (step.Notice side.Source) = refl
 step_written (step.Notice side.Destination) = refl
 step_written _ = refl
 
 order_written : (o : Order) → 32 ∷ order_text o ≡ spaced (order_words o)
 order_written (Make made) = step_written made
-order_written (Push urgent page epoch) = push_written urgent page epoch
+order_written (Push wire page epoch) = push_written wire page epoch
 order_written Progress = refl
 
 bytes_are : (t : Bool) (n : ℕ) → eqb n greatest ≡ t → FitsWord n → AreWords (BytesForm n) 1 (bytes_by t n)
@@ -238,10 +240,10 @@ step_are _ h = record { form = refl; small = (tt, tt); few = omega arith }
 
 order_are : (o : Order) → OrderFits o → AreWords (OrderForm o) 9 (order_words o)
 order_are (Make made) h = step_are made h
-order_are (Push urgent page epoch) h =
+order_are (Push wire page epoch) h =
     let e = epoch_small epoch h.1 in
     record {
-      form = (h.0, h.1, ap (λ (ts : List Token). Key (push_key urgent) ∷ Number (PAGE_SIZE * page) ∷ ts) e.2);
+      form = (h.0, h.1, ap (λ (ts : List Token). Key (push_key wire) ∷ Number (PAGE_SIZE * page) ∷ ts) e.2);
       small = (tt, (omega (arith, h.0), e.0));
       few = omega (arith, e.1);
     }
@@ -373,7 +375,7 @@ step_fits _ ts h small = tt
 
 form_fits : (o : Order) (ts : List Token) → OrderForm o ts → Numbers ts → OrderFits o
 form_fits (Make made) ts h small = step_fits made ts h small
-form_fits (Push urgent page epoch) ts h small = (h.0, h.1)
+form_fits (Push wire page epoch) ts h small = (h.0, h.1)
 form_fits Progress ts h small = tt
 
 reply_fits : (r : Reply) → Numbers (reply_form r) → ReplyFits r

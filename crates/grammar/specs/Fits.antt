@@ -53,7 +53,7 @@ StepFits made = Unit {0}
 -- the numbers of an order: a page that is pushed lies in the address space, and an epoch has 32 bits
 abbrev pub OrderFits : Order → Type 0
 OrderFits (Make made) = StepFits made
-OrderFits (Push urgent page epoch) = (page < HIGH_PAGE) × FitsEpoch epoch
+OrderFits (Push wire page epoch) = (page < HIGH_PAGE) × FitsEpoch epoch
 OrderFits Progress = Unit {0}
 
 -- the number of a reply, if it has one
@@ -78,5 +78,5 @@ IsSayable made = Unit {0}
 -- a line can say the order: a page that is pushed lies in the address space
 abbrev pub CanBeSpelled : Order → Type 0
 CanBeSpelled (Make made) = IsSayable made
-CanBeSpelled (Push urgent page epoch) = page < HIGH_PAGE
+CanBeSpelled (Push wire page epoch) = page < HIGH_PAGE
 CanBeSpelled Progress = Unit {0}

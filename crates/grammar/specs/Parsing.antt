@@ -14,6 +14,8 @@ use Rattle.mig_base.specs.declared.command.Entry.{Entry}
 use Rattle.mig_base.specs.declared.schedule.Step.TheVariants as step
 use Rattle.mig_base.specs.declared.schedule.Side.TheVariants as side
 use Rattle.mig_base.specs.declared.TheConstants.{PAGE_SIZE, HIGH, MAX_RUN}
+use Rattle.grammar.specs.declared.order.ForwardWire.{ForwardWire}
+use Rattle.grammar.specs.declared.order.ForwardWire.TheVariants.{Main, Urgent}
 use Rattle.grammar.specs.declared.order.Order.{Order}
 use Rattle.grammar.specs.declared.order.Order.TheVariants.{Make, Push, Progress}
 use Rattle.grammar.specs.declared.keyword.Keyword.{Keyword}
@@ -132,9 +134,9 @@ notice_from (Key key.Dest ∷ []) = Some (Make (step.Notice side.Destination))
 notice_from _ = None
 
 -- after push and upush: the address of a page, and an epoch, which may be left out
-unfoldable pub push_from : Bool → List Token → Option Order
-push_from urgent (Number addr ∷ epoch) = page_from addr >>= λ p. epoch_from epoch >>= λ e. Some (Push urgent p e)
-push_from urgent _ = None
+unfoldable pub push_from : ForwardWire → List Token → Option Order
+push_from wire (Number addr ∷ epoch) = page_from addr >>= λ p. epoch_from epoch >>= λ e. Some (Push wire p e)
+push_from wire _ = None
 
 -- the order that a word stands for if no other follows
 unfoldable pub word_from : Keyword → Option Order
@@ -167,8 +169,8 @@ order_with key.SendRun behind = run_from behind
 order_with key.Deliver behind = bytes_from behind >>= λ n. Some (Make (step.Deliver n))
 order_with key.Back behind = bytes_from behind >>= λ n. Some (Make (step.DeliverBack n))
 order_with key.DeliverUrgent behind = bytes_from behind >>= λ n. Some (Make (step.DeliverUrgent n))
-order_with key.Push behind = push_from false behind
-order_with key.PushUrgent behind = push_from true behind
+order_with key.Push behind = push_from Main behind
+order_with key.PushUrgent behind = push_from Urgent behind
 order_with key.Notice behind = notice_from behind
 order_with word behind = alone_from word behind
 

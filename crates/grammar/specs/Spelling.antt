@@ -16,6 +16,8 @@ use Rattle.mig_base.specs.declared.schedule.Step.TheVariants as step
 use Rattle.mig_base.specs.declared.schedule.Side.{Side}
 use Rattle.mig_base.specs.declared.schedule.Side.TheVariants as side
 use Rattle.mig_base.specs.declared.TheConstants.{PAGE_SIZE, HIGH_PAGE, MAX_RUN}
+use Rattle.grammar.specs.declared.order.ForwardWire.{ForwardWire}
+use Rattle.grammar.specs.declared.order.ForwardWire.TheVariants.{Main, Urgent}
 use Rattle.grammar.specs.declared.order.Order.{Order}
 use Rattle.grammar.specs.declared.order.Order.TheVariants.{Make, Push, Progress}
 use Rattle.grammar.specs.declared.line.Language.{Language}
@@ -98,10 +100,10 @@ StepForm step.Break tokens = tokens ≡ Key key.Break ∷ []
 StepForm (step.Notice at) tokens = tokens ≡ Key key.Notice ∷ Key (side_key at) ∷ []
 StepForm step.Resume tokens = tokens ≡ Key key.Resume ∷ []
 
--- the word for a push, by whether it goes on the urgent wire
-abbrev pub push_key : Bool → Keyword
-push_key false = key.Push
-push_key true = key.PushUrgent
+-- the word for a push, by its wire
+abbrev pub push_key : ForwardWire → Keyword
+push_key Main = key.Push
+push_key Urgent = key.PushUrgent
 
 -- the tokens for an epoch, which may be left out
 abbrev pub epoch_form : Option ℕ → List Token
@@ -116,7 +118,7 @@ FitsEpoch (Some epoch) = epoch < 2 ^ 32
 -- the tokens of an order. A page is written as its first address
 abbrev pub OrderForm : Order → List Token → Type 0
 OrderForm (Make made) tokens = StepForm made tokens
-OrderForm (Push urgent page epoch) tokens = (page < HIGH_PAGE) × FitsEpoch epoch × (tokens ≡ Key (push_key urgent) ∷ Number (PAGE_SIZE * page) ∷ epoch_form epoch)
+OrderForm (Push wire page epoch) tokens = (page < HIGH_PAGE) × FitsEpoch epoch × (tokens ≡ Key (push_key wire) ∷ Number (PAGE_SIZE * page) ∷ epoch_form epoch)
 OrderForm Progress tokens = tokens ≡ Key key.Progress ∷ []
 
 -- the word for an error number

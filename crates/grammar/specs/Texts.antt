@@ -12,6 +12,8 @@ use Rattle.mig_base.specs.declared.command.Command.TheVariants.{Load, Store, Mma
 use Rattle.mig_base.specs.declared.command.Entry.{Entry}
 use Rattle.mig_base.specs.declared.schedule.Step.{Step}
 use Rattle.mig_base.specs.declared.schedule.Step.TheVariants as step
+use Rattle.grammar.specs.declared.order.ForwardWire.{ForwardWire}
+use Rattle.grammar.specs.declared.order.ForwardWire.TheVariants.{Main, Urgent}
 use Rattle.grammar.specs.declared.order.Order.{Order}
 use Rattle.grammar.specs.declared.order.Order.TheVariants.{Make, Push, Progress}
 
@@ -59,10 +61,10 @@ command_text (DontNeed addr len) = codes "dontneed " ++ hexadecimal addr ++ code
 abbrev pub bytes_text : ℕ → List ℕ
 bytes_text n = if n == 2 ^ 64 - 1 then [] else codes " " ++ decimal n
 
--- the word of a push, by whether it goes on the urgent wire
-abbrev pub push_word : Bool → List ℕ
-push_word false = codes "push"
-push_word true = codes "upush"
+-- the word of a push, by its wire
+abbrev pub push_word : ForwardWire → List ℕ
+push_word Main = codes "push"
+push_word Urgent = codes "upush"
 
 -- an epoch that is written, with a space before it; empty if none is
 abbrev pub epoch_text : Option ℕ → List ℕ
@@ -70,8 +72,8 @@ epoch_text None = []
 epoch_text (Some epoch) = codes " " ++ decimal epoch
 
 -- the words of a push. A page is written as its first address
-abbrev pub push_text : Bool → ℕ → Option ℕ → List ℕ
-push_text urgent page epoch = push_word urgent ++ codes " " ++ hexadecimal (PAGE_SIZE * page) ++ epoch_text epoch
+abbrev pub push_text : ForwardWire → ℕ → Option ℕ → List ℕ
+push_text wire page epoch = push_word wire ++ codes " " ++ hexadecimal (PAGE_SIZE * page) ++ epoch_text epoch
 
 -- the words of a step, as in a script
 abbrev pub step_text : Step → List ℕ
@@ -89,8 +91,8 @@ step_text (step.DeliverBack n) = codes "back" ++ bytes_text n
 step_text step.DestRead = codes "dread"
 step_text step.DestAct = codes "dact"
 step_text step.Install = codes "install"
-step_text (step.Push ticket) = push_text false ticket.page (Some ticket.epoch)
-step_text (step.PushUrgent ticket) = push_text true ticket.page (Some ticket.epoch)
+step_text (step.Push ticket) = push_text Main ticket.page (Some ticket.epoch)
+step_text (step.PushUrgent ticket) = push_text Urgent ticket.page (Some ticket.epoch)
 step_text (step.DeliverUrgent n) = codes "udeliver" ++ bytes_text n
 step_text step.Serve = codes "serve"
 step_text step.End = codes "end"
@@ -101,7 +103,7 @@ step_text step.Resume = codes "resume"
 -- the line of an order in a script, without its line feed
 abbrev pub order_text : Order → List ℕ
 order_text (Make made) = step_text made
-order_text (Push urgent page epoch) = push_text urgent page epoch
+order_text (Push wire page epoch) = push_text wire page epoch
 order_text Progress = codes "progress"
 
 -- an entry: its processor, its command and its reply

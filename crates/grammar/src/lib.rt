@@ -29,7 +29,7 @@ pub mod token;
 
 pub use crate::keyword::Keyword;
 pub use crate::line::{Language, Line};
-pub use crate::order::Order;
+pub use crate::order::{ForwardWire, Order};
 pub use crate::order_text::{OrderText, print_order};
 pub use crate::print::print_line;
 pub use crate::progress::{Progress, print_progress};

@@ -6,14 +6,23 @@ ghost use Rattle.grammar.specs.Orders.{HasStep, order_of, step_of};
 use mig_base::PageNo;
 use mig_base::schedule::{Step, Ticket};
 
+/// The wire to the destination on which a page is pushed.
+#[derive(Clone, Copy, Debug, PartialEq, Eq)]
+pub enum ForwardWire {
+    /// That of all frames of the source in order.
+    Main,
+    /// The one beside it, for pages that the destination requests.
+    Urgent,
+}
+
 /// What a line of a script asks of a world.
 #[derive(Clone, Copy, Debug, PartialEq, Eq)]
 pub enum Order {
     /// A step. No line spells a push as a step.
     Make(Step),
-    /// The push of an owed page, on the urgent wire or on the other. Without an epoch it means the world's present one.
+    /// The push of an owed page. Without an epoch it means the world's present one.
     Push {
-        urgent: bool,
+        wire: ForwardWire,
         page: PageNo,
         epoch: Option<u32>,
     },
@@ -28,17 +37,12 @@ impl Order {
     {
         match self {
             Order::Make(step) => Some(step),
-            Order::Push {
-                urgent,
-                page,
-                epoch,
-            } => {
+            Order::Push { wire, page, epoch } => {
                 let epoch = epoch.unwrap_or(present);
                 let ticket = Ticket { epoch, page };
-                if urgent {
-                    Some(Step::PushUrgent(ticket))
-                } else {
-                    Some(Step::Push(ticket))
+                match wire {
+                    ForwardWire::Main => Some(Step::Push(ticket)),
+                    ForwardWire::Urgent => Some(Step::PushUrgent(ticket)),
                 }
             }
             Order::Progress => None,
@@ -52,12 +56,12 @@ impl Order {
     {
         match step {
             Step::Push(ticket) => Order::Push {
-                urgent: false,
+                wire: ForwardWire::Main,
                 page: ticket.page,
                 epoch: Some(ticket.epoch),
             },
             Step::PushUrgent(ticket) => Order::Push {
-                urgent: true,
+                wire: ForwardWire::Urgent,
                 page: ticket.page,
                 epoch: Some(ticket.epoch),
             },

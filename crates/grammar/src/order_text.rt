@@ -7,7 +7,7 @@ ghost use Rattle.grammar.specs.Fits.{CanBeSpelled};
 ghost use Rattle.grammar.specs.Lines.{IsLine};
 ghost use Rattle.grammar.specs.Texts.{bytes_text, push_word, epoch_text, push_text, step_text, order_text};
 
-use crate::order::Order;
+use crate::order::{ForwardWire, Order};
 use crate::texts::CommandText;
 use mig_base::schedule::Step;
 use mig_base::{NoMemory, PageNo, page_address};
@@ -30,11 +30,14 @@ impl fmt::Display for BytesText {
     }
 }
 
-/// The word of a push, by whether it goes on the urgent wire.
-fn word_of_push(urgent: bool) -> &'static str
-    ensures { result.now ≡ push_word urgent }
+/// The word of a push, by its wire.
+fn word_of_push(wire: ForwardWire) -> &'static str
+    ensures { result.now ≡ push_word wire }
 {
-    if urgent { "upush" } else { "push" }
+    match wire {
+        ForwardWire::Main => "push",
+        ForwardWire::Urgent => "upush",
+    }
 }
 
 /// An epoch that is written, with a space before it; empty if none is.
@@ -55,16 +58,16 @@ impl fmt::Display for EpochText {
 /// The words of a push. A page is written as its first address.
 #[derive(Clone, Copy)]
 struct PushText {
-    urgent: bool,
+    wire: ForwardWire,
     page: PageNo,
     epoch: Option<u32>,
 }
 
 impl fmt::Display for PushText {
-    ghost output = { λ x. Some (push_text x.urgent x.page x.epoch) };
+    ghost output = { λ x. Some (push_text x.wire x.page x.epoch) };
 
     fn fmt<W: fmt::Write>(&self, f: &mut fmt::Formatter<W>) -> fmt::Result {
-        let word = word_of_push(self.urgent);
+        let word = word_of_push(self.wire);
         let addr = page_address(self.page);
         let epoch = EpochText(self.epoch);
         write!(f, "{word} 0x{addr:x}{epoch}")
@@ -100,7 +103,7 @@ impl fmt::Display for StepText {
             }
             Step::Push(ticket) => {
                 let push = PushText {
-                    urgent: false,
+                    wire: ForwardWire::Main,
                     page: ticket.page,
                     epoch: Some(ticket.epoch),
                 };
@@ -108,7 +111,7 @@ impl fmt::Display for StepText {
             }
             Step::PushUrgent(ticket) => {
                 let push = PushText {
-                    urgent: true,
+                    wire: ForwardWire::Urgent,
                     page: ticket.page,
                     epoch: Some(ticket.epoch),
                 };
@@ -145,16 +148,8 @@ impl fmt::Display for OrderText {
                 let step = StepText(step);
                 write!(f, "{step}")
             }
-            Order::Push {
-                urgent,
-                page,
-                epoch,
-            } => {
-                let push = PushText {
-                    urgent,
-                    page,
-                    epoch,
-                };
+            Order::Push { wire, page, epoch } => {
+                let push = PushText { wire, page, epoch };
                 write!(f, "{push}")
             }
             Order::Progress => write!(f, "progress"),

@@ -13,7 +13,7 @@ ghost use Rattle.grammar.specs.Spelling.{SpellsOrder};
 ghost use Rattle.grammar.specs.Parsing.{page_from, epoch_from, bytes_from, issue_from, retry_from, run_from, notice_from, push_from, word_from, alone_from, order_with as order_with_words, order_from};
 
 use crate::keyword::Keyword;
-use crate::order::Order;
+use crate::order::{ForwardWire, Order};
 use crate::parse_command::command_of;
 use crate::token::{Token, read_tokens};
 use mig_base::schedule::{Side, Step};
@@ -113,18 +113,14 @@ fn notice_of(tokens: &[Token]) -> Option<Order>
 
 #[tactic(auto, unfolding(crate::specs::Parsing::push_from))]
 #[inline(always)]
-fn push_of(urgent: bool, tokens: &[Token]) -> Option<Order>
-    ensures { result ≡ push_from urgent tokens.now }
+fn push_of(wire: ForwardWire, tokens: &[Token]) -> Option<Order>
+    ensures { result ≡ push_from wire tokens.now }
 {
     match tokens {
         [Token::Number(addr), epoch @ ..] => {
             let page = page_of(*addr)?;
             let epoch = epoch_of(epoch)?;
-            Some(Order::Push {
-                urgent,
-                page,
-                epoch,
-            })
+            Some(Order::Push { wire, page, epoch })
         }
         _ => None,
     }
@@ -186,8 +182,8 @@ fn order_with(word: Keyword, behind: &[Token]) -> Option<Order>
             let n = bytes_of(behind)?;
             Some(Order::Make(Step::DeliverUrgent { n }))
         }
-        Keyword::Push => push_of(false, behind),
-        Keyword::PushUrgent => push_of(true, behind),
+        Keyword::Push => push_of(ForwardWire::Main, behind),
+        Keyword::PushUrgent => push_of(ForwardWire::Urgent, behind),
         Keyword::Notice => notice_of(behind),
         _ => alone(word, behind),
     }

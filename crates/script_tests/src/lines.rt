@@ -4,7 +4,7 @@ use Command::{DontNeed, Load, Mmap, Mremap, Munmap, Store};
 use Order::{Make, Progress, Push};
 use Step::{Deliver, DeliverBack, DeliverUrgent, Issue, Notice, Retry, SendRun};
 use grammar::parse::parse;
-use grammar::{Language, Line, Order, Token};
+use grammar::{ForwardWire, Language, Line, Order, Token};
 use mig_base::schedule::{Side, Step, Ticket};
 use mig_base::{Command, Place, Prot};
 use std::process::Abort;
@@ -55,7 +55,7 @@ static ORDERS: [(&'static [u8], Order); 42] = [
     (
         b"push 0x10000",
         Push {
-            urgent: false,
+            wire: ForwardWire::Main,
             page: 0x10,
             epoch: None,
         },
@@ -63,7 +63,7 @@ static ORDERS: [(&'static [u8], Order); 42] = [
     (
         b"push 0",
         Push {
-            urgent: false,
+            wire: ForwardWire::Main,
             page: 0,
             epoch: None,
         },
@@ -71,7 +71,7 @@ static ORDERS: [(&'static [u8], Order); 42] = [
     (
         b"push 0xfffff000 4294967295",
         Push {
-            urgent: false,
+            wire: ForwardWire::Main,
             page: 0xf_ffff,
             epoch: Some(u32::MAX),
         },
@@ -79,7 +79,7 @@ static ORDERS: [(&'static [u8], Order); 42] = [
     (
         b"upush 69632",
         Push {
-            urgent: true,
+            wire: ForwardWire::Urgent,
             page: 0x11,
             epoch: None,
         },
@@ -87,7 +87,7 @@ static ORDERS: [(&'static [u8], Order); 42] = [
     (
         b" upush   0x11000  0x2",
         Push {
-            urgent: true,
+            wire: ForwardWire::Urgent,
             page: 0x11,
             epoch: Some(2),
         },
@@ -272,7 +272,7 @@ static STEPS: [(Order, Option<Step>); 6] = [
     (Progress, None),
     (
         Push {
-            urgent: false,
+            wire: ForwardWire::Main,
             page: 0x10,
             epoch: None,
         },
@@ -283,7 +283,7 @@ static STEPS: [(Order, Option<Step>); 6] = [
     ),
     (
         Push {
-            urgent: false,
+            wire: ForwardWire::Main,
             page: 0x11,
             epoch: Some(8),
         },
@@ -294,7 +294,7 @@ static STEPS: [(Order, Option<Step>); 6] = [
     ),
     (
         Push {
-            urgent: true,
+            wire: ForwardWire::Urgent,
             page: 0x12,
             epoch: None,
         },
@@ -305,7 +305,7 @@ static STEPS: [(Order, Option<Step>); 6] = [
     ),
     (
         Push {
-            urgent: true,
+            wire: ForwardWire::Urgent,
             page: 0x13,
             epoch: Some(0),
         },

@@ -1,7 +1,7 @@
 //! Orders with their texts, which are read back.
 
 use grammar::parse::parse;
-use grammar::{Language, Line, Order, print_order};
+use grammar::{ForwardWire, Language, Line, Order, print_order};
 use mig_base::schedule::{Side, Step};
 use mig_base::{Command, NoMemory, Place, Prot};
 use std::alloc::{AllocError, Global};
@@ -137,17 +137,17 @@ const COMMANDS: [(Command, &str); 11] = [
     ),
 ];
 
-/// Pushes, with the page, the epoch if one is written, and whether the wire is the urgent one.
-const PUSHES: [(bool, u32, Option<u32>, &str); 4] = [
-    (false, 0x10, None, "push 0x10000"),
-    (true, 0x11, None, "upush 0x11000"),
+/// Pushes, with the wire, the page, and the epoch if one is written.
+const PUSHES: [(ForwardWire, u32, Option<u32>, &str); 4] = [
+    (ForwardWire::Main, 0x10, None, "push 0x10000"),
+    (ForwardWire::Urgent, 0x11, None, "upush 0x11000"),
     (
-        true,
+        ForwardWire::Urgent,
         0xf_ffff,
         Some(u32::MAX),
         "upush 0xfffff000 4294967295",
     ),
-    (false, 0, Some(0), "push 0x0 0"),
+    (ForwardWire::Main, 0, Some(0), "push 0x0 0"),
 ];
 
 /// The text of an order, and what it says read back.
@@ -181,12 +181,8 @@ fn each_step_is_read_back(rt: HostRuntime) -> Result<(), Fail> {
 
 #[test]
 fn each_push_is_read_back(rt: HostRuntime) -> Result<(), Fail> {
-    for (urgent, page, epoch, wanted) in PUSHES {
-        let order = Order::Push {
-            urgent,
-            page,
-            epoch,
-        };
+    for (wire, page, epoch, wanted) in PUSHES {
+        let order = Order::Push { wire, page, epoch };
         compare(&rt, rt.alloc(), order, wanted)?;
     }
     Ok(())
