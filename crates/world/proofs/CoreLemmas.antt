@@ -1,17 +1,14 @@
 -- What is promised of every world and of every step, in words that know nothing of the steps.
-use Rattle.std.proofs.Common.{◌≡◌, ℕ, ◌/◌, zero, suc, Bool, true, false, eqb, Option, Some, None, List, [], ◌∷◌, ◌++◌, refl, sym, ap, ◌∙◌, subst, ◌⊎◌, inl, inr, ⊎_elim, arith, append-nil, not}
-use Rattle.std.specs.Prelude.{set, Ok, Err, IsOk}
+use Rattle.std.proofs.Common.{◌≡◌, ℕ, ◌/◌, true, false, eqb, Option, Some, None, [], ◌∷◌, ◌++◌, refl, sym, ap, ◌∙◌, subst, inl, inr, ⊎_elim, arith, append-nil}
+use Rattle.std.specs.Prelude.{Ok, Err, IsOk}
 use Rattle.std.proofs.lemmas.Bool.{false≢true, eqb-true, eqb-false}
 use Rattle.std.proofs.lemmas.Bool.Decides.{nat_tests}
-use Rattle.std.proofs.lemmas.Option.{none-some}
 use Rattle.mig_base.specs.Commands.{is_access}
 use Rattle.mig_base.specs.declared.TheConstants.{PAGE_SIZE}
 use Rattle.mig_base.specs.declared.command.Command.{Command}
-use Rattle.mig_base.specs.declared.command.Entry.{Entry}
 use Rattle.mig_base.specs.declared.command.Reply.{Reply}
 use Rattle.mig_base.specs.declared.cpu_state.CpuState.{CpuState}
 use Rattle.mig_base.specs.declared.effect.Effect.{Effect}
-use Rattle.mig_base.specs.declared.message.Message.{Message}
 use Rattle.mig_base.specs.declared.phase.WorldPhase.{WorldPhase}
 use Rattle.mig_base.specs.declared.refusal.Refusal.{Refusal}
 use Rattle.mig_base.specs.declared.schedule.Step.{Step}

@@ -14,7 +14,7 @@ invariant_of-self-2 c =
     let sent = run_sent c.args.space.now log.sent first count c.requires.lent c.is_in_order.ensures c.requires.sendable c.self.invariant.1 in
     elim c.if-next_member-first.branch [
       | then-next_member-first w ↦ (
-        come_on log.todo left first count log.from c.next_member.result c.if-next_member-first.self-inside.from c.self.invariant.0 c.requires.inside c.next_member.ensures.before (c.remove_range.ensures ∙ ap (λ l. without l.todo first count) w.self-inside-is) w.if-next-first.true
+        come_on log.todo left first count log.from c.next_member.result c.if-next_member-first.self-inside.from c.self.invariant.0 c.requires.inside c.next_member.ensures.before (c.remove_range.ensures ∙ ap (λ l. without l.todo first count) w.self-inside-is) w.if-next_member-first.true
             (ap (λ l. l.from) w.self-inside-is ∙ w.max-self-inside.ensures),
         rw (ap (λ l. l.sent) w.self-inside-is ∙ c.in_ok-insert_range_in_both.ensures.other) sent,
       )
