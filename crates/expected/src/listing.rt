@@ -10,8 +10,8 @@ use engine::script_reader::{MAX_LINE, split_line, without_return};
 use std::alloc::Global;
 use std::io::{ErrorKind, Read, Write};
 
-/// Runs a test on a new world as [`test_script`](crate::test_script) does, but continues after an answer that differs: it writes the line of
-/// each of them. The world has as many processors as the first line says, and otherwise `cpus`, 1 to 16. [`Tested`] has the outcome, and
+/// Runs a test on a new world as [`test_script`](crate::test_script) does, but continues after an answer that differs: it writes the line
+/// of each of them. The world has as many processors as the first line says, and otherwise `cpus`, 1 to 16. [`Tested`] has the outcome, and
 /// how many answers were compared.
 ///
 /// A line is wrong where `test_script` finds it wrong; then what differs before it is written. At any other fault but a write fault nothing

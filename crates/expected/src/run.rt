@@ -18,8 +18,8 @@ const PIECE: usize = 16_384;
 /// as many processors as the first line says, and otherwise `cpus`, 1 to 16.
 ///
 /// At the first answer that differs it writes `NAME:LINE: expected ANSWER, got OUTPUT` and a line feed, and stops: LINE is counted from 1.
-/// Nothing else is written. A wrong line before that is the fault [`RunFault::Line`]. The promises of `world` hold for each world of a test.
-/// [`Tested`] has the outcome, and how many answers were compared.
+/// Nothing else is written. A wrong line before that is the fault [`RunFault::Line`]. The promises of `world` hold for each world of a
+/// test. [`Tested`] has the outcome, and how many answers were compared.
 ///
 /// At most 4,294,967,295 reads are made; a test that needs more ends with a read fault. This bounds the loop: no clause counts reads. An
 /// interrupted read or write is a fault.

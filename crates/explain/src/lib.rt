@@ -2,8 +2,8 @@
 //! decide that reply.
 //!
 //! [`explain_script`] reads a transcript, and writes the verdict of `engine::check_script`, or with [`Asks`] each wrong entry and
-//! the reason of each. What it writes is `specs/Explaining.antt`; the text of a reason is promised to be a text and no more. [`wrong_entries`] finds the wrong
-//! entries.
+//! the reason of each. What it writes is `specs/Explaining.antt`; the text of a reason is promised to be a text and no more.
+//! [`wrong_entries`] finds the wrong entries.
 //!
 //! All entries are kept, and the number of the line of each. A reason looks back through the entries before the wrong one.
 #![tactic(auto)]

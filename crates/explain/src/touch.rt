@@ -91,8 +91,8 @@ pub(crate) fn holders(alloc: Global, past: &[Entry], addr: Addr) -> Result<Vec<u
     Ok(found)
 }
 
-/// The indexes of the entries that decide whether an address is mapped, and with which protection, in order: the one that mapped or unmapped it, and
-/// those that moved it since.
+/// The indexes of the entries that decide whether an address is mapped, and with which protection, in order: the one that mapped or
+/// unmapped it, and those that moved it since.
 pub(crate) fn mappers(alloc: Global, past: &[Entry], addr: Addr) -> Result<Vec<usize>, NoMemory> {
     let mut found = Vec::new(alloc);
     let mut addr = addr;

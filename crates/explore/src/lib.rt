@@ -1,8 +1,8 @@
 //! Random scripts of migrations that get far.
 //!
 //! [`run_explore`] writes a script of as many lines as its [`Plan`] says. It keeps a world, draws orders that this world would make, and
-//! about one in ten that it would refuse, prints each as a line of a script, and makes its step. A [`Profile`] says of which steps there are
-//! more. The draws come from a generator with a seed: the same plan gives the same script on every machine.
+//! about one in ten that it would refuse, prints each as a line of a script, and makes its step. A [`Profile`] says of which steps there
+//! are more. The draws come from a generator with a seed: the same plan gives the same script on every machine.
 //! `docs/EXPLORE.md` explains it, `specs/Explorations.antt` defines what is written, and [`laws`] says that it is a script.
 //!
 //! The modules: `plan` (what the caller chooses), `weights` (what a profile means), `course` (what is fixed for one script), `commands` and

@@ -1,7 +1,7 @@
 -- The strategy that completes a migration from any world, and how many steps it takes at most.
 --
--- While the link is down both sides notice it, and the source resumes. A source that waits for the destination's report gets it; one that makes
--- rounds reads its events and switches; one that has stopped pushes what remains, the least page first, sends End, and has what is
+-- While the link is down both sides notice it, and the source resumes. A source that waits for the destination's report gets it; one that
+-- makes rounds reads its events and switches; one that has stopped pushes what remains, the least page first, sends End, and has what is
 -- in flight delivered, read and installed, until Done comes.
 use Rattle.std.specs.Prelude.{◌≡◌, false, List, [], ◌∷◌, IsOk, ℕ, ◌<◌, ◌≤◌, ◌+◌, ◌*◌, ◌-◌, ◌^◌, ◌==◌, ◌&&◌, ◌||◌, not, Bool, if◌then◌else◌, Option, None, Some, length}
 use Rattle.std.specs.FinSet.{FinSet, contains, len}

@@ -22,7 +22,8 @@ use world::World;
 /// choose.
 ///
 /// `CountUsed` exactly where the migration needs a Start or a Resume and the epoch is the last: nothing is changed then. `NoMemory`
-/// where a step, or the list of steps, found no memory: the world is where the steps made so far have led, and `finish` may be called again.
+/// where a step, or the list of steps, found no memory: the world is where the steps made so far have led, and `finish` may be called
+/// again.
 pub fn finish(world: &mut World, alloc: Global) -> Result<Vec<Step>, Refusal>
     ensures complete { IfOk result (λ steps. IsComplete world.new) }
     ensures made { IfOk result (λ steps. Leads world.old steps.items world.new) }

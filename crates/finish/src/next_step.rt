@@ -21,8 +21,8 @@ const ALL: u64 = u64::MAX;
 /// `steps_left` counts them. `None` exactly where the migration is complete, or where a Start or a Resume is due and the epoch is the last,
 /// 4,294,967,295.
 ///
-/// It walks over no frames, and looks for the least page that remains by words of 64 pages. [`finish`](crate::finish) looks for each page from
-/// the one that it pushed last.
+/// It walks over no frames, and looks for the least page that remains by words of 64 pages. [`finish`](crate::finish) looks for each page
+/// from the one that it pushed last.
 pub fn next_to_finish(world: &World) -> Option<Step>
     ensures step { result ≡ finishing_step world.now }
     ensures due { IfSome result (IsDue world.now) }

@@ -57,7 +57,8 @@ pub record Completes (world : World) (text : List ℕ) : Type 0 where
   pub complete : IsComplete end
   pub lines : AreBehind steps text
 
--- what is written for a world: the lines that complete its migration, or nothing where a Start or a Resume is needed and the epoch is the last
+-- what is written for a world: the lines that complete its migration, or nothing where a Start or a Resume is needed and the epoch is the
+-- last
 abbrev pub Ends : Ending → World → Option (List ℕ) → Option (List ℕ) → Type 0
 Ends Complete world before after = (text : List ℕ) × Completes world text × Appends before after text
 Ends NoEpoch world before after = (lacks_epoch world ≡ true) × Appends before after []

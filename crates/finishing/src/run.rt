@@ -16,13 +16,13 @@ use std::alloc::Global;
 use std::io::{Read, Write, sink};
 use world::World;
 
-/// Runs a script on a new world of `cpus` processors, 1 to 16, without writing its output; completes the migration of the world in which the run
-/// ends; and writes a line of a script for each step that was made for it. If the last line of the script has no line feed, a line feed
-/// is written first. So the script with these lines after it is a script whose run ends with a complete migration. None of the steps is
-/// refused.
+/// Runs a script on a new world of `cpus` processors, 1 to 16, without writing its output; completes the migration of the world in which
+/// the run ends; and writes a line of a script for each step that was made for it. If the last line of the script has no line feed, a line
+/// feed is written first. So the script with these lines after it is a script whose run ends with a complete migration. None of the steps
+/// is refused.
 ///
-/// A wrong line of the script ends it as it ends [`run_script`](engine::run_script), and nothing is written; so does a read fault, and lack of
-/// memory. At a write fault a first part of the lines is written.
+/// A wrong line of the script ends it as it ends [`run_script`](engine::run_script), and nothing is written; so does a read fault, and lack
+/// of memory. At a write fault a first part of the lines is written.
 pub fn finish_script<R: Read, W: Write>(
     alloc: Global,
     reader: &mut R,

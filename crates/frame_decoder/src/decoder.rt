@@ -204,7 +204,8 @@ fn read_piece(
     read_joined(alloc, fixed, held, piece)
 }
 
-/// Holds a piece that completes neither the header nor the frame. `NoMemory`, which no empty piece gets, leaves the held bytes as they were.
+/// Holds a piece that completes neither the header nor the frame. `NoMemory`, which no empty piece gets, leaves the held bytes as they
+/// were.
 fn wait_for_more(fixed: Option<Version>, held: &mut Vec<u8>, piece: &[u8]) -> Result<(), NoMemory>
     requires part { IsPart fixed held.old.items }
     requires less { length piece.now < lacks fixed held.old.items }
@@ -255,8 +256,8 @@ impl Decoder {
     /// Takes the next piece, which may be empty, and returns the frames that are whole now, each with its epoch.
     ///
     /// A fault is returned at once if the piece completes no frame before it, and by the next call otherwise; then by every later call
-    /// until [`reset`](Decoder::reset). `NoMemory` comes if an allocation fails, and never for an empty piece: it takes nothing of the piece,
-    /// which may be fed again.
+    /// until [`reset`](Decoder::reset). `NoMemory` comes if an allocation fails, and never for an empty piece: it takes nothing of the
+    /// piece, which may be fed again.
     pub fn feed(&mut self, piece: &[u8]) -> Result<Vec<(u32, Frame)>, StreamFault>
         ensures fed { Fed self.old piece.now (answer_of result) self.new }
         ensures bounded { length self.new.bytes < 12 + (9 + 17 * MAX_PAGES + 18 * MAX_CPUS) }

@@ -338,7 +338,8 @@ fn copy_two(rt: &impl Abort, space: &mut Space) -> usize {
     copied
 }
 
-/// A copy of two pages that may be refused memory at either. `bench/compare/refused.py` refuses each growth, and looks for each count of bytes.
+/// A copy of two pages that may be refused memory at either. `bench/compare/refused.py` refuses each growth, and looks for each count of
+/// bytes.
 #[test]
 fn a_copy_that_wants_memory(rt: HostRuntime) -> Result<(), Fail> {
     let mut space = Space::new(rt.alloc());

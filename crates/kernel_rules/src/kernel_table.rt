@@ -68,8 +68,8 @@ impl KernelTable {
         }
     }
 
-    /// A thread that has seen its page queues its fault. False where no rule allows that, and nothing has changed then. After `NoMemory` the
-    /// table is not to be used.
+    /// A thread that has seen its page queues its fault. False where no rule allows that, and nothing has changed then. After `NoMemory`
+    /// the table is not to be used.
     pub fn queues(&mut self, thread: u64) -> Result<bool, NoMemory>
         requires { AreTables self.old }
         ensures tables { AreTables self.new }
@@ -130,7 +130,8 @@ impl KernelTable {
         Ok(())
     }
 
-    /// A thread leaves its fault. False where no rule allows that, and nothing has changed then. After `NoMemory` the table is not to be used.
+    /// A thread leaves its fault. False where no rule allows that, and nothing has changed then. After `NoMemory` the table is not to be
+    /// used.
     pub fn leaves(&mut self, thread: u64) -> Result<bool, NoMemory>
         requires { AreTables self.old }
         ensures tables { AreTables self.new }

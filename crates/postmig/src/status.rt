@@ -43,7 +43,8 @@ pub(crate) fn frames_status_of(outcome: Result<u64, FramesFault>) -> u8
     }
 }
 
-/// The exit status of a strict command: its own, or if that is 0 and it has not checked what it had to, that of one that found a difference.
+/// The exit status of a strict command: its own, or if that is 0 and it has not checked what it had to, that of one that found a
+/// difference.
 pub(crate) fn strict_status_of(status: u8, is_met: bool) -> u8
     ensures { result ≡ strict_status is_met status }
 {

@@ -96,8 +96,8 @@ fn take_frame(
     DONE
 }
 
-/// Takes the first frame that waits: its numbers, and the bytes of its text. If they do not fit, the frame still waits, and `written` is the
-/// length that is needed. If none waits, the answer is the fault of the stream that stands there, or that more bytes are needed.
+/// Takes the first frame that waits: its numbers, and the bytes of its text. If they do not fit, the frame still waits, and `written` is
+/// the length that is needed. If none waits, the answer is the fault of the stream that stands there, or that more bytes are needed.
 #[unsafe(no_mangle)]
 pub extern "C" fn postmig_frames_next(
     alloc: Global,

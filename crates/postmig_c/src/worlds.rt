@@ -133,9 +133,9 @@ fn do_line(runner: &mut LineRunner, line: &[u8], out: &mut [u8], written: &mut u
     }
 }
 
-/// Does a line of a script, without its line feed, and writes what it prints to `out`. If `out` is too short the line was done all the same,
-/// and `written` is the length that is needed: [`postmig_world_answer`] writes it. A line that is not one changes nothing of the world. If
-/// memory ran out, either nothing changed, or the line was done and what it printed is lost.
+/// Does a line of a script, without its line feed, and writes what it prints to `out`. If `out` is too short the line was done all the
+/// same, and `written` is the length that is needed: [`postmig_world_answer`] writes it. A line that is not one changes nothing of the
+/// world. If memory ran out, either nothing changed, or the line was done and what it printed is lost.
 #[unsafe(no_mangle)]
 pub extern "C" fn postmig_world_line(
     alloc: Global,

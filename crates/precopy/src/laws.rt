@@ -56,9 +56,9 @@ pub fn a_step_of_the_source()
 {}
 
 /// A broken channel and the recovery from it change a source as its calls do. Its step of a Notice changes it as `pause` does, and the
-/// source is not released; its step of a Resume as `set_epoch` does, with the next epoch; and a Recv by the state of the destination. If the
-/// destination has not run, a source that has not switched changes as by `to_precopy`, and one that has switched as by `to_stopped`, with
-/// all its present pages. If the destination runs, as by `to_stopped`, and the last Package stands. If it has ended, as by `release`.
+/// source is not released; its step of a Resume as `set_epoch` does, with the next epoch; and a Recv by the state of the destination. If
+/// the destination has not run, a source that has not switched changes as by `to_precopy`, and one that has switched as by `to_stopped`,
+/// with all its present pages. If the destination runs, as by `to_stopped`, and the last Package stands. If it has ended, as by `release`.
 pub fn a_recovery_of_the_source()
     ensures notice { (node : Source) →
         IfOk (source.pause node) (λ paused.

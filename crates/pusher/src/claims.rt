@@ -193,8 +193,8 @@ impl Claims {
         mark_all(&mut seat.held, other_held.as_slice());
     }
 
-    /// The pages that are free, and those that the seat has claimed, each in the order of their indexes. A page that a seat claimed which was
-    /// not joined is in neither list. If memory runs out, it returns both arguments unchanged.
+    /// The pages that are free, and those that the seat has claimed, each in the order of their indexes. A page that a seat claimed which
+    /// was not joined is in neither list. If memory runs out, it returns both arguments unchanged.
     pub fn close(
         self,
         alloc: Global,

@@ -1,5 +1,5 @@
-//! Tests of what threads share: claims of pages (`pusher`), a world under one lock (`rig`), whole runs in threads (`threads`), and the guest
-//! of `docs/THREADS.md`.
+//! Tests of what threads share: claims of pages (`pusher`), a world under one lock (`rig`), whole runs in threads (`threads`), and the
+//! guest of `docs/THREADS.md`.
 //!
 //! The answers that are wanted were worked out by hand. Where memory is refused the call is made again, so a test passes whichever
 //! allocation is refused.

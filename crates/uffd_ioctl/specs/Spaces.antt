@@ -63,7 +63,8 @@ abbrev pub is_refused : Reply → Bool
 is_refused (Refused errno) = true
 is_refused _ = false
 
--- whether a map call needs memory: one that is refused needs none, and MADV_DONTNEED, which changes no mapping, needs it for a message alone
+-- whether a map call needs memory: one that is refused needs none, and MADV_DONTNEED, which changes no mapping, needs it for a message
+-- alone
 abbrev pub call_needs_room : Space → Command → Bool
 call_needs_room space (DontNeed addr len) = nat_lt 0 (queued_by space (DontNeed addr len))
 call_needs_room space command = not (is_refused (reply_of (memory space.host) command))

@@ -11,7 +11,8 @@ use mig_base::{NoMemory, PageBytes, PageNo};
 
 /// Makes a missing page present, with zeros. `NoMemory` changes nothing.
 ///
-/// The object of the space is enabled for the three events, no event is unread, no page below 0x10000 is mapped, and the page is registered.
+/// The object of the space is enabled for the three events, no event is unread, no page below 0x10000 is mapped, and the page is
+/// registered.
 pub fn make_zeros(space: &mut Space, page: PageNo) -> Result<(), NoMemory>
     requires lent { IsLent space.old }
     requires quiet { object.changing space.old.object ≡ 0 }
@@ -27,7 +28,8 @@ pub fn make_zeros(space: &mut Space, page: PageNo) -> Result<(), NoMemory>
 /// Makes a missing page present, with these bytes, which are not copied. The only error is that memory runs out; it returns the bytes
 /// and changes nothing.
 ///
-/// The object of the space is enabled for the three events, no event is unread, no page below 0x10000 is mapped, and the page is registered.
+/// The object of the space is enabled for the three events, no event is unread, no page below 0x10000 is mapped, and the page is
+/// registered.
 pub fn install_page(space: &mut Space, page: PageNo, bytes: PageBytes) -> Result<(), PageBytes>
     requires lent { IsLent space.old }
     requires quiet { object.changing space.old.object ≡ 0 }

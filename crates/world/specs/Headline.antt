@@ -1,5 +1,6 @@
 -- All promises for every world, whatever list of steps has led to it: of processors, handlers, pushers and deliveries, breaks and resumes.
--- Core.antt has the first of them, which can be believed alone. The others speak of the steps of the machine, and of owed pages on their way.
+-- Core.antt has the first of them, which can be believed alone. The others speak of the steps of the machine, and of owed pages on their
+-- way.
 --
 -- `reached` brings the laws of mig_model/src/migration.rt, which hold for every such world. Some of them stand only there: no frame is
 -- refused (no_frame_is_refused); a page that is pushed does not remain again in its epoch (pages_that_remain); how a command begins to

@@ -1,4 +1,5 @@
--- Frames in flight: what each word on a wire says of two wires joined, of a wire to which frames were sent, and how many bytes of its first frame it holds.
+-- Frames in flight: what each word on a wire says of two wires joined, of a wire to which frames were sent, and how many bytes of its first
+-- frame it holds.
 use Rattle.std.proofs.Common.{◌≡◌, ℕ, ◌&&◌, ◌||◌, Bool, true, false, cond, eqb, Option, Some, is_some, List, [], ◌∷◌, ◌++◌, map, refl, sym, ap, ◌∙◌, append_assoc, if◌then◌else◌, ◌+◌, arith, length}
 use Rattle.std.specs.Option.{option_and_then}
 use Rattle.std.specs.Ordering.{nat_cmp}

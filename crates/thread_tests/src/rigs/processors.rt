@@ -56,7 +56,8 @@ fn loaded_and_stored<R: Threads + Wait + Sync, C: Clock + Sync>(
     })
 }
 
-/// A rig whose destination runs the processors and has the page at 0x10000, and to which the other page was pushed. Each page was stored to.
+/// A rig whose destination runs the processors and has the page at 0x10000, and to which the other page was pushed. Each page was stored
+/// to.
 fn pushed_rig(alloc: Global) -> Option<Rig> {
     let deliver = Step::Deliver { n: u64::MAX };
     let steps = [

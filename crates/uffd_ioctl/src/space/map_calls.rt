@@ -21,7 +21,8 @@ impl Space {
     /// number of events that the call queued; the processor stays in its call until these are read. A page keeps its mode and its
     /// protection when it moves, and the pages by which a range grows get the mode of its last page.
     ///
-    /// `NoMemory` only if the call needs memory: for a mapping, which no call that is refused changes, or for a message; it changes nothing.
+    /// `NoMemory` only if the call needs memory: for a mapping, which no call that is refused changes, or for a message; it changes
+    /// nothing.
     pub fn map_call(&mut self, cpu: u8, command: Command) -> Result<(Reply, u8), NoMemory>
         requires { is_access command ≡ false }
         ensures reply { IfOk result (λ answer. answer.0 ≡ reply_of (memory self.old.host) command) }

@@ -1,5 +1,5 @@
-//! Why a step is refused: the nodes' checks, the link, and what the parts show. Phase comes first, then the link, then all else, and lack of
-//! memory last.
+//! Why a step is refused: the nodes' checks, the link, and what the parts show. Phase comes first, then the link, then all else, and lack
+//! of memory last.
 
 ghost use Rattle.std.specs.Prelude.{◌≡◌, ◌∷◌, List, Ok, get_or};
 ghost use Rattle.mig_base.specs.declared.command.Command.{Command};
