@@ -1,12 +1,12 @@
 -- What stands of a frame's text once its parts are written.
-use Rattle.std.proofs.Common.{◌≡◌, ℕ, ◌+◌, ◌≤◌, List, ◌++◌, length, refl, ap, ◌∙◌, arith, vec_len, vec_capacity}
+use Rattle.std.proofs.Common.{◌≡◌, ℕ, ◌+◌, ◌*◌, ◌≤◌, List, ◌++◌, length, refl, ap, ◌∙◌, arith, vec_len, vec_capacity}
 use Rattle.std.specs.Global.{Vec}
 use Rattle.std.specs.Int.{w32, to_be_bytes}
 use Rattle.std.proofs.lemmas.List.{length-append}
 use Rattle.mig_model.specs.Bounds.{IsFrame}
 use Rattle.mig_model.specs.Lengths.{body_len}
 use Rattle.mig_model.specs.Wire.{Frame}
-use Rattle.frame_texts.specs.Texts.{body_text, header_text, tag_code, text}
+use Rattle.frame_texts.specs.Texts.{HasWholePages, body_text, header_text, tag_code, text}
 use Rattle.frame_texts.specs.Texts.Version.{Two}
 use Rattle.frame_texts.proofs.Encodable.{encodable}
 use Rattle.frame_texts.proofs.TextLemmas.{length-text}
@@ -26,12 +26,14 @@ room_of_third old mid now x y z room p q = omega (arith, p.len, p.capacity, q.le
 
 -- Header and body
 
-pub length-body_text : (frame : Frame) → IsFrame frame → length (body_text frame) ≡ body_len frame
+length-whole_body : (frame : Frame) → HasWholePages frame → length (body_text frame) ≡ body_len frame
 unfolding text
-length-body_text frame is =
-    let whole = (encodable 0 frame (omega arith) is).whole in
+length-whole_body frame whole =
     let all = length-text Two 0 frame refl whole in
     omega (arith, all, length-append (header_text Two (tag_code frame) 0 (length (body_text frame))) (body_text frame))
+
+pub length-body_text : (frame : Frame) → IsFrame frame → length (body_text frame) ≡ body_len frame
+length-body_text frame is = length-whole_body frame (encodable 0 frame (omega arith) is).whole
 
 pub encoded : (old room a new : Vec ℕ) (tag epoch len : ℕ) (frame : Frame) → room.items ≡ old.items → tag ≡ tag_code frame → len ≡ length (body_text frame) → Puts room a (header_text Two tag epoch len) → Puts a new (body_text frame)
     → new.items ≡ old.items ++ text Two epoch frame
@@ -41,7 +43,10 @@ encoded old room a new tag epoch len frame same is_tag is_len p q =
     let whole = puts_then room a new (header_text Two tag epoch len) (body_text frame) p q in
     whole.items ∙ ap (λ (x : List ℕ). x ++ made tag len) same ∙ ap (λ (k : ℕ). old.items ++ made k len) is_tag ∙ ap (λ (n : ℕ). old.items ++ made (tag_code frame) n) is_len
 
--- A page and its bytes
+-- Pages and their bytes
 
 pub page_long : (page : ℕ) (bytes : List ℕ) → length bytes ≡ 4096 → length (to_be_bytes w32 page ++ bytes) ≡ 4100
 page_long page bytes whole = omega (arith, whole, length-append (to_be_bytes w32 page) bytes)
+
+pub run_long : (first count : ℕ) (pages : List (List ℕ)) → length pages ≡ count → HasWholePages (Frame.Run first pages) → length (body_text (Frame.Run first pages)) ≡ 8 + 4096 * count
+run_long first count pages many whole = length-whole_body (Frame.Run first pages) whole ∙ ap (λ n. 8 + 4096 * n) many

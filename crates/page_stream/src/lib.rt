@@ -5,7 +5,8 @@
 //!
 //! [`Frame::is_well_formed`] says whether a frame may be sent, [`Frame::text_len`] how long its text is, its bytes on a wire, and
 //! [`Frame::effect`] what its taking reports.
-//! [`encode_into`] writes the text. [`encode_page_into`] writes a page from where its bytes stand, without copying them first.
+//! [`encode_into`] writes the text. [`encode_page_into`] writes a page from where its bytes stand, without copying them first;
+//! [`page_head`] and [`run_head`] are the text in front of bytes that the caller sends itself.
 //!
 //! The crate decides nothing about a migration: which node sends a frame and when, and how the other handles it, is for the nodes.
 //!
@@ -23,4 +24,4 @@ pub mod writing;
 
 pub use crate::frame::Frame;
 pub use crate::lists::{Pages, Waiting};
-pub use crate::writing::{encode, encode_into, encode_page_into};
+pub use crate::writing::{encode, encode_into, encode_page_into, page_head, run_head};

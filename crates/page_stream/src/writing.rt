@@ -1,11 +1,12 @@
 //! Writing the texts of frames.
 
-ghost use Rattle.std.specs.Prelude.{◌≡◌, ◌+◌, ◌≤◌, ◌<◌, ◌^◌, ◌++◌, length, IfOk, OnOk, OnErr, IsOk, vec_len, vec_capacity};
+ghost use Rattle.std.specs.Prelude.{◌≡◌, ℕ, List, ◌+◌, ◌≤◌, ◌<◌, ◌^◌, ◌++◌, length, IfOk, OnOk, OnErr, IsOk, vec_len, vec_capacity};
 ghost use Rattle.std.specs.List.{flat_map};
 ghost use Rattle.std.specs.Int.{w32, to_be_bytes};
-ghost use Rattle.frame_texts.specs.Texts.{areas_of, areas_text, area_text, body_text, command_text, commands_text, header_text, run_text, runs_of, runs_text, state_code, tag_code, text};
+ghost use Rattle.frame_texts.specs.Texts.{HasWholePages, areas_of, areas_text, area_text, body_text, command_text, commands_text, header_text, run_text, runs_of, runs_text, state_code, tag_code, text};
 ghost use Rattle.frame_texts.specs.Texts.Version.{Two};
 ghost use Rattle.mig_base.specs.Codes.{prot_number};
+ghost use Rattle.mig_base.specs.declared.TheConstants.{MAX_RUN};
 ghost use Rattle.mig_model.specs.Bounds.{IsFrame};
 ghost use Rattle.mig_model.specs.Lengths as texts;
 ghost use Rattle.mig_model.specs.Wire as machine;
@@ -26,8 +27,8 @@ const VERSION: u8 = 2;
 /// The tag of a frame of one page.
 const PAGE_TAG: u8 = 0x02;
 
-/// The bytes after the header of a frame of one page: its number and its contents.
-const PAGE_BODY_LEN: u32 = 4 + PAGE_BYTES as u32;
+/// The tag of a frame of neighbouring pages.
+const RUN_TAG: u8 = 0x08;
 
 /// Appends the text of a frame that is sent in an epoch, in version 2 of the texts: [`Frame::text_len`] bytes. The frame is well formed
 /// ([`Frame::is_well_formed`]).
@@ -68,10 +69,36 @@ pub fn encode_page_into(
         vec_capacity into.old → IsOk result }
     ensures capacity { vec_capacity into.old ≤ vec_capacity into.new }
 {
-    into.try_reserve(HEADER_LEN as usize + PAGE_BODY_LEN as usize)?;
-    put_header(into, PAGE_TAG, epoch, PAGE_BODY_LEN);
-    put_page(into, page, bytes);
+    let head = page_head(epoch, page);
+    into.try_reserve(head.len() + PAGE_BYTES)?;
+    put(into, &head);
+    put(into, bytes);
     Ok(())
+}
+
+/// The text of a frame of one page in front of the contents, for a caller that sends the 4,096 bytes from where they stand: header and
+/// number of the page. Head and bytes are what [`encode_into`] writes for [`Frame::Page`].
+pub fn page_head(epoch: u32, page: PageNo) -> [u8; 16]
+    ensures { (bytes : List ℕ) → HasWholePages (machine.Frame.Page page bytes) → result ++ bytes ≡ text Two epoch (machine.Frame.Page page bytes) }
+{
+    let mut head = [0; 16];
+    head[..12].copy_from_slice(&header(PAGE_TAG, epoch, 4 + PAGE_BYTES as u32));
+    head[12..].copy_from_slice(&page.to_be_bytes());
+    head
+}
+
+/// The text of a frame of `count` neighbouring pages in front of their contents, for a caller that sends the bytes from where they stand:
+/// header, first page and count. Head and bytes, 4,096 for each page, are what [`encode_into`] writes for [`Frame::Run`]. A frame has at
+/// most [`MAX_RUN`](mig_base::MAX_RUN) pages.
+pub fn run_head(epoch: u32, first: PageNo, count: u32) -> [u8; 20]
+    requires { count ≤ MAX_RUN }
+    ensures { (pages : List (List ℕ)) → length pages ≡ count → HasWholePages (machine.Frame.Run first pages) → result ++ flat_map (λ bytes. bytes) pages ≡ text Two epoch (machine.Frame.Run first pages) }
+{
+    let mut head = [0; 20];
+    head[..12].copy_from_slice(&header(RUN_TAG, epoch, 8 + PAGE_BYTES as u32 * count));
+    head[12..16].copy_from_slice(&first.to_be_bytes());
+    head[16..].copy_from_slice(&count.to_be_bytes());
+    head
 }
 
 /// The text of a well-formed frame, as [`encode_into`] writes it. `NoMemory` comes if its room cannot be reserved.
@@ -96,7 +123,7 @@ fn tag(frame: &Frame) -> u8
         Frame::Package { .. } => 0x05,
         Frame::End { .. } => 0x06,
         Frame::Resume => 0x07,
-        Frame::Run { .. } => 0x08,
+        Frame::Run { .. } => RUN_TAG,
         Frame::Request { .. } => 0x81,
         Frame::Recv { .. } => 0x82,
         Frame::Done => 0x83,
@@ -108,9 +135,19 @@ fn put_header(into: &mut Vec<u8>, tag: u8, epoch: u32, len: u32)
     requires { vec_len into.old + 12 ≤ vec_capacity into.old }
     ensures { Puts into.old into.new (header_text Two tag epoch len) }
 {
-    put(into, &[VERSION, tag, 0, 0]);
-    put(into, &epoch.to_be_bytes());
-    put(into, &len.to_be_bytes());
+    put(into, &header(tag, epoch, len));
+}
+
+/// The 12 bytes of a header.
+fn header(tag: u8, epoch: u32, len: u32) -> [u8; 12]
+    ensures { result ≡ header_text Two tag epoch len }
+{
+    let mut header = [0; 12];
+    header[0] = VERSION;
+    header[1] = tag;
+    header[4..8].copy_from_slice(&epoch.to_be_bytes());
+    header[8..].copy_from_slice(&len.to_be_bytes());
+    header
 }
 
 /// The body, which stands after the header.

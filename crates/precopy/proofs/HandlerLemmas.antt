@@ -1,6 +1,6 @@
 -- The steps of the source's handler.
-use Rattle.std.proofs.Common.{◌≡◌, ℕ, ◌*◌, true, false, ltb, Option, Some, None, List, [], ◌∷◌, refl, sym, ap, ◌∙◌, inl, inr, ◌⊎◌, arith}
-use Rattle.std.specs.Prelude.{Ok, Err}
+use Rattle.std.proofs.Common.{◌≡◌, ℕ, ◌*◌, ◌/◌, true, false, ltb, Option, Some, None, List, [], ◌∷◌, refl, sym, ap, ◌∙◌, inl, inr, ◌⊎◌, arith}
+use Rattle.std.specs.Prelude.{Ok, Err, Result, IfErr, IfOk, OnOk}
 use Rattle.std.specs.Option.{IsSome}
 use Rattle.mig_model.specs.Cpus.{Cpus}
 use Rattle.mig_base.specs.Tests.{first_holding, is_empty}
@@ -13,12 +13,15 @@ use Rattle.mig_model.specs.Log.{Log}
 use Rattle.mig_model.specs.Space.{Space}
 use Rattle.mig_model.specs.Effects.{act_effect, read_effect}
 use Rattle.mig_model.specs.GuestSteps.{when_quiet}
-use Rattle.mig_model.specs.NodeSteps.{acted, first_of}
+use Rattle.mig_model.specs.NodeSteps.{acted, and_then, first_of, unless}
 use Rattle.mig_model.specs.SourceSteps.{act}
 use Rattle.mig_model.proofs.steps.StepLemmas.{goes_on, in-phase, is-quiet}
 use Rattle.mig_model.specs.Source.{Source, is_handling, source_act, source_acted, source_acted_by, space_of}
+use Rattle.dirty_log.specs.Acts.{act_is}
 use Rattle.dirty_log.specs.Answers.{act_refusal, read_answer}
 use Rattle.dirty_log.specs.Spaces.{source_of}
+use Rattle.dirty_log.specs.declared.act.Act.{Act}
+use Rattle.precopy.proofs.StepLemmas.{stops}
 
 -- the message that was read
 pub record IsRead (guest : Guest) (next : Option Noted) (effect : Effect) : Type 0 where
@@ -66,3 +69,23 @@ acted_is node space cpus log fault same = ap (λ other. record node { guest = ot
 pub act_done : (node new : Source) (effect : Effect) (fault : Fault) (rest : List Fault) → is_handling node ≡ true → node.log.held ≡ fault ∷ rest → changing (space_of node).object ≡ 0 →
     effect ≡ act_effect (source_act node fault) (4096 * fault.page) → new ≡ source_acted node fault → act node ≡ acted effect new
 act_done node new effect fault rest runs held quiet made is = act_made node fault rest runs held (ap (ltb 0) quiet) ∙ rw (made, is) refl
+
+-- What SourceAct would do next
+
+act_stopped : (guest : Guest) (held : List Fault) (refusal : Refusal) → first_holding ((is_empty held, Refusal.NothingThere) ∷ (ltb 0 (changing guest.space.object), Refusal.Changing) ∷ []) ≡ Some refusal →
+    when_quiet guest (first_of held) ≡ Err refusal
+unfolding unless
+act_stopped guest [] refusal h = grind arith
+act_stopped guest (fault ∷ rest) refusal h = grind arith
+
+same_page : (page : ℕ) → 4096 * page / 4096 ≡ page
+same_page page = omega arith
+
+pub next_told : (node : Source) (found : Result (Act × ℕ) Refusal) → is_handling node ≡ true → OnOk found (act_refusal node.log (space_of node) ≡ None) → IfErr found (λ refusal. act_refusal node.log (space_of node) ≡ Some refusal) →
+    ((fault : Fault) (rest : List Fault) → node.log.held ≡ fault ∷ rest → IfOk found (λ next. (act_is next.0 ≡ source_act node fault) × (next.1 ≡ 4096 * fault.page))) →
+    act node ≡ and_then found (λ next. acted (act_effect (act_is next.0) next.1) (source_acted_by (act_is next.0) node (next.1 / 4096)))
+next_told node (Ok next) runs accepted refused told =
+    let held = some_held node.log (space_of node) node.log.held refl accepted in
+    let is = told held.fault held.rest held.is in
+    act_made node held.fault held.rest runs held.is (ap (ltb 0) held.quiet) ∙ rw (is.0, is.1, same_page held.fault.page) refl
+next_told node (Err refusal) runs accepted refused told = in-phase (is_handling node) _ runs ∙ stops (when_quiet node.guest (first_of node.log.held)) _ refusal (act_stopped node.guest node.log.held refusal refused)

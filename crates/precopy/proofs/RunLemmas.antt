@@ -2,6 +2,7 @@
 use Rattle.std.proofs.Common.{◌≡◌, ℕ, ◌+◌, ◌<◌, ◌≤◌, List, sym, subst, true, false, not, ltb, None, length, refl, ap, ◌∙◌, arith}
 use Rattle.std.specs.Prelude.{Ok, Err, Result}
 use Rattle.std.specs.FinSet.{contains}
+use Rattle.mig_base.specs.declared.effect.Effect.{Effect}
 use Rattle.mig_base.specs.declared.refusal.Refusal.{Refusal}
 use Rattle.mig_base.specs.declared.TheConstants.{HIGH_PAGE, LOW_PAGE, MAX_RUN}
 use Rattle.mig_base.specs.Ranges.{in_range}
@@ -10,8 +11,8 @@ use Rattle.mig_base.specs.Tests.{is_every}
 use Rattle.mig_base.proofs.RangeLemmas.{in_range-true, least_below_tells, none_below-from}
 use Rattle.mig_base.proofs.SetLemmas.{member_run, run_length-some}
 use Rattle.mig_model.specs.Bounds.{ArePageBytes, IsFrame}
-use Rattle.mig_model.specs.SourceSteps.{next_to_send, run_bound, send, send_run}
-use Rattle.mig_model.specs.NodeSteps.{IsRefusedFor as IsStepRefused, checked}
+use Rattle.mig_model.specs.SourceSteps.{next_to_send, run_bound, send, send_pages, send_run}
+use Rattle.mig_model.specs.NodeSteps.{IsRefusedFor as IsStepRefused, Sends, and_then, checked}
 use Rattle.mig_model.specs.Source.{Source, run_of, space_of}
 use Rattle.mig_model.specs.Space.{Space}
 use Rattle.mig_model.specs.Wire.{Frame}
@@ -39,6 +40,19 @@ by_found node count (Err refusal) is = rw is refl
 
 pub run_checked : (node : Source) (count : ℕ) → checked (send node) ≡ checked (send_run node count)
 run_checked node count = by_found node count (next_to_send node) refl
+
+abbrev effect_of : Result (Sends Source) Refusal → Effect
+effect_of (Ok made) = made.effect
+effect_of (Err refusal) = Effect.EndSent
+
+abbrev pages_in : Effect → ℕ
+pages_in (Effect.SentRun addr pages) = pages
+pages_in effect = 0
+
+-- the run that SendRun sends has these pages
+pub run_found : (node : Source) (count first pages : ℕ) → next_to_send node ≡ Ok first → send_run node count ≡ send_pages node first pages → pages ≡ pages_from node first count
+run_found node count first pages is made =
+    ap (λ step. pages_in (effect_of step)) (sym made ∙ ap (λ found. and_then found (λ page. send_pages node page (run_length node.log.todo page (run_bound count)))) is)
 
 -- Its pages
 

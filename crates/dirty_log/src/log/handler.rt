@@ -5,7 +5,8 @@ ghost use Rattle.std.specs.Option.{IsSome};
 ghost use Rattle.mig_base.specs.Userfault.{Noted, next_message};
 ghost use Rattle.mig_model.specs.Guest as guest;
 ghost use Rattle.mig_model.specs.Log as machine;
-ghost use Rattle.mig_model.specs.Source.{source_act, source_acted};
+ghost use Rattle.mig_model.specs.NodeSteps.{first_of};
+ghost use Rattle.mig_model.specs.Source.{Source, source_act, source_acted, space_of};
 ghost use Rattle.uffd_ioctl.specs.Lent.{IsLent};
 ghost use Rattle.dirty_log.specs.Acts.{act_is};
 ghost use Rattle.dirty_log.specs.Answers.{IsRefusedFor, act_refusal, read_answer};
@@ -73,6 +74,32 @@ impl DirtyLog {
         Ok(())
     }
 
+    /// What [`DirtyLog::act`] would do next: how the first held fault has to be resolved according to the present state of its page, and
+    /// the address of the page. Nothing changes. Refused like that call, except `NoMemory`.
+    pub fn next_act(&self, space: &Space) -> Result<(Act, Addr), Refusal>
+        ensures accepted { OnOk result (act_refusal self.now space.now ≡ None) }
+        ensures refused { IfErr result (λ refusal. act_refusal self.now space.now ≡ Some refusal) }
+        ensures act { (node : Source) (fault : guest.Fault) (rest : List guest.Fault) → space_of node ≡ space.now → self.now.held ≡ fault ∷ rest → IfOk result (λ next. (act_is next.0 ≡ source_act node fault) × (next.1 ≡ 4096 * fault.page)) }
+    {
+        let fault = self.next_fault(space)?;
+        Ok((act_of(space, &fault), fault.addr()))
+    }
+
+    /// The first held fault, if it may be resolved now.
+    fn next_fault(&self, space: &Space) -> Result<PageFault, Refusal>
+        ensures accepted { OnOk result (act_refusal self.now space.now ≡ None) }
+        ensures refused { IfErr result (λ refusal. act_refusal self.now space.now ≡ Some refusal) }
+        ensures first { IfOk result (λ fault. first_of self.now.held ≡ Some fault) }
+    {
+        let Some(fault) = self.held.front() else {
+            return Err(Refusal::NothingThere);
+        };
+        if space.changing() > 0 {
+            return Err(Refusal::Changing);
+        }
+        Ok(fault.copy())
+    }
+
     /// Resolves the first held fault according to the present state of its page, and wakes the processors that sleep on the page.
     /// Returns how it was resolved, and the address of the page. Refused with `NothingThere` if no fault is held, with `Changing`
     /// while an event is unread, and with `NoMemory` if a missing page cannot be made zeros.
@@ -97,13 +124,8 @@ impl DirtyLog {
             (cpus.new ≡ cpus.old)) }
         ensures lent { IsLent space.new }
     {
-        let Some(fault) = self.held.front() else {
-            return Err(Refusal::NothingThere);
-        };
-        if space.changing() > 0 {
-            return Err(Refusal::Changing);
-        }
-        let act = act_of(space, fault);
+        let fault = self.next_fault(space)?;
+        let act = act_of(space, &fault);
         let (page, addr) = (fault.page(), fault.addr());
         match act {
             Act::Unprotected => {

@@ -100,8 +100,7 @@ impl DirtyLog {
         ensures present { OnOk result ((is_present space.new page ≡ true) × IsPage page) }
     {
         space.is_in_order();
-        ensure_sendable(space, page, 1)?;
-        self.mark_sent(space, page, 1)?;
+        self.protect_run(space, page, 1)?;
         Ok(())
     }
 
@@ -132,6 +131,28 @@ impl DirtyLog {
         space.is_in_order();
         log.protect_page(space, page)?;
         Ok(Sent::read(space, page))
+    }
+
+    /// Write-protects the `count` pages from `first` on, which are clean from then on: the caller has to send their bytes before a page
+    /// changes. Refused like [`DirtyLog::protect_page`], for any page of the range.
+    pub fn protect_run(
+        &mut self,
+        space: &mut Space,
+        first: PageNo,
+        count: u32,
+    ) -> Result<(), Refusal>
+        requires lent { IsLent space.old }
+        requires some { 0 < count }
+        requires inside { first + count ≤ HIGH_PAGE }
+        ensures accepted { OnOk result (send_refusal space.old first count ≡ None) }
+        ensures refused { IfErr result (λ refusal. IsRefusedFor (send_refusal space.old first count) refusal) }
+        ensures log { OnOk result (self.new ≡ machine.log_run_sent self.old first count) }
+        ensures space { OnOk result (space.new ≡ protected_in space.old first count true) }
+        ensures err { OnErr result ((self.new ≡ self.old) × (space.new ≡ space.old)) }
+        ensures lent { IsLent space.new }
+    {
+        ensure_sendable(space, first, count)?;
+        self.mark_sent(space, first, count)
     }
 
     /// Write-protects the `count` pages from `first` on, then reads their bytes in order, also those of pages of zeros. The pages are

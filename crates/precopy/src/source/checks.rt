@@ -73,16 +73,10 @@ impl Source {
     pub fn check_act(&self) -> Result<(), Refusal>
         ensures { result ≡ checked (act self.now) }
     {
-        if !self.is_handling() {
-            return Err(Refusal::Phase);
+        match self.next_act() {
+            Ok(_) => Ok(()),
+            Err(refusal) => Err(refusal),
         }
-        if self.log.held() == 0 {
-            return Err(Refusal::NothingThere);
-        }
-        if self.space.changing() > 0 {
-            return Err(Refusal::Changing);
-        }
-        Ok(())
     }
 
     /// Whether the source can stop: the refusal of [`Source::switch`], except `NoMemory`.

@@ -1,13 +1,14 @@
 //! The handler of the source: it reads messages and resolves faults.
 
-ghost use Rattle.std.specs.Prelude.{◌≡◌, ℕ, List, ◌∷◌, Some, Err, IfOk, IfErr, OnErr};
+ghost use Rattle.std.specs.Prelude.{◌≡◌, ◌/◌, ℕ, List, ◌∷◌, Some, Err, IfOk, IfErr, OnErr};
 ghost use Rattle.mig_base.specs.declared.message.Message.{Message};
 ghost use Rattle.mig_base.specs.declared.refusal.Refusal.{Refusal};
 ghost use Rattle.mig_model.specs.Effects.{act_effect, read_effect};
 ghost use Rattle.mig_model.specs.Guest as guest;
 ghost use Rattle.mig_model.specs.Guest.{Fault, Guest, fault_count};
-ghost use Rattle.mig_model.specs.NodeSteps.{IsRefusedFor, acted};
-ghost use Rattle.mig_model.specs.Source.{is_handling, source_act};
+ghost use Rattle.mig_base.specs.declared.TheConstants.{PAGE_SIZE};
+ghost use Rattle.mig_model.specs.NodeSteps.{IsRefusedFor, acted, and_then};
+ghost use Rattle.mig_model.specs.Source.{is_handling, source_act, source_acted_by};
 ghost use Rattle.mig_model.specs.SourceSteps.{act, read};
 ghost use Rattle.mig_base.specs.Userfault.{Noted, next_message};
 ghost use Rattle.dirty_log.specs.Acts.{act_is};
@@ -38,6 +39,17 @@ impl Source {
         let effect = self.log.read(&mut self.space, &mut self.cpus)?;
         self.faults = self.faults.saturating_add(faults_in(effect));
         Ok(effect)
+    }
+
+    /// What [`Source::act`] would do next: how it would resolve the first held fault, and the address of its page. Nothing changes, so a
+    /// caller can do it to real memory first, and call [`Source::act`] once that is done. Refused like that call, except `NoMemory`.
+    pub fn next_act(&self) -> Result<(Act, Addr), Refusal>
+        ensures { act self.now ≡ and_then result (λ next. acted (act_effect (act_is next.0) next.1) (source_acted_by (act_is next.0) self.now (next.1 / PAGE_SIZE))) }
+    {
+        if !self.is_handling() {
+            return Err(Refusal::Phase);
+        }
+        self.log.next_act(&self.space)
     }
 
     /// Resolves the first held fault according to the present state of its page, and wakes the processors that sleep on the page.

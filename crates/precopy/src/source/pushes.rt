@@ -1,7 +1,9 @@
 //! Post-copy: the switch, and the owed pages that a stopped source sends.
 
-ghost use Rattle.std.specs.Prelude.{◌≡◌, ◌⊎◌, [], ◌∷◌, true, Err, IfOk, IfErr, IsOk, OnOk, OnErr};
+ghost use Rattle.std.specs.Prelude.{◌≡◌, ℕ, ◌≤◌, ◌<◌, ◌⊎◌, [], ◌∷◌, true, false, None, Err, IfOk, IfErr, IsOk, OnOk, OnErr};
 ghost use Rattle.std.specs.Borrow.{sem};
+ghost use Rattle.std.specs.FinSet.{contains};
+ghost use Rattle.std.specs.Option.{IfSome};
 ghost use Rattle.dirty_log.specs.Sending.{frame_sent};
 ghost use Rattle.mig_model.specs.Bounds.{IsFrame};
 ghost use Rattle.mig_model.specs.Guest.{is_present};
@@ -22,7 +24,7 @@ use mig_base::effect::Effect;
 use mig_base::phase::SourcePhase;
 use mig_base::refusal::Refusal;
 use mig_base::schedule::Ticket;
-use mig_base::{NoMemory, PageNo, PageSet, page_address};
+use mig_base::{HIGH_PAGE, NoMemory, PageNo, PageSet, page_address};
 use page_stream::Frame;
 
 /// What a source hands over when it stops.
@@ -78,6 +80,17 @@ impl Source {
             package: self.package(&owed)?,
             owed,
         })
+    }
+
+    /// The first page from `from` on that remains to be pushed, if there is one.
+    pub fn next_remaining(&self, from: PageNo) -> Option<PageNo>
+        ensures remains { IfSome result (λ page. (from ≤ page) × (contains self.now.remaining page ≡ true)) }
+        ensures first { IfSome result (λ page. (other : ℕ) → from ≤ other → other < page → contains self.now.remaining other ≡ false) }
+        ensures none { result ≡ None → (other : ℕ) → from ≤ other → contains self.now.remaining other ≡ false }
+    {
+        self.remaining.ends_by_high_page();
+        let page = self.remaining.next(from.min(HIGH_PAGE), true);
+        if page < HIGH_PAGE { Some(page) } else { None }
     }
 
     /// Sends an owed page, which then no longer remains. Its bytes are borrowed, so that nothing changes until they are written.
