@@ -1,5 +1,6 @@
 pub mod Acts
 pub mod Arrivals
+pub mod Asking
 pub mod Codes
 pub mod Kept
 pub mod Memory

@@ -13,8 +13,8 @@ use mig_base::{Addr, HIGH_PAGE, PageNo, page_address};
 use owed_pages::Owed;
 use uffd_ioctl::{PageFault, Space};
 
-/// The action on a fault.
-#[derive(Clone, Copy)]
+/// How the handler resolves a fault.
+#[derive(Clone, Copy, Debug, PartialEq, Eq)]
 pub enum Act {
     /// The page is no longer mapped, or no longer registered: its sleepers are woken.
     Forgot,
@@ -28,7 +28,7 @@ pub enum Act {
 
 impl Act {
     /// The action on a fault, by the present state of its page. The page may lie past the address space.
-    pub fn of(space: &Space, owed: &Owed, fault: &PageFault) -> Self
+    pub(crate) fn of(space: &Space, owed: &Owed, fault: &PageFault) -> Self
         ensures low { (result ≡ Act.Forgot) ⊎ (fault.now.page < HIGH_PAGE) }
         ensures act { act_is result ≡
             destination_act_by (is_forgotten space.now fault.now.page)
@@ -52,7 +52,7 @@ impl Act {
         }
     }
 
-    /// Its effect, where `addr` is the address of the page.
+    /// The effect of the act on the page at `addr`, a multiple of 4096.
     pub fn effect(self, addr: Addr) -> Effect
         ensures { result ≡ act_effect (act_is self) addr }
     {

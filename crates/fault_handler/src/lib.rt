@@ -19,4 +19,5 @@ pub mod laws;
 mod messages;
 mod requests;
 
+pub use crate::act::Act;
 pub use crate::destination::Destination;

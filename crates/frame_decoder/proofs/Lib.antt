@@ -16,3 +16,4 @@ pub mod Unique
 pub mod OneFrame
 pub mod Filling
 pub mod Decoding
+pub mod HeadLemmas

@@ -4,3 +4,4 @@ pub mod Streams
 pub mod Feeding
 pub mod Reading
 pub mod Taking
+pub mod Heads

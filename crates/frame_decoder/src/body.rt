@@ -54,7 +54,7 @@ fn read_package(
 }
 
 /// Whether `count` pages may be sent as one run.
-fn is_page_run(version: Version, first: PageNo, count: usize) -> bool
+pub(crate) fn is_page_run(version: Version, first: PageNo, count: usize) -> bool
     ensures { result ≡ is_page_run version first count }
 {
     version.has_runs() && count <= usize::from(MAX_RUN) && is_run(LOW_PAGE, first, count as u32)

@@ -14,6 +14,7 @@ mod commands;
 mod decoder;
 mod fault;
 mod fields;
+mod head;
 mod header;
 pub mod laws;
 mod lists;
@@ -23,4 +24,6 @@ mod version;
 
 pub use crate::decoder::Decoder;
 pub use crate::fault::StreamFault;
-pub use crate::stream::{front_len, read_text};
+pub use crate::head::{FrameHead, Head, read_head};
+pub use crate::stream::{front_len, lacking, read_text};
+pub use crate::version::Version;

@@ -1,10 +1,12 @@
 //! Frames one after the other.
 
-ghost use Rattle.std.specs.Prelude.{◌≡◌, ◌++◌, ℕ, List, IfOk, Some};
+ghost use Rattle.std.specs.Prelude.{◌≡◌, ◌+◌, ◌≤◌, ◌++◌, ℕ, drop, length, take, List, Err, IfErr, IfOk, Some};
 ghost use Rattle.std.specs.Option.{IfSome, option_map};
 ghost use Rattle.mig_model.specs.Lengths.{text_len};
 ghost use Rattle.mig_model.specs.Wire.{Sent};
 ghost use Rattle.frame_texts.specs.Texts.{text};
+ghost use Rattle.frame_decoder.specs.Headers.{header_at};
+ghost use Rattle.frame_decoder.specs.Heads.{IsAtFront, front_by};
 ghost use Rattle.frame_decoder.specs.Reading.{next_of, next_at};
 ghost use Rattle.frame_decoder.specs.Streams.{IsSent, IsTextOf, lacks, sent_of, sents};
 ghost use Rattle.frame_decoder.specs.Taking.{Stands, IsTaken};
@@ -12,7 +14,7 @@ ghost use Rattle.frame_decoder.specs.Versions.{version_of};
 
 use crate::body::read_body;
 use crate::fault::StreamFault;
-use crate::header::{HEADER_LEN, read_header};
+use crate::header::{HEADER_LEN, Header, read_header};
 use crate::version::Version;
 use mig_base::NoMemory;
 use page_stream::Frame;
@@ -34,29 +36,57 @@ pub(crate) enum Next {
     Fault(StreamFault),
 }
 
+/// The header at the front, in the fixed version if one is fixed, once its body is whole too; `None` before. It takes no memory.
 #[tactic(auto, unfolding(crate::specs::Reading::next_at))]
-fn next_frame(alloc: Global, fixed: Option<Version>, bytes: &[u8]) -> Result<Next, NoMemory>
-    ensures { IfOk result (λ next. next_of next ≡ next_at fixed bytes.now) }
+pub(crate) fn whole_header(
+    fixed: Option<Version>,
+    bytes: &[u8],
+) -> Result<Option<Header>, StreamFault>
+    ensures front { next_at fixed bytes.now ≡ front_by bytes.now result }
+    ensures header { IfOk result (λ found. IfSome found (λ h. IsAtFront fixed bytes.now h)) }
+    ensures fault { IfErr result (λ fault. header_at fixed bytes.now ≡ Err fault) }
 {
     if bytes.len() < HEADER_LEN {
-        return Ok(Next::Part);
+        return Ok(None);
     }
     let header = match read_header(fixed, bytes) {
         Ok(header) => header,
+        Err(fault) => return Err(fault),
+    };
+    if bytes.len() - HEADER_LEN < header.len as usize {
+        return Ok(None);
+    }
+    Ok(Some(header))
+}
+
+/// The `len` bytes behind a header.
+pub(crate) fn body_behind(bytes: &[u8], len: u32) -> &[u8]
+    requires { 12 + len ≤ length bytes.now }
+    ensures { result.now ≡ take len (drop 12 bytes.now) }
+{
+    let (_, rest) = bytes.split_at(HEADER_LEN);
+    rest.split_at(len as usize).0
+}
+
+fn next_frame(alloc: Global, fixed: Option<Version>, bytes: &[u8]) -> Result<Next, NoMemory>
+    ensures { IfOk result (λ next. next_of next ≡ next_at fixed bytes.now) }
+{
+    let header = match whole_header(fixed, bytes) {
+        Ok(Some(header)) => header,
+        Ok(None) => return Ok(Next::Part),
         Err(fault) => return Ok(Next::Fault(fault)),
     };
-    let len = header.len as usize;
-    let (_, rest) = bytes.split_at(HEADER_LEN);
-    if rest.len() < len {
-        return Ok(Next::Part);
-    }
-    let (body, _) = rest.split_at(len);
-    match read_body(alloc, header.version, header.tag, body) {
+    match read_body(
+        alloc,
+        header.version,
+        header.tag,
+        body_behind(bytes, header.len),
+    ) {
         Ok(frame) => Ok(Next::Whole {
             version: header.version,
             epoch: header.epoch,
             frame,
-            len: HEADER_LEN + len,
+            len: HEADER_LEN + header.len as usize,
         }),
         Err(StreamFault::NoMemory) => Err(NoMemory),
         Err(_) => Ok(Next::Fault(StreamFault::BadField)),
@@ -109,7 +139,7 @@ pub fn front_len(bytes: &[u8]) -> usize
 
 /// The number of bytes that a header still lacks, or once it is there its frame; 0 where a fault stands. It takes no memory.
 #[tactic(auto, unfolding(crate::specs::Streams::lacks))]
-pub(crate) fn lacking(fixed: Option<Version>, bytes: &[u8]) -> usize
+pub fn lacking(fixed: Option<Version>, bytes: &[u8]) -> usize
     ensures { result ≡ lacks fixed bytes.now }
 {
     if bytes.len() < HEADER_LEN {

@@ -3,5 +3,6 @@
 
 mod faults;
 mod frames;
+mod heads;
 mod reading;
 mod vectors;

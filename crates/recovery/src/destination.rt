@@ -13,9 +13,8 @@ ghost use Rattle.recovery.specs.Breaks.{AreWellFormed, frames_of, received_frame
 
 use fault_handler::Destination;
 use mig_base::effect::Effect;
-use mig_base::phase::{DestPhase, Received, SourcePhase};
+use mig_base::phase::{Received, SourcePhase};
 use mig_base::refusal::Refusal;
-use mig_base::schedule::Side;
 use mig_base::{NoMemory, PageNo, PageSet};
 use page_stream::Frame;
 use precopy::Source;
@@ -23,7 +22,7 @@ use std::alloc::Global;
 
 /// Pauses the destination, which notices that the channel is broken; if it has run, its processors continue. Refused as `Phase` before the
 /// start and once the migration is complete, both of which the source knows, and if the destination is paused already. The caller
-/// knows that the channel is broken.
+/// knows that the channel is broken. A caller that has no source calls [`Destination::notice`].
 pub fn notice_dest(source: &Source, destination: &mut Destination) -> Result<Effect, Refusal>
     ensures made { IfOk result (λ effect.
         in_phase (is_under_way source.now) (pause destination.old) ≡ acted effect destination.new) }
@@ -32,10 +31,7 @@ pub fn notice_dest(source: &Source, destination: &mut Destination) -> Result<Eff
     ensures err { OnErr result (destination.new ≡ destination.old) }
 {
     check_notice_dest(source, destination)?;
-    destination.pause();
-    Ok(Effect::Noticed {
-        side: Side::Destination,
-    })
+    destination.notice()
 }
 
 /// Whether the destination can notice that the channel is broken: the refusal of [`notice_dest`].
@@ -46,10 +42,7 @@ pub fn check_notice_dest(source: &Source, destination: &Destination) -> Result<(
         SourcePhase::Idle | SourcePhase::Released => return Err(Refusal::Phase),
         _ => {}
     }
-    match destination.phase() {
-        DestPhase::Paused => Err(Refusal::Phase),
-        _ => Ok(()),
-    }
+    destination.check_notice()
 }
 
 /// The Recv that reports how far the destination has come, with the pages of the source that it still needs if it runs. `NoMemory` comes

@@ -15,6 +15,7 @@ ghost use Rattle.mig_model.specs.NodeSteps.{IsRefusedFor, acted, checked, first_
 ghost use Rattle.mig_model.specs.Owed.{is_requested, owed_table_after, requesting};
 ghost use Rattle.mig_base.specs.Userfault.{Noted, next_message};
 ghost use Rattle.page_stream.specs.Frames.{frame_of};
+ghost use Rattle.fault_handler.specs.Asking.{effect_at, next_act_effect};
 ghost use Rattle.fault_handler.specs.Memory.{act_grows, read_grows};
 ghost use Rattle.fault_handler.specs.Order.{LiesInside};
 
@@ -24,7 +25,7 @@ use crate::messages::read;
 use mig_base::effect::Effect;
 use mig_base::phase::DestPhase;
 use mig_base::refusal::Refusal;
-use mig_base::{Message, NoMemory, PAGE_SIZE, PageNo};
+use mig_base::{Addr, Message, NoMemory, PAGE_SIZE, PageNo};
 use owed_pages::Owed;
 use page_stream::Frame;
 use std::collections::VecDeque;
@@ -114,6 +115,17 @@ impl Destination {
         self.held.pop_front();
         self.cpus.wake_page(page);
         Ok((act.effect(addr), None))
+    }
+
+    /// How [`Destination::act`] would resolve the first held fault, and the address of its page, in bytes: the next act has
+    /// [`Act::effect`] of these. Nothing changes, and it takes no memory. So a driver can ask, do the act to real memory, and then make it.
+    ///
+    /// Refused as an act is: as `Phase` before it has run, as `NothingThere` if no fault is held, and as `Changing` while an event is unread.
+    pub fn next_act(&self) -> Result<(Act, Addr), Refusal>
+        ensures { effect_at result ≡ next_act_effect self.now }
+    {
+        let fault = self.next_fault()?;
+        Ok((Act::of(&self.space, &self.owed, &fault), fault.addr()))
     }
 
     /// Whether [`Destination::act`] would resolve a fault, or how it would be refused; memory is not considered.

@@ -14,6 +14,7 @@ ghost use Rattle.mig_model.specs.Owed.{home};
 ghost use Rattle.mig_base.specs.Userfault as object;
 ghost use Rattle.mig_model.specs.Wire as wire;
 ghost use Rattle.uffd_ioctl.specs.Lent.{IsLent};
+ghost use Rattle.fault_handler.specs.Asking.{effect_of_copy, next_install_effect};
 
 use super::Destination;
 use crate::arrival::Arrival;
@@ -64,6 +65,18 @@ impl Destination {
             addr: page_address(page),
             origin: page_address(origin),
         })
+    }
+
+    /// The page at the source of the copy that [`Destination::install`] would install, and the page where it belongs now, both as numbers:
+    /// `None` if it would be dropped, since it is owed nowhere. Nothing changes, and it takes no memory. So a driver can ask, put the bytes
+    /// into real memory, and then make the install.
+    ///
+    /// Refused as an install is: as `Phase` before it has run, as `NothingThere` if no copy waits, and as `Changing` while an event is unread.
+    pub fn next_install(&self) -> Result<(PageNo, Option<PageNo>), Refusal>
+        ensures { effect_of_copy result ≡ next_install_effect self.now }
+    {
+        let origin = self.next_arrival()?;
+        Ok((origin, self.owed.home(origin)))
     }
 
     /// Whether [`Destination::install`] would install or drop a copy, or how it would be refused; memory is not considered.

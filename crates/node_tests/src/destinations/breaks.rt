@@ -1,8 +1,9 @@
 //! Breaks that a destination notices, and how it continues.
 
-use super::calls::Answer::{Acts, Asleep, Counted, Done, Replied, Reports, Sends, Stands};
+use super::calls::Answer::{Acts, Asleep, Counted, Done, Replied, Reports, Sends, Stands, Told};
 use super::calls::Call::{
-    Act, Counts, Install, Load, Pause, Phase, Read, Report, Rerequest, Retry, Take, TakeUrgent,
+    Act, Counts, Install, Load, Notice, Pause, Phase, Read, Report, Rerequest, Retry, Take,
+    TakeUrgent,
 };
 use super::calls::{Answer, Step};
 use super::play::{
@@ -12,7 +13,14 @@ use super::play::{
 use crate::frames::Sending::{Advise, Discard, End, Package, Page, Resume, Zero};
 use crate::frames::{Brief, NONE};
 use mig_base::Reply;
+use mig_base::effect::Effect;
 use mig_base::phase::{DestPhase, Received};
+use mig_base::refusal::Refusal;
+use mig_base::schedule::Side;
+
+const NOTICED: Answer = Told(Effect::Noticed {
+    side: Side::Destination,
+});
 
 const HAS_NOT_RUN: Answer = Reports(Brief::Recv(Received::NotRun, NONE));
 
@@ -43,7 +51,19 @@ static BEFORE_THE_RUN: [Step; 23] = [
     (Counts, Ok(Counted([0, 0, 0], 0, 2))),
 ];
 
-/// A destination that was never advised continues as one that was.
+/// The break is noticed once, until a Resume is taken.
+static NOTICED_ONCE: [Step; 8] = [
+    (Take(1, Advise), TOOK),
+    (Notice, Ok(NOTICED)),
+    (Phase, Ok(Stands(DestPhase::Paused, false, 1))),
+    (Notice, Err(Refusal::Phase)),
+    (Take(2, Resume), TOOK),
+    (Phase, Ok(Stands(DestPhase::Advised, false, 2))),
+    (Notice, Ok(NOTICED)),
+    (Phase, Ok(Stands(DestPhase::Paused, false, 2))),
+];
+
+/// A destination that was never advised goes on as one that was.
 static NEVER_ADVISED: [Step; 5] = [
     (Pause, Ok(Done)),
     (Take(0, Resume), STALE),
@@ -128,6 +148,7 @@ fn breaks_and_resumptions(rt: HostRuntime) {
     let alloc = rt.alloc();
     play(&rt, alloc, "a break before the run", &BEFORE_THE_RUN);
     play(&rt, alloc, "a break before the advise", &NEVER_ADVISED);
+    play(&rt, alloc, "a break is noticed once", &NOTICED_ONCE);
     play(&rt, alloc, "a break while it runs", &WHILE_IT_RUNS);
     play(&rt, alloc, "a break after the end", &AFTER_THE_END);
 }

@@ -1,7 +1,7 @@
 //! Calls of a destination, and what they answer.
 
 use crate::frames::{Brief, Sending, frame_of};
-use fault_handler::Destination;
+use fault_handler::{Act, Destination};
 use guest::Tried;
 use mig_base::cpu_state::CpuState;
 use mig_base::effect::Effect;
@@ -37,7 +37,12 @@ pub enum Call {
     Read,
     Act,
     Install,
+    /// How the next `Act` would resolve a fault.
+    NextAct,
+    /// What the next `Install` would do.
+    NextInstall,
     Pause,
+    Notice,
     /// How far it has come, as a Recv reports it.
     Report,
     /// Its requests once more.
@@ -69,6 +74,10 @@ pub enum Answer {
     Told(Effect),
     /// The effect of resolving a fault, and the frame to send.
     Acts(Effect, Option<Brief>),
+    /// How a fault would be resolved, and the address of its page.
+    WouldAct(Act, Addr),
+    /// A page of the source, and where it would be installed.
+    WouldInstall(PageNo, Option<PageNo>),
     /// The frame that tells how far it has come.
     Reports(Brief),
     /// The first of the frames that ask anew.
@@ -82,7 +91,7 @@ pub enum Answer {
 
 use Answer::{
     Acts, Asleep, At, Counted, Done, InCall, Is, NotTaken, Replied, Reports, Sends, Stands, Told,
-    Took, Unfit,
+    Took, Unfit, WouldAct, WouldInstall,
 };
 
 /// A call with the answer that is wanted.
@@ -170,6 +179,12 @@ fn asked(alloc: Global, destination: &Destination, call: Call) -> Result<Answer,
     match call {
         Call::Report => report(alloc, destination),
         Call::Rerequest => requested(alloc, destination),
+        Call::NextAct => destination
+            .next_act()
+            .map(|(act, addr)| WouldAct(act, addr)),
+        Call::NextInstall => destination
+            .next_install()
+            .map(|(origin, page)| WouldInstall(origin, page)),
         Call::Home(origin) => Ok(At(destination.owed().home(origin))),
         Call::Cpu(cpu) => destination.cpus().state(cpu).map(Is),
         Call::Phase => Ok(Stands(
@@ -255,6 +270,7 @@ pub fn make(
             destination.pause();
             Ok(Done)
         }
+        Call::Notice => destination.notice().map(Told),
         _ => asked(alloc, destination, call),
     }
 }

@@ -1,11 +1,12 @@
 //! What a destination does once it runs, from the copies that come before to the End.
 
 use super::calls::Answer::{
-    Acts, Asleep, At, Counted, InCall, Is, Replied, Reports, Sends, Stands, Told,
+    Acts, Asleep, At, Counted, InCall, Is, Replied, Reports, Sends, Stands, Told, WouldAct,
+    WouldInstall,
 };
 use super::calls::Call::{
-    Act, Counts, Cpu, DontNeed, Home, Install, Load, Map, Move, Phase, Read, Report, Rerequest,
-    Retry, Store, Take, TakeUrgent, Unmap,
+    Act, Counts, Cpu, DontNeed, Home, Install, Load, Map, Move, NextAct, NextInstall, Phase, Read,
+    Report, Rerequest, Retry, Store, Take, TakeUrgent, Unmap,
 };
 use super::calls::{Answer, Step};
 use super::play::{
@@ -14,6 +15,7 @@ use super::play::{
 };
 use crate::frames::Sending::{Advise, Discard, End, Package, Page, Run, Zero};
 use crate::frames::{Brief, NONE};
+use fault_handler::Act as Resolving;
 use mig_base::cpu_state::CpuState;
 use mig_base::effect::Effect;
 use mig_base::phase::{DestPhase, Received};
@@ -26,7 +28,8 @@ const LOAD_12: Command = Command::Load {
 };
 
 /// The newest copy of a page is kept, and a discarded one is not. A page that is owed is asked for once, and comes.
-static ASKED_FOR: [Step; 43] = [
+static ASKED_FOR: [Step; 49] = [
+    (NextAct, Err(Refusal::Phase)),
     (Take(1, Advise), TOOK),
     (Take(1, Page(0x10, 1)), TOOK),
     (Take(1, Page(0x10, 2)), TOOK),
@@ -41,6 +44,7 @@ static ASKED_FOR: [Step; 43] = [
     (Act, Err(Refusal::NothingThere)),
     (Read, Ok(FAULT_12)),
     (Read, Err(Refusal::NothingThere)),
+    (NextAct, Ok(WouldAct(Resolving::Requested(0x12), 0x12000))),
     (Act, Ok(Acts(REQUESTED_12, Some(Brief::Request(0x12))))),
     (Cpu(0), Ok(Is(CpuState::Asleep(LOAD_12)))),
     (Load(1, 0x12fff), Ok(Asleep(1))),
@@ -50,11 +54,14 @@ static ASKED_FOR: [Step; 43] = [
         Rerequest,
         Ok(Sends((Some(Brief::Request(0x12)), None, None))),
     ),
+    (NextAct, Err(Refusal::NothingThere)),
     (Act, Err(Refusal::NothingThere)),
+    (NextInstall, Err(Refusal::NothingThere)),
     (Install, Err(Refusal::NothingThere)),
     (Take(1, Page(0x12, 7)), TOOK),
     (Counts, Ok(Counted([0, 0, 2], 1, 1))),
     (Retry(0), Err(Refusal::NotWoken)),
+    (NextInstall, Ok(WouldInstall(0x12, Some(0x12)))),
     (Install, Ok(INSTALLED_12)),
     (Counts, Ok(Counted([1, 0, 2], 0, 0))),
     (Cpu(0), Ok(Is(CpuState::Woken(LOAD_12)))),
@@ -73,6 +80,7 @@ static ASKED_FOR: [Step; 43] = [
             wp: false,
         })),
     ),
+    (NextAct, Ok(WouldAct(Resolving::Zeroed, 0x11000))),
     (Act, Ok(Acts(Effect::Zeroed { addr: 0x11000 }, None))),
     (Retry(1), Ok(Replied(1, Reply::Value(0)))),
     (Store(1, 0x11000, 9), Ok(Replied(1, Reply::Done))),
@@ -82,7 +90,7 @@ static ASKED_FOR: [Step; 43] = [
 ];
 
 /// A page moves while its copy is in flight, and is installed where it belongs then.
-static MOVED: [Step; 20] = [
+static MOVED: [Step; 23] = [
     (Take(1, Advise), TOOK),
     (Take(1, Discard(NONE)), TOOK),
     (Take(1, Package((0x10, 1), (0x10, 1), 2, None)), TOOK),
@@ -98,6 +106,7 @@ static MOVED: [Step; 20] = [
             wp: false,
         })),
     ),
+    (NextAct, Err(Refusal::Changing)),
     (Act, Err(Refusal::Changing)),
     (Home(0x10), Ok(At(Some(0x10)))),
     (
@@ -117,6 +126,7 @@ static MOVED: [Step; 20] = [
         Report,
         Ok(Reports(Brief::Recv(Received::Running, (0x10, 1)))),
     ),
+    (NextAct, Ok(WouldAct(Resolving::Requested(0x10), 0x20000))),
     (
         Act,
         Ok(Acts(
@@ -129,6 +139,7 @@ static MOVED: [Step; 20] = [
     ),
     (Take(1, Page(0x10, 5)), TOOK),
     (Retry(1), Err(Refusal::NotWoken)),
+    (NextInstall, Ok(WouldInstall(0x10, Some(0x20)))),
     (
         Install,
         Ok(Told(Effect::Installed {
@@ -156,18 +167,20 @@ const UNMAPPED: Effect = Effect::ReadLast {
 };
 
 /// A page is unmapped while its copy is in flight. The copy is not put over the page that is mapped there later.
-static GONE: [Step; 14] = [
+static GONE: [Step; 16] = [
     (Take(1, Advise), TOOK),
     (Take(1, Discard(NONE)), TOOK),
     (Take(1, Package((0x10, 1), (0x10, 1), 2, None)), TOOK),
     (Unmap(0, 0x10000), Ok(InCall(0, 1, Reply::Done))),
     (Take(1, Page(0x10, 5)), TOOK),
+    (NextInstall, Err(Refusal::Changing)),
     (Install, Err(Refusal::Changing)),
     (Counts, Ok(Counted([0, 0, 0], 1, 1))),
     (Read, Ok(Told(UNMAPPED))),
     (Counts, Ok(Counted([0, 0, 0], 1, 0))),
     (Map(0, 0x10000), Ok(Replied(0, Reply::At(0x10000)))),
     (Store(0, 0x10000, 9), Ok(Replied(0, Reply::Done))),
+    (NextInstall, Ok(WouldInstall(0x10, None))),
     (Install, Ok(Told(Effect::Dropped { origin: 0x10000 }))),
     (Load(0, 0x10000), Ok(Replied(0, Reply::Value(9)))),
     (Counts, Ok(Counted([0, 1, 0], 0, 0))),

@@ -1,5 +1,5 @@
 use Rattle.std.proofs.Common.{refl}
-use Rattle.fault_handler.proofs.WorldLemmas.{issue_in, retry_in}
+use Rattle.fault_handler.proofs.WorldLemmas.{issue_in, notice_in, retry_in}
 use Rattle.fault_handler.proofs.laws.a_step_of_the_destination.Goals as goal
 
 pub returns : goal.returns
@@ -7,6 +7,7 @@ returns c = record {
   read = λ world. refl;
   act = λ world. refl;
   install = λ world. refl;
+  notice = notice_in;
   issue = issue_in;
   retry = retry_in;
 }
