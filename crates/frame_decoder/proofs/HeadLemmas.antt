@@ -1,4 +1,4 @@
--- The head of a frame, and the bytes of its pages behind it.
+-- The head of a frame, and the bytes of its pages after it.
 use Rattle.std.proofs.Common.{◌≡◌, Some, subst, ℕ, zero, suc, ◌*◌, ◌+◌, ◌<◌, ◌≤◌, Bool, true, false, ◌&&◌, cond, ltb, eqb, Option, List, [], ◌∷◌, length, take, drop, Result, Ok, Err, refl, sym, ap, ◌∙◌, ◌⊎◌, inl, inr, arith}
 use Rattle.std.specs.Int.{w32, byte_len, from_be_bytes}
 use Rattle.std.proofs.lemmas.Bool.{ltb-true, ltb-false, le-ltb, lt-ltb, ne_eqb}
@@ -19,7 +19,7 @@ use Rattle.frame_decoder.specs.Taking.{FrontIs, Stands}
 use Rattle.frame_decoder.proofs.FieldLemmas.{IsBytes, bind_ok, checked_ok, ok_is}
 use Rattle.frame_decoder.proofs.Fronts.{next_stands}
 
--- The bytes behind a number
+-- The bytes after a number
 
 abbrev Read : Type 0
 Read = Result (ℕ × List ℕ) StreamFault
@@ -127,7 +127,7 @@ run_body_other version body rest bytes first count is next other = by (ltb (leng
 
 -- What stands at the front
 
--- the bytes behind a head, as bytes of the text
+-- the bytes after a head, as bytes of the text
 content_is : (at len : ℕ) (bytes : List ℕ) → drop at (take len (drop 12 bytes)) ≡ drop (12 + at) (take (12 + len) bytes)
 content_is at len bytes = ap (drop at) (sym (drop-take 12 len bytes)) ∙ drop-drop at 12 (take (12 + len) bytes)
 

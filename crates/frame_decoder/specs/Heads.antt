@@ -49,7 +49,8 @@ IsWhole found = found.at + content_len found.head ≡ found.len
 abbrev pub StandsAt : (fixed : Option Version) → List ℕ → StreamFault → Type 0
 StandsAt fixed bytes fault = (fault ≡ faults.NoMemory) ⊎ Breach fixed bytes fault
 
--- what `read_head` found at the front of the bytes: less than a frame, or a frame, whose pages have the bytes from `at` to the end of its text
+-- what `read_head` found at the front of the bytes: less than a frame, or a frame, whose pages have the bytes from `at` to the end of its
+-- text
 abbrev pub front_of : List ℕ → Option FrameHead → Front
 front_of bytes None = Front.Part
 front_of bytes (Some found) = Front.Whole found.version found.epoch (frame_with found.head (drop found.at (take found.len bytes))) found.len

@@ -42,7 +42,7 @@ pub struct FrameHead {
     pub len: usize,
 }
 
-/// The head of a Page, by its body: its number, and behind it the bytes.
+/// The head of a Page, by its body: its number, and after it the bytes.
 fn read_page_head(version: Version, body: &[u8]) -> Result<Head, StreamFault>
     ensures head { IsHeadOf 4 body.now result (body_at version Tag.Page body.now) }
     ensures len { IfOk result (λ head. 4 + content_len head ≡ length body.now) }
@@ -56,7 +56,7 @@ fn read_page_head(version: Version, body: &[u8]) -> Result<Head, StreamFault>
     Ok(Head::Page { page })
 }
 
-/// The head of a Run, by its body: its first page, the number of pages, and behind them the bytes.
+/// The head of a Run, by its body: its first page, the number of pages, and after them the bytes.
 fn read_run_head(version: Version, body: &[u8]) -> Result<Head, StreamFault>
     ensures head { IsHeadOf 8 body.now result (body_at version Tag.Run body.now) }
     ensures len { IfOk result (λ head. 8 + content_len head ≡ length body.now) }
@@ -95,8 +95,8 @@ fn read_body_head(
 /// `None` if the bytes are less than a frame: [`lacking`](crate::lacking) says how many more it needs.
 ///
 /// It reads what a [`Decoder`](crate::Decoder) reads, and refuses what that refuses, for the same fault: `BadTag`, `BadLength` and
-/// `BadField`, each where it first stands, whatever the bytes are. `NoMemory` comes if the frame's memory is refused, and never for a Page or
-/// a Run, which take none. A stream has one version, so the caller fixes that of the first frame for the next ones.
+/// `BadField`, each where it first stands, whatever the bytes are. `NoMemory` comes if the frame's memory is refused, and never for a Page
+/// or a Run, which take none. A stream has one version, so the caller fixes that of the first frame for the next ones.
 pub fn read_head(
     alloc: Global,
     fixed: Option<Version>,

@@ -59,7 +59,7 @@ pub(crate) fn whole_header(
     Ok(Some(header))
 }
 
-/// The `len` bytes behind a header.
+/// The `len` bytes after a header.
 pub(crate) fn body_behind(bytes: &[u8], len: u32) -> &[u8]
     requires { 12 + len ≤ length bytes.now }
     ensures { result.now ≡ take len (drop 12 bytes.now) }

@@ -79,7 +79,8 @@ pub fn encode_page_into(
 /// The text of a frame of one page in front of the contents, for a caller that sends the 4,096 bytes from where they stand: header and
 /// number of the page. Head and bytes are what [`encode_into`] writes for [`Frame::Page`].
 pub fn page_head(epoch: u32, page: PageNo) -> [u8; 16]
-    ensures { (bytes : List ℕ) → HasWholePages (machine.Frame.Page page bytes) → result ++ bytes ≡ text Two epoch (machine.Frame.Page page bytes) }
+    ensures { (bytes : List ℕ) → HasWholePages (machine.Frame.Page page bytes) →
+        result ++ bytes ≡ text Two epoch (machine.Frame.Page page bytes) }
 {
     let mut head = [0; 16];
     head[..12].copy_from_slice(&header(PAGE_TAG, epoch, 4 + PAGE_BYTES as u32));
@@ -92,7 +93,9 @@ pub fn page_head(epoch: u32, page: PageNo) -> [u8; 16]
 /// most [`MAX_RUN`](mig_base::MAX_RUN) pages.
 pub fn run_head(epoch: u32, first: PageNo, count: u32) -> [u8; 20]
     requires { count ≤ MAX_RUN }
-    ensures { (pages : List (List ℕ)) → length pages ≡ count → HasWholePages (machine.Frame.Run first pages) → result ++ flat_map (λ bytes. bytes) pages ≡ text Two epoch (machine.Frame.Run first pages) }
+    ensures { (pages : List (List ℕ)) → length pages ≡ count →
+        HasWholePages (machine.Frame.Run first pages) →
+        result ++ flat_map (λ bytes. bytes) pages ≡ text Two epoch (machine.Frame.Run first pages) }
 {
     let mut head = [0; 20];
     head[..12].copy_from_slice(&header(RUN_TAG, epoch, 8 + PAGE_BYTES as u32 * count));

@@ -79,7 +79,10 @@ impl DirtyLog {
     pub fn next_act(&self, space: &Space) -> Result<(Act, Addr), Refusal>
         ensures accepted { OnOk result (act_refusal self.now space.now ≡ None) }
         ensures refused { IfErr result (λ refusal. act_refusal self.now space.now ≡ Some refusal) }
-        ensures act { (node : Source) (fault : guest.Fault) (rest : List guest.Fault) → space_of node ≡ space.now → self.now.held ≡ fault ∷ rest → IfOk result (λ next. (act_is next.0 ≡ source_act node fault) × (next.1 ≡ 4096 * fault.page)) }
+        ensures act { (node : Source) (fault : guest.Fault) (rest : List guest.Fault) →
+            space_of node ≡ space.now → self.now.held ≡ fault ∷ rest →
+            IfOk result (λ next.
+            (act_is next.0 ≡ source_act node fault) × (next.1 ≡ 4096 * fault.page)) }
     {
         let fault = self.next_fault(space)?;
         Ok((act_of(space, &fault), fault.addr()))

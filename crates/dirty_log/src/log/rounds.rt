@@ -145,7 +145,8 @@ impl DirtyLog {
         requires some { 0 < count }
         requires inside { first + count ≤ HIGH_PAGE }
         ensures accepted { OnOk result (send_refusal space.old first count ≡ None) }
-        ensures refused { IfErr result (λ refusal. IsRefusedFor (send_refusal space.old first count) refusal) }
+        ensures refused { IfErr result (λ refusal.
+            IsRefusedFor (send_refusal space.old first count) refusal) }
         ensures log { OnOk result (self.new ≡ machine.log_run_sent self.old first count) }
         ensures space { OnOk result (space.new ≡ protected_in space.old first count true) }
         ensures err { OnErr result ((self.new ≡ self.old) × (space.new ≡ space.old)) }

@@ -120,7 +120,8 @@ impl Destination {
     /// How [`Destination::act`] would resolve the first held fault, and the address of its page, in bytes: the next act has
     /// [`Act::effect`] of these. Nothing changes, and it takes no memory. So a driver can ask, do the act to real memory, and then make it.
     ///
-    /// Refused as an act is: as `Phase` before it has run, as `NothingThere` if no fault is held, and as `Changing` while an event is unread.
+    /// Refused as an act is: as `Phase` before it has run, as `NothingThere` if no fault is held, and as `Changing` while an event is
+    /// unread.
     pub fn next_act(&self) -> Result<(Act, Addr), Refusal>
         ensures { effect_at result ≡ next_act_effect self.now }
     {

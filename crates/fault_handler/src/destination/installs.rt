@@ -71,7 +71,8 @@ impl Destination {
     /// `None` if it would be dropped, since it is owed nowhere. Nothing changes, and it takes no memory. So a driver can ask, put the bytes
     /// into real memory, and then make the install.
     ///
-    /// Refused as an install is: as `Phase` before it has run, as `NothingThere` if no copy waits, and as `Changing` while an event is unread.
+    /// Refused as an install is: as `Phase` before it has run, as `NothingThere` if no copy waits, and as `Changing` while an event is
+    /// unread.
     pub fn next_install(&self) -> Result<(PageNo, Option<PageNo>), Refusal>
         ensures { effect_of_copy result ≡ next_install_effect self.now }
     {

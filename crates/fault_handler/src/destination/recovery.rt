@@ -50,7 +50,7 @@ impl Destination {
         }
     }
 
-    /// Pauses the destination, since the channel is broken: it waits for a Resume. If it has run, its processors go on.
+    /// Pauses the destination, since the channel is broken: it waits for a Resume. If it has run, its processors continue.
     pub fn pause(&mut self)
         ensures { self.new ≡ destination_paused self.old }
     {

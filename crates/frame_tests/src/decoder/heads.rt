@@ -59,7 +59,7 @@ fn frames_without_pages(rt: HostRuntime) -> Result<(), Fail> {
     Ok(())
 }
 
-/// A Page has its bytes from 16 to 4112, in either version; bytes behind it are not read.
+/// A Page has its bytes from 16 to 4112, in either version; bytes after it are not read.
 #[test]
 fn a_page_is_left_where_it_lies(rt: HostRuntime) -> Result<(), Fail> {
     for (code, version) in [(1, Version::One), (2, Version::Two)] {

@@ -63,7 +63,7 @@ static NOTICED_ONCE: [Step; 8] = [
     (Phase, Ok(Stands(DestPhase::Paused, false, 2))),
 ];
 
-/// A destination that was never advised goes on as one that was.
+/// A destination that was never advised continues as one that was.
 static NEVER_ADVISED: [Step; 5] = [
     (Pause, Ok(Done)),
     (Take(0, Resume), STALE),

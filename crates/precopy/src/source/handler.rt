@@ -44,7 +44,10 @@ impl Source {
     /// What [`Source::act`] would do next: how it would resolve the first held fault, and the address of its page. Nothing changes, so a
     /// caller can do it to real memory first, and call [`Source::act`] once that is done. Refused like that call, except `NoMemory`.
     pub fn next_act(&self) -> Result<(Act, Addr), Refusal>
-        ensures { act self.now ≡ and_then result (λ next. acted (act_effect (act_is next.0) next.1) (source_acted_by (act_is next.0) self.now (next.1 / PAGE_SIZE))) }
+        ensures { act self.now ≡
+            and_then result (λ next.
+            acted (act_effect (act_is next.0) next.1)
+            (source_acted_by (act_is next.0) self.now (next.1 / PAGE_SIZE))) }
     {
         if !self.is_handling() {
             return Err(Refusal::Phase);

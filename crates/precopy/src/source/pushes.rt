@@ -84,9 +84,12 @@ impl Source {
 
     /// The first page from `from` on that remains to be pushed, if there is one.
     pub fn next_remaining(&self, from: PageNo) -> Option<PageNo>
-        ensures remains { IfSome result (λ page. (from ≤ page) × (contains self.now.remaining page ≡ true)) }
-        ensures first { IfSome result (λ page. (other : ℕ) → from ≤ other → other < page → contains self.now.remaining other ≡ false) }
-        ensures none { result ≡ None → (other : ℕ) → from ≤ other → contains self.now.remaining other ≡ false }
+        ensures remains { IfSome result (λ page.
+            (from ≤ page) × (contains self.now.remaining page ≡ true)) }
+        ensures first { IfSome result (λ page. (other : ℕ) → from ≤ other → other < page →
+            contains self.now.remaining other ≡ false) }
+        ensures none { result ≡ None → (other : ℕ) → from ≤ other →
+            contains self.now.remaining other ≡ false }
     {
         self.remaining.ends_by_high_page();
         let page = self.remaining.next(from.min(HIGH_PAGE), true);

@@ -20,9 +20,11 @@ impl Source {
     /// The run that [`Source::send_run`] would send: its first page, which is the one that [`Source::send_next`] would send, and the number
     /// of its pages. Nothing changes. Refused like these calls, except `NoMemory`.
     pub fn next_run(&self, most: u8) -> Result<(PageNo, u32), Refusal>
-        ensures run { send_run self.now most ≡ and_then result (λ run. send_pages self.now run.0 run.1) }
+        ensures run { send_run self.now most ≡
+            and_then result (λ run. send_pages self.now run.0 run.1) }
         ensures first { next_to_send self.now ≡ and_then result (λ run. Ok run.0) }
-        ensures pages { IfOk result (λ run. (0 < run.1) × (run.1 ≤ MAX_RUN) × (run.0 + run.1 ≤ HIGH_PAGE)) }
+        ensures pages { IfOk result (λ run.
+            (0 < run.1) × (run.1 ≤ MAX_RUN) × (run.0 + run.1 ≤ HIGH_PAGE)) }
     {
         let first = self.next_to_send()?;
         Ok((first, self.log.run_length(first, most_of(most))))
@@ -33,7 +35,9 @@ impl Source {
     /// frame that the caller has to send has the bytes of these pages as they were before the call, or are after it. Refused like
     /// [`Source::send_next`].
     pub fn run_sent(&mut self, most: u8) -> Result<(Effect, PageNo, u32), Refusal>
-        ensures made { IfOk result (λ made. send_run self.old most ≡ sent made.0 (wire.Frame.Run made.1 (run_of self.old made.1 made.2) ∷ []) self.new) }
+        ensures made { IfOk result (λ made.
+            send_run self.old most ≡
+            sent made.0 (wire.Frame.Run made.1 (run_of self.old made.1 made.2) ∷ []) self.new) }
         ensures refused { IfErr result (λ refusal. IsRefusedFor (send_run self.old most) refusal) }
         ensures err { OnErr result (self.new ≡ self.old) }
     {
