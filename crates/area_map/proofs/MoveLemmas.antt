@@ -13,7 +13,7 @@ use Rattle.mig_base.proofs.RangeLemmas.{in_range_bounds}
 use Rattle.mig_base.specs.Pages.{set_range, remove_range}
 use Rattle.mig_base.proofs.PageLemmas.{get-set_range, get-remove_range}
 use Rattle.area_map.specs.Areas.{pages_in, prot_in, AreRuns}
-use Rattle.area_map.specs.Ranges.{moved}
+use Rattle.area_map.specs.Ranges.{moved_protections}
 use Rattle.area_map.proofs.AreaLemmas.{no_area, ends_at, prot_in-append, prot_in-past}
 use Rattle.area_map.proofs.ViewLemmas.{get-pages_in}
 
@@ -81,7 +81,7 @@ inner true x o = refl
 inner false x o = refl
 
 -- the whole move: both ranges taken out, and the areas of the first put at the second
-pub moved_answer : (inside items : List Area) (old emptied clear new : FinMap nat_cmp Prot) (from to count : ℕ) → items ≡ inside → pages_in inside ≡ old → emptied ≡ remove_range old from count → clear ≡ remove_range emptied to count → IsMovedFrom items clear new from to count → (q : ℕ) → get new q ≡ moved (λ page. get old page) from to count q
+pub moved_answer : (inside items : List Area) (old emptied clear new : FinMap nat_cmp Prot) (from to count : ℕ) → items ≡ inside → pages_in inside ≡ old → emptied ≡ remove_range old from count → clear ≡ remove_range emptied to count → IsMovedFrom items clear new from to count → (q : ℕ) → get new q ≡ moved_protections (λ page. get old page) from to count q
 moved_answer inside items old emptied clear new from to count seen view one two three q =
     let there : prot_in items (from + (q - to)) ≡ get old (from + (q - to)) = ap (λ xs. prot_in xs (from + (q - to))) seen ∙ sym (get-pages_in inside (from + (q - to))) ∙ ap (λ m. get m (from + (q - to))) view in
     let here : get clear q ≡ cond (in_range to count q) None (cond (in_range from count q) None (get old q)) =

@@ -8,6 +8,6 @@ abbrev pub HasOneProt : (ℕ → Option Prot) → ℕ → ℕ → Prot → Type 
 HasOneProt prots first count prot = (page : ℕ) → first ≤ page → page < first + count → prots page ≡ Some prot
 
 -- the protection of each page after the pages of one range moved to another
-abbrev pub moved : (ℕ → Option Prot) → ℕ → ℕ → ℕ → ℕ → Option Prot
-moved prots from to count page =
+abbrev pub moved_protections : (ℕ → Option Prot) → ℕ → ℕ → ℕ → ℕ → Option Prot
+moved_protections prots from to count page =
     if in_range to count page then prots (from + (page - to)) else (if in_range from count page then None else prots page)

@@ -21,7 +21,7 @@ ghost use Rattle.std.specs.FinMap as map;
 ghost use Rattle.mig_base.specs.Ranges.{in_range, count_below, free_place};
 ghost use Rattle.mig_base.specs.Pages.{set_range, remove_range};
 ghost use Rattle.area_map.specs.Areas.{AreRuns, pages_in};
-ghost use Rattle.area_map.specs.Ranges.{HasOneProt, moved};
+ghost use Rattle.area_map.specs.Ranges.{HasOneProt, moved_protections};
 ghost use Rattle.mig_base.specs.declared.TheConstants.{HIGH_PAGE, PAGE_SIZE};
 
 use crate::count::mapped_between;
@@ -171,7 +171,7 @@ impl AreaMap {
         requires to_bound { to + count ≤ HIGH_PAGE }
         requires apart { (from + count ≤ to) ⊎ (to + count ≤ from) }
         ensures ok { OnOk result ((page : ℕ) →
-            map.get self.new page ≡ moved (λ before. map.get self.old before) from to count page) }
+            map.get self.new page ≡ moved_protections (λ before. map.get self.old before) from to count page) }
         ensures err { OnErr result (self.new ≡ self.old) }
     {
         let mut moved = self.copy()?;

@@ -11,9 +11,9 @@ pub record Opened : Type 0 where
   pub pairs : List Pair
 
 -- the text of what is written inside the open elements, the innermost of which comes first
-abbrev pub written : List Opened → Contents → List ℕ
-written [] inside = rendered inside
-written (opened ∷ outer) inside = written outer opened.before ++ start_tag opened.tag opened.pairs ++ rendered inside
+abbrev pub written_inside : List Opened → Contents → List ℕ
+written_inside [] inside = rendered inside
+written_inside (opened ∷ outer) inside = written_inside outer opened.before ++ start_tag opened.tag opened.pairs ++ rendered inside
 
 -- the bytes are those of a tree up to now: an `svg` element with all that stands inside it, and inside that the open elements
 pub record IsDrawn (open_tags : List Tag) (bytes : List ℕ) : Type 0 where
@@ -21,7 +21,7 @@ pub record IsDrawn (open_tags : List Tag) (bytes : List ℕ) : Type 0 where
   pub opened : List Opened
   pub inside : Contents
   pub tags : map (λ one. one.tag) opened ≡ reverse open_tags
-  pub text : bytes ≡ start_tag Svg pairs ++ written opened inside
+  pub text : bytes ≡ start_tag Svg pairs ++ written_inside opened inside
 
 -- the same, unless a call ran out of memory
 abbrev pub IsSheet : Bool → List Tag → List ℕ → Type 0

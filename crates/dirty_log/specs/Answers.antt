@@ -25,5 +25,5 @@ read_answer guest None = Err Refusal.NothingThere
 read_answer guest (Some noted) = Ok (read_effect guest.cpus noted.cpu noted.message)
 
 -- a call is refused for this reason, or, if there is no reason, because memory ran out
-abbrev pub IsRefusedFor : Option Refusal → Refusal → Type 0
-IsRefusedFor reason refusal = (reason ≡ Some refusal) ⊎ ((reason ≡ None) × (refusal ≡ Refusal.NoMemory))
+abbrev pub IsRefusedAs : Option Refusal → Refusal → Type 0
+IsRefusedAs reason refusal = (reason ≡ Some refusal) ⊎ ((reason ≡ None) × (refusal ≡ Refusal.NoMemory))

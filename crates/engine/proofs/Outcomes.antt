@@ -11,8 +11,8 @@ use Rattle.grammar.specs.declared.line.Line.TheVariants.{Skipped, Do, Enter}
 use Rattle.engine.specs.declared.line_runner.Mode.{Mode}
 use Rattle.engine.specs.declared.fault.RunFault.{RunFault}
 use Rattle.engine.specs.declared.fault.RunFault.TheVariants as faults
-use Rattle.engine.specs.Script.{Runs, Prints, StopsWithin, StopsBy, Writes, Stops}
-use Rattle.engine.specs.Checking.{entries_of, IsVerdict, Checks, Silent, CheckStops}
+use Rattle.engine.specs.Script.{Runs, Prints, StopsWithin, StopsBy, Writes, ScriptStops}
+use Rattle.engine.specs.Checking.{entries_in, IsVerdict, Checks, Silent, CheckStops}
 use Rattle.engine.specs.Engine.{Work, Running, Keeping, language_of, kept_entries, nothing_kept, Works, Outputs, Front, ReadsAll}
 use Rattle.mig_model.specs.Migration.{World, first_world}
 use Rattle.engine.proofs.Transcripts.{run_promised}
@@ -38,7 +38,7 @@ works_print mode cpus lines new text p =
     (ran.0, ran.1, run_promised mode cpus lines ran.0 text ran.1)
 
 -- the work on kept entries keeps those of the lines, and prints nothing
-pub works_kept : (entries : List Entry) (lines : List Line) (new : Work) (text : List ℕ) → Works (Keeping entries) lines new text → (new ≡ Keeping (entries ++ entries_of lines)) × (text ≡ [])
+pub works_kept : (entries : List Entry) (lines : List Line) (new : Work) (text : List ℕ) → Works (Keeping entries) lines new text → (new ≡ Keeping (entries ++ entries_in lines)) × (text ≡ [])
 works_kept entries [] new text p = (p.0 ∙ ap (λ (es : List Entry). Keeping es) (sym (append-nil entries)), p.1)
 works_kept entries (Skipped ∷ lines) new text p =
     let rest = works_kept entries lines new p.2 (subst (λ (w : Work). Works w lines new p.2) p.3.0 p.5) in
@@ -46,7 +46,7 @@ works_kept entries (Skipped ∷ lines) new text p =
 works_kept entries (Do order ∷ lines) new text p = absurd p.3
 works_kept entries (Enter entry ∷ lines) new text p =
     let rest = works_kept (entries ++ entry ∷ []) lines new p.2 (subst (λ (w : Work). Works w lines new p.2) p.3.0 p.5) in
-    (rest.0 ∙ ap (λ (es : List Entry). Keeping es) (append_assoc entries (entry ∷ []) (entries_of lines)), p.4 ∙ ap (λ (t : List ℕ). t ++ p.2) p.3.1 ∙ rest.1)
+    (rest.0 ∙ ap (λ (es : List Entry). Keeping es) (append_assoc entries (entry ∷ []) (entries_in lines)), p.4 ∙ ap (λ (t : List ℕ). t ++ p.2) p.3.1 ∙ rest.1)
 
 -- ---- faults
 
@@ -92,7 +92,7 @@ stops_from_work a b r u fault v w is p = subst (λ (k : Work). IfSome r (λ inpu
 
 -- ---- a run
 
-pub run_no_start : (mode : Mode) (cpus : ℕ) (r w : Option (List ℕ)) → IfSome r (λ input. Stops mode (first_world cpus) input r faults.NoMemory w w)
+pub run_no_start : (mode : Mode) (cpus : ℕ) (r w : Option (List ℕ)) → IfSome r (λ input. ScriptStops mode (first_world cpus) input r faults.NoMemory w w)
 run_no_start mode cpus None w = tt
 run_no_start mode cpus (Some x) w = none_within language.Script (Prints mode (first_world cpus)) (works_print mode cpus [] (Running mode (first_world cpus)) [] (refl, refl)) x w
 
@@ -109,13 +109,13 @@ run_finished (Err x) work mode cpus r end u v w is a = tt
 run_finished (Ok x) work mode cpus r end u v w is a = run_reads mode cpus r end u v w (reads_from work (Running mode (first_world cpus)) r end u v w is a)
 
 run_stops : (mode : Mode) (cpus : ℕ) (r u : Option (List ℕ)) (fault : RunFault) (v w : Option (List ℕ)) → IfSome r (λ input. StopsBy language.Script (Outputs (Running mode (first_world cpus))) input u fault v w)
-    → IfSome r (λ input. Stops mode (first_world cpus) input u fault v w)
+    → IfSome r (λ input. ScriptStops mode (first_world cpus) input u fault v w)
 run_stops mode cpus None u fault v w s = tt
 run_stops mode cpus (Some input) u fault v w s =
     stops_map language.Script (Outputs (Running mode (first_world cpus))) (Prints mode (first_world cpus)) (λ lines text p. works_print mode cpus lines p.0 text p.1) input u fault v w s
 
 pub run_stopped : {T : Type 0} (result : Result T RunFault) (work : Work) (mode : Mode) (cpus : ℕ) (r u v w : Option (List ℕ)) → work ≡ Running mode (first_world cpus)
-    → IfErr result (λ fault. IfSome r (λ input. StopsBy (language_of work) (Outputs work) input u fault v w)) → IfErr result (λ fault. IfSome r (λ input. Stops mode (first_world cpus) input u fault v w))
+    → IfErr result (λ fault. IfSome r (λ input. StopsBy (language_of work) (Outputs work) input u fault v w)) → IfErr result (λ fault. IfSome r (λ input. ScriptStops mode (first_world cpus) input u fault v w))
 run_stopped (Ok x) work mode cpus r u v w is s = tt
 run_stopped (Err fault) work mode cpus r u v w is s = run_stops mode cpus r u fault v w (stops_from_work work (Running mode (first_world cpus)) r u fault v w is s)
 
@@ -140,7 +140,7 @@ check_stopped None u fault v w s = tt
 check_stopped (Some input) u fault v w s = stopped input u fault v w s
 
 -- the entries that were kept are those of the lines
-kept_all : (input : List ℕ) (end : Work) (u v w : Option (List ℕ)) (a : ReadsAll nothing_kept input end u v w) → kept_entries end ≡ entries_of a.lines
+kept_all : (input : List ℕ) (end : Work) (u v w : Option (List ℕ)) (a : ReadsAll nothing_kept input end u v w) → kept_entries end ≡ entries_in a.lines
 kept_all input end u v w a = ap kept_entries (works_kept [] a.lines end a.text a.works).0
 
 pub read_silently : (input : List ℕ) (end : Work) (u v w : Option (List ℕ)) → ReadsAll nothing_kept input end u v w → Appends v w []

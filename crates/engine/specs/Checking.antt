@@ -16,15 +16,15 @@ use Rattle.grammar.specs.Lines.{Reads}
 use Rattle.engine.specs.Script.{StopsBy}
 
 -- the entries of a list of lines
-abbrev pub entries_of : List Line → List Entry
-entries_of [] = []
-entries_of (Skipped ∷ lines) = entries_of lines
-entries_of (Do order ∷ lines) = entries_of lines
-entries_of (Enter entry ∷ lines) = entry ∷ entries_of lines
+abbrev pub entries_in : List Line → List Entry
+entries_in [] = []
+entries_in (Skipped ∷ lines) = entries_in lines
+entries_in (Do order ∷ lines) = entries_in lines
+entries_in (Enter entry ∷ lines) = entry ∷ entries_in lines
 
 -- the input is a transcript of these entries
 abbrev pub IsTranscript : List ℕ → List Entry → Type 0
-IsTranscript input entries = (lines : List Line) × Reads language.Transcript input lines [] × (entries ≡ entries_of lines)
+IsTranscript input entries = (lines : List Line) × Reads language.Transcript input lines [] × (entries ≡ entries_in lines)
 
 -- the line of a flat run: ok, and the number of entries
 abbrev pub ok_line : ℕ → List ℕ

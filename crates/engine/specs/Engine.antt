@@ -88,9 +88,9 @@ kept_entries (Running mode state) = []
 kept_entries (Keeping entries) = entries
 
 -- the world that is run; none if entries are kept
-abbrev pub world_of : Work → Option World
-world_of (Running mode state) = Some state
-world_of (Keeping entries) = None
+abbrev pub run_world : Work → Option World
+run_world (Running mode state) = Some state
+run_world (Keeping entries) = None
 
 -- no entry is kept yet
 abbrev pub nothing_kept : Work

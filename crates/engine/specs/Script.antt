@@ -120,5 +120,5 @@ abbrev pub Writes : Mode → World → List ℕ → Option (List ℕ) → Option
 Writes mode start input before after = Finishes language.Script (Prints mode start) input before after
 
 -- a run of a script ends with a fault; what it wrote in each mode
-abbrev pub Stops : Mode → World → List ℕ → Option (List ℕ) → RunFault → Option (List ℕ) → Option (List ℕ) → Type 0
-Stops mode start input unread fault before after = StopsBy language.Script (Prints mode start) input unread fault before after
+abbrev pub ScriptStops : Mode → World → List ℕ → Option (List ℕ) → RunFault → Option (List ℕ) → Option (List ℕ) → Type 0
+ScriptStops mode start input unread fault before after = StopsBy language.Script (Prints mode start) input unread fault before after

@@ -6,7 +6,7 @@ ghost use Rattle.engine.specs.declared.fault.RunFault.TheVariants.{WriteFault, N
 ghost use Rattle.grammar.specs.declared.line.Language.TheVariants.{Script as AScript, Transcript as ATranscript};
 ghost use Rattle.grammar.specs.declared.line.Line.TheVariants.{Do, Enter};
 ghost use Rattle.engine.specs.Script.{entry_lines, reported, Makes, Obeys, MakesOrNot, ObeysOrNot};
-ghost use Rattle.engine.specs.Engine.{Running, Keeping, Gathered, coded_gathered, work_of, language_of as language_of_work, kept_entries, world_of, Takes, Made, MakeFault, Leaves, Loses, Front};
+ghost use Rattle.engine.specs.Engine.{Running, Keeping, Gathered, coded_gathered, work_of, language_of as language_of_work, kept_entries, run_world, Takes, Made, MakeFault, Leaves, Loses, Front};
 ghost use Rattle.mig_model.specs.Migration.{first_world};
 ghost use Rattle.engine.specs.Worlds.{progress_in};
 
@@ -220,8 +220,8 @@ impl LineRunner {
 
     /// The world that is run; none if entries are kept.
     pub fn world(&self) -> Option<&World>
-        ensures some { IfSome result (λ world. world_of self.now.work ≡ Some world.now) }
-        ensures none { IfNone result (world_of self.now.work ≡ None) }
+        ensures some { IfSome result (λ world. run_world self.now.work ≡ Some world.now) }
+        ensures none { IfNone result (run_world self.now.work ≡ None) }
     {
         match &self.job {
             Job::Run { world, .. } => Some(world),
@@ -231,7 +231,7 @@ impl LineRunner {
 
     /// Hands over the world that is run; none if entries are kept.
     pub fn into_world(self) -> Option<World>
-        ensures { result ≡ world_of self.work }
+        ensures { result ≡ run_world self.work }
     {
         let LineRunner {
             job,

@@ -1,7 +1,7 @@
 //! Reading a script from a reader and writing its output to a writer.
 
 ghost use Rattle.std.specs.Prelude.{◌≡◌, ◌≤◌, OnOk, IfErr, IfSome};
-ghost use Rattle.engine.specs.Script.{StopsBy, Writes, Stops};
+ghost use Rattle.engine.specs.Script.{StopsBy, Writes, ScriptStops};
 ghost use Rattle.engine.specs.Engine.{language_of, start_of, Outputs, ReadsAll};
 ghost use Rattle.mig_model.specs.Migration.{first_world};
 
@@ -33,7 +33,7 @@ pub fn run_script<R: Read, W: Write>(
     ensures ok { OnOk result (IfSome (R.remaining reader.old) (λ input.
         Writes mode (first_world cpus) input (W.contents writer.old) (W.contents writer.new))) }
     ensures fault { IfErr result (λ fault. IfSome (R.remaining reader.old) (λ input.
-        Stops mode (first_world cpus) input (R.remaining reader.new) fault (W.contents writer.old)
+        ScriptStops mode (first_world cpus) input (R.remaining reader.new) fault (W.contents writer.old)
         (W.contents writer.new))) }
 {
     let runner = LineRunner::on_world(alloc, cpus, mode)?;

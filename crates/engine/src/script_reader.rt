@@ -3,7 +3,7 @@
 ghost use Rattle.std.specs.Prelude.{◌≡◌, ◌+◌, ◌<◌, ◌≤◌, ◌^◌, ◌++◌, ◌↔◌, ◌≢◌, IsTrue, ℕ, List, [], ◌∷◌, length, Some, None, OnOk, IfErr, IfSome, IfNone, vec_len};
 ghost use Rattle.std.specs.Str.Lines.{strip_carriage_return};
 ghost use Rattle.grammar.specs.Lines.{HasNoFeed};
-ghost use Rattle.engine.specs.Engine.{Place, coded_place, kept_entries, world_of, start_of, Fed, FedUntil, Passes, Halts, Closes, CloseFault};
+ghost use Rattle.engine.specs.Engine.{Place, coded_place, kept_entries, run_world, start_of, Fed, FedUntil, Passes, Halts, Closes, CloseFault};
 
 use crate::fault::RunFault;
 use crate::line_runner::LineRunner;
@@ -79,15 +79,15 @@ impl ScriptReader {
 
     /// The world that is run; none if entries are kept.
     pub fn world(&self) -> Option<&World>
-        ensures some { IfSome result (λ world. world_of self.now.work ≡ Some world.now) }
-        ensures none { IfNone result (world_of self.now.work ≡ None) }
+        ensures some { IfSome result (λ world. run_world self.now.work ≡ Some world.now) }
+        ensures none { IfNone result (run_world self.now.work ≡ None) }
     {
         self.runner.world()
     }
 
     /// Hands over the world that is run; none if entries are kept.
     pub fn into_world(self) -> Option<World>
-        ensures { result ≡ world_of self.work }
+        ensures { result ≡ run_world self.work }
     {
         self.runner.into_world()
     }

@@ -13,7 +13,7 @@ use Rattle.expected.specs.declared.player.Player.{Player}
 use Rattle.expected.specs.declared.tester.Tester.{Tester}
 use Rattle.expected.specs.Cases.{Case, Asks, IsCase, ReadsCase, ReadsCases, BeginsWrong, Agrees}
 use Rattle.expected.specs.Tests.{difference_line, Met, SomeMet, Unmet, WrongAt, Comes}
-use Rattle.expected.specs.Parts.{Passed, Failed, Leads, LineFault, Ran, After, FaultIn, FaultAtEnd}
+use Rattle.expected.specs.Parts.{Passed, Failed, LeadsPlayer, FaultAtLine, Ran, After, FaultIn, FaultAtEnd}
 use Rattle.expected.proofs.Reached.{agrees_promised, does_promised}
 use Rattle.expected.proofs.Counting.{count_then, count_push}
 use Rattle.expected.proofs.Lines.{reads_then, agrees_then, ended_reads, ended_wrong, last_wrong, long_wrong}
@@ -89,7 +89,7 @@ unmet_at name cpus bytes a new text more after ran few reads f =
     }
 
 pub line_after : (name : List ℕ) (cpus : ℕ) (bytes : List ℕ) (a b : Tester) (outcome : Outcome) → b.line.items ≡ [] → b.number ≡ a.number + 1 → a.number + 1 < 2 ^ 64 → Ran cpus bytes a
-    → Leads name (a.number + 1) a.player.world a.player.answers (strip_carriage_return a.line.items) outcome b.player → After name cpus (bytes ++ 10 ∷ []) outcome b
+    → LeadsPlayer name (a.number + 1) a.player.world a.player.answers (strip_carriage_return a.line.items) outcome b.player → After name cpus (bytes ++ 10 ∷ []) outcome b
 line_after name cpus bytes a b Same line number few ran p = ran_line cpus bytes a b line number few ran p
 line_after name cpus bytes a b Differs line number few ran p = λ more.
     subst (λ (t : List ℕ). Unmet name cpus t b.player.answers b.player.report.items) (sym (append_assoc bytes (10 ∷ []) more))
@@ -112,7 +112,7 @@ wrong_at cpus bytes more a n ran number wrong =
       wrong = subst (λ (k : ℕ). BeginsWrong k (a.line.items ++ more)) (sym number) wrong;
     }
 
-pub line_fault : (cpus : ℕ) (bytes : List ℕ) (a : Tester) (fault : RunFault) → Ran cpus bytes a → LineFault (a.number + 1) (strip_carriage_return a.line.items) fault → FaultIn cpus (bytes ++ 10 ∷ []) fault
+pub line_fault : (cpus : ℕ) (bytes : List ℕ) (a : Tester) (fault : RunFault) → Ran cpus bytes a → FaultAtLine (a.number + 1) (strip_carriage_return a.line.items) fault → FaultIn cpus (bytes ++ 10 ∷ []) fault
 line_fault cpus bytes a (faults.Line n) ran f = λ more.
     subst (λ (t : List ℕ). WrongAt cpus t n) (sym (append_assoc bytes (10 ∷ []) more)) (wrong_at cpus bytes (10 ∷ more) a n ran f.0 (ended_wrong (a.number + 1) a.line.items more ran.one f.1))
 line_fault cpus bytes a faults.ReadFault ran f = absurd f
@@ -203,7 +203,7 @@ last_reads n raw case some one short says =
     subst (λ (t : List ℕ). ReadsCase n t case []) (sym (append-nil raw)) (inr (record { some = some; one = one; short = short; says = says; none = refl }))
 
 pub last_comes : (name : List ℕ) (cpus : ℕ) (input : List ℕ) (a : Tester) (new : Player) (outcome : Outcome) → 0 < length a.line.items → a.number + 1 < 2 ^ 64 → Ran cpus input a
-    → Leads name (a.number + 1) a.player.world a.player.answers a.line.items outcome new → Comes name cpus input outcome new.answers new.report.items
+    → LeadsPlayer name (a.number + 1) a.player.world a.player.answers a.line.items outcome new → Comes name cpus input outcome new.answers new.report.items
 last_comes name cpus input a new Same some few ran p =
     let here : ReadsCases (a.number + 1) (a.line.items ++ []) (p.case ∷ []) [] = ([], last_reads (a.number + 1) a.line.items p.case some ran.one ran.short p.says, refl) in
     let agrees : Agrees (first_world cpus) (ran.cases ++ p.case ∷ []) new.world =
@@ -222,7 +222,7 @@ last_comes name cpus input a new Differs some few ran p =
     subst (λ (t : List ℕ). Unmet name cpus t new.answers new.report.items) (append-nil input)
     (unmet_at name cpus input a new a.line.items [] [] ran few (λ case says. last_reads (a.number + 1) a.line.items case some ran.one ran.short says) p)
 
-pub last_fault : (cpus : ℕ) (input : List ℕ) (a : Tester) (fault : RunFault) → 0 < length a.line.items → Ran cpus input a → LineFault (a.number + 1) a.line.items fault → FaultAtEnd cpus input fault
+pub last_fault : (cpus : ℕ) (input : List ℕ) (a : Tester) (fault : RunFault) → 0 < length a.line.items → Ran cpus input a → FaultAtLine (a.number + 1) a.line.items fault → FaultAtEnd cpus input fault
 last_fault cpus input a (faults.Line n) some ran f =
     subst (λ (t : List ℕ). WrongAt cpus t n) (append-nil input)
     (wrong_at cpus input [] a n ran f.0 (subst (λ (t : List ℕ). BeginsWrong (a.number + 1) t) (sym (append-nil a.line.items)) (last_wrong (a.number + 1) a.line.items some ran.one f.1)))
@@ -230,12 +230,12 @@ last_fault cpus input a faults.ReadFault some ran f = absurd f
 last_fault cpus input a faults.WriteFault some ran f = absurd f
 last_fault cpus input a faults.NoMemory some ran f = subst (λ (t : List ℕ). SomeMet cpus t) (append-nil input) (some_met cpus input [] a ran)
 
-pub last_ok : (result : Result Outcome RunFault) (name : List ℕ) (a : Tester) (new : Player) → 0 < length a.line.items → a.number + 1 < 2 ^ 64 → IfOk result (λ outcome. Leads name (a.number + 1) a.player.world a.player.answers a.line.items outcome new)
+pub last_ok : (result : Result Outcome RunFault) (name : List ℕ) (a : Tester) (new : Player) → 0 < length a.line.items → a.number + 1 < 2 ^ 64 → IfOk result (λ outcome. LeadsPlayer name (a.number + 1) a.player.world a.player.answers a.line.items outcome new)
     → IfOk result (λ outcome. (cpus : ℕ) (input : List ℕ) → Ran cpus input a → Comes name cpus input outcome new.answers new.report.items)
 last_ok (Err x) name a new some few p = tt
 last_ok (Ok outcome) name a new some few p = λ cpus input ran. last_comes name cpus input a new outcome some few ran p
 
-pub last_err : (result : Result Outcome RunFault) (a : Tester) → 0 < length a.line.items → IfErr result (λ fault. LineFault (a.number + 1) a.line.items fault)
+pub last_err : (result : Result Outcome RunFault) (a : Tester) → 0 < length a.line.items → IfErr result (λ fault. FaultAtLine (a.number + 1) a.line.items fault)
     → IfErr result (λ fault. (cpus : ℕ) (input : List ℕ) → Ran cpus input a → FaultAtEnd cpus input fault)
 last_err (Ok x) a some p = tt
 last_err (Err fault) a some p = λ cpus input ran. last_fault cpus input a fault some ran p

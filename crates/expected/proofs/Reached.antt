@@ -8,10 +8,10 @@ use Rattle.mig_model.specs.Migration.{World, first_world}
 use Rattle.world.specs.Headline.{Headline}
 use Rattle.engine.specs.Worlds.{epoch_in}
 use Rattle.engine.proofs.Transcripts.{any_reached, first_reached}
-use Rattle.expected.specs.Cases.{Case, Nothing, Cpus, Asks, Does, Agrees}
+use Rattle.expected.specs.Cases.{Case, Nothing, Cpus, Asks, DoesCase, Agrees}
 use Rattle.expected.specs.Tests.{SomeMet}
 
-does_reached : (old : World) (case : Case) (new : World) (out : List ℕ) → IsReached old → Does old case new out → IsReached new
+does_reached : (old : World) (case : Case) (new : World) (out : List ℕ) → IsReached old → DoesCase old case new out → IsReached new
 does_reached old Nothing new out reached p = subst IsReached (sym p.0) reached
 does_reached old (Cpus count) new out reached p = subst IsReached (sym p.0) (first_reached count)
 does_reached old (Asks order answer) new out reached p = any_reached Lines old (step_of order (epoch_in old)) new out reached p
@@ -24,7 +24,7 @@ pub agrees_promised : (cpus : ℕ) (cases : List Case) (world : World) → Agree
 agrees_promised cpus cases world p = headline_reached world (agrees_reached (first_world cpus) cases world (first_reached cpus) p)
 
 -- also after one line more
-pub does_promised : (cpus : ℕ) (cases : List Case) (world : World) (case : Case) (new : World) (out : List ℕ) → Agrees (first_world cpus) cases world → Does world case new out → Headline new
+pub does_promised : (cpus : ℕ) (cases : List Case) (world : World) (case : Case) (new : World) (out : List ℕ) → Agrees (first_world cpus) cases world → DoesCase world case new out → Headline new
 does_promised cpus cases world case new out p d =
     headline_reached new (does_reached world case new out (agrees_reached (first_world cpus) cases world (first_reached cpus) p) d)
 

@@ -96,10 +96,10 @@ pub record BeginsWrong (number : ℕ) (bytes : List ℕ) : Type 0 where
   pub wrong : (case : Case) (rest : List ℕ) → ReadsCase number bytes case rest → ⊥
 
 -- a line's effect on a world, and its output, which is that of a run of a script
-abbrev pub Does : World → Case → World → List ℕ → Type 0
-Does old Nothing new out = (new ≡ old) × (out ≡ [])
-Does old (Cpus count) new out = (new ≡ first_world count) × (out ≡ [])
-Does old (Asks order answer) new out = Obeys Lines old order new out
+abbrev pub DoesCase : World → Case → World → List ℕ → Type 0
+DoesCase old Nothing new out = (new ≡ old) × (out ≡ [])
+DoesCase old (Cpus count) new out = (new ≡ first_world count) × (out ≡ [])
+DoesCase old (Asks order answer) new out = Obeys Lines old order new out
 
 -- the output is the answer and a line feed, where the line has an answer
 abbrev pub Meets : Case → List ℕ → Type 0
@@ -111,7 +111,7 @@ Meets (Asks order (Some answer)) out = out ≡ answer ++ 10 ∷ []
 -- the lines lead from one world to the other, and the output of each meets its answer
 abbrev pub Agrees : World → List Case → World → Type 0
 Agrees old [] new = new ≡ old
-Agrees old (case ∷ cases) new = (mid : World) × (out : List ℕ) × Does old case mid out × Meets case out × Agrees mid cases new
+Agrees old (case ∷ cases) new = (mid : World) × (out : List ℕ) × DoesCase old case mid out × Meets case out × Agrees mid cases new
 
 -- how many answers a line has
 abbrev pub answers_of : Case → ℕ

@@ -13,7 +13,7 @@ use Rattle.expected.specs.declared.cpus.Setting.{Setting}
 use Rattle.expected.specs.declared.cpus.Setting.TheVariants.{Absent, Count, Wrong}
 use Rattle.expected.specs.declared.player.Player.{Player}
 use Rattle.expected.specs.declared.tester.Tester.{Tester}
-use Rattle.expected.specs.Cases.{Case, Asks, CpusLine, SaysCpus, IsCase, ReadsCases, Does, Meets, Agrees, answers_of, answers_in}
+use Rattle.expected.specs.Cases.{Case, Asks, CpusLine, SaysCpus, IsCase, ReadsCases, DoesCase, Meets, Agrees, answers_of, answers_in}
 use Rattle.expected.specs.Tests.{difference_line, Unmet, WrongAt, SomeMet}
 
 -- what the text of a first line says of the number of processors
@@ -25,16 +25,16 @@ IsSetting text Wrong = (words : List (List ℕ)) × CpusLine text words × ((cou
 -- One line
 
 -- a count of answers, once those of a line are added. (It stops at its greatest value, which no test reaches.)
-abbrev pub Counts : ℕ → Case → ℕ → Type 0
-Counts old case new = old + 1 < 2 ^ 64 → new ≡ old + answers_of case
+abbrev pub CountsAnswers : ℕ → Case → ℕ → Type 0
+CountsAnswers old case new = old + 1 < 2 ^ 64 → new ≡ old + answers_of case
 
 -- the line was done, and its output meets its answer; `before` counts the answers of the lines before it
 pub record Passed (number : ℕ) (old : World) (before : ℕ) (text : List ℕ) (new : Player) : Type 0 where
   pub case : Case
   pub says : IsCase number text case
-  pub does : Does old case new.world (string_bytes new.printed)
+  pub does : DoesCase old case new.world (string_bytes new.printed)
   pub meets : Meets case (string_bytes new.printed)
-  pub counts : Counts before case new.answers
+  pub counts : CountsAnswers before case new.answers
 
 -- the line was done, and its output is not its answer; the report says so
 pub record Failed (name : List ℕ) (number : ℕ) (old : World) (before : ℕ) (text : List ℕ) (new : Player) : Type 0 where
@@ -44,19 +44,19 @@ pub record Failed (name : List ℕ) (number : ℕ) (old : World) (before : ℕ) 
   pub obeys : Obeys Lines old order new.world (string_bytes new.printed)
   pub differs : string_bytes new.printed ≢ answer ++ 10 ∷ []
   pub reports : new.report.items ≡ difference_line name number answer (string_bytes new.printed)
-  pub counts : Counts before (Asks order (Some answer)) new.answers
+  pub counts : CountsAnswers before (Asks order (Some answer)) new.answers
 
 -- the outcome of one line
-abbrev pub Leads : List ℕ → ℕ → World → ℕ → List ℕ → Outcome → Player → Type 0
-Leads name number old before text Same new = Passed number old before text new
-Leads name number old before text Differs new = Failed name number old before text new
+abbrev pub LeadsPlayer : List ℕ → ℕ → World → ℕ → List ℕ → Outcome → Player → Type 0
+LeadsPlayer name number old before text Same new = Passed number old before text new
+LeadsPlayer name number old before text Differs new = Failed name number old before text new
 
 -- a fault at one line: it is wrong, or memory ran out
-abbrev pub LineFault : ℕ → List ℕ → RunFault → Type 0
-LineFault number text (faults.Line n) = (n ≡ number) × ((case : Case) → IsCase number text case → ⊥)
-LineFault number text faults.ReadFault = ⊥
-LineFault number text faults.WriteFault = ⊥
-LineFault number text faults.NoMemory = ⊤
+abbrev pub FaultAtLine : ℕ → List ℕ → RunFault → Type 0
+FaultAtLine number text (faults.Line n) = (n ≡ number) × ((case : Case) → IsCase number text case → ⊥)
+FaultAtLine number text faults.ReadFault = ⊥
+FaultAtLine number text faults.WriteFault = ⊥
+FaultAtLine number text faults.NoMemory = ⊤
 
 -- Bytes
 

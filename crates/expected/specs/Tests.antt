@@ -76,11 +76,11 @@ Comes name cpus input Same answers report = AllMet cpus input answers
 Comes name cpus input Differs answers report = Unmet name cpus input answers report
 
 -- a test ends with a fault before anything is written
-abbrev pub Halts : ℕ → List ℕ → Option (List ℕ) → RunFault → Type 0
-Halts cpus input unread (faults.Line n) = WrongAt cpus input n
-Halts cpus input unread faults.ReadFault = ReadTo cpus input unread
-Halts cpus input unread faults.WriteFault = ⊥
-Halts cpus input unread faults.NoMemory = SomeMet cpus input
+abbrev pub HaltsTest : ℕ → List ℕ → Option (List ℕ) → RunFault → Type 0
+HaltsTest cpus input unread (faults.Line n) = WrongAt cpus input n
+HaltsTest cpus input unread faults.ReadFault = ReadTo cpus input unread
+HaltsTest cpus input unread faults.WriteFault = ⊥
+HaltsTest cpus input unread faults.NoMemory = SomeMet cpus input
 
 -- the outcome of a test, how many answers were compared, and what it wrote: nothing, or the report
 abbrev pub Tests : List ℕ → ℕ → List ℕ → Outcome → ℕ → Option (List ℕ) → Option (List ℕ) → Type 0
@@ -88,8 +88,8 @@ Tests name cpus input Same answers before after = AllMet cpus input answers × A
 Tests name cpus input Differs answers before after = (report : List ℕ) × Unmet name cpus input answers report × Appends before after report
 
 -- how a test ends with a fault. Only a write fault comes after a part of the report was written
-abbrev pub Stops : List ℕ → ℕ → List ℕ → Option (List ℕ) → RunFault → Option (List ℕ) → Option (List ℕ) → Type 0
-Stops name cpus input unread (faults.Line n) before after = WrongAt cpus input n × Appends before after []
-Stops name cpus input unread faults.ReadFault before after = ReadTo cpus input unread × Appends before after []
-Stops name cpus input unread faults.WriteFault before after = (answers : ℕ) × (report : List ℕ) × Unmet name cpus input answers report × Front report before after
-Stops name cpus input unread faults.NoMemory before after = SomeMet cpus input × Appends before after []
+abbrev pub TestStops : List ℕ → ℕ → List ℕ → Option (List ℕ) → RunFault → Option (List ℕ) → Option (List ℕ) → Type 0
+TestStops name cpus input unread (faults.Line n) before after = WrongAt cpus input n × Appends before after []
+TestStops name cpus input unread faults.ReadFault before after = ReadTo cpus input unread × Appends before after []
+TestStops name cpus input unread faults.WriteFault before after = (answers : ℕ) × (report : List ℕ) × Unmet name cpus input answers report × Front report before after
+TestStops name cpus input unread faults.NoMemory before after = SomeMet cpus input × Appends before after []

@@ -10,7 +10,7 @@ ghost use Rattle.engine.specs.declared.fault.RunFault.TheVariants.{NoMemory as O
 ghost use Rattle.mig_model.specs.Migration.{first_world};
 ghost use Rattle.expected.specs.Cases.{NoCpus};
 ghost use Rattle.expected.specs.Tests.{difference_line};
-ghost use Rattle.expected.specs.Parts.{Leads, LineFault};
+ghost use Rattle.expected.specs.Parts.{LeadsPlayer, FaultAtLine};
 
 use crate::cpus::{Setting, setting_of};
 use crate::cut::split_answer;
@@ -123,8 +123,8 @@ impl Player {
         text: &[u8],
     ) -> Result<Outcome, RunFault>
         ensures ok { IfOk result (λ outcome.
-            Leads name.now number self.old.world self.old.answers text.now outcome self.new) }
-        ensures fault { IfErr result (λ fault. LineFault number text.now fault) }
+            LeadsPlayer name.now number self.old.world self.old.answers text.now outcome self.new) }
+        ensures fault { IfErr result (λ fault. FaultAtLine number text.now fault) }
     {
         self.printed.clear();
         if number != 1 {
@@ -151,8 +151,8 @@ impl Player {
         requires cpus { NoCpus number text.now }
         requires clear { string_bytes self.old.printed ≡ [] }
         ensures ok { IfOk result (λ outcome.
-            Leads name.now number self.old.world self.old.answers text.now outcome self.new) }
-        ensures fault { IfErr result (λ fault. LineFault number text.now fault) }
+            LeadsPlayer name.now number self.old.world self.old.answers text.now outcome self.new) }
+        ensures fault { IfErr result (λ fault. FaultAtLine number text.now fault) }
     {
         match parse(Language::Script, &mut self.tokens, text)? {
             Some(Line::Skipped) => Ok(Outcome::Same),
@@ -170,8 +170,8 @@ impl Player {
         requires cpus { NoCpus number text.now }
         requires other { (line : LineOf) → Spells AScript text.now line → ⊥ }
         ensures ok { IfOk result (λ outcome.
-            Leads name.now number self.old.world self.old.answers text.now outcome self.new) }
-        ensures fault { IfErr result (λ fault. LineFault number text.now fault) }
+            LeadsPlayer name.now number self.old.world self.old.answers text.now outcome self.new) }
+        ensures fault { IfErr result (λ fault. FaultAtLine number text.now fault) }
     {
         let Some((front, answer)) = split_answer(text) else {
             return Err(RunFault::Line(number));

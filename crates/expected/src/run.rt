@@ -1,7 +1,7 @@
 //! Reading a test from a reader, and writing what differs to a writer.
 
 ghost use Rattle.std.specs.Prelude.{◌≡◌, ◌≤◌, ℕ, [], IfOk, IfErr, IfSome};
-ghost use Rattle.expected.specs.Tests.{Comes, Halts, Tests, Stops};
+ghost use Rattle.expected.specs.Tests.{Comes, HaltsTest, Tests, TestStops};
 ghost use Rattle.expected.specs.Parts.{Ran};
 
 use crate::outcome::{Outcome, Tested};
@@ -36,7 +36,7 @@ pub fn test_script<R: Read, W: Write>(
         Tests name.now cpus input tested.outcome tested.answers (W.contents writer.old)
         (W.contents writer.new))) }
     ensures fault { IfErr result (λ fault. IfSome (R.remaining reader.old) (λ input.
-        Stops name.now cpus input (R.remaining reader.new) fault (W.contents writer.old)
+        TestStops name.now cpus input (R.remaining reader.new) fault (W.contents writer.old)
         (W.contents writer.new))) }
 {
     let mut tester = Tester::new(alloc, cpus)?;
@@ -64,7 +64,7 @@ fn test_lines<R: Read>(reader: &mut R, name: &str, tester: &mut Tester) -> Resul
         tester.new.player.report.items)) }
     ensures fault { IfErr result (λ fault. (cpus : ℕ) → Ran cpus [] tester.old →
         IfSome (R.remaining reader.old) (λ input.
-        Halts cpus input (R.remaining reader.new) fault)) }
+        HaltsTest cpus input (R.remaining reader.new) fault)) }
 {
     let mut buffer = [0u8; PIECE];
     for _ in 0..u32::MAX {

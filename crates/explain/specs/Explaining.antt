@@ -28,10 +28,10 @@ IsReason true text = ⊤
 IsReason false text = text ≡ []
 
 -- the line of each wrong entry, in order, and after each its reason
-abbrev pub Lists : Bool → List Wrong → List ℕ → Type 0
-Lists reasons [] text = text ≡ []
-Lists reasons (wrong ∷ wrongs) text =
-    (reason : List ℕ) × (rest : List ℕ) × IsReason reasons reason × (text ≡ wrong_line wrong.index wrong.expected ++ reason ++ rest) × Lists reasons wrongs rest
+abbrev pub ListsWrong : Bool → List Wrong → List ℕ → Type 0
+ListsWrong reasons [] text = text ≡ []
+ListsWrong reasons (wrong ∷ wrongs) text =
+    (reason : List ℕ) × (rest : List ℕ) × IsReason reasons reason × (text ≡ wrong_line wrong.index wrong.expected ++ reason ++ rest) × ListsWrong reasons wrongs rest
 
 -- the wrong entries that are listed: all, or the first alone
 abbrev pub listed : Bool → List Wrong → List Wrong
@@ -39,13 +39,13 @@ listed true wrongs = wrongs
 listed false wrongs = take 1 wrongs
 
 -- what is written of `count` entries of which these are wrong, and whether all is well
-abbrev pub Answers : Asks → ℕ → List Wrong → Bool → List ℕ → Type 0
-Answers asks count [] answer text = (answer ≡ true) × (text ≡ ok_line count)
-Answers asks count (wrong ∷ wrongs) answer text = (answer ≡ false) × Lists asks.reasons (listed asks.all (wrong ∷ wrongs)) text
+abbrev pub ExplainsAll : Asks → ℕ → List Wrong → Bool → List ℕ → Type 0
+ExplainsAll asks count [] answer text = (answer ≡ true) × (text ≡ ok_line count)
+ExplainsAll asks count (wrong ∷ wrongs) answer text = (answer ≡ false) × ListsWrong asks.reasons (listed asks.all (wrong ∷ wrongs)) text
 
 -- what is written of entries
 abbrev pub IsReport : Asks → List Entry → Bool → List ℕ → Type 0
-IsReport asks entries answer text = (wrongs : List Wrong) × AreWrong no_memory 0 entries wrongs × Answers asks (length entries) wrongs answer text
+IsReport asks entries answer text = (wrongs : List Wrong) × AreWrong no_memory 0 entries wrongs × ExplainsAll asks (length entries) wrongs answer text
 
 -- the input is a transcript of `count` entries, and its report was written
 pub record Explains (asks : Asks) (input : List ℕ) (answer : Bool) (count : ℕ) (before after : Option (List ℕ)) : Type 0 where

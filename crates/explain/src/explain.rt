@@ -4,7 +4,7 @@ ghost use Rattle.std.specs.Prelude.{◌≡◌, ◌++◌, ℕ, List, [], IfOk, If
 ghost use Rattle.engine.specs.Checking.{wrong_line};
 ghost use Rattle.engine.specs.Engine.{start_of, nothing_kept};
 ghost use Rattle.explain.specs.Unread.{unread};
-ghost use Rattle.explain.specs.Explaining.{IsReason, IsReport, Lists, Explains, ExplainStops};
+ghost use Rattle.explain.specs.Explaining.{IsReason, IsReport, ListsWrong, Explains, ExplainStops};
 
 use crate::account::Account;
 use crate::noting::Noting;
@@ -120,7 +120,7 @@ fn list(
     reasons: bool,
 ) -> Result<(), NoMemory>
     requires { string_bytes text.old ≡ [] }
-    ensures { OnOk result (Lists reasons wrongs.now (string_bytes text.new)) }
+    ensures { OnOk result (ListsWrong reasons wrongs.now (string_bytes text.new)) }
 {
     for wrong in wrongs {
         write_wrong(alloc, text, account, *wrong, reasons)?;

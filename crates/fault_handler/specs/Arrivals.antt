@@ -3,6 +3,6 @@ use Rattle.std.specs.Prelude.{ℕ, List, Option, Some, None}
 use Rattle.mig_base.specs.Bytes.{zero_page}
 
 -- the bytes that came, or zeros for a Zero, with which none came
-abbrev pub bytes_of : Option (List ℕ) → List ℕ
-bytes_of (Some bytes) = bytes
-bytes_of None = zero_page
+abbrev pub came_bytes : Option (List ℕ) → List ℕ
+came_bytes (Some bytes) = bytes
+came_bytes None = zero_page

@@ -9,7 +9,7 @@ use Rattle.mig_base.specs.declared.message.Message.TheVariants.{PageFault, Remap
 use Rattle.mig_model.specs.Bounds.{AreFewPages, AreListed}
 use Rattle.mig_model.specs.Guest.{is_present}
 use Rattle.mig_model.specs.Promises.{AreFaults}
-use Rattle.mig_model.specs.Invariant.{AreRight}
+use Rattle.mig_model.specs.Invariant.{AreWholeEvents}
 use Rattle.mig_model.specs.Owed.{Owed, settled_by}
 use Rattle.mig_model.specs.Space.{Space}
 use Rattle.mig_base.specs.Userfault.{Noted}
@@ -35,7 +35,7 @@ pub record IsReady (space : Space) (owed : Owed) : Type 0 where
   pub lent : IsLent space
   pub unprotected : (page : ℕ) → contains space.protected page ≡ false
   pub only_missing : (page : ℕ) → contains space.object.protect page ≡ false
-  pub events : AreRight space.object.events
+  pub events : AreWholeEvents space.object.events
   pub inside : AreInside space.object.events
   pub faults : AreFaults space.object.faults
   pub pairs : (page origin : ℕ) → settled_by space.object.events (get owed) page ≡ Some origin → (contains space.object.missing page ≡ true) × (is_present space page ≡ false)

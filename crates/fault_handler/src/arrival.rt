@@ -2,7 +2,7 @@
 
 ghost use Rattle.std.specs.Prelude.{◌≡◌, IfOk};
 ghost use Rattle.mig_base.specs.Bytes.{zero_page};
-ghost use Rattle.fault_handler.specs.Arrivals.{bytes_of};
+ghost use Rattle.fault_handler.specs.Arrivals.{came_bytes};
 
 use mig_base::{NoMemory, PageBytes, PageNo};
 use std::alloc::Global;
@@ -23,19 +23,19 @@ pub struct Arrival {
 impl Model for Arrival {
     ghost use Rattle.mig_model.specs.Wire as machine;
     ghost use Rattle.fault_handler.specs.Codes.{coded_copy};
-    ghost use Rattle.fault_handler.specs.Arrivals.{bytes_of};
+    ghost use Rattle.fault_handler.specs.Arrivals.{came_bytes};
 
     ghost Value = { machine.Copy };
 
     ghost coded = { coded_copy };
 
-    ghost view = { λ arrival. record { page = arrival.page; bytes = bytes_of arrival.content } };
+    ghost view = { λ arrival. record { page = arrival.page; bytes = came_bytes arrival.content } };
 }
 
 impl Arrival {
     /// A copy of a page.
     pub fn new(page: PageNo, content: Content) -> Self
-        ensures { result ≡ record { page = page; bytes = bytes_of content } }
+        ensures { result ≡ record { page = page; bytes = came_bytes content } }
     {
         Arrival { page, content }
     }
@@ -59,7 +59,7 @@ impl Arrival {
 
     /// Moves the content out and leaves zeros.
     pub fn take(&mut self) -> Content
-        ensures content { bytes_of result ≡ self.old.bytes }
+        ensures content { came_bytes result ≡ self.old.bytes }
         ensures left { self.new ≡ record self.old { bytes = zero_page } }
     {
         replace(&mut self.content, None)
@@ -67,7 +67,7 @@ impl Arrival {
 
     /// Puts back content that was moved out.
     pub fn put_back(&mut self, content: Content)
-        ensures { self.new ≡ record self.old { bytes = bytes_of content } }
+        ensures { self.new ≡ record self.old { bytes = came_bytes content } }
     {
         self.content = content;
     }

@@ -30,7 +30,7 @@ use Rattle.mig_model.proofs.steps.ReachedLemmas.{reached-next}
 use Rattle.mig_model.proofs.invariant.UrgentFew.{few-reached}
 use Rattle.mig_model.specs.Invariant.{IsSoundWorld, PrecopyWires, SwitchedAt}
 use Rattle.mig_model.proofs.completion.CompletionStopped.{IsUpAt, next_some, read_object, wires_at}
-use Rattle.finish.specs.Finishing.{IsDue, before_push, down_left, down_step, lacks_epoch, one_if, precopy_step, reported, steps_left, unread, up_left, waiting}
+use Rattle.finish.specs.Finishing.{IsDue, before_push, down_left, down_step, lacks_epoch, one_if, precopy_step, reported, steps_left, unread, up_left, left_to_handle}
 use Rattle.mig_model.proofs.steps.StepAnswers.{answers-notice, answers-resume, answers-source_read, answers-start, answers-switch}
 use Rattle.mig_model.proofs.invariant.SourceMapped.{read_host}
 use Rattle.mig_base.proofs.SetSizes.{only_where}
@@ -109,7 +109,7 @@ precopy_back : (to : DestPhase) (source : Source) (destination : Destination) (f
 precopy_back to source destination forward back wires = grind (arith, nat_tests)
 
 -- a destination that has not run has nothing to read or to install
-pub none_waits : (world : World) → IsSoundWorld world → world.destination.has_run ≡ false → waiting world ≡ 0
+pub none_waits : (world : World) → IsSoundWorld world → world.destination.has_run ≡ false → left_to_handle world ≡ 0
 none_waits world kept ran =
     let none = kept.owing.not_run ran in
     let copies = ap length none.2 in
@@ -192,7 +192,7 @@ resume_due world at from to free =
     let new = after_resume world in
     let phase = is_paused world.source.phase from in
     let old_left = left_down world at.down in
-    let new_left = left_up new SourcePhase.Paused refl phase ∙ ap (λ b. if b then reported new + 10 else before_push new + (waiting new + length new.back.frames) + 8) to in
+    let new_left = left_up new SourcePhase.Paused refl phase ∙ ap (λ b. if b then reported new + 10 else before_push new + (left_to_handle new + length new.back.frames) + 8) to in
     due_by world new Step.Resume _ (answers-resume world from to at.down free) (omega (arith, old_left, new_left)) (λ _. goes_up new refl (ap is_source_idle phase))
 
 down_by : (from to used : Bool) (world : World) → IsDown world → is_source_paused world.source.phase ≡ from → is_dest_paused world.destination.phase ≡ to → is_used world.source.epoch ≡ used →

@@ -38,7 +38,7 @@ use Rattle.mig_base.proofs.SetSizes.{len-removed, len-some}
 use Rattle.mig_model.proofs.invariant.UrgentWire.{placed}
 use Rattle.frame_texts.specs.Flight.{AreFrames, HasGoodFrames}
 use Rattle.frame_texts.proofs.LengthBounds.{text_short}
-use Rattle.finish.specs.Finishing.{IsDue, all_bytes, before_push, one_if, paused_step, reported, running_step, steps_left, stopped_by, stopped_step, delivering_step, unread, waiting}
+use Rattle.finish.specs.Finishing.{IsDue, all_bytes, before_push, one_if, paused_step, reported, running_step, steps_left, stopped_by, stopped_step, delivering_step, unread, left_to_handle}
 use Rattle.finish.proofs.DueSteps.{due_by, few_next, goes_up, left_up, one_if-most, read_unread, sent_one}
 use Rattle.mig_model.proofs.steps.StepAnswers.{answers-deliver, answers-deliver_back, answers-deliver_urgent, answers-dest_read, answers-end, answers-install, answers-push}
 
@@ -348,8 +348,8 @@ resume_due world phase is =
     let sent : Sent = record { epoch = world.source.epoch; frame = Resume } in
     let new = after_deliver world sent [] in
     let node = resumed (received_of world.destination) world.destination world.source.epoch in
-    let old_left = left_up world SourcePhase.Paused at.up at.phase ∙ ap (λ p. if is_dest_paused p then reported world + 10 else before_push world + (waiting world + length world.back.frames) + 8) phase in
-    let new_left = left_up new SourcePhase.Paused at.up at.phase ∙ ap (λ b. if b then reported new + 10 else before_push new + (waiting new + length new.back.frames) + 8) node.awake in
+    let old_left = left_up world SourcePhase.Paused at.up at.phase ∙ ap (λ p. if is_dest_paused p then reported world + 10 else before_push world + (left_to_handle world + length world.back.frames) + 8) phase in
+    let new_left = left_up new SourcePhase.Paused at.up at.phase ∙ ap (λ b. if b then reported new + 10 else before_push new + (left_to_handle new + length new.back.frames) + 8) node.awake in
     let none = ap length wires.1 in
     let copies = ap length node.arrivals in
     let messages = ap unread node.guest in
@@ -369,9 +369,9 @@ record HasReport (world : World) : Type 0 where
   first : world.back.frames ≡ record { epoch = epoch; frame = Recv state owed } ∷ rest
   switched : state ≢ Received.NotRun → world.source.switched ≡ true
 
-report_left : (world : World) → HasReport world → steps_left world ≡ before_push world + (waiting world + length world.back.frames) + 8
+report_left : (world : World) → HasReport world → steps_left world ≡ before_push world + (left_to_handle world + length world.back.frames) + 8
 report_left world has =
-    left_up world SourcePhase.Paused has.waits.at.up has.waits.at.phase ∙ ap (λ b. if b then reported world + 10 else before_push world + (waiting world + length world.back.frames) + 8) has.awake
+    left_up world SourcePhase.Paused has.waits.at.up has.waits.at.phase ∙ ap (λ b. if b then reported world + 10 else before_push world + (left_to_handle world + length world.back.frames) + 8) has.awake
 
 report_answer : (world : World) (has : HasReport world) → answer world (Step.DeliverBack all_bytes) ≡ made (frame_effect (Recv has.state has.owed)) (after_deliver_back world (record { epoch = has.epoch; frame = Recv has.state has.owed }) has.rest)
 report_answer world has = back_answer world (record { epoch = has.epoch; frame = Recv has.state has.owed }) has.rest has.first has.waits.good (ap is_source_idle has.waits.at.phase) has.waits.at.up

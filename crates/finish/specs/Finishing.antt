@@ -133,8 +133,8 @@ abbrev pub one_if : Bool → ℕ
 one_if test = if test then 1 else 0
 
 -- what the destination has to read and to install
-abbrev pub waiting : World → ℕ
-waiting world = length world.destination.arrivals + unread world.destination.guest
+abbrev pub left_to_handle : World → ℕ
+left_to_handle world = length world.destination.arrivals + unread world.destination.guest
 
 -- before the source knows what it has to push, it counts three steps for each present page: it is pushed, taken and installed
 abbrev pub before_push : World → ℕ
@@ -142,18 +142,18 @@ before_push world = 3 * len (present (space_of world.source)) + unread world.sou
 
 -- what a destination that reports asks for again
 abbrev pub reported : World → ℕ
-reported world = before_push world + (waiting world + length world.destination.requests)
+reported world = before_push world + (left_to_handle world + length world.destination.requests)
 
 -- the source waits for a report
 abbrev pub paused_left : World → ℕ
 paused_left world =
-    if is_dest_paused world.destination.phase then reported world + 10 else before_push world + (waiting world + length world.back.frames) + 8
+    if is_dest_paused world.destination.phase then reported world + 10 else before_push world + (left_to_handle world + length world.back.frames) + 8
 
 -- the source has stopped
 abbrev pub stopped_left : World → ℕ
 stopped_left world =
     3 * (len world.source.remaining + one_if (not (world.source.end_epoch == world.source.epoch)))
-    + (2 * (length world.forward.frames + length world.urgent.frames) + (waiting world + length world.back.frames))
+    + (2 * (length world.forward.frames + length world.urgent.frames) + (left_to_handle world + length world.back.frames))
 
 -- the link is up
 abbrev pub up_left : SourcePhase → World → ℕ

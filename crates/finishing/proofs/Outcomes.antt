@@ -13,11 +13,11 @@ use Rattle.engine.specs.declared.line_runner.Mode.TheVariants.{Lines}
 use Rattle.engine.specs.declared.fault.RunFault.{RunFault}
 use Rattle.engine.specs.declared.fault.RunFault.TheVariants as faults
 use Rattle.engine.specs.Script.{reported, MakesAny, Runs, StopsBy}
-use Rattle.engine.specs.Engine.{Work, Running, Works, Outputs, ReadsAll, language_of, world_of}
+use Rattle.engine.specs.Engine.{Work, Running, Works, Outputs, ReadsAll, language_of, run_world}
 use Rattle.mig_model.specs.Migration.{World}
 use Rattle.engine.specs.Worlds.{epoch_in}
 use Rattle.finishing.specs.declared.ending.Ending.{Ending}
-use Rattle.finishing.specs.Finished.{Ends, Fails, LeadsTo, Finishes, Stops}
+use Rattle.finishing.specs.Finished.{EndsScript, FailsAfterScript, LeadsTo, FinishesScript, FinishStops}
 
 -- ---- the world of the script
 
@@ -45,14 +45,14 @@ read_leads mode start work input end unread before after is all =
 
 -- ---- endings
 
-pub fails : (start world : World) (input : List ℕ) (fault : RunFault) (before after : Option (List ℕ)) → LeadsTo start input world → Fails world fault before after → Stops start input fault before after
+pub fails : (start world : World) (input : List ℕ) (fault : RunFault) (before after : Option (List ℕ)) → LeadsTo start input world → FailsAfterScript world fault before after → FinishStops start input fault before after
 fails start world input (faults.Line n) before after leads p = absurd p
 fails start world input faults.ReadFault before after leads p = absurd p
 fails start world input faults.WriteFault before after leads p = inr (world, leads, p)
 fails start world input faults.NoMemory before after leads p = p
 
 pub stops_read : (mode : Mode) (start : World) (work : Work) (input : List ℕ) (unread : Option (List ℕ)) (fault : RunFault) (a b before : Option (List ℕ)) → work ≡ Running mode start
-    → StopsBy Script (Outputs work) input unread fault a b → Stops start input fault before before
+    → StopsBy Script (Outputs work) input unread fault a b → FinishStops start input fault before before
 stops_read mode start work input unread (faults.Line n) a b before is p =
     (record { lines = p.lines; rest = p.rest; reads = p.reads; number = p.number; wrong = p.wrong }, Appends-nil before)
 stops_read mode start work input unread faults.ReadFault a b before is p = Appends-nil before
@@ -62,7 +62,7 @@ stops_read mode start work input unread faults.NoMemory a b before is p = Append
 -- ---- the same of a reader whose bytes may not be known
 
 pub some_stops : (o : Option (List ℕ)) (mode : Mode) (start : World) (work : Work) (unread : Option (List ℕ)) (fault : RunFault) (a b before : Option (List ℕ)) → work ≡ Running mode start
-    → IfSome o (λ input. StopsBy (language_of work) (Outputs work) input unread fault a b) → IfSome o (λ input. Stops start input fault before before)
+    → IfSome o (λ input. StopsBy (language_of work) (Outputs work) input unread fault a b) → IfSome o (λ input. FinishStops start input fault before before)
 some_stops None mode start work unread fault a b before is p = tt
 some_stops (Some input) mode start work unread fault a b before is p =
     stops_read mode start (Running mode start) input unread fault a b before refl (subst (λ (w : Work). StopsBy (language_of w) (Outputs w) input unread fault a b) is p)
@@ -71,21 +71,21 @@ same_some : (x y : World) → Some x ≡ Some y → x ≡ y
 same_some x y e = cc
 
 -- the world that was handed over is that of the script
-handed : (mode : Mode) (world other : World) (end : Work) → Some world ≡ world_of end → end ≡ Running mode other → world ≡ other
-handed mode world other end is e = same_some world other (is ∙ ap world_of e)
+handed : (mode : Mode) (world other : World) (end : Work) → Some world ≡ run_world end → end ≡ Running mode other → world ≡ other
+handed mode world other end is e = same_some world other (is ∙ ap run_world e)
 
 pub some_finishes : (r : Result Ending RunFault) (o : Option (List ℕ)) (mode : Mode) (start world : World) (work end : Work) (unread a b before after : Option (List ℕ)) → work ≡ Running mode start
-    → IfSome o (λ input. ReadsAll work input end unread a b) → Some world ≡ world_of end → IfOk r (λ ending. Ends ending world before after) → IfOk r (λ ending. IfSome o (λ input. Finishes ending start input before after))
+    → IfSome o (λ input. ReadsAll work input end unread a b) → Some world ≡ run_world end → IfOk r (λ ending. EndsScript ending world before after) → IfOk r (λ ending. IfSome o (λ input. FinishesScript ending start input before after))
 some_finishes (Err fault) o mode start world work end unread a b before after is all same p = tt
 some_finishes (Ok ending) None mode start world work end unread a b before after is all same p = tt
 some_finishes (Ok ending) (Some input) mode start world work end unread a b before after is all same p =
     let read = read_leads mode start work input end unread a b is all in
-    (read.0, read.2, subst (λ (w : World). Ends ending w before after) (handed mode world read.0 end same read.1) p)
+    (read.0, read.2, subst (λ (w : World). EndsScript ending w before after) (handed mode world read.0 end same read.1) p)
 
 pub some_fails : (r : Result Ending RunFault) (o : Option (List ℕ)) (mode : Mode) (start world : World) (work end : Work) (unread a b before after : Option (List ℕ)) → work ≡ Running mode start
-    → IfSome o (λ input. ReadsAll work input end unread a b) → Some world ≡ world_of end → IfErr r (λ fault. Fails world fault before after) → IfErr r (λ fault. IfSome o (λ input. Stops start input fault before after))
+    → IfSome o (λ input. ReadsAll work input end unread a b) → Some world ≡ run_world end → IfErr r (λ fault. FailsAfterScript world fault before after) → IfErr r (λ fault. IfSome o (λ input. FinishStops start input fault before after))
 some_fails (Ok ending) o mode start world work end unread a b before after is all same p = tt
 some_fails (Err fault) None mode start world work end unread a b before after is all same p = tt
 some_fails (Err fault) (Some input) mode start world work end unread a b before after is all same p =
     let read = read_leads mode start work input end unread a b is all in
-    fails start read.0 input fault before after read.2 (subst (λ (w : World). Fails w fault before after) (handed mode world read.0 end same read.1) p)
+    fails start read.0 input fault before after read.2 (subst (λ (w : World). FailsAfterScript w fault before after) (handed mode world read.0 end same read.1) p)

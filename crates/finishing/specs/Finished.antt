@@ -59,16 +59,16 @@ pub record Completes (world : World) (text : List ℕ) : Type 0 where
 
 -- what is written for a world: the lines that complete its migration, or nothing where a Start or a Resume is needed and the epoch is the
 -- last
-abbrev pub Ends : Ending → World → Option (List ℕ) → Option (List ℕ) → Type 0
-Ends Complete world before after = (text : List ℕ) × Completes world text × Appends before after text
-Ends NoEpoch world before after = (lacks_epoch world ≡ true) × Appends before after []
+abbrev pub EndsScript : Ending → World → Option (List ℕ) → Option (List ℕ) → Type 0
+EndsScript Complete world before after = (text : List ℕ) × Completes world text × Appends before after text
+EndsScript NoEpoch world before after = (lacks_epoch world ≡ true) × Appends before after []
 
 -- a fault after the script. Only a write fault comes after a part of the lines was written
-abbrev pub Fails : World → RunFault → Option (List ℕ) → Option (List ℕ) → Type 0
-Fails world (faults.Line n) before after = ⊥
-Fails world faults.ReadFault before after = ⊥
-Fails world faults.WriteFault before after = (text : List ℕ) × Completes world text × Front text before after
-Fails world faults.NoMemory before after = Appends before after []
+abbrev pub FailsAfterScript : World → RunFault → Option (List ℕ) → Option (List ℕ) → Type 0
+FailsAfterScript world (faults.Line n) before after = ⊥
+FailsAfterScript world faults.ReadFault before after = ⊥
+FailsAfterScript world faults.WriteFault before after = (text : List ℕ) × Completes world text × Front text before after
+FailsAfterScript world faults.NoMemory before after = Appends before after []
 
 -- the input is a script, whose run leads from the first state to the last
 pub record LeadsTo (start : World) (input : List ℕ) (end : World) : Type 0 where
@@ -82,8 +82,8 @@ abbrev pub IsEnded : List ℕ → Type 0
 IsEnded bytes = (bytes ≡ []) ⊎ ((front : List ℕ) × (bytes ≡ front ++ 10 ∷ []))
 
 -- the script was run, and what finishes it was written
-abbrev pub Finishes : Ending → World → List ℕ → Option (List ℕ) → Option (List ℕ) → Type 0
-Finishes ending start input before after = (world : World) × LeadsTo start input world × Ends ending world before after
+abbrev pub FinishesScript : Ending → World → List ℕ → Option (List ℕ) → Option (List ℕ) → Type 0
+FinishesScript ending start input before after = (world : World) × LeadsTo start input world × EndsScript ending world before after
 
 -- line `n` of the input is the first that is not a line of a script
 pub record WrongAt (input : List ℕ) (n : ℕ) : Type 0 where
@@ -94,8 +94,8 @@ pub record WrongAt (input : List ℕ) (n : ℕ) : Type 0 where
   pub wrong : BeginsWrong Script rest
 
 -- how it ends with a fault: at a wrong line of the script, or after the script
-abbrev pub Stops : World → List ℕ → RunFault → Option (List ℕ) → Option (List ℕ) → Type 0
-Stops start input (faults.Line n) before after = WrongAt input n × Appends before after []
-Stops start input faults.ReadFault before after = Appends before after []
-Stops start input faults.WriteFault before after = Appends before after [] ⊎ ((world : World) × LeadsTo start input world × Fails world faults.WriteFault before after)
-Stops start input faults.NoMemory before after = Appends before after []
+abbrev pub FinishStops : World → List ℕ → RunFault → Option (List ℕ) → Option (List ℕ) → Type 0
+FinishStops start input (faults.Line n) before after = WrongAt input n × Appends before after []
+FinishStops start input faults.ReadFault before after = Appends before after []
+FinishStops start input faults.WriteFault before after = Appends before after [] ⊎ ((world : World) × LeadsTo start input world × FailsAfterScript world faults.WriteFault before after)
+FinishStops start input faults.NoMemory before after = Appends before after []

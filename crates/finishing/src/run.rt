@@ -2,7 +2,7 @@
 
 ghost use Rattle.std.specs.Prelude.{◌≡◌, ◌≤◌, IfOk, IfErr, IfSome, OnOk};
 ghost use Rattle.mig_model.specs.Migration.{first_world};
-ghost use Rattle.finishing.specs.Finished.{Adds, AreBehind, Ends, Finishes, Fails, HaveLines, Stops};
+ghost use Rattle.finishing.specs.Finished.{Adds, AreBehind, EndsScript, FinishesScript, FailsAfterScript, HaveLines, FinishStops};
 
 use crate::ending::Ending;
 use engine::line_runner::write_out;
@@ -32,9 +32,9 @@ pub fn finish_script<R: Read, W: Write>(
     requires low { 1 ≤ cpus }
     requires high { cpus ≤ 16 }
     ensures ok { IfOk result (λ ending. IfSome (R.remaining reader.old) (λ input.
-        Finishes ending (first_world cpus) input (W.contents writer.old) (W.contents writer.new))) }
+        FinishesScript ending (first_world cpus) input (W.contents writer.old) (W.contents writer.new))) }
     ensures fault { IfErr result (λ fault. IfSome (R.remaining reader.old) (λ input.
-        Stops (first_world cpus) input fault (W.contents writer.old) (W.contents writer.new))) }
+        FinishStops (first_world cpus) input fault (W.contents writer.old) (W.contents writer.new))) }
 {
     let runner = LineRunner::on_world(alloc, cpus, Mode::Transcript)?;
     let mut script = ScriptReader::new(alloc, runner);
@@ -55,9 +55,9 @@ fn finish_world<W: Write>(
     is_open: bool,
 ) -> Result<Ending, RunFault>
     ensures ok { IfOk result (λ ending.
-        Ends ending world.old (W.contents writer.old) (W.contents writer.new)) }
+        EndsScript ending world.old (W.contents writer.old) (W.contents writer.new)) }
     ensures fault { IfErr result (λ fault.
-        Fails world.old fault (W.contents writer.old) (W.contents writer.new)) }
+        FailsAfterScript world.old fault (W.contents writer.old) (W.contents writer.new)) }
 {
     match finish(world, alloc) {
         Ok(steps) => {

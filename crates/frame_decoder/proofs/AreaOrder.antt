@@ -17,7 +17,7 @@ use Rattle.mig_base.proofs.RangeLemmas.{in_range-true, in_range_bounds}
 use Rattle.mig_base.proofs.SetLemmas.{member_below, member_run, run_length-some}
 use Rattle.mig_base.proofs.TestLemmas.{and_first, and_second}
 use Rattle.mig_model.specs.Bounds.{IsPage}
-use Rattle.mig_model.specs.Ioctls.{same_prot}
+use Rattle.mig_model.specs.Ioctls.{same_protection}
 use Rattle.mig_model.specs.Lengths.{begins_area}
 use Rattle.mig_model.proofs.memory.Facts.{by_test}
 use Rattle.mig_model.proofs.memory.PageCalls.{same_prot_self}
@@ -70,7 +70,7 @@ unfolding prot_in
 map_back areas below = same_pages (pages_in (areas_of areas)) areas (λ q. get-pages_in (areas_of areas) q ∙ prot_in-areas_of areas below q)
 
 abbrev alike : FinMap nat_cmp Prot → ℕ → ℕ → Bool
-alike areas first page = same_prot (get areas first) (get areas page)
+alike areas first page = same_protection (get areas first) (get areas page)
 
 -- the pages of the area that begins at a page
 in_area : (areas : FinMap nat_cmp Prot) (first q : ℕ) → in_range first (area_at areas first).count q ≡ true → (q < HIGH_PAGE) × (get areas first ≡ get areas q)
@@ -93,8 +93,8 @@ area_inside areas first some =
 goes_on : (areas : FinMap nat_cmp Prot) (first next : ℕ) → first < next → get areas first ≡ get areas (next - 1) → get areas first ≡ get areas next → begins_area areas next ≡ true → ⊥
 goes_on areas first next past before here begins =
     let positive : ltb 0 next ≡ true = lt-ltb 0 next (omega (arith, past)) in
-    let same : same_prot (get areas next) (get areas (next - 1)) ≡ true = ap (λ o. same_prot (get areas next) o) (sym before ∙ here) ∙ same_prot_self (get areas next) (and_first (contains_key areas next) _ begins) in
-    let no = and_second (contains_key areas next) (not (ltb 0 next && same_prot (get areas next) (get areas (next - 1)))) begins in
+    let same : same_protection (get areas next) (get areas (next - 1)) ≡ true = ap (λ o. same_protection (get areas next) o) (sym before ∙ here) ∙ same_prot_self (get areas next) (and_first (contains_key areas next) _ begins) in
+    let no = and_second (contains_key areas next) (not (ltb 0 next && same_protection (get areas next) (get areas (next - 1)))) begins in
     false≢true (rw (positive, same) at no)
 
 -- after the last area, and not one with it

@@ -18,7 +18,7 @@ use Rattle.frame_decoder.specs.declared.tag.Tag.{Tag}
 use Rattle.frame_decoder.specs.declared.tag.Tag.TheVariants as tag
 use Rattle.frame_decoder.specs.declared.version.Version.{Version}
 use Rattle.frame_decoder.specs.declared.version.Version.TheVariants as versions
-use Rattle.frame_decoder.specs.Reading.{checked, page_at, is_page, content_at, contents_at, is_run, is_page_run, page_frame_at, discard_at, package_at, run_frame_at, recv_at, payload_at, body_at}
+use Rattle.frame_decoder.specs.Reading.{tested, page_in, is_page, content_at, contents_at, is_run, is_page_run, page_frame_at, discard_at, package_at, run_frame_at, recv_at, payload_at, body_at}
 use Rattle.frame_decoder.specs.Versions.{version_of, max_pages, has_runs, AreFewIn, tag_of, IsFrameIn}
 use Rattle.frame_decoder.proofs.FieldLemmas.{IsBytes, AllFrom, bind_ok, checked_ok, ok_is, Takes, IsReader, content_text, one_takes, one_again, two_takes, two_again, three_takes, three_again, reads_32, reads_content, counted_takes, counted_again}
 use Rattle.frame_decoder.proofs.SetReading.{AreFew, RunFits, run_is, run_passes, reads_pages, reads_few_pages}
@@ -27,21 +27,21 @@ use Rattle.frame_decoder.proofs.CommandReading.{reads_commands, reads_state}
 
 -- A page
 
-page_takes : (bytes : List ℕ) (x : ℕ × List ℕ) → IsBytes bytes → page_at bytes ≡ Ok x → Takes bytes (to_be_bytes w32 x.0) x.1 × IsPage x.0
-unfolding page_at
+page_takes : (bytes : List ℕ) (x : ℕ × List ℕ) → IsBytes bytes → page_in bytes ≡ Ok x → Takes bytes (to_be_bytes w32 x.0) x.1 × IsPage x.0
+unfolding page_in
 page_takes bytes x fits e =
-    let p = one_takes reads_32 (λ n rest. checked (is_page n) (n, rest)) bytes x fits e in
+    let p = one_takes reads_32 (λ n rest. tested (is_page n) (n, rest)) bytes x fits e in
     let g = checked_ok (is_page p.0) (p.0, p.1) x p.4 in
     subst (λ (x : ℕ × List ℕ). Takes bytes (to_be_bytes w32 x.0) x.1 × IsPage x.0) g.1
     (p.2, (leb-true _ _ (and_first (leb LOW_PAGE p.0) (ltb p.0 HIGH_PAGE) g.0), ltb-true _ _ (and_second (leb LOW_PAGE p.0) (ltb p.0 HIGH_PAGE) g.0)))
 
-page_again : (page : ℕ) (rest : List ℕ) → IsPage page → page_at (to_be_bytes w32 page ++ rest) ≡ Ok (page, rest)
-unfolding page_at
+page_again : (page : ℕ) (rest : List ℕ) → IsPage page → page_in (to_be_bytes w32 page ++ rest) ≡ Ok (page, rest)
+unfolding page_in
 page_again page rest h =
     let below = h.1 in
-    one_again reads_32 (λ n rest. checked (is_page n) (n, rest)) page rest (omega (arith, below)) ∙ rw (and_from (leb LOW_PAGE page) (ltb page HIGH_PAGE) (le-leb LOW_PAGE page h.0) (lt-ltb page HIGH_PAGE below)) refl
+    one_again reads_32 (λ n rest. tested (is_page n) (n, rest)) page rest (omega (arith, below)) ∙ rw (and_from (leb LOW_PAGE page) (ltb page HIGH_PAGE) (le-leb LOW_PAGE page h.0) (lt-ltb page HIGH_PAGE below)) refl
 
-reads_page : IsReader page_at (to_be_bytes w32) IsPage
+reads_page : IsReader page_in (to_be_bytes w32) IsPage
 reads_page = record { takes = page_takes; again = page_again }
 
 -- The bytes of neighbouring pages
@@ -153,7 +153,7 @@ bare version frame h right few = record { has = has_any version frame h; right =
 run_takes : (version : Version) (bytes : List ℕ) (x : Frame × List ℕ) → IsBytes bytes → run_frame_at version bytes ≡ Ok x → Taken version tag.Run bytes x
 unfolding run_frame_at
 run_takes version bytes x fits e =
-    let p = two_takes reads_32 reads_contents (λ first pages rest. checked (is_page_run version first (length pages)) (Frame.Run first pages, rest)) bytes x fits e in
+    let p = two_takes reads_32 reads_contents (λ first pages rest. tested (is_page_run version first (length pages)) (Frame.Run first pages, rest)) bytes x fits e in
     let g = checked_ok (is_page_run version p.0 (length p.1)) (Frame.Run p.0 p.1, p.2) x p.6 in
     let apart = append_assoc (to_be_bytes w32 p.0) (to_be_bytes w32 (length p.1)) (flat_map content_text p.1) in
     let taken : Takes bytes (body_text (Frame.Run p.0 p.1)) p.2 = subst (λ text. Takes bytes text p.2) (sym apart) p.3 in
@@ -197,7 +197,7 @@ run_again version first pages rest h =
     let run : PageRunFits version first (length pages) = record { has = run_has version first pages h.has; few = few; run = record { from = h.right.2; some = some; inside = inside } } in
     let apart = append_assoc (to_be_bytes w32 first) (to_be_bytes w32 (length pages)) (flat_map content_text pages) in
     ap (λ (text : List ℕ). run_frame_at version (text ++ rest)) apart
-    ∙ two_again reads_32 reads_contents (λ first pages rest. checked (is_page_run version first (length pages)) (Frame.Run first pages, rest)) first pages rest (omega (arith, some, inside)) (record { count = omega (arith, few); each = h.right.4 })
+    ∙ two_again reads_32 reads_contents (λ first pages rest. tested (is_page_run version first (length pages)) (Frame.Run first pages, rest)) first pages rest (omega (arith, some, inside)) (record { count = omega (arith, few); each = h.right.4 })
     ∙ rw (page_run_passes version first (length pages) run) refl
 
 payload_again : (version : Version) (frame : Frame) (rest : List ℕ) → IsFrameIn version frame → payload_at version (tag_of frame) (body_text frame ++ rest) ≡ Ok (frame, rest)
@@ -225,7 +225,7 @@ pub record IsBody (version : Version) (t : Tag) (body : List ℕ) (frame : Frame
 pub body_takes : (version : Version) (t : Tag) (body : List ℕ) (frame : Frame) → IsBytes body → body_at version t body ≡ Ok frame → IsBody version t body frame
 unfolding body_at
 body_takes version t body frame fits e =
-    let b = bind_ok (payload_at version t body) (λ read. checked (length read.1 == 0) read.0) frame e in
+    let b = bind_ok (payload_at version t body) (λ read. tested (length read.1 == 0) read.0) frame e in
     let g = checked_ok (length b.0.1 == 0) b.0.0 frame b.2 in
     let p = payload_takes version t body b.0 fits b.1 in
     let nothing : b.0.1 ≡ [] = nil_from_length b.0.1 (eqb-true _ _ g.0) in

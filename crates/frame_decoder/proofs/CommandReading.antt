@@ -11,9 +11,9 @@ use Rattle.mig_base.proofs.TestLemmas.{and_first, and_second}
 use Rattle.mig_model.specs.Bounds.{AreRightAccesses, IsCpuCount}
 use Rattle.frame_texts.specs.Texts.{command_text, commands_text, state_code}
 use Rattle.frame_texts.proofs.Encodable.{fits_value}
-use Rattle.page_stream.specs.Rules.{IsRight}
+use Rattle.page_stream.specs.Rules.{IsProperWait}
 use Rattle.frame_decoder.specs.declared.fault.StreamFault.{StreamFault}
-use Rattle.frame_decoder.specs.Reading.{checked, byte_at, many_at, load_at, store_at, command_at, commands_at, is_cpu_count, state_at}
+use Rattle.frame_decoder.specs.Reading.{tested, byte_at, many_at, load_at, store_at, command_at, commands_at, is_cpu_count, state_at}
 use Rattle.frame_decoder.proofs.FieldLemmas.{IsBytes, IsBytes-rest, AllFrom, bind_split, bind_then, checked_ok, ok_is, Takes, IsReader, two_takes, two_again, three_takes, three_again, reads_64, reads_byte, counted_takes, counted_again}
 
 -- One command
@@ -25,13 +25,13 @@ aligned_width : (addr width : ℕ) → is_aligned addr width ≡ true → is_wid
 aligned_width addr width h = and_first (is_width width) (addr % width == 0) h
 
 abbrev load_step : ℕ → ℕ → List ℕ → Result (Option Command × List ℕ) StreamFault
-load_step addr width rest = checked (is_aligned addr width) (Some (Load addr width), rest)
+load_step addr width rest = tested (is_aligned addr width) (Some (Load addr width), rest)
 
 abbrev store_step : ℕ → ℕ → ℕ → List ℕ → Result (Option Command × List ℕ) StreamFault
-store_step addr width value rest = checked (is_aligned addr width && ltb value (256 ^ width)) (Some (Store addr width value), rest)
+store_step addr width value rest = tested (is_aligned addr width && ltb value (256 ^ width)) (Some (Store addr width value), rest)
 
 abbrev Taken : List ℕ → Option Command × List ℕ → Type 0
-Taken bytes x = Takes bytes (command_text x.0) x.1 × IsRight x.0
+Taken bytes x = Takes bytes (command_text x.0) x.1 × IsProperWait x.0
 
 load_takes : (bytes : List ℕ) (x : Option Command × List ℕ) → IsBytes bytes → load_at bytes ≡ Ok x → Taken (1 ∷ bytes) x
 unfolding load_at
@@ -56,7 +56,7 @@ command_takes (suc zero ∷ rest) x fits e = load_takes rest x (IsBytes-rest 1 r
 command_takes (suc (suc zero) ∷ rest) x fits e = store_takes rest x (IsBytes-rest 2 rest fits) e
 command_takes (suc (suc (suc b)) ∷ rest) x fits e = absurd cc
 
-command_again : (command : Option Command) (rest : List ℕ) → IsRight command → command_at (command_text command ++ rest) ≡ Ok (command, rest)
+command_again : (command : Option Command) (rest : List ℕ) → IsProperWait command → command_at (command_text command ++ rest) ≡ Ok (command, rest)
 unfolding command_at load_at store_at
 command_again None rest h = refl
 command_again (Some (Load addr width)) rest h = two_again reads_64 reads_byte load_step addr width rest h.1 (width_small width (aligned_width addr width h.0)) ∙ rw h.0 refl
@@ -65,7 +65,7 @@ command_again (Some (Store addr width value)) rest h =
     three_again reads_64 reads_byte reads_64 store_step addr width value rest h.2 (width_small width w) (fits_value width value w h.1) ∙ rw (h.0, lt-ltb value (256 ^ width) h.1) refl
 command_again (Some command) rest h = absurd h
 
-reads_command : (state : Unit {0}) → IsReader command_at command_text IsRight
+reads_command : (state : Unit {0}) → IsReader command_at command_text IsProperWait
 reads_command state = record { takes = command_takes; again = command_again }
 
 -- All of them
@@ -74,7 +74,7 @@ abbrev stays : Unit {0} → Option Command → Unit {0}
 stays state command = state
 
 abbrev AllRight : List (Option Command) → Type 0
-AllRight commands = AllFrom (λ (_ : Unit {0}). IsRight) stays tt commands
+AllRight commands = AllFrom (λ (_ : Unit {0}). IsProperWait) stays tt commands
 
 right_accesses : (commands : List (Option Command)) → AllRight commands → AreRightAccesses commands
 right_accesses [] h = tt
@@ -92,7 +92,7 @@ AreWaiting commands = AreRightAccesses commands × IsCpuCount (length commands)
 commands_takes : (bytes : List ℕ) (x : List (Option Command) × List ℕ) → IsBytes bytes → commands_at bytes ≡ Ok x → Takes bytes (commands_text x.0) x.1 × AreWaiting x.0
 unfolding commands_at
 commands_takes bytes x fits e =
-    let b = bind_split (byte_at bytes) (λ n. many_at command_at n.0 n.1) (λ commands. checked (is_cpu_count (length commands.0)) commands) x e in
+    let b = bind_split (byte_at bytes) (λ n. many_at command_at n.0 n.1) (λ commands. tested (is_cpu_count (length commands.0)) commands) x e in
     let g = checked_ok (is_cpu_count (length b.0.0)) b.0 x b.2 in
     let p = counted_takes reads_byte reads_command stays tt bytes b.0 fits b.1 in
     subst (λ (x : List (Option Command) × List ℕ). Takes bytes (commands_text x.0) x.1 × AreWaiting x.0) g.1
@@ -102,7 +102,7 @@ commands_again : (commands : List (Option Command)) (rest : List ℕ) → AreWai
 unfolding commands_at
 commands_again commands rest h =
     let few = h.1.1 in
-    bind_then (byte_at (commands_text commands ++ rest)) (λ n. many_at command_at n.0 n.1) (λ commands. checked (is_cpu_count (length commands.0)) commands) (commands, rest)
+    bind_then (byte_at (commands_text commands ++ rest)) (λ n. many_at command_at n.0 n.1) (λ commands. tested (is_cpu_count (length commands.0)) commands) (commands, rest)
     (counted_again reads_byte reads_command stays tt commands rest (omega (arith, few)) (all_right commands h.0))
     ∙ rw (and_from (ltb 0 (length commands)) (leb (length commands) MAX_CPUS) (lt-ltb 0 (length commands) h.1.0) (le-leb (length commands) MAX_CPUS few)) refl
 

@@ -11,7 +11,7 @@ use Rattle.frame_decoder.specs.declared.fault.StreamFault.TheVariants as faults
 use Rattle.frame_decoder.specs.declared.version.Version.{Version}
 use Rattle.frame_decoder.specs.Versions.{version_of, tag_of}
 use Rattle.frame_decoder.specs.Streams.{Fixes, Held, IsPart, IsSent, May, Splits, texts}
-use Rattle.frame_decoder.specs.Feeding.{Answer, Decodes, Fed, FedFault, Feed, IsFaultless, IsRun, all_frames, fresh}
+use Rattle.frame_decoder.specs.Feeding.{FeedAnswer, Decodes, Fed, FedFault, Feed, IsFaultless, IsFeedRun, all_frames, fresh}
 use Rattle.frame_decoder.proofs.Cuts.{any_cut, stays}
 use Rattle.frame_decoder.proofs.Feeds.{header_front}
 use Rattle.frame_decoder.proofs.Fillings.{length-text_of}
@@ -20,21 +20,21 @@ use Rattle.frame_decoder.proofs.Unique.{one_split}
 
 -- Where no fault is held, none was answered
 
-no_more : (fault : StreamFault) (middle : Held) (feeds : List Feed) (new : Held) → middle.fault ≡ Some fault → IsRun middle feeds new → new.fault ≡ None → ⊥
+no_more : (fault : StreamFault) (middle : Held) (feeds : List Feed) (new : Held) → middle.fault ≡ Some fault → IsFeedRun middle feeds new → new.fault ≡ None → ⊥
 no_more fault middle feeds new is run none = some_is_none fault new.fault (ap (λ (h : Held). h.fault) (stays fault middle feeds new is run).same ∙ is) none
 
 is_held : (old : Held) (piece : List ℕ) (fault : StreamFault) (middle : Held) → FedFault old piece fault middle → middle.fault ≡ Some fault
 is_held old piece fault middle (inl kept) = ap (λ (h : Held). h.fault) kept.1 ∙ kept.0
 is_held old piece fault middle (inr first) = first.1
 
-one_faultless : (old : Held) (piece : List ℕ) (answer : Answer) (middle : Held) (feeds : List Feed) (new : Held) → Fed old piece answer middle → IsRun middle feeds new → new.fault ≡ None → (fault : StreamFault) → answer ≡ Err fault → fault ≡ faults.NoMemory
+one_faultless : (old : Held) (piece : List ℕ) (answer : FeedAnswer) (middle : Held) (feeds : List Feed) (new : Held) → Fed old piece answer middle → IsFeedRun middle feeds new → new.fault ≡ None → (fault : StreamFault) → answer ≡ Err fault → fault ≡ faults.NoMemory
 one_faultless old piece (Ok frames) middle feeds new fed run none fault is = absurd cc
 one_faultless old piece (Err faults.NoMemory) middle feeds new fed run none fault is = cc
 one_faultless old piece (Err faults.BadTag) middle feeds new fed run none fault is = absurd (no_more faults.BadTag middle feeds new (is_held old piece faults.BadTag middle fed) run none)
 one_faultless old piece (Err faults.BadLength) middle feeds new fed run none fault is = absurd (no_more faults.BadLength middle feeds new (is_held old piece faults.BadLength middle fed) run none)
 one_faultless old piece (Err faults.BadField) middle feeds new fed run none fault is = absurd (no_more faults.BadField middle feeds new (is_held old piece faults.BadField middle fed) run none)
 
-all_faultless : (old : Held) (feeds : List Feed) (new : Held) → IsRun old feeds new → new.fault ≡ None → AllByRecursion IsFaultless feeds
+all_faultless : (old : Held) (feeds : List Feed) (new : Held) → IsFeedRun old feeds new → new.fault ≡ None → AllByRecursion IsFaultless feeds
 all_faultless old [] new run none = tt
 all_faultless old (feed ∷ feeds) new run none = (one_faultless old feed.piece feed.answer run.0 feeds new run.1 run.2 none, all_faultless run.0 feeds new run.2 none)
 

@@ -10,7 +10,7 @@ use Rattle.frame_decoder.specs.declared.fault.StreamFault.{StreamFault}
 use Rattle.frame_decoder.specs.declared.fault.StreamFault.TheVariants as faults
 use Rattle.mig_base.specs.declared.TheConstants.{PAGE_SIZE}
 use Rattle.mig_model.specs.Bounds.{IsPageBytes}
-use Rattle.frame_decoder.specs.Reading.{◌>>=◌, checked, byte_at, number_at, content_at, many_from}
+use Rattle.frame_decoder.specs.Reading.{◌>>=◌, tested, byte_at, number_in, content_at, many_from}
 
 abbrev pub IsBytes : List ℕ → Type 0
 IsBytes bytes = (i : ℕ) → get_or bytes i 0 < 256
@@ -42,7 +42,7 @@ pub bind_then : {A B C : Type 0} (r : Result A StreamFault) (f : A → Result B 
 bind_then (Ok x) f g y e = rw e refl
 bind_then (Err d) f g y e = absurd cc
 
-pub checked_ok : {A : Type 0} (test : Bool) (x y : A) → checked test x ≡ Ok y → (test ≡ true) × (x ≡ y)
+pub checked_ok : {A : Type 0} (test : Bool) (x y : A) → tested test x ≡ Ok y → (test ≡ true) × (x ≡ y)
 checked_ok true x y e = (refl, cc)
 checked_ok false x y e = absurd cc
 
@@ -136,7 +136,7 @@ wide64 = record {
   below = λ bytes fits. omega (arith, fits 0, fits 1, fits 2, fits 3, fits 4, fits 5, fits 6, fits 7);
 }
 
-number_takes : (w : Width) (limit : ℕ) (wide : IsWide w limit) (bytes : List ℕ) (x : ℕ × List ℕ) → IsBytes bytes → number_at w bytes ≡ Ok x → Takes bytes (to_be_bytes w x.0) x.1 × (x.0 < limit)
+number_takes : (w : Width) (limit : ℕ) (wide : IsWide w limit) (bytes : List ℕ) (x : ℕ × List ℕ) → IsBytes bytes → number_in w bytes ≡ Ok x → Takes bytes (to_be_bytes w x.0) x.1 × (x.0 < limit)
 number_takes w limit wide bytes x fits e =
     let g = guard_ok (ltb (length bytes) (byte_len w)) faults.BadField (from_be_bytes w (take (byte_len w) bytes), drop (byte_len w) bytes) x e in
     let long : byte_len w ≤ length bytes = ltb-false _ _ g.0 in
@@ -145,16 +145,16 @@ number_takes w limit wide bytes x fits e =
     let front : to_be_bytes w x.0 ≡ take (byte_len w) bytes = rw (← n-is) (wide.back (take (byte_len w) bytes) (omega (arith, length-take (byte_len w) bytes)) (IsBytes-take (byte_len w) bytes fits)) in
     (record { parts = rw (front, ← rest-is) (sym (take-append-drop (byte_len w) bytes)); rest_fits = rw (← rest-is) (IsBytes-drop (byte_len w) bytes fits) }, rw (← n-is) (wide.below (take (byte_len w) bytes) (IsBytes-take (byte_len w) bytes fits)))
 
-number_again : (w : Width) (limit : ℕ) (wide : IsWide w limit) (n : ℕ) (rest : List ℕ) → n < limit → number_at w (to_be_bytes w n ++ rest) ≡ Ok (n, rest)
+number_again : (w : Width) (limit : ℕ) (wide : IsWide w limit) (n : ℕ) (rest : List ℕ) → n < limit → number_in w (to_be_bytes w n ++ rest) ≡ Ok (n, rest)
 number_again w limit wide n rest lt =
     let len = wide.len n in
     let long : ltb (length (to_be_bytes w n ++ rest)) (byte_len w) ≡ false = le-ltb _ _ (omega (arith, length-append (to_be_bytes w n) rest)) in
     rw (long, take_at (to_be_bytes w n) rest (byte_len w) len, drop_at (to_be_bytes w n) rest (byte_len w) len, wide.again n lt) refl
 
-pub reads_32 : IsReader (number_at w32) (to_be_bytes w32) (λ n. n < 2 ^ 32)
+pub reads_32 : IsReader (number_in w32) (to_be_bytes w32) (λ n. n < 2 ^ 32)
 reads_32 = record { takes = number_takes w32 (2 ^ 32) wide32; again = number_again w32 (2 ^ 32) wide32 }
 
-pub reads_64 : IsReader (number_at w64) (to_be_bytes w64) (λ n. n < 2 ^ 64)
+pub reads_64 : IsReader (number_in w64) (to_be_bytes w64) (λ n. n < 2 ^ 64)
 reads_64 = record { takes = number_takes w64 (2 ^ 64) wide64; again = number_again w64 (2 ^ 64) wide64 }
 
 abbrev pub byte_text : ℕ → List ℕ

@@ -13,7 +13,7 @@ use Rattle.frame_decoder.specs.declared.head.Head.{Head}
 use Rattle.frame_decoder.specs.declared.header.Header as code
 use Rattle.frame_decoder.specs.Headers.{Header}
 use Rattle.frame_decoder.specs.Heads.{body_fault, frame_with, front_by, header_of, pages_of}
-use Rattle.frame_decoder.specs.Reading.{◌>>=◌, Fails, Front, body_next, next_at, checked, number_at, page_at, is_page, content_at, contents_at, many_at, many_from, is_page_run, page_frame_at, run_frame_at, payload_at, body_at}
+use Rattle.frame_decoder.specs.Reading.{◌>>=◌, FailsToRead, Front, body_next, next_at, tested, number_in, page_in, is_page, content_at, contents_at, many_at, many_from, is_page_run, page_frame_at, run_frame_at, payload_at, body_at}
 use Rattle.frame_decoder.specs.Streams.{Breach}
 use Rattle.frame_decoder.specs.Taking.{FrontIs, Stands}
 use Rattle.frame_decoder.proofs.FieldLemmas.{IsBytes, bind_ok, checked_ok, ok_is}
@@ -24,23 +24,23 @@ use Rattle.frame_decoder.proofs.Fronts.{next_stands}
 abbrev Read : Type 0
 Read = Result (ℕ × List ℕ) StreamFault
 
-number_rest : (bytes rest : List ℕ) (n : ℕ) → number_at w32 bytes ≡ Ok (n, rest) → rest ≡ drop 4 bytes
+number_rest : (bytes rest : List ℕ) (n : ℕ) → number_in w32 bytes ≡ Ok (n, rest) → rest ≡ drop 4 bytes
 number_rest bytes rest n is = by (ltb (length bytes) (byte_len w32)) (from_be_bytes w32 (take (byte_len w32) bytes)) is
   where
     by : (short : Bool) (m : ℕ) → ◌≡◌ {A = Read} (cond short (Err faults.BadField) (Ok (m, drop 4 bytes))) (Ok (n, rest)) → rest ≡ drop 4 bytes
     by true m h = absurd cc
     by false m h = ap (λ (x : ℕ × List ℕ). x.1) (sym (ok_is (m, drop 4 bytes) (n, rest) h))
 
-pub page_rest : (bytes rest : List ℕ) (page : ℕ) → page_at bytes ≡ Ok (page, rest) → rest ≡ drop 4 bytes
-unfolding page_at
+pub page_rest : (bytes rest : List ℕ) (page : ℕ) → page_in bytes ≡ Ok (page, rest) → rest ≡ drop 4 bytes
+unfolding page_in
 page_rest bytes rest page is =
-    let p = bind_ok (number_at w32 bytes) (λ page. checked (is_page page.0) page) (page, rest) is in
+    let p = bind_ok (number_in w32 bytes) (λ page. tested (is_page page.0) page) (page, rest) is in
     let g = checked_ok (is_page p.0.0) p.0 (page, rest) p.2 in
     ap (λ (x : ℕ × List ℕ). x.1) (sym g.1) ∙ number_rest bytes p.0.1 p.0.0 p.1
 
 -- A Page
 
-pub page_body : (version : Version) (body rest : List ℕ) (page : ℕ) → page_at body ≡ Ok (page, rest) → length rest ≡ PAGE_SIZE → body_at version tag.Page body ≡ Ok (Frame.Page page (drop 4 body))
+pub page_body : (version : Version) (body rest : List ℕ) (page : ℕ) → page_in body ≡ Ok (page, rest) → length rest ≡ PAGE_SIZE → body_at version tag.Page body ≡ Ok (Frame.Page page (drop 4 body))
 unfolding body_at payload_at page_frame_at content_at
 page_body version body rest page is long =
     let enough : ltb (length rest) PAGE_SIZE ≡ false = le-ltb _ _ (omega (arith, long)) in
@@ -48,11 +48,11 @@ page_body version body rest page is long =
     let all : take PAGE_SIZE rest ≡ drop 4 body = take_all PAGE_SIZE rest (omega (arith, long)) ∙ page_rest body rest page is in
     rw (is, enough, nothing, all) refl
 
-pub page_body_bad : (version : Version) (body : List ℕ) → page_at body ≡ Err faults.BadField → body_at version tag.Page body ≡ Err faults.BadField
+pub page_body_bad : (version : Version) (body : List ℕ) → page_in body ≡ Err faults.BadField → body_at version tag.Page body ≡ Err faults.BadField
 unfolding body_at payload_at page_frame_at
 page_body_bad version body is = rw is refl
 
-pub page_body_long : (version : Version) (body rest : List ℕ) (page : ℕ) → page_at body ≡ Ok (page, rest) → (length rest ≡ PAGE_SIZE → ⊥) → body_at version tag.Page body ≡ Err faults.BadField
+pub page_body_long : (version : Version) (body rest : List ℕ) (page : ℕ) → page_in body ≡ Ok (page, rest) → (length rest ≡ PAGE_SIZE → ⊥) → body_at version tag.Page body ≡ Err faults.BadField
 unfolding body_at payload_at page_frame_at content_at
 page_body_long version body rest page is other = by (ltb (length rest) PAGE_SIZE) refl
   where
@@ -91,10 +91,10 @@ many_short (suc n) bytes short = by (ltb (length bytes) PAGE_SIZE) refl (λ (fir
 
 -- A Run
 
-two_rest : (body rest bytes : List ℕ) (first count : ℕ) → number_at w32 body ≡ Ok (first, rest) → number_at w32 rest ≡ Ok (count, bytes) → bytes ≡ drop 8 body
+two_rest : (body rest bytes : List ℕ) (first count : ℕ) → number_in w32 body ≡ Ok (first, rest) → number_in w32 rest ≡ Ok (count, bytes) → bytes ≡ drop 8 body
 two_rest body rest bytes first count is next = number_rest rest bytes count next ∙ ap (drop 4) (number_rest body rest first is) ∙ drop-drop 4 4 body
 
-pub run_body : (version : Version) (body rest bytes : List ℕ) (first count : ℕ) → number_at w32 body ≡ Ok (first, rest) → number_at w32 rest ≡ Ok (count, bytes) → is_page_run version first count ≡ true → length bytes ≡ PAGE_SIZE * count →
+pub run_body : (version : Version) (body rest bytes : List ℕ) (first count : ℕ) → number_in w32 body ≡ Ok (first, rest) → number_in w32 rest ≡ Ok (count, bytes) → is_page_run version first count ≡ true → length bytes ≡ PAGE_SIZE * count →
     body_at version tag.Run body ≡ Ok (Frame.Run first (pages_of count (drop 8 body)))
 unfolding body_at payload_at run_frame_at contents_at
 run_body version body rest bytes first count is next right long =
@@ -102,15 +102,15 @@ run_body version body rest bytes first count is next right long =
     let nothing : length (drop (PAGE_SIZE * count) bytes) ≡ 0 = omega (arith, long, length-drop (PAGE_SIZE * count) bytes) in
     rw (is, next, all, pages_count count bytes, right, nothing, two_rest body rest bytes first count is next) refl
 
-pub run_body_bad : (version : Version) (body : List ℕ) → number_at w32 body ≡ Err faults.BadField → body_at version tag.Run body ≡ Err faults.BadField
+pub run_body_bad : (version : Version) (body : List ℕ) → number_in w32 body ≡ Err faults.BadField → body_at version tag.Run body ≡ Err faults.BadField
 unfolding body_at payload_at run_frame_at
 run_body_bad version body is = rw is refl
 
-pub run_body_cut : (version : Version) (body rest : List ℕ) (first : ℕ) → number_at w32 body ≡ Ok (first, rest) → number_at w32 rest ≡ Err faults.BadField → body_at version tag.Run body ≡ Err faults.BadField
+pub run_body_cut : (version : Version) (body rest : List ℕ) (first : ℕ) → number_in w32 body ≡ Ok (first, rest) → number_in w32 rest ≡ Err faults.BadField → body_at version tag.Run body ≡ Err faults.BadField
 unfolding body_at payload_at run_frame_at contents_at
 run_body_cut version body rest first is next = rw (is, next) refl
 
-pub run_body_other : (version : Version) (body rest bytes : List ℕ) (first count : ℕ) → number_at w32 body ≡ Ok (first, rest) → number_at w32 rest ≡ Ok (count, bytes) → (is_page_run version first count ≡ true → length bytes ≡ PAGE_SIZE * count → ⊥) →
+pub run_body_other : (version : Version) (body rest bytes : List ℕ) (first count : ℕ) → number_in w32 body ≡ Ok (first, rest) → number_in w32 rest ≡ Ok (count, bytes) → (is_page_run version first count ≡ true → length bytes ≡ PAGE_SIZE * count → ⊥) →
     body_at version tag.Run body ≡ Err faults.BadField
 unfolding body_at payload_at run_frame_at contents_at
 run_body_other version body rest bytes first count is next other = by (ltb (length bytes) (PAGE_SIZE * count)) refl
@@ -139,13 +139,13 @@ head_stands fixed bytes body header head at fits front is reads =
     subst (Stands fixed bytes) (front ∙ ap (body_next (header_of header)) read) (next_stands fixed bytes fits)
 
 pub bad_stands : (fixed : Option Version) (bytes body : List ℕ) (header : code.Header) (fault : StreamFault) → IsBytes bytes → next_at fixed bytes ≡ front_by bytes (Ok (Some header)) → body ≡ take header.len (drop 12 bytes) →
-    Fails fault (body_at header.version header.tag body) → (body_fault fault ≡ faults.NoMemory) ⊎ Breach fixed bytes (body_fault fault)
+    FailsToRead fault (body_at header.version header.tag body) → (body_fault fault ≡ faults.NoMemory) ⊎ Breach fixed bytes (body_fault fault)
 bad_stands fixed bytes body header fault fits front is fails = by fault fails
   where
     breach : (fault : StreamFault) → body_at header.version header.tag body ≡ Err fault → Breach fixed bytes faults.BadField
     breach fault reads = subst (Stands fixed bytes) (front ∙ ap (body_next (header_of header)) (ap (body_at header.version header.tag) (sym is) ∙ reads)) (next_stands fixed bytes fits)
 
-    by : (fault : StreamFault) → Fails fault (body_at header.version header.tag body) → (body_fault fault ≡ faults.NoMemory) ⊎ Breach fixed bytes (body_fault fault)
+    by : (fault : StreamFault) → FailsToRead fault (body_at header.version header.tag body) → (body_fault fault ≡ faults.NoMemory) ⊎ Breach fixed bytes (body_fault fault)
     by faults.NoMemory fails = inl refl
     by faults.BadTag fails = inr (breach faults.BadTag fails)
     by faults.BadLength fails = inr (breach faults.BadLength fails)

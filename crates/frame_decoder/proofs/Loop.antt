@@ -3,7 +3,7 @@ use Rattle.std.proofs.Common.{◌≡◌, ℕ, suc, ◌-◌, ◌+◌, ◌≤◌, 
 use Rattle.std.proofs.lemmas.List.{append-nil}
 use Rattle.frame_decoder.specs.declared.fault.StreamFault.{StreamFault}
 use Rattle.frame_decoder.specs.declared.fault.StreamFault.TheVariants as faults
-use Rattle.frame_decoder.specs.Reading.{◌>>=◌, Fails, many_from}
+use Rattle.frame_decoder.specs.Reading.{◌>>=◌, FailsToRead, many_from}
 
 -- what was read before, and what is still read
 abbrev pub with_front : {A : Type 0} → List A → Result (List A × List ℕ) StreamFault → Result (List A × List ℕ) StreamFault
@@ -18,7 +18,7 @@ id_front (Ok x) = refl
 id_front (Err f) = refl
 
 same_fault : {A : Type 0} (e : StreamFault) (front : List A) (read : Result (A × List ℕ) StreamFault) (more : A × List ℕ → Result (List A × List ℕ) StreamFault) (total : Result (List A × List ℕ) StreamFault)
-    → Fails e read → with_front front (read >>= more) ≡ total → Fails e total
+    → FailsToRead e read → with_front front (read >>= more) ≡ total → FailsToRead e total
 same_fault faults.NoMemory front read more total h so = tt
 same_fault faults.BadTag front read more total h so = sym so ∙ rw h refl
 same_fault faults.BadLength front read more total h so = sym so ∙ rw h refl
@@ -40,8 +40,8 @@ module _ {S A : Type 0} (item : S → List ℕ → Result (A × List ℕ) Stream
       let one : with_front front (many_from item next state (count - i) bytes) ≡ with_front (front ++ n ∷ []) (many_from item next (next state n) (count - (i + 1)) after) = rw (k, h) (regroup front n (many_from item next (next state n) (count - (i + 1)) after)) in
       record { so_far = sym one ∙ so.so_far }
 
-  pub ends : (e : StreamFault) (front : List A) (state : S) (count i : ℕ) (bytes : List ℕ) (total : Result (List A × List ℕ) StreamFault) → i < count → Fails e (item state bytes)
-      → Reads front state (count - i) bytes total → Fails e total
+  pub ends : (e : StreamFault) (front : List A) (state : S) (count i : ℕ) (bytes : List ℕ) (total : Result (List A × List ℕ) StreamFault) → i < count → FailsToRead e (item state bytes)
+      → Reads front state (count - i) bytes total → FailsToRead e total
   unfolding many_from
   ends e front state count i bytes total lt h so =
       let k : count - i ≡ suc (count - (i + 1)) = omega arith in

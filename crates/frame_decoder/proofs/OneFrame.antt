@@ -9,8 +9,8 @@ use Rattle.frame_decoder.specs.declared.fault.StreamFault.{StreamFault}
 use Rattle.frame_decoder.specs.declared.stream.Next.{Next}
 use Rattle.frame_decoder.specs.declared.stream.Next.TheVariants as nexts
 use Rattle.frame_decoder.specs.declared.version.Version.{Version}
-use Rattle.frame_decoder.specs.Reading.{next_of}
-use Rattle.frame_decoder.specs.Streams.{Breach, IsPart, IsTextOf, sent_of}
+use Rattle.frame_decoder.specs.Reading.{front_of}
+use Rattle.frame_decoder.specs.Streams.{Breach, IsPart, IsTextOf, decoded_sent}
 use Rattle.frame_decoder.specs.Taking.{FrontIs, Stands}
 use Rattle.frame_decoder.specs.Versions.{version_of}
 use Rattle.frame_decoder.proofs.Fronts.{HeadIs, head_again}
@@ -51,10 +51,10 @@ pub record IsTheWhole (bytes : List ℕ) (sent : Sent) (next : Next) : Type 0 wh
   pub frame : CodeFrame
   pub len : ℕ
   pub is : next ≡ nexts.Whole version epoch frame len
-  pub all : IsAll bytes sent (sent_of (epoch, frame)) len
+  pub all : IsAll bytes sent (decoded_sent (epoch, frame)) len
 
-pub text_is_whole : (version : Version) (bytes : List ℕ) (sent : Sent) (next : Next) → IsTextOf version bytes sent → Stands None bytes (next_of next) → IsTheWhole bytes sent next
+pub text_is_whole : (version : Version) (bytes : List ℕ) (sent : Sent) (next : Next) → IsTextOf version bytes sent → Stands None bytes (front_of next) → IsTheWhole bytes sent next
 text_is_whole version bytes sent nexts.Part is stands = absurd (text_no_part version bytes sent is stands)
 text_is_whole version bytes sent (nexts.Fault fault) is stands = absurd (text_no_breach version bytes sent fault is stands)
 text_is_whole version bytes sent (nexts.Whole other epoch frame len) is stands =
-    record { version = other; epoch = epoch; frame = frame; len = len; is = refl; all = text_is_all version other bytes sent (sent_of (epoch, frame)) len is stands }
+    record { version = other; epoch = epoch; frame = frame; len = len; is = refl; all = text_is_all version other bytes sent (decoded_sent (epoch, frame)) len is stands }

@@ -21,7 +21,7 @@ use Rattle.frame_texts.proofs.RunsInOrder.{runs_of-ordered, runs_of-only}
 use Rattle.frame_texts.proofs.TextLemmas.{length-runs_of}
 use Rattle.frame_decoder.specs.declared.fault.StreamFault.{StreamFault}
 use Rattle.frame_decoder.specs.declared.version.Version.{Version}
-use Rattle.frame_decoder.specs.Reading.{checked, number_at, many_from, is_run, run_at, run_next, set_of, set_from, pages_at, few_pages_at}
+use Rattle.frame_decoder.specs.Reading.{tested, number_in, many_from, is_run, run_in, run_next, set_of, set_from, pages_at, few_pages_at}
 use Rattle.frame_decoder.specs.Versions.{max_pages}
 use Rattle.frame_decoder.proofs.FieldLemmas.{IsBytes, AllFrom, bind_split, bind_then, checked_ok, ok_is, Takes, IsReader, one_takes, one_again, two_takes, two_again, reads_32, counted_takes, counted_again}
 
@@ -46,23 +46,23 @@ run_passes low run h =
     and_from (leb low run.first && ltb 0 run.count) (leb (run.first + run.count) HIGH_PAGE) (and_from (leb low run.first) (ltb 0 run.count) (le-leb low run.first h.from) (lt-ltb 0 run.count h.some)) (le-leb (run.first + run.count) HIGH_PAGE h.inside)
 
 abbrev run_step : ℕ → ℕ → ℕ → List ℕ → Result (PageRun × List ℕ) StreamFault
-run_step low first count rest = checked (is_run low first count) (record { first = first; count = count }, rest)
+run_step low first count rest = tested (is_run low first count) (record { first = first; count = count }, rest)
 
-run_takes : (low : ℕ) (bytes : List ℕ) (x : PageRun × List ℕ) → IsBytes bytes → run_at low bytes ≡ Ok x → Takes bytes (run_text x.0) x.1 × RunFits low x.0
-unfolding run_at
+run_takes : (low : ℕ) (bytes : List ℕ) (x : PageRun × List ℕ) → IsBytes bytes → run_in low bytes ≡ Ok x → Takes bytes (run_text x.0) x.1 × RunFits low x.0
+unfolding run_in
 run_takes low bytes x fits e =
     let p = two_takes reads_32 reads_32 (run_step low) bytes x fits e in
     let run : PageRun = record { first = p.0; count = p.1 } in
     let g = checked_ok (is_run low p.0 p.1) (run, p.2) x p.6 in
     subst (λ (x : PageRun × List ℕ). Takes bytes (run_text x.0) x.1 × RunFits low x.0) g.1 (p.3, run_is low run g.0)
 
-run_again : (low : ℕ) (run : PageRun) (rest : List ℕ) → RunFits low run → run_at low (run_text run ++ rest) ≡ Ok (run, rest)
-unfolding run_at
+run_again : (low : ℕ) (run : PageRun) (rest : List ℕ) → RunFits low run → run_in low (run_text run ++ rest) ≡ Ok (run, rest)
+unfolding run_in
 run_again low run rest h =
     let inside = h.inside in
     two_again reads_32 reads_32 (run_step low) run.first run.count rest (omega (arith, inside)) (omega (arith, inside)) ∙ rw (run_passes low run h) refl
 
-reads_run : (low : ℕ) → IsReader (run_at low) run_text (RunFits low)
+reads_run : (low : ℕ) → IsReader (run_in low) run_text (RunFits low)
 reads_run low = record { takes = run_takes low; again = run_again low }
 
 -- The pages of runs
@@ -139,7 +139,7 @@ runs_few set = omega (arith, length-runs_of set, count_below-few (begins_run set
 pages_takes : (bytes : List ℕ) (x : FinSet nat_cmp × List ℕ) → IsBytes bytes → pages_at bytes ≡ Ok x → Takes bytes (runs_text (runs_of x.0)) x.1 × ArePages x.0
 unfolding pages_at set_from
 pages_takes bytes x fits e =
-    let b = bind_split (number_at w32 bytes) (λ n. many_from run_at run_next LOW_PAGE n.0 n.1) (λ runs. Ok (set_of runs.0, runs.1)) x e in
+    let b = bind_split (number_in w32 bytes) (λ n. many_from run_in run_next LOW_PAGE n.0 n.1) (λ runs. Ok (set_of runs.0, runs.1)) x e in
     let p = counted_takes reads_32 reads_run run_next LOW_PAGE bytes b.0 fits b.1 in
     subst (λ (x : FinSet nat_cmp × List ℕ). Takes bytes (runs_text (runs_of x.0)) x.1 × ArePages x.0) (ok_is (set_of b.0.0, b.0.1) x b.2)
     (subst (λ runs. Takes bytes (runs_text runs) b.0.1) (sym (runs_back b.0.0 p.2)) p.0, set_pages b.0.0 p.2)
@@ -147,7 +147,7 @@ pages_takes bytes x fits e =
 pages_again : (set : FinSet nat_cmp) (rest : List ℕ) → ArePages set → pages_at (runs_text (runs_of set) ++ rest) ≡ Ok (set, rest)
 unfolding pages_at set_from
 pages_again set rest h =
-    bind_then (number_at w32 (runs_text (runs_of set) ++ rest)) (λ n. many_from run_at run_next LOW_PAGE n.0 n.1) (λ runs. Ok (set_of runs.0, runs.1)) (runs_of set, rest)
+    bind_then (number_in w32 (runs_text (runs_of set) ++ rest)) (λ n. many_from run_in run_next LOW_PAGE n.0 n.1) (λ runs. Ok (set_of runs.0, runs.1)) (runs_of set, rest)
     (counted_again reads_32 reads_run run_next LOW_PAGE (runs_of set) rest (runs_few set) (set_fits set h))
     ∙ ap (λ (s : FinSet nat_cmp). Ok (s, rest)) (set_back set h)
 
@@ -163,7 +163,7 @@ abbrev pub AreFew : Version → FinSet nat_cmp → Type 0
 AreFew version set = ArePages set × (len set ≤ max_pages version)
 
 abbrev few_step : Version → FinSet nat_cmp → List ℕ → Result (FinSet nat_cmp × List ℕ) StreamFault
-few_step version set rest = checked (leb (len set) (max_pages version)) (set, rest)
+few_step version set rest = tested (leb (len set) (max_pages version)) (set, rest)
 
 few_pages_takes : (version : Version) (bytes : List ℕ) (x : FinSet nat_cmp × List ℕ) → IsBytes bytes → few_pages_at version bytes ≡ Ok x → Takes bytes (set_text x.0) x.1 × AreFew version x.0
 unfolding few_pages_at

@@ -12,8 +12,8 @@ use Rattle.frame_decoder.specs.declared.version.Version.{Version}
 use Rattle.frame_decoder.specs.declared.version.Version.TheVariants as versions
 use Rattle.frame_decoder.specs.Versions.{version_of, tag_of, IsFrameIn}
 use Rattle.frame_decoder.specs.Headers.{Header, header_at}
-use Rattle.frame_decoder.specs.Streams.{IsSent, texts, May, Fixes, IsPart, Breach, Ends, Splits, Held}
-use Rattle.frame_decoder.specs.Feeding.{fresh, Feed, IsRun, joined, all_frames}
+use Rattle.frame_decoder.specs.Streams.{IsSent, texts, May, Fixes, IsPart, Breach, LeavesHeld, Splits, Held}
+use Rattle.frame_decoder.specs.Feeding.{fresh, Feed, IsFeedRun, bytes_fed, all_frames}
 use Rattle.frame_decoder.proofs.FieldLemmas.{ok_is}
 use Rattle.frame_decoder.proofs.Fronts.{HeadIs, head_again}
 use Rattle.frame_decoder.proofs.Cuts.{any_cut}
@@ -53,7 +53,7 @@ pub record SameEnd (r q : List ℕ) (a b : Option StreamFault) : Type 0 where
   pub held : r ≡ q
   pub fault : a ≡ b
 
-one_end : (fixed : Option Version) (unread r q : List ℕ) (a b : Option StreamFault) → Ends fixed unread r a → Ends fixed unread q b → SameEnd r q a b
+one_end : (fixed : Option Version) (unread r q : List ℕ) (a b : Option StreamFault) → LeavesHeld fixed unread r a → LeavesHeld fixed unread q b → SameEnd r q a b
 one_end fixed unread r q None None x y = record { held = x.1 ∙ sym y.1; fault = refl }
 one_end fixed unread r q None (Some b) x y = absurd (not_part fixed unread b x.0 y.0)
 one_end fixed unread r q (Some a) None x y = absurd (not_part fixed unread a y.0 x.0)
@@ -77,12 +77,12 @@ breach_no_frame fixed bytes v sent fault fits head (inr b) =
 split_first : (v : Version) (x : Sent) (xs : List Sent) (u : List ℕ) → texts v (x ∷ xs) ++ u ≡ text (version_of v) x.epoch x.frame ++ (texts v xs ++ u)
 split_first v x xs u = ap (λ (t : List ℕ). t ++ u) (flat_map-cons (λ (p : Sent). text (version_of v) p.epoch p.frame) x xs) ∙ append_assoc (text (version_of v) x.epoch x.frame) (texts v xs) u
 
-no_more : (fixed : Option Version) (v : Version) (y : Sent) (ys : List Sent) (u t held : List ℕ) (a : Option StreamFault) → May fixed v → IsSent v y → Ends fixed u held a → u ≡ texts v (y ∷ ys) ++ t → ⊥
+no_more : (fixed : Option Version) (v : Version) (y : Sent) (ys : List Sent) (u t held : List ℕ) (a : Option StreamFault) → May fixed v → IsSent v y → LeavesHeld fixed u held a → u ≡ texts v (y ∷ ys) ++ t → ⊥
 no_more fixed v y ys u t held a may h ends eq =
     let head : HeadIs fixed u v y.epoch y.frame = subst (λ (bytes : List ℕ). HeadIs fixed bytes v y.epoch y.frame) (sym (eq ∙ split_first v y ys t)) (head_again fixed v y.epoch y.frame (texts v ys ++ t) may h) in
     by_end a ends head
   where
-    by_end : (a : Option StreamFault) → Ends fixed u held a → HeadIs fixed u v y.epoch y.frame → ⊥
+    by_end : (a : Option StreamFault) → LeavesHeld fixed u held a → HeadIs fixed u v y.epoch y.frame → ⊥
     by_end None ends head = part_no_frame fixed u v y head ends.0
     by_end (Some fault) ends head = breach_no_frame fixed u v y fault h.frame head ends.0
 
@@ -108,12 +108,12 @@ of_code-version_of versions.One = refl
 of_code-version_of versions.Two = refl
 
 same_reading : (fixed : Option Version) (v w : Version) (xs ys : List Sent) (u t r q : List ℕ) (a b : Option StreamFault) (m n : Option Version) → AllByRecursion (IsSent v) xs → AllByRecursion (IsSent w) ys → Fixes fixed v xs m → Fixes fixed w ys n
-    → Ends m u r a → Ends n t q b → texts v xs ++ u ≡ texts w ys ++ t → SameReading xs ys u t m n
+    → LeavesHeld m u r a → LeavesHeld n t q b → texts v xs ++ u ≡ texts w ys ++ t → SameReading xs ys u t m n
 same_reading fixed v w [] [] u t r q a b m n hx hy fx fy ea eb eq = record { frames = refl; unread = eq; version = fx ∙ sym fy }
 same_reading fixed v w [] (y ∷ ys) u t r q a b m n hx hy fx fy ea eb eq =
-    absurd (no_more fixed w y ys u t r a fy.0 hy.0 (subst (λ (o : Option Version). Ends o u r a) fx ea) eq)
+    absurd (no_more fixed w y ys u t r a fy.0 hy.0 (subst (λ (o : Option Version). LeavesHeld o u r a) fx ea) eq)
 same_reading fixed v w (x ∷ xs) [] u t r q a b m n hx hy fx fy ea eb eq =
-    absurd (no_more fixed v x xs t u q b fx.0 hx.0 (subst (λ (o : Option Version). Ends o t q b) fy eb) (sym eq))
+    absurd (no_more fixed v x xs t u q b fx.0 hx.0 (subst (λ (o : Option Version). LeavesHeld o t q b) fy eb) (sym eq))
 same_reading fixed v w (x ∷ xs) (y ∷ ys) u t r q a b m n hx hy fx fy ea eb eq =
     let first = same_text (version_of v) (version_of w) x.epoch y.epoch x.frame y.frame (texts v xs ++ u) (texts w ys ++ t) (read_back v x hx.0) (read_back w y hy.0) (sym (split_first v x xs u) ∙ eq ∙ split_first w y ys t) in
     let version : v ≡ w = sym (of_code-version_of v) ∙ ap of_code first.version ∙ of_code-version_of w in
@@ -133,13 +133,13 @@ one_split fixed stream xs ys r q a b m n s t =
     let eq : texts s.spells.version xs ++ s.unread ≡ texts t.spells.version ys ++ t.unread =
     ap (λ (x : List ℕ). x ++ s.unread) (sym s.spells.whole) ∙ sym s.whole ∙ t.whole ∙ ap (λ (x : List ℕ). x ++ t.unread) t.spells.whole in
     let same = same_reading fixed s.spells.version t.spells.version xs ys s.unread t.unread r q a b m n s.spells.each t.spells.each s.spells.fixes t.spells.fixes s.ends t.ends eq in
-    let other : Ends m s.unread q b = subst (λ (o : Option Version). Ends o s.unread q b) (sym same.version) (subst (λ (u : List ℕ). Ends n u q b) (sym same.unread) t.ends) in
+    let other : LeavesHeld m s.unread q b = subst (λ (o : Option Version). LeavesHeld o s.unread q b) (sym same.version) (subst (λ (u : List ℕ). LeavesHeld n u q b) (sym same.unread) t.ends) in
     let end = one_end m s.unread r q a b s.ends other in
     record { frames = same.frames; held = end.held; fault = end.fault; version = same.version }
 
-pub same_cuts : (feeds others : List Feed) (new last : Held) → IsRun fresh feeds new → IsRun fresh others last → joined feeds ≡ joined others → SameSplit (all_frames feeds) (all_frames others) new.bytes last.bytes new.fault last.fault new.version last.version
+pub same_cuts : (feeds others : List Feed) (new last : Held) → IsFeedRun fresh feeds new → IsFeedRun fresh others last → bytes_fed feeds ≡ bytes_fed others → SameSplit (all_frames feeds) (all_frames others) new.bytes last.bytes new.fault last.fault new.version last.version
 same_cuts feeds others new last run other same =
-    one_split None (joined others) (all_frames feeds) (all_frames others) new.bytes last.bytes new.fault last.fault new.version last.version
+    one_split None (bytes_fed others) (all_frames feeds) (all_frames others) new.bytes last.bytes new.fault last.fault new.version last.version
     (subst (λ (stream : List ℕ). Splits None stream (all_frames feeds) new.bytes new.fault new.version) same (any_cut feeds new run)) (any_cut others last other)
 
 pub same_held : (new last : Held) (xs ys : List Sent) → SameSplit xs ys new.bytes last.bytes new.fault last.fault new.version last.version → new ≡ last

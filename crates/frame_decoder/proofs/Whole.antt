@@ -12,7 +12,7 @@ use Rattle.frame_decoder.specs.declared.fault.StreamFault.{StreamFault}
 use Rattle.frame_decoder.specs.declared.version.Version.{Version}
 use Rattle.frame_decoder.specs.declared.version.Version.TheVariants as versions
 use Rattle.frame_decoder.specs.Versions.{version_of}
-use Rattle.frame_decoder.specs.Streams.{IsSent, texts, May, Fixes, Spells, Splits, sent_of, sents}
+use Rattle.frame_decoder.specs.Streams.{IsSent, texts, May, Fixes, Spells, Splits, decoded_sent, sents}
 use Rattle.frame_decoder.specs.Taking.{FrontIs, StopsAt, IsTaken, left_of}
 
 -- Frames of one version
@@ -83,7 +83,7 @@ reading_one fixed bytes frames rest now v epoch f len front t =
 pub reading_more : (fixed : Option Version) (bytes : List ℕ) (frames : List (ℕ × Frame)) (rest : List ℕ) (now : Option Version) (v : Version) (epoch : ℕ) (f : Frame) (len : ℕ) → FrontIs now rest v epoch (frame_of f) len → IsReading fixed bytes (sents frames) rest now
     → IsReading fixed bytes (sents (frames ++ (epoch, f) ∷ [])) (drop len rest) (Some v)
 reading_more fixed bytes frames rest now v epoch f len front t =
-    subst (λ (fs : List Sent). IsReading fixed bytes fs (drop len rest) (Some v)) (sym (map-append sent_of frames ((epoch, f) ∷ []))) (reading_one fixed bytes (sents frames) rest now v epoch (frame_of f) len front t)
+    subst (λ (fs : List Sent). IsReading fixed bytes fs (drop len rest) (Some v)) (sym (map-append decoded_sent frames ((epoch, f) ∷ []))) (reading_one fixed bytes (sents frames) rest now v epoch (frame_of f) len front t)
 
 pub reading_ends : (fixed : Option Version) (bytes : List ℕ) (frames : List Sent) (rest : List ℕ) (now : Option Version) (fault : Option StreamFault) → StopsAt now rest fault → IsReading fixed bytes frames rest now → IsTaken fixed bytes frames (length bytes - length rest) fault now
 reading_ends fixed bytes frames rest now fault stops t =

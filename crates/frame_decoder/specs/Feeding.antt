@@ -13,18 +13,18 @@ abbrev pub fresh : Held
 fresh = record { bytes = []; fault = None; version = None }
 
 -- what `feed` returns, with the frames as those of the machine
-abbrev pub Answer : Type 0
-Answer = Result (List Sent) StreamFault
+abbrev pub FeedAnswer : Type 0
+FeedAnswer = Result (List Sent) StreamFault
 
--- bridges what `feed` returns in the code to `Answer`
-abbrev pub answer_of : Result (Vec (ℕ × Frame)) StreamFault → Answer
-answer_of (Ok frames) = Ok (sents frames.items)
-answer_of (Err fault) = Err fault
+-- bridges what `feed` returns in the code to `FeedAnswer`
+abbrev pub feed_answer_of : Result (Vec (ℕ × Frame)) StreamFault → FeedAnswer
+feed_answer_of (Ok frames) = Ok (sents frames.items)
+feed_answer_of (Err fault) = Err fault
 
 -- One piece
 
 -- a call returns the frames if there are any, and otherwise the fault; without a fault it returns an empty list
-abbrev pub answered : List Sent → Option StreamFault → Answer → Type 0
+abbrev pub answered : List Sent → Option StreamFault → FeedAnswer → Type 0
 answered frames fault (Ok others) = (others ≡ frames) × (frames ≡ [] → fault ≡ None)
 answered frames fault (Err other) = (frames ≡ []) × (fault ≡ Some other)
 
@@ -35,7 +35,7 @@ FedFault old piece fault new = ((old.fault ≡ Some fault) × (new ≡ old))
 
 -- what `feed` returns and how it changes a decoder: the held bytes and the piece after them split into whole frames, which are returned,
 -- and a rest or a fault, which is held. `NoMemory` changes nothing
-abbrev pub Fed : Held → List ℕ → Answer → Held → Type 0
+abbrev pub Fed : Held → List ℕ → FeedAnswer → Held → Type 0
 Fed old piece (Ok frames) new = (old.fault ≡ None) × Splits old.version (old.bytes ++ piece) frames new.bytes new.fault new.version × (frames ≡ [] → new.fault ≡ None)
 Fed old piece (Err faults.NoMemory) new = (old.fault ≡ None) × (new ≡ old)
 Fed old piece (Err faults.BadTag) new = FedFault old piece faults.BadTag new
@@ -47,12 +47,12 @@ Fed old piece (Err faults.BadField) new = FedFault old piece faults.BadField new
 -- one call of `feed`: its piece and what it returned
 pub record Feed : Type 0 where
   pub piece : List ℕ
-  pub answer : Answer
+  pub answer : FeedAnswer
 
 -- a decoder, fed the pieces in turn, returned these answers and ended as `new`
-abbrev pub IsRun : Held → List Feed → Held → Type 0
-IsRun old [] new = new ≡ old
-IsRun old (feed ∷ feeds) new = (middle : Held) × Fed old feed.piece feed.answer middle × IsRun middle feeds new
+abbrev pub IsFeedRun : Held → List Feed → Held → Type 0
+IsFeedRun old [] new = new ≡ old
+IsFeedRun old (feed ∷ feeds) new = (middle : Held) × Fed old feed.piece feed.answer middle × IsFeedRun middle feeds new
 
 -- the bytes of a piece that were taken: all of them, or none if memory ran out
 abbrev pub taken_of : Feed → List ℕ
@@ -63,9 +63,9 @@ abbrev pub frames_of : Feed → List Sent
 frames_of feed = elim feed.answer [ Ok frames ↦ frames | Err other ↦ [] ]
 
 -- the stream that was fed: the bytes that were taken of the pieces, in order
-abbrev pub joined : List Feed → List ℕ
-joined [] = []
-joined (feed ∷ feeds) = taken_of feed ++ joined feeds
+abbrev pub bytes_fed : List Feed → List ℕ
+bytes_fed [] = []
+bytes_fed (feed ∷ feeds) = taken_of feed ++ bytes_fed feeds
 
 -- the frames that the calls returned, in order
 abbrev pub all_frames : List Feed → List Sent
@@ -87,4 +87,4 @@ pub record IsDecoded (feeds : List Feed) (new : Held) (frames : List Sent) (byte
 
 -- a new decoder that is fed the stream, cut anywhere, returns these frames, and then holds these bytes
 abbrev pub Decodes : (stream : List ℕ) (frames : List Sent) (bytes : List ℕ) → Type 0
-Decodes stream frames bytes = (feeds : List Feed) (new : Held) → IsRun fresh feeds new → joined feeds ≡ stream → IsDecoded feeds new frames bytes
+Decodes stream frames bytes = (feeds : List Feed) (new : Held) → IsFeedRun fresh feeds new → bytes_fed feeds ≡ stream → IsDecoded feeds new frames bytes

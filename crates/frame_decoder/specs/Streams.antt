@@ -15,12 +15,12 @@ use Rattle.frame_decoder.specs.Versions.{version_of, tag_of, IsFrameIn}
 -- Frames with their epochs
 
 -- bridges a frame of the code with its epoch to the machine's
-abbrev pub sent_of : ℕ × Frame → Sent
-sent_of numbered = record { epoch = numbered.0; frame = frame_of numbered.1 }
+abbrev pub decoded_sent : ℕ × Frame → Sent
+decoded_sent numbered = record { epoch = numbered.0; frame = frame_of numbered.1 }
 
 -- the same for a list of frames
 abbrev pub sents : List (ℕ × Frame) → List Sent
-sents frames = map sent_of frames
+sents frames = map decoded_sent frames
 
 -- a frame that a stream of the version may have, with an epoch of 32 bits
 pub record IsSent (version : Version) (sent : Sent) : Type 0 where
@@ -101,17 +101,17 @@ pub record Held : Type 0 where
   pub version : Option Version
 
 -- no fault, or one of the stream: lack of memory is not held
-abbrev pub IsFault : Option StreamFault → Type 0
-IsFault None = Unit {0}
-IsFault (Some faults.NoMemory) = ⊥
-IsFault (Some faults.BadTag) = Unit {0}
-IsFault (Some faults.BadLength) = Unit {0}
-IsFault (Some faults.BadField) = Unit {0}
+abbrev pub IsStreamFault : Option StreamFault → Type 0
+IsStreamFault None = Unit {0}
+IsStreamFault (Some faults.NoMemory) = ⊥
+IsStreamFault (Some faults.BadTag) = Unit {0}
+IsStreamFault (Some faults.BadLength) = Unit {0}
+IsStreamFault (Some faults.BadField) = Unit {0}
 
 -- what is held where the whole frames end: the unread bytes if they are less than a frame, or the fault that stands there and no bytes
-abbrev pub Ends : (fixed : Option Version) → (unread held : List ℕ) → Option StreamFault → Type 0
-Ends fixed unread held None = IsPart fixed unread × (held ≡ unread)
-Ends fixed unread held (Some fault) = Breach fixed unread fault × (held ≡ [])
+abbrev pub LeavesHeld : (fixed : Option Version) → (unread held : List ℕ) → Option StreamFault → Type 0
+LeavesHeld fixed unread held None = IsPart fixed unread × (held ≡ unread)
+LeavesHeld fixed unread held (Some fault) = Breach fixed unread fault × (held ≡ [])
 
 -- the stream is exactly these frames, all of one version, and after them less than a frame, which is held, or a fault; `new` is the
 -- version that is fixed then
@@ -120,7 +120,7 @@ pub record Splits (old : Option Version) (stream : List ℕ) (frames : List Sent
   pub unread : List ℕ
   pub whole : stream ≡ read ++ unread
   pub spells : Spells old read frames new
-  pub ends : Ends new unread held fault
+  pub ends : LeavesHeld new unread held fault
 
 -- the number of bytes that a header still lacks, or once it is there its frame; 0 where a fault stands
 unfoldable pub lacks : (fixed : Option Version) → List ℕ → ℕ

@@ -2,8 +2,8 @@
 
 ghost use Rattle.std.specs.Prelude.{◌≡◌, ◌+◌, ◌*◌, ◌<◌, ◌++◌, ◌≤◌, [], length, drop, take, Option, Err, IfOk, OnOk, OnErr};
 ghost use Rattle.mig_base.specs.declared.TheConstants.{MAX_CPUS, MAX_PAGES};
-ghost use Rattle.frame_decoder.specs.Streams.{Splits, IsPart, IsFault, IsTextOf, May, lacks, missing, sent_of, sents};
-ghost use Rattle.frame_decoder.specs.Feeding.{Fed, answer_of, answered, fresh};
+ghost use Rattle.frame_decoder.specs.Streams.{Splits, IsPart, IsStreamFault, IsTextOf, May, lacks, missing, decoded_sent, sents};
+ghost use Rattle.frame_decoder.specs.Feeding.{Fed, feed_answer_of, answered, fresh};
 ghost use Rattle.frame_decoder.specs.Taking.{IsFilled, IsFilledUp, left_of};
 
 use crate::fault::StreamFault;
@@ -104,7 +104,7 @@ fn read_behind(
     held: &mut Vec<u8>,
     rest: &[u8],
 ) -> Result<Taken, NoMemory>
-    requires { IsTextOf version held.old.items (sent_of sent) }
+    requires { IsTextOf version held.old.items (decoded_sent sent) }
     ensures ok { IfOk result (λ taken. (fixed : Option Version) → May fixed version →
         Splits fixed (held.old.items ++
         rest.now) (sents taken.frames.items) held.new.items taken.fault taken.version) }
@@ -195,7 +195,7 @@ fn read_piece(
         Splits fixed (held.old.items ++
         piece.now) (sents taken.frames.items) held.new.items taken.fault taken.version) }
     ensures part { IfOk result (λ taken. IsPart taken.version held.new.items) }
-    ensures real { IfOk result (λ taken. IsFault taken.fault) }
+    ensures real { IfOk result (λ taken. IsStreamFault taken.fault) }
     ensures err { OnErr result (held.new.items ≡ held.old.items) }
 {
     if held.is_empty() {
@@ -231,13 +231,13 @@ pub struct Decoder {
 }
 
 impl Model for Decoder {
-    ghost use Rattle.frame_decoder.specs.Streams.{Held, IsPart, IsFault};
+    ghost use Rattle.frame_decoder.specs.Streams.{Held, IsPart, IsStreamFault};
 
     ghost Value = { Held };
 
     ghost view = { λ d. record { bytes = d.held.items; fault = d.fault; version = d.version } };
 
-    ghost invariant = { λ d. IsPart d.version d.held.items × IsFault d.fault };
+    ghost invariant = { λ d. IsPart d.version d.held.items × IsStreamFault d.fault };
 }
 
 impl Decoder {
@@ -259,7 +259,7 @@ impl Decoder {
     /// until [`reset`](Decoder::reset). `NoMemory` comes if an allocation fails, and never for an empty piece: it takes nothing of the
     /// piece, which may be fed again.
     pub fn feed(&mut self, piece: &[u8]) -> Result<Vec<(u32, Frame)>, StreamFault>
-        ensures fed { Fed self.old piece.now (answer_of result) self.new }
+        ensures fed { Fed self.old piece.now (feed_answer_of result) self.new }
         ensures bounded { length self.new.bytes < 12 + (9 + 17 * MAX_PAGES + 18 * MAX_CPUS) }
         ensures memory { result ≡ Err StreamFault.NoMemory → 0 < length piece.now }
     {
@@ -324,7 +324,7 @@ fn answer(
     frames: Vec<(u32, Frame)>,
     fault: Option<StreamFault>,
 ) -> Result<Vec<(u32, Frame)>, StreamFault>
-    ensures { answered (sents frames.items) fault (answer_of result) }
+    ensures { answered (sents frames.items) fault (feed_answer_of result) }
 {
     match fault {
         Some(fault) if frames.is_empty() => Err(fault),

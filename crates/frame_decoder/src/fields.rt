@@ -2,7 +2,7 @@
 
 ghost use Rattle.std.specs.Int.{w32, w64};
 ghost use Rattle.std.specs.Prelude.{◌≡◌, IfErr};
-ghost use Rattle.frame_decoder.specs.Reading.{Gives, byte_at, number_at, page_at, content_at, prot_at, state_at};
+ghost use Rattle.frame_decoder.specs.Reading.{Gives, byte_at, number_in, page_in, content_at, prot_at, state_at};
 
 use crate::fault::StreamFault;
 use mig_base::phase::Received;
@@ -19,7 +19,7 @@ pub(crate) fn read_byte(bytes: &[u8]) -> Result<(u8, &[u8]), StreamFault>
 }
 
 pub(crate) fn read_u32(bytes: &[u8]) -> Result<(u32, &[u8]), StreamFault>
-    ensures gives { Gives (λ x. (x.0, x.1.now)) result (number_at w32 bytes.now) }
+    ensures gives { Gives (λ x. (x.0, x.1.now)) result (number_in w32 bytes.now) }
     ensures fault { IfErr result (λ fault. fault ≡ StreamFault.BadField) }
 {
     if bytes.len() < 4 {
@@ -31,7 +31,7 @@ pub(crate) fn read_u32(bytes: &[u8]) -> Result<(u32, &[u8]), StreamFault>
 }
 
 pub(crate) fn read_u64(bytes: &[u8]) -> Result<(u64, &[u8]), StreamFault>
-    ensures { Gives (λ x. (x.0, x.1.now)) result (number_at w64 bytes.now) }
+    ensures { Gives (λ x. (x.0, x.1.now)) result (number_in w64 bytes.now) }
 {
     if bytes.len() < 8 {
         return Err(StreamFault::BadField);
@@ -44,9 +44,9 @@ pub(crate) fn read_u64(bytes: &[u8]) -> Result<(u64, &[u8]), StreamFault>
 }
 
 /// The number of a page that may be mapped.
-#[tactic(auto, unfolding(crate::specs::Reading::page_at))]
+#[tactic(auto, unfolding(crate::specs::Reading::page_in))]
 pub(crate) fn read_page(bytes: &[u8]) -> Result<(PageNo, &[u8]), StreamFault>
-    ensures gives { Gives (λ x. (x.0, x.1.now)) result (page_at bytes.now) }
+    ensures gives { Gives (λ x. (x.0, x.1.now)) result (page_in bytes.now) }
     ensures fault { IfErr result (λ fault. fault ≡ StreamFault.BadField) }
 {
     let (page, rest) = read_u32(bytes)?;

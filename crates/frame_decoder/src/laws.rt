@@ -10,7 +10,7 @@ ghost use Rattle.frame_decoder.specs.declared.version.Version.{Version};
 ghost use Rattle.frame_decoder.specs.declared.version.Version.TheVariants.{One, Two};
 ghost use Rattle.frame_decoder.specs.Versions.{IsFrameIn, version_of};
 ghost use Rattle.frame_decoder.specs.Streams.{IsSent, Held, Splits, texts as all_texts};
-ghost use Rattle.frame_decoder.specs.Feeding.{fresh, Decodes, Feed, IsRun, joined, all_frames};
+ghost use Rattle.frame_decoder.specs.Feeding.{fresh, Decodes, Feed, IsFeedRun, bytes_fed, all_frames};
 
 /// A stream has one reading: it determines its frames, what is held of its rest, the fault, and the version that is fixed then.
 pub fn one_reading()
@@ -31,17 +31,17 @@ pub fn one_reading()
 /// However a stream is cut into pieces, a decoder returns exactly the frames at its front, all of one version, and holds less than a frame
 /// or the first fault. Pieces that were refused for lack of memory are left out.
 pub fn any_cut()
-    ensures { (feeds : List Feed) (new : Held) → IsRun fresh feeds new →
-        Splits None (joined feeds) (all_frames feeds) new.bytes new.fault new.version }
+    ensures { (feeds : List Feed) (new : Held) → IsFeedRun fresh feeds new →
+        Splits None (bytes_fed feeds) (all_frames feeds) new.bytes new.fault new.version }
 {}
 
 /// A decoder that is fed two cuttings of one stream returns the same frames and holds the same in the end.
 pub fn cuts_agree()
-    ensures frames { (feeds others : List Feed) (new last : Held) → IsRun fresh feeds new →
-        IsRun fresh others last → joined feeds ≡ joined others →
+    ensures frames { (feeds others : List Feed) (new last : Held) → IsFeedRun fresh feeds new →
+        IsFeedRun fresh others last → bytes_fed feeds ≡ bytes_fed others →
         all_frames feeds ≡ all_frames others }
-    ensures held { (feeds others : List Feed) (new last : Held) → IsRun fresh feeds new →
-        IsRun fresh others last → joined feeds ≡ joined others → new ≡ last }
+    ensures held { (feeds others : List Feed) (new last : Held) → IsFeedRun fresh feeds new →
+        IsFeedRun fresh others last → bytes_fed feeds ≡ bytes_fed others → new ≡ last }
 {}
 
 /// Each frame that a stream of either version may have is well formed: `page_stream` writes it in version 2, and it can be read back.

@@ -2,8 +2,8 @@
 
 ghost use Rattle.std.specs.Prelude.{◌≡◌, ◌+◌, ◌≤◌, IfOk};
 ghost use Rattle.mig_base.specs.declared.TheConstants.{HIGH_PAGE};
-ghost use Rattle.mig_model.specs.Ioctls.{same_prot};
-ghost use Rattle.frame_decoder.specs.Reading.{Gives, is_run, goes_on_with, content_at, contents_at, many_at, run_at, set_from, pages_at, few_pages_at, area_at, map_from, areas_at};
+ghost use Rattle.mig_model.specs.Ioctls.{same_protection};
+ghost use Rattle.frame_decoder.specs.Reading.{Gives, is_run, goes_on_with, content_at, contents_at, many_at, run_in, set_from, pages_at, few_pages_at, area_in, map_in, areas_in};
 
 use crate::fault::StreamFault;
 use crate::fields::{read_content, read_prot, read_u32};
@@ -51,9 +51,9 @@ pub(crate) fn is_run(low: PageNo, first: PageNo, count: u32) -> bool
 }
 
 /// A run of pages that begins at `low` or later.
-#[tactic(auto, unfolding(crate::specs::Reading::run_at))]
+#[tactic(auto, unfolding(crate::specs::Reading::run_in))]
 fn read_run(low: PageNo, bytes: &[u8]) -> Result<(Run, &[u8]), StreamFault>
-    ensures gives { Gives (λ x. (x.0, x.1.now)) result (run_at low bytes.now) }
+    ensures gives { Gives (λ x. (x.0, x.1.now)) result (run_in low bytes.now) }
     ensures inside { IfOk result (λ x. x.0.first + x.0.count ≤ HIGH_PAGE) }
 {
     let (first, rest) = read_u32(bytes)?;
@@ -115,7 +115,7 @@ fn goes_on_with(low: PageNo, last: Option<Prot>, area: Area) -> bool
 }
 
 fn ends_with(last: Option<Prot>, prot: Prot) -> bool
-    ensures { result ≡ same_prot last (Some prot) }
+    ensures { result ≡ same_protection last (Some prot) }
 {
     match (last, prot) {
         (Some(Prot::NoAccess), Prot::NoAccess) => true,
@@ -126,9 +126,9 @@ fn ends_with(last: Option<Prot>, prot: Prot) -> bool
 }
 
 /// An area that begins at `low` or later, and does not continue with the protection of the page before.
-#[tactic(auto, unfolding(crate::specs::Reading::area_at))]
+#[tactic(auto, unfolding(crate::specs::Reading::area_in))]
 fn read_area(low: PageNo, last: Option<Prot>, bytes: &[u8]) -> Result<(Area, &[u8]), StreamFault>
-    ensures gives { Gives (λ x. (x.0, x.1.now)) result (area_at (low, last) bytes.now) }
+    ensures gives { Gives (λ x. (x.0, x.1.now)) result (area_in (low, last) bytes.now) }
     ensures past { IfOk result (λ x. low ≤ x.0.first) }
     ensures inside { IfOk result (λ x. x.0.first + x.0.count ≤ HIGH_PAGE) }
 {
@@ -148,7 +148,7 @@ fn read_count_areas(
     count: u32,
     bytes: &[u8],
 ) -> Result<(AreaMap, &[u8]), StreamFault>
-    ensures { Gives (λ x. (x.0, x.1.now)) result (map_from count bytes.now) }
+    ensures { Gives (λ x. (x.0, x.1.now)) result (map_in count bytes.now) }
 {
     let mut areas = AreaMap::new(alloc);
     let mut low = LOW_PAGE;
@@ -165,13 +165,13 @@ fn read_count_areas(
 }
 
 /// The mapped pages, no more than the version maps: a count in 4 bytes, and that number of areas.
-#[tactic(auto, unfolding(crate::specs::Reading::areas_at))]
+#[tactic(auto, unfolding(crate::specs::Reading::areas_in))]
 pub(crate) fn read_areas(
     alloc: Global,
     version: Version,
     bytes: &[u8],
 ) -> Result<(AreaMap, &[u8]), StreamFault>
-    ensures { Gives (λ x. (x.0, x.1.now)) result (areas_at version bytes.now) }
+    ensures { Gives (λ x. (x.0, x.1.now)) result (areas_in version bytes.now) }
 {
     let (count, rest) = read_u32(bytes)?;
     let (areas, rest) = read_count_areas(alloc, count, rest)?;

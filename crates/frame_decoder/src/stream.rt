@@ -7,8 +7,8 @@ ghost use Rattle.mig_model.specs.Wire.{Sent};
 ghost use Rattle.frame_texts.specs.Texts.{text};
 ghost use Rattle.frame_decoder.specs.Headers.{header_at};
 ghost use Rattle.frame_decoder.specs.Heads.{IsAtFront, front_by};
-ghost use Rattle.frame_decoder.specs.Reading.{next_of, next_at};
-ghost use Rattle.frame_decoder.specs.Streams.{IsSent, IsTextOf, lacks, sent_of, sents};
+ghost use Rattle.frame_decoder.specs.Reading.{front_of, next_at};
+ghost use Rattle.frame_decoder.specs.Streams.{IsSent, IsTextOf, lacks, decoded_sent, sents};
 ghost use Rattle.frame_decoder.specs.Taking.{Stands, IsTaken};
 ghost use Rattle.frame_decoder.specs.Versions.{version_of};
 
@@ -69,7 +69,7 @@ pub(crate) fn body_behind(bytes: &[u8], len: u32) -> &[u8]
 }
 
 fn next_frame(alloc: Global, fixed: Option<Version>, bytes: &[u8]) -> Result<Next, NoMemory>
-    ensures { IfOk result (λ next. next_of next ≡ next_at fixed bytes.now) }
+    ensures { IfOk result (λ next. front_of next ≡ next_at fixed bytes.now) }
 {
     let header = match whole_header(fixed, bytes) {
         Ok(Some(header)) => header,
@@ -95,7 +95,7 @@ fn next_frame(alloc: Global, fixed: Option<Version>, bytes: &[u8]) -> Result<Nex
 
 /// What stands at the front, in the fixed version if one is fixed.
 pub(crate) fn front(alloc: Global, fixed: Option<Version>, bytes: &[u8]) -> Result<Next, NoMemory>
-    ensures { IfOk result (λ next. Stands fixed bytes.now (next_of next)) }
+    ensures { IfOk result (λ next. Stands fixed bytes.now (front_of next)) }
 {
     next_frame(alloc, fixed, bytes)
 }
@@ -106,9 +106,9 @@ pub(crate) fn front(alloc: Global, fixed: Option<Version>, bytes: &[u8]) -> Resu
 /// The bytes are read in place. `NoMemory` comes if the frame's memory is refused.
 pub fn read_text(alloc: Global, bytes: &[u8]) -> Result<Option<(u32, Frame)>, NoMemory>
     ensures read { IfOk result (λ read.
-        IfSome read (λ sent. (version : Version) × IsTextOf version bytes.now (sent_of sent))) }
+        IfSome read (λ sent. (version : Version) × IsTextOf version bytes.now (decoded_sent sent))) }
     ensures whole { (version : Version) (sent : Sent) → IsTextOf version bytes.now sent →
-        IfOk result (λ read. option_map sent_of read ≡ Some sent) }
+        IfOk result (λ read. option_map decoded_sent read ≡ Some sent) }
 {
     match front(alloc, None, bytes)? {
         Next::Whole {

@@ -11,7 +11,7 @@ use Rattle.mig_base.specs.Ranges.{in_range}
 use Rattle.mig_base.specs.Sets.{pages_where, run_length}
 use Rattle.mig_base.proofs.RangeLemmas.{in_range-true, in_range-false_below, in_range-false_above}
 use Rattle.mig_base.proofs.SetLemmas.{member_below, member_run}
-use Rattle.mig_model.specs.Ioctls.{same_prot}
+use Rattle.mig_model.specs.Ioctls.{same_protection}
 use Rattle.mig_model.specs.Lengths.{begins_area}
 use Rattle.frame_texts.specs.Texts.{list_below, area_at, areas_of}
 use Rattle.mig_model.proofs.memory.Facts.{and_false, and_second, below_or_at, none_absurd}
@@ -68,9 +68,9 @@ module _ (areas : FinMap nat_cmp Prot) (prot : Prot) (first count : ℕ) (some :
       (cases_lt j (first + count)))
       (cases_lt j first)
 
-  count_is : run_length (pages_where (λ page. same_prot (get areas first) (get areas page))) first HIGH_PAGE ≡ count
+  count_is : run_length (pages_where (λ page. same_protection (get areas first) (get areas page))) first HIGH_PAGE ≡ count
   count_is =
-      let alike : ℕ → Bool = λ page. same_prot (get areas first) (get areas page) in
+      let alike : ℕ → Bool = λ page. same_protection (get areas first) (get areas page) in
       let here = inside first (omega arith) (omega arith) in
       let long : count - 1 < run_length (pages_where alike) first HIGH_PAGE =
       run_length-covers (pages_where alike) first HIGH_PAGE (count - 1) (omega arith)

@@ -20,7 +20,7 @@ use Rattle.mig_base.proofs.RangeLemmas.{count_below-few}
 use Rattle.mig_base.proofs.SetLemmas.{run_length-most}
 use Rattle.mig_model.specs.Lengths.{begins_run, begins_area}
 use Rattle.frame_texts.specs.Texts.{list_below, run_at, runs_of, area_at, areas_of, Version, has_frame, tag_code, runs_text, areas_text, commands_text, state_code, body_text, header_text, text, HasWholePages, AreBelow, AreMappedBelow, FitsCommand, FitsText, IsEncodable}
-use Rattle.mig_model.specs.Ioctls.{same_prot}
+use Rattle.mig_model.specs.Ioctls.{same_protection}
 use Rattle.std.specs.FinMap.{get}
 use Rattle.mig_model.specs.Wire.{Frame}
 use Rattle.mig_model.specs.Wire.Frame.{Advise, Page, Zero, Run, Discard, Package, End, Resume, Request, Recv, Done}
@@ -91,7 +91,7 @@ FitsArea area = (area.first < 2 ^ 32) × (area.count < 2 ^ 32)
 areas_fit : (areas : FinMap nat_cmp Prot) → AllByRecursion FitsArea (areas_of areas)
 areas_fit areas =
     all-map FitsArea (area_at areas) (list_below (begins_area areas) HIGH_PAGE)
-    (all_listed (λ k. FitsArea (area_at areas k)) (begins_area areas) HIGH_PAGE (λ k l. (omega arith, omega (arith, run_length-most (pages_where (λ page. same_prot (get areas k) (get areas page))) k HIGH_PAGE))))
+    (all_listed (λ k. FitsArea (area_at areas k)) (begins_area areas) HIGH_PAGE (λ k l. (omega arith, omega (arith, run_length-most (pages_where (λ page. same_protection (get areas k) (get areas page))) k HIGH_PAGE))))
 
 same_map : (a b : FinMap nat_cmp Prot) (s r : List ℕ) → AreMappedBelow a → AreMappedBelow b → areas_text (areas_of a) ++ s ≡ areas_text (areas_of b) ++ r → a ≡ b
 same_map a b s r ha hb e = grind (arith, nat_tests, areas_of-same, same_counted, areas_fit, few_listed)

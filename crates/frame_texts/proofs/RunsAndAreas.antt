@@ -16,7 +16,7 @@ use Rattle.mig_base.specs.Sets.{run_length}
 use Rattle.mig_base.proofs.PageLemmas.{same_pages}
 use Rattle.mig_base.proofs.RangeLemmas.{in_range-true}
 use Rattle.mig_base.proofs.SetLemmas.{same_members, member_below, member_run}
-use Rattle.mig_model.specs.Ioctls.{same_prot}
+use Rattle.mig_model.specs.Ioctls.{same_protection}
 use Rattle.mig_model.specs.Lengths.{begins_run, begins_area}
 use Rattle.frame_texts.specs.Texts.{list_below, run_at, runs_of, area_at, areas_of, prot_in, AreBelow, AreMappedBelow}
 use Rattle.mig_model.proofs.memory.Facts.{none_absurd, either, and_second, below_or_at, or_assoc, and_false}
@@ -126,14 +126,14 @@ runs_of-same a b in_a in_b e = same_members a b (λ q. sym (member-runs_of a in_
 
 -- The protections of mapped pages
 
-pub same_prot_tells : (a b : Option Prot) → same_prot a b ≡ true → (a ≡ b) × (is_some a ≡ true)
+pub same_prot_tells : (a b : Option Prot) → same_protection a b ≡ true → (a ≡ b) × (is_some a ≡ true)
 same_prot_tells a b h = grind (arith, nat_tests)
 
 area_begins : (areas : FinMap nat_cmp Prot) (prot : Prot) (q : ℕ) → get areas q ≡ Some prot → BeginsAt (begins_area areas) (λ j. get areas j ≡ Some prot) q
 area_begins areas prot zero h = begins_here (begins_area areas) (λ j. get areas j ≡ Some prot) 0 (rw h refl) h
 area_begins areas prot (suc q) h =
     let before : suc q - 1 ≡ q = omega arith in
-    elim (same_prot (Some prot) (get areas q)) as (λ b. same_prot (Some prot) (get areas q) ≡ b → BeginsAt (begins_area areas) (λ j. get areas j ≡ Some prot) (suc q)) [
+    elim (same_protection (Some prot) (get areas q)) as (λ b. same_protection (Some prot) (get areas q) ≡ b → BeginsAt (begins_area areas) (λ j. get areas j ≡ Some prot) (suc q)) [
       | true ↦ λ e. begins_before (begins_area areas) (λ j. get areas j ≡ Some prot) q h (area_begins areas prot q (sym (same_prot_tells (Some prot) (get areas q) e).0))
       | false ↦ λ e. begins_here (begins_area areas) (λ j. get areas j ≡ Some prot) (suc q) (rw (h, before, e, and_false (ltb 0 (suc q))) refl) h
     ] refl

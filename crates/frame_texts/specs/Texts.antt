@@ -17,7 +17,7 @@ use Rattle.mig_base.specs.declared.phase.Received.{Received}
 use Rattle.mig_base.specs.Codes.{prot_number}
 use Rattle.mig_base.specs.Ranges.{in_range}
 use Rattle.mig_base.specs.Sets.{pages_where, run_length}
-use Rattle.mig_model.specs.Ioctls.{same_prot}
+use Rattle.mig_model.specs.Ioctls.{same_protection}
 use Rattle.mig_model.specs.Lengths.{begins_run, begins_area}
 use Rattle.mig_model.specs.Wire.{Frame}
 use Rattle.mig_model.specs.Wire.Frame.{Advise, Page, Zero, Run, Discard, Package, End, Resume, Request, Recv, Done}
@@ -42,7 +42,7 @@ abbrev pub area_at : FinMap nat_cmp Prot → ℕ → Area
 area_at areas first =
     record {
       first = first;
-      count = run_length (pages_where (λ page. same_prot (get areas first) (get areas page))) first HIGH_PAGE;
+      count = run_length (pages_where (λ page. same_protection (get areas first) (get areas page))) first HIGH_PAGE;
       prot = unwrap_or (get areas first) NoAccess;
     }
 

@@ -8,21 +8,21 @@ use Rattle.mig_model.specs.Faults.{take_fault}
 use Rattle.mig_model.specs.Effects.{frame_effect}
 use Rattle.mig_model.specs.Wire.{Sent}
 use Rattle.grammar.specs.Printed.{outcome_line}
-use Rattle.frames.specs.Answers.{after, answer_line, answer_lines, behind, refusal_line, refusals, refusals_of, Adds}
+use Rattle.frames.specs.Answers.{after_frame, answer_line, answer_lines, after_frames, refusal_line, refusals, refusals_of, Adds}
 
-pub behind-append : (node : Destination) (xs ys : List Sent) → behind node (xs ++ ys) ≡ behind (behind node xs) ys
+pub behind-append : (node : Destination) (xs ys : List Sent) → after_frames node (xs ++ ys) ≡ after_frames (after_frames node xs) ys
 behind-append node [] ys = refl
-behind-append node (x ∷ xs) ys = behind-append (after node x) xs ys
+behind-append node (x ∷ xs) ys = behind-append (after_frame node x) xs ys
 
-pub answer_lines-append : (node : Destination) (xs ys : List Sent) → answer_lines node (xs ++ ys) ≡ answer_lines node xs ++ answer_lines (behind node xs) ys
+pub answer_lines-append : (node : Destination) (xs ys : List Sent) → answer_lines node (xs ++ ys) ≡ answer_lines node xs ++ answer_lines (after_frames node xs) ys
 answer_lines-append node [] ys = refl
 answer_lines-append node (x ∷ xs) ys =
-    ap (λ (l : List ℕ). answer_line node x ++ l) (answer_lines-append (after node x) xs ys)
-    ∙ sym (append_assoc (answer_line node x) (answer_lines (after node x) xs) (answer_lines (behind (after node x) xs) ys))
+    ap (λ (l : List ℕ). answer_line node x ++ l) (answer_lines-append (after_frame node x) xs ys)
+    ∙ sym (append_assoc (answer_line node x) (answer_lines (after_frame node x) xs) (answer_lines (after_frames (after_frame node x) xs) ys))
 
-pub refusals-append : (node : Destination) (xs ys : List Sent) → refusals node (xs ++ ys) ≡ refusals node xs + refusals (behind node xs) ys
+pub refusals-append : (node : Destination) (xs ys : List Sent) → refusals node (xs ++ ys) ≡ refusals node xs + refusals (after_frames node xs) ys
 refusals-append node [] ys = omega arith
-refusals-append node (x ∷ xs) ys = omega (arith, refusals-append (after node x) xs ys)
+refusals-append node (x ∷ xs) ys = omega (arith, refusals-append (after_frame node x) xs ys)
 
 pub adds_then : (a x b y c : ℕ) → Adds a x b → Adds b y c → Adds a (x + y) c
 adds_then a x b y c p q = λ few.
@@ -38,7 +38,7 @@ taken_or_not (Some other) fault some is = ap (λ (f : TakeFault). Some f) (sym i
 
 -- the answer, where the frame is not taken
 pub record IsRefused (node : Destination) (sent : Sent) (fault : TakeFault) : Type 0 where
-  pub node_is : after node sent ≡ node
+  pub node_is : after_frame node sent ≡ node
   pub line_is : answer_line node sent ≡ refusal_line fault
   pub count_is : refusals_of node sent ≡ 1
 
@@ -51,7 +51,7 @@ is_refused node sent fault some is =
       count_is = ap (λ (o : Option TakeFault). elim o [ None ↦ 0 | Some reason ↦ 1 ]) why;
     }
 
-pub refused_node : (node now : Destination) (sent : Sent) (fault : TakeFault) → fault ≢ takes.NoMemory → fault ≡ unwrap_or (take_fault node sent.epoch sent.frame) takes.NoMemory → now ≡ node → now ≡ after node sent
+pub refused_node : (node now : Destination) (sent : Sent) (fault : TakeFault) → fault ≢ takes.NoMemory → fault ≡ unwrap_or (take_fault node sent.epoch sent.frame) takes.NoMemory → now ≡ node → now ≡ after_frame node sent
 refused_node node now sent fault some is same = same ∙ sym (is_refused node sent fault some is).node_is
 
 pub refused_line : (node : Destination) (sent : Sent) (fault : TakeFault) (old new : List ℕ) → fault ≢ takes.NoMemory → fault ≡ unwrap_or (take_fault node sent.epoch sent.frame) takes.NoMemory → old ≡ [] → new ≡ old ++ refusal_line fault

@@ -11,7 +11,7 @@ use Rattle.frames.specs.declared.fault.FramesFault.{FramesFault}
 use Rattle.frames.specs.declared.fault.FramesFault.TheVariants as faults
 use Rattle.frames.specs.declared.reader.FrameReader.{FrameReader}
 use Rattle.frames.specs.Answers.{answer_lines, refusals, Adds}
-use Rattle.frames.specs.Parts.{BeginsWith, FedUntil, Gathers, GathersSome, Halts, Passes, TakesSome, WritesSome}
+use Rattle.frames.specs.Parts.{BeginsWith, FedUntil, Gathers, GathersSome, HaltsInPiece, Passes, TakesSome, WritesSome}
 use Rattle.frames.proofs.Splitting.{splits_front}
 
 -- Gathering
@@ -54,7 +54,7 @@ writes_some old piece output written more w0 w1 clean parts appends some = recor
   appends = appends;
 }
 
-halts : (old : FrameReader) (piece output : List ℕ) (fault : FramesFault) (w0 w1 : Option (List ℕ)) → old.taker.output.items ≡ [] → FedUntil old piece fault output → Appends w0 w1 output → Halts old piece fault w0 w1
+halts : (old : FrameReader) (piece output : List ℕ) (fault : FramesFault) (w0 w1 : Option (List ℕ)) → old.taker.output.items ≡ [] → FedUntil old piece fault output → Appends w0 w1 output → HaltsInPiece old piece fault w0 w1
 halts old piece output (faults.Stream fault) w0 w1 clean fed appends = (fed.0, subst (Appends w0 w1) (fed.1 ∙ clean) appends)
 halts old piece output faults.Truncated w0 w1 clean fed appends = absurd fed
 halts old piece output faults.ReadFault w0 w1 clean fed appends = absurd fed
@@ -62,7 +62,7 @@ halts old piece output faults.WriteFault w0 w1 clean fed appends = absurd fed
 halts old piece output faults.NoMemory w0 w1 clean fed appends = writes_some old piece output output [] w0 w1 clean (sym (append-nil output)) appends fed
 
 pub piece_halts : {T : Type 0} (result : Result T FramesFault) (old : FrameReader) (piece output : List ℕ) (w0 w1 : Option (List ℕ)) → old.taker.output.items ≡ [] → IfErr result (λ fault. FedUntil old piece fault output) → Appends w0 w1 output
-    → IfErr result (λ fault. Halts old piece fault w0 w1)
+    → IfErr result (λ fault. HaltsInPiece old piece fault w0 w1)
 piece_halts (Ok x) old piece output w0 w1 clean fed appends = tt
 piece_halts (Err fault) old piece output w0 w1 clean fed appends = halts old piece output fault w0 w1 clean fed appends
 
@@ -79,7 +79,7 @@ unwritten old piece output written more faults.WriteFault w0 w1 clean fed parts 
 unwritten old piece output written more faults.NoMemory w0 w1 clean fed parts some appends = writes_some old piece output written more w0 w1 clean parts appends fed
 
 pub piece_unwritten : {T : Type 0} (result : Result T FramesFault) (old mid : FrameReader) (piece : List ℕ) (w0 w1 : Option (List ℕ)) → old.taker.output.items ≡ [] → OnOk result (Gathers old piece mid)
-    → IfErr result (λ fault. FedUntil old piece fault mid.taker.output.items) → Front mid.taker.output.items w0 w1 → Halts old piece faults.WriteFault w0 w1
+    → IfErr result (λ fault. FedUntil old piece fault mid.taker.output.items) → Front mid.taker.output.items w0 w1 → HaltsInPiece old piece faults.WriteFault w0 w1
 piece_unwritten (Ok x) old mid piece w0 w1 clean gathered fed front = (
   front.1,
   front.3,

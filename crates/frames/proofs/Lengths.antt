@@ -14,10 +14,10 @@ use Rattle.frame_decoder.specs.declared.version.Version.{Version}
 use Rattle.frame_decoder.specs.Feeding.{Fed}
 use Rattle.page_stream.specs.declared.frame.Frame.{Frame}
 use Rattle.page_stream.specs.Frames.{frame_of}
-use Rattle.frame_decoder.specs.Streams.{sent_of, sents, Held, IsSent, Splits, texts}
+use Rattle.frame_decoder.specs.Streams.{decoded_sent, sents, Held, IsSent, Splits, texts}
 use Rattle.frame_decoder.specs.Versions.{version_of}
 use Rattle.frame_decoder.proofs.Unique.{read_back}
-use Rattle.frames.specs.Parts.{AreFrames, IsCounted, texts_len}
+use Rattle.frames.specs.Parts.{AreWellFormed, IsCounted, texts_len}
 
 length-texts : (v : Version) (frames : List Sent) → AllByRecursion (IsSent v) frames → length (texts v frames) ≡ texts_len frames
 length-texts v [] h = refl
@@ -34,11 +34,11 @@ length-texts v (sent ∷ frames) h =
     )
 
 -- each frame of a stream may be handed to a destination
-each_frame : (v : Version) (frames : List Sent) → AllByRecursion (IsSent v) frames → AreFrames frames
+each_frame : (v : Version) (frames : List Sent) → AllByRecursion (IsSent v) frames → AreWellFormed frames
 each_frame v [] h = tt
 each_frame v (sent ∷ frames) h = (h.0.frame.right, each_frame v frames h.1)
 
-pub splits_frames : (a b : Option Version) (stream : List ℕ) (frames : List Sent) (held : List ℕ) (fault : Option StreamFault) → Splits a stream frames held fault b → AreFrames frames
+pub splits_frames : (a b : Option Version) (stream : List ℕ) (frames : List Sent) (held : List ℕ) (fault : Option StreamFault) → Splits a stream frames held fault b → AreWellFormed frames
 splits_frames a b stream frames held fault s = each_frame s.spells.version frames s.spells.each
 
 -- their texts are in the stream
@@ -46,7 +46,7 @@ splits_len : (a b : Option Version) (stream : List ℕ) (frames : List Sent) (he
 splits_len a b stream frames held fault s =
     omega (arith, ap length s.whole, length-append s.read s.unread, ap length s.spells.whole, length-texts s.spells.version frames s.spells.each)
 
-pub fed_frames : (old : Held) (piece : List ℕ) (frames : List Sent) (new : Held) → Fed old piece (Ok frames) new → AreFrames frames
+pub fed_frames : (old : Held) (piece : List ℕ) (frames : List Sent) (new : Held) → Fed old piece (Ok frames) new → AreWellFormed frames
 fed_frames old piece frames new fed = splits_frames old.version new.version (old.bytes ++ piece) frames new.bytes new.fault fed.1
 
 pub fed_len : (old : Held) (piece : List ℕ) (frames : List Sent) (new : Held) (held : ℕ) → Fed old piece (Ok frames) new → IsCounted old held → texts_len frames ≤ held + length piece
@@ -72,4 +72,4 @@ frame_len numbered = text_len (frame_of numbered.1)
 pub sum_by-frames : (frames : List (ℕ × Frame)) → sum_by frame_len frames ≡ texts_len (sents frames)
 sum_by-frames [] = refl
 sum_by-frames (one ∷ frames) =
-    omega (arith, sum_by-cons frame_len one frames, sum_by-cons (λ (sent : Sent). text_len sent.frame) (sent_of one) (sents frames), sum_by-frames frames)
+    omega (arith, sum_by-cons frame_len one frames, sum_by-cons (λ (sent : Sent). text_len sent.frame) (decoded_sent one) (sents frames), sum_by-frames frames)

@@ -8,7 +8,7 @@ use Rattle.frame_decoder.specs.Feeding.{Fed, FedFault, fresh}
 use Rattle.frame_decoder.specs.Streams.{Held, Splits}
 use Rattle.frame_decoder.proofs.Unique.{one_split}
 use Rattle.frame_decoder.proofs.Whole.{spells_none, spells_join}
-use Rattle.frames.specs.Answers.{answer_lines, behind, refusals}
+use Rattle.frames.specs.Answers.{answer_lines, after_frames, refusals}
 use Rattle.frames.specs.Parts.{BeginsWith}
 use Rattle.frames.proofs.Answering.{behind-append, answer_lines-append, refusals-append}
 use Rattle.frames.proofs.Splitting.{IsFront, splits_then, splits_behind}
@@ -16,7 +16,7 @@ use Rattle.frames.proofs.Splitting.{IsFront, splits_then, splits_behind}
 -- the bytes that came are these frames, and what is held; the destination was handed them
 pub record Taken (start : Destination) (stream : List ℕ) (frames : List Sent) (decoder : Held) (node : Destination) : Type 0 where
   pub splits : Splits None stream frames decoder.bytes decoder.fault decoder.version
-  pub handed : node ≡ behind start frames
+  pub handed : node ≡ after_frames start frames
 
 pub taken_none : (start : Destination) → Taken start [] [] fresh start
 taken_none start = record {
@@ -27,10 +27,10 @@ taken_none start = record {
 without_fault : (a b : Option Version) (stream : List ℕ) (frames : List Sent) (held : List ℕ) (fault : Option StreamFault) → fault ≡ None → Splits a stream frames held fault b → Splits a stream frames held None b
 without_fault a b stream frames held fault none s = subst (λ (o : Option StreamFault). Splits a stream frames held o b) none s
 
-pub taken_then : (start : Destination) (stream piece : List ℕ) (frames more : List Sent) (a b : Held) (m n : Destination) → Taken start stream frames a m → Fed a piece (Ok more) b → n ≡ behind m more → Taken start (stream ++ piece) (frames ++ more) b n
+pub taken_then : (start : Destination) (stream piece : List ℕ) (frames more : List Sent) (a b : Held) (m n : Destination) → Taken start stream frames a m → Fed a piece (Ok more) b → n ≡ after_frames m more → Taken start (stream ++ piece) (frames ++ more) b n
 taken_then start stream piece frames more a b m n t fed is = record {
   splits = splits_then None a.version b.version stream piece frames more a.bytes b.bytes b.fault (without_fault None a.version stream frames a.bytes a.fault fed.0 t.splits) fed.1;
-  handed = is ∙ ap (λ (d : Destination). behind d more) t.handed ∙ sym (behind-append start frames more);
+  handed = is ∙ ap (λ (d : Destination). after_frames d more) t.handed ∙ sym (behind-append start frames more);
 }
 
 pub lines_then : (start : Destination) (stream : List ℕ) (frames more : List Sent) (a : Held) (m : Destination) → Taken start stream frames a m → answer_lines start frames ++ answer_lines m more ≡ answer_lines start (frames ++ more)

@@ -12,8 +12,8 @@ use Rattle.frames.specs.declared.fault.FramesFault.{FramesFault}
 use Rattle.frames.specs.declared.fault.FramesFault.TheVariants as faults
 use Rattle.frames.specs.declared.reader.FrameReader.{FrameReader}
 use Rattle.frames.specs.Answers.{answer_lines, refusals, Adds}
-use Rattle.frames.specs.Endings.{IsAnswered, IsWhole, IsAnsweredInPart, Stops}
-use Rattle.frames.specs.Parts.{EndsBy, EndsWhole, Halts, Passes, WritesSome}
+use Rattle.frames.specs.Endings.{IsAnswered, IsWhole, IsAnsweredInPart, FramesStop}
+use Rattle.frames.specs.Parts.{EndsBy, EndsWhole, HaltsInPiece, Passes, WritesSome}
 use Rattle.frames.proofs.Answering.{adds_then}
 use Rattle.frames.proofs.Pieces.{Taken, taken_then, lines_then, refusals_then, taken_fault, taken_some, taken_nothing}
 use Rattle.engine.proofs.Whole.{input_is}
@@ -69,7 +69,7 @@ part_of start p input consumed chunk unread more frames w0 w1 w2 whole taken app
     }
 
 halts_from : (start : Destination) (p : FrameReader) (input consumed chunk unread : List ℕ) (frames : List Sent) (fault : FramesFault) (r2 w0 w1 w2 : Option (List ℕ)) → input ≡ (consumed ++ chunk) ++ unread
-    → Taken start consumed frames p.decoder p.taker.destination → Appends w0 w1 (answer_lines start frames) → Halts p chunk fault w1 w2 → Stops start input r2 fault w0 w2
+    → Taken start consumed frames p.decoder p.taker.destination → Appends w0 w1 (answer_lines start frames) → HaltsInPiece p chunk fault w1 w2 → FramesStop start input r2 fault w0 w2
 halts_from start p input consumed chunk unread frames (faults.Stream fault) r2 w0 w1 w2 whole taken appends q =
     let behind = taken_fault start consumed chunk unread frames p.decoder q.0.0 p.taker.destination fault taken q.0.1 in
     record {
@@ -85,11 +85,11 @@ halts_from start p input consumed chunk unread frames faults.WriteFault r2 w0 w1
 halts_from start p input consumed chunk unread frames faults.NoMemory r2 w0 w1 w2 whole taken appends q =
     part_of start p input consumed chunk unread [] frames w0 w1 w2 whole taken appends q
 
-pub ran_halts : (start : Destination) (p : FrameReader) (chunk : List ℕ) (fault : FramesFault) (r0 r1 r2 w0 w1 w2 : Option (List ℕ)) → Ran start r0 r1 p w0 w1 → Consumes r1 r2 chunk → Halts p chunk fault w1 w2
-    → IfSome r0 (λ input. Stops start input r2 fault w0 w2)
+pub ran_halts : (start : Destination) (p : FrameReader) (chunk : List ℕ) (fault : FramesFault) (r0 r1 r2 w0 w1 w2 : Option (List ℕ)) → Ran start r0 r1 p w0 w1 → Consumes r1 r2 chunk → HaltsInPiece p chunk fault w1 w2
+    → IfSome r0 (λ input. FramesStop start input r2 fault w0 w2)
 ran_halts start p chunk fault r0 r1 r2 w0 w1 w2 ran more q = by_input r0 r2 (Consumes-trans r0 r1 r2 ran.consumed chunk ran.consumes more)
   where
-    by_input : (r0 r2 : Option (List ℕ)) → Consumes r0 r2 (ran.consumed ++ chunk) → IfSome r0 (λ input. Stops start input r2 fault w0 w2)
+    by_input : (r0 r2 : Option (List ℕ)) → Consumes r0 r2 (ran.consumed ++ chunk) → IfSome r0 (λ input. FramesStop start input r2 fault w0 w2)
     by_input None r2 c = tt
     by_input (Some x) None c = absurd c
     by_input (Some x) (Some y) c = halts_from start p x ran.consumed chunk y ran.frames fault (Some y) w0 w1 w2 c ran.taken ran.appends q
@@ -134,7 +134,7 @@ ran_finished (Ok refused) start p q r0 r1 r2 w0 w1 w2 ran last e c same =
     subst (λ (n : ℕ). IfSome r0 (λ input. IsWhole start input n w0 w2)) (sym same) (ends_whole start p q r0 r1 r2 w0 w1 w2 ran last e c)
 
 ends_by : (start : Destination) (p q : FrameReader) (fault : FramesFault) (r0 r1 r2 w0 w1 w2 : Option (List ℕ)) → Ran start r0 r1 p w0 w1 → Consumes r1 r2 [] → IsAtEnd r2 → EndsBy p fault q w1 w2
-    → IfSome r0 (λ input. Stops start input r2 fault w0 w2)
+    → IfSome r0 (λ input. FramesStop start input r2 fault w0 w2)
 ends_by start p q (faults.Stream fault) r0 r1 r2 w0 w1 w2 ran last e c = ran_halts start p [] (faults.Stream fault) r0 r1 r2 w0 w1 w2 ran last c
 ends_by start p q faults.Truncated None r1 r2 w0 w1 w2 ran last e c = tt
 ends_by start p q faults.Truncated (Some x) r1 r2 w0 w1 w2 ran last e c =
@@ -145,11 +145,11 @@ ends_by start p q faults.WriteFault r0 r1 r2 w0 w1 w2 ran last e c = ran_halts s
 ends_by start p q faults.NoMemory r0 r1 r2 w0 w1 w2 ran last e c = ran_halts start p [] faults.NoMemory r0 r1 r2 w0 w1 w2 ran last c
 
 pub ran_stopped : {T : Type 0} (result : Result T FramesFault) (start : Destination) (p q : FrameReader) (r0 r1 r2 w0 w1 w2 : Option (List ℕ)) → Ran start r0 r1 p w0 w1 → Consumes r1 r2 [] → IsAtEnd r2
-    → IfErr result (λ fault. EndsBy p fault q w1 w2) → IfErr result (λ fault. IfSome r0 (λ input. Stops start input r2 fault w0 w2))
+    → IfErr result (λ fault. EndsBy p fault q w1 w2) → IfErr result (λ fault. IfSome r0 (λ input. FramesStop start input r2 fault w0 w2))
 ran_stopped (Ok x) start p q r0 r1 r2 w0 w1 w2 ran last e c = tt
 ran_stopped (Err fault) start p q r0 r1 r2 w0 w1 w2 ran last e c = ends_by start p q fault r0 r1 r2 w0 w1 w2 ran last e c
 
 -- nothing was read where memory was refused at once
-pub no_start : (start : Destination) (r w : Option (List ℕ)) → IfSome r (λ input. Stops start input r faults.NoMemory w w)
+pub no_start : (start : Destination) (r w : Option (List ℕ)) → IfSome r (λ input. FramesStop start input r faults.NoMemory w w)
 no_start start None w = tt
 no_start start (Some x) w = record { front = []; rest = x; frames = []; version = None; written = []; whole = refl; spells = spells_none None; lines = refl; appends = Appends-nil w }

@@ -26,18 +26,18 @@ abbrev pub answer_line : Destination → Sent → List ℕ
 answer_line node sent = elim (take_fault node sent.epoch sent.frame) [ None ↦ outcome_line (Ok (frame_effect sent.frame)) | Some reason ↦ refusal_line reason ]
 
 -- the destination after a frame: one that it refuses changes nothing
-abbrev pub after : Destination → Sent → Destination
-after node sent = elim (take_fault node sent.epoch sent.frame) [ None ↦ destination_took node sent.epoch sent.frame | Some reason ↦ node ]
+abbrev pub after_frame : Destination → Sent → Destination
+after_frame node sent = elim (take_fault node sent.epoch sent.frame) [ None ↦ destination_took node sent.epoch sent.frame | Some reason ↦ node ]
 
 -- the destination after frames, taken or refused in turn
-abbrev pub behind : Destination → List Sent → Destination
-behind node [] = node
-behind node (sent ∷ frames) = behind (after node sent) frames
+abbrev pub after_frames : Destination → List Sent → Destination
+after_frames node [] = node
+after_frames node (sent ∷ frames) = after_frames (after_frame node sent) frames
 
 -- the lines of its answers to frames, one for each
 abbrev pub answer_lines : Destination → List Sent → List ℕ
 answer_lines node [] = []
-answer_lines node (sent ∷ frames) = answer_line node sent ++ answer_lines (after node sent) frames
+answer_lines node (sent ∷ frames) = answer_line node sent ++ answer_lines (after_frame node sent) frames
 
 -- how many frames it refuses of one: 1 or 0
 abbrev pub refusals_of : Destination → Sent → ℕ
@@ -46,7 +46,7 @@ refusals_of node sent = elim (take_fault node sent.epoch sent.frame) [ None ↦ 
 -- how many it refuses of frames that it is handed in turn
 abbrev pub refusals : Destination → List Sent → ℕ
 refusals node [] = 0
-refusals node (sent ∷ frames) = refusals_of node sent + refusals (after node sent) frames
+refusals node (sent ∷ frames) = refusals_of node sent + refusals (after_frame node sent) frames
 
 -- a count once `more` is added, where it has 64 bits for the sum
 abbrev pub Adds : ℕ → ℕ → ℕ → Type 0

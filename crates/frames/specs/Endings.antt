@@ -35,15 +35,15 @@ pub record IsAnsweredInPart (start : Destination) (stream more : List ℕ) (befo
   pub appends : Appends before after written
 
 -- reading ends with a fault
-abbrev pub Stops : Destination → (input : List ℕ) → (unread : Option (List ℕ)) → FramesFault → (before after : Option (List ℕ)) → Type 0
+abbrev pub FramesStop : Destination → (input : List ℕ) → (unread : Option (List ℕ)) → FramesFault → (before after : Option (List ℕ)) → Type 0
 -- the fault follows the frames
-Stops start input unread (faults.Stream fault) before after = IsAnswered start input [] (Some fault) before after
+FramesStop start input unread (faults.Stream fault) before after = IsAnswered start input [] (Some fault) before after
 -- less than a frame follows the frames
-Stops start input unread faults.Truncated before after = (held : List ℕ) × (0 < length held) × IsAnswered start input held None before after
+FramesStop start input unread faults.Truncated before after = (held : List ℕ) × (0 < length held) × IsAnswered start input held None before after
 -- all frames that were read were answered
-Stops start input unread faults.ReadFault before after = (read : List ℕ) × (held : List ℕ) × (fault : Option StreamFault)
+FramesStop start input unread faults.ReadFault before after = (read : List ℕ) × (held : List ℕ) × (fault : Option StreamFault)
     × IfSome unread (λ bytes. input ≡ read ++ bytes) × IsAnswered start read held fault before after
 -- a part of the lines was not written
-Stops start input unread faults.WriteFault before after = (more : List ℕ) × (0 < length more) × IsAnsweredInPart start input more before after
+FramesStop start input unread faults.WriteFault before after = (more : List ℕ) × (0 < length more) × IsAnsweredInPart start input more before after
 -- each line was written in full
-Stops start input unread faults.NoMemory before after = IsAnsweredInPart start input [] before after
+FramesStop start input unread faults.NoMemory before after = IsAnsweredInPart start input [] before after

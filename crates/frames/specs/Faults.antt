@@ -5,8 +5,8 @@ use Rattle.frames.specs.declared.fault.FramesFault.{FramesFault}
 use Rattle.frames.specs.declared.fault.FramesFault.TheVariants as faults
 
 -- the fault that ends the stream when its decoder returns one: lack of memory is not a fault of the stream
-abbrev pub fault_of : StreamFault → FramesFault
-fault_of stream.NoMemory = faults.NoMemory
-fault_of stream.BadTag = faults.Stream stream.BadTag
-fault_of stream.BadLength = faults.Stream stream.BadLength
-fault_of stream.BadField = faults.Stream stream.BadField
+abbrev pub frames_fault_of : StreamFault → FramesFault
+frames_fault_of stream.NoMemory = faults.NoMemory
+frames_fault_of stream.BadTag = faults.Stream stream.BadTag
+frames_fault_of stream.BadLength = faults.Stream stream.BadLength
+frames_fault_of stream.BadField = faults.Stream stream.BadField

@@ -13,11 +13,11 @@ use Rattle.frame_decoder.specs.Streams.{Held, Spells}
 use Rattle.frames.specs.declared.fault.FramesFault.{FramesFault}
 use Rattle.frames.specs.declared.fault.FramesFault.TheVariants as faults
 use Rattle.frames.specs.declared.reader.FrameReader.{FrameReader}
-use Rattle.frames.specs.Answers.{answer_lines, behind, refusals, Adds}
+use Rattle.frames.specs.Answers.{answer_lines, after_frames, refusals, Adds}
 
 -- each frame is well formed, so it may be handed to a destination
-abbrev pub AreFrames : List Sent → Type 0
-AreFrames frames = AllByRecursion (λ sent. IsFrame sent.frame) frames
+abbrev pub AreWellFormed : List Sent → Type 0
+AreWellFormed frames = AllByRecursion (λ sent. IsFrame sent.frame) frames
 
 -- the length of the frames' texts in bytes
 abbrev pub texts_len : List Sent → ℕ
@@ -37,7 +37,7 @@ IsCounted decoder held = decoder.fault ≡ None → (held ≡ length decoder.byt
 -- the decoder returned these frames for the piece, they were handed to the destination, and those that it refused were counted
 pub record Passed (old : FrameReader) (piece : List ℕ) (frames : List Sent) (new : FrameReader) : Type 0 where
   pub fed : Fed old.decoder piece (Ok frames) new.decoder
-  pub node : new.taker.destination ≡ behind old.taker.destination frames
+  pub node : new.taker.destination ≡ after_frames old.taker.destination frames
   pub count : Adds old.taker.refused (refusals old.taker.destination frames) new.taker.refused
 
 -- the same, and the lines were gathered
@@ -88,12 +88,12 @@ pub record WritesSome (old : FrameReader) (piece more : List ℕ) (before after 
   pub appends : Appends before after written
 
 -- a fault, and the lines that were written before it
-abbrev pub Halts : FrameReader → (piece : List ℕ) → FramesFault → (before after : Option (List ℕ)) → Type 0
-Halts old piece (faults.Stream fault) before after = AnswersFault old.decoder piece fault × Appends before after []
-Halts old piece faults.Truncated before after = ⊥
-Halts old piece faults.ReadFault before after = ⊥
-Halts old piece faults.WriteFault before after = (more : List ℕ) × (0 < length more) × WritesSome old piece more before after
-Halts old piece faults.NoMemory before after = WritesSome old piece [] before after
+abbrev pub HaltsInPiece : FrameReader → (piece : List ℕ) → FramesFault → (before after : Option (List ℕ)) → Type 0
+HaltsInPiece old piece (faults.Stream fault) before after = AnswersFault old.decoder piece fault × Appends before after []
+HaltsInPiece old piece faults.Truncated before after = ⊥
+HaltsInPiece old piece faults.ReadFault before after = ⊥
+HaltsInPiece old piece faults.WriteFault before after = (more : List ℕ) × (0 < length more) × WritesSome old piece more before after
+HaltsInPiece old piece faults.NoMemory before after = WritesSome old piece [] before after
 
 -- The end of the stream
 
@@ -103,8 +103,8 @@ EndsWhole old new before after = Passes old [] new before after × (new.decoder.
 
 -- the stream ends with a fault: the decoder's, or that less than a frame is held
 abbrev pub EndsBy : FrameReader → FramesFault → FrameReader → (before after : Option (List ℕ)) → Type 0
-EndsBy old (faults.Stream fault) new before after = Halts old [] (faults.Stream fault) before after
+EndsBy old (faults.Stream fault) new before after = HaltsInPiece old [] (faults.Stream fault) before after
 EndsBy old faults.Truncated new before after = Passes old [] new before after × (new.decoder.fault ≡ None → 0 < length new.decoder.bytes)
 EndsBy old faults.ReadFault new before after = ⊥
-EndsBy old faults.WriteFault new before after = Halts old [] faults.WriteFault before after
-EndsBy old faults.NoMemory new before after = Halts old [] faults.NoMemory before after
+EndsBy old faults.WriteFault new before after = HaltsInPiece old [] faults.WriteFault before after
+EndsBy old faults.NoMemory new before after = HaltsInPiece old [] faults.NoMemory before after

@@ -2,7 +2,7 @@
 
 ghost use Rattle.std.specs.Prelude.{◌≡◌};
 ghost use Rattle.frames.specs.declared.fault.FramesFault.TheVariants.{NoMemory as OutOfMemory};
-ghost use Rattle.frames.specs.Faults.{fault_of};
+ghost use Rattle.frames.specs.Faults.{frames_fault_of};
 
 use frame_decoder::StreamFault;
 use mig_base::NoMemory;
@@ -30,7 +30,7 @@ pub enum FramesFault {
 }
 
 impl From<StreamFault> for FramesFault {
-    ghost from_gives = { λ fault e. e ≡ fault_of fault };
+    ghost from_gives = { λ fault e. e ≡ frames_fault_of fault };
 
     fn from(fault: StreamFault) -> FramesFault {
         match fault {

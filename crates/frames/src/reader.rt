@@ -5,7 +5,7 @@ ghost use Rattle.mig_model.specs.Destination.{first_destination};
 ghost use Rattle.frame_decoder.specs.Feeding.{fresh};
 ghost use Rattle.frame_decoder.specs.Streams.{sents};
 ghost use Rattle.frames.specs.declared.fault.FramesFault.TheVariants.{NoMemory as OutOfMemory};
-ghost use Rattle.frames.specs.Parts.{AreFrames, EndsBy, EndsWhole, FedUntil, Gathers, Halts, IsCounted, Passes, texts_len};
+ghost use Rattle.frames.specs.Parts.{AreWellFormed, EndsBy, EndsWhole, FedUntil, Gathers, HaltsInPiece, IsCounted, Passes, texts_len};
 
 use crate::fault::FramesFault;
 use crate::taker::FrameTaker;
@@ -85,7 +85,7 @@ impl FrameReader {
         ensures counted { OnOk result (IsCounted self.new.decoder self.new.held) }
         ensures clean { OnOk result (self.new.taker.output.items ≡ []) }
         ensures fault { IfErr result (λ fault.
-            Halts self.old piece.now fault (W.contents writer.old) (W.contents writer.new)) }
+            HaltsInPiece self.old piece.now fault (W.contents writer.old) (W.contents writer.new)) }
     {
         let fed = self.feed(piece);
         self.taker.write_output(writer)?;

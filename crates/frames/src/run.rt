@@ -3,7 +3,7 @@
 ghost use Rattle.std.specs.Prelude.{◌≡◌, ◌≤◌, [], IfOk, IfErr, IfSome};
 ghost use Rattle.mig_model.specs.Destination.{first_destination};
 ghost use Rattle.frame_decoder.specs.Feeding.{fresh};
-ghost use Rattle.frames.specs.Endings.{IsWhole, Stops};
+ghost use Rattle.frames.specs.Endings.{IsWhole, FramesStop};
 ghost use Rattle.frames.specs.Parts.{IsCounted};
 
 use crate::fault::FramesFault;
@@ -33,7 +33,7 @@ pub fn run_frames<R: Read, W: Write>(
         IsWhole (first_destination cpus) input refused (W.contents writer.old)
         (W.contents writer.new))) }
     ensures fault { IfErr result (λ fault. IfSome (R.remaining reader.old) (λ input.
-        Stops (first_destination cpus) input (R.remaining reader.new) fault (W.contents writer.old)
+        FramesStop (first_destination cpus) input (R.remaining reader.new) fault (W.contents writer.old)
         (W.contents writer.new))) }
 {
     let mut frames = FrameReader::new(alloc, cpus)?;
@@ -54,7 +54,7 @@ fn read_frames<R: Read, W: Write>(
         IsWhole frames.old.taker.destination input refused (W.contents writer.old)
         (W.contents writer.new))) }
     ensures fault { IfErr result (λ fault. IfSome (R.remaining reader.old) (λ input.
-        Stops frames.old.taker.destination input (R.remaining reader.new) fault
+        FramesStop frames.old.taker.destination input (R.remaining reader.new) fault
         (W.contents writer.old) (W.contents writer.new))) }
 {
     let mut buffer = [0u8; PIECE];

@@ -5,11 +5,11 @@ ghost use Rattle.std.specs.Io.KnownBytes.{Appends};
 ghost use Rattle.mig_model.specs.Bounds.{IsFrame};
 ghost use Rattle.mig_model.specs.Destination.{first_destination};
 ghost use Rattle.page_stream.specs.Frames.{frame_of};
-ghost use Rattle.frame_decoder.specs.Streams.{sent_of, sents};
+ghost use Rattle.frame_decoder.specs.Streams.{decoded_sent, sents};
 ghost use Rattle.engine.specs.Engine.{Front};
 ghost use Rattle.frames.specs.declared.fault.FramesFault.TheVariants.{WriteFault, NoMemory as OutOfMemory};
-ghost use Rattle.frames.specs.Answers.{after, answer_line, answer_lines, behind, refusals, refusals_of, Adds};
-ghost use Rattle.frames.specs.Parts.{AreFrames, TakesSome};
+ghost use Rattle.frames.specs.Answers.{after_frame, answer_line, answer_lines, after_frames, refusals, refusals_of, Adds};
+ghost use Rattle.frames.specs.Parts.{AreWellFormed, TakesSome};
 
 use crate::fault::FramesFault;
 use crate::print::print_refusal;
@@ -30,11 +30,11 @@ fn answer(
 ) -> Result<bool, NoMemory>
     requires { IsFrame (frame_of frame) }
     ensures taken { IfOk result (λ taken.
-        refusals_of destination.old (sent_of (epoch, frame)) ≡ cond taken 0 1) }
+        refusals_of destination.old (decoded_sent (epoch, frame)) ≡ cond taken 0 1) }
     ensures destination { OnOk result (destination.new ≡
-        after destination.old (sent_of (epoch, frame))) }
+        after_frame destination.old (decoded_sent (epoch, frame))) }
     ensures line { OnOk result (string_bytes line.new ≡
-        answer_line destination.old (sent_of (epoch, frame))) }
+        answer_line destination.old (decoded_sent (epoch, frame))) }
 {
     line.clear();
     let effect = frame.effect();
@@ -93,11 +93,11 @@ impl FrameTaker {
     fn take(&mut self, epoch: u32, frame: Frame) -> Result<(), NoMemory>
         requires { IsFrame (frame_of frame) }
         ensures destination { OnOk result (self.new.destination ≡
-            after self.old.destination (sent_of (epoch, frame))) }
+            after_frame self.old.destination (decoded_sent (epoch, frame))) }
         ensures line { OnOk result (self.new.output.items ≡
-            self.old.output.items ++ answer_line self.old.destination (sent_of (epoch, frame))) }
+            self.old.output.items ++ answer_line self.old.destination (decoded_sent (epoch, frame))) }
         ensures count { OnOk result
-            (Adds self.old.refused (refusals_of self.old.destination (sent_of (epoch, frame)))
+            (Adds self.old.refused (refusals_of self.old.destination (decoded_sent (epoch, frame)))
             self.new.refused) }
         ensures err { OnErr result (self.new.output.items ≡ self.old.output.items) }
     {
@@ -109,9 +109,9 @@ impl FrameTaker {
 
     /// Hands over frames in turn, and gathers the lines of the answers. `NoMemory` leaves the lines of the frames before it.
     pub(crate) fn take_all(&mut self, frames: Vec<(u32, Frame)>) -> Result<(), NoMemory>
-        requires { AreFrames (sents frames.items) }
+        requires { AreWellFormed (sents frames.items) }
         ensures destination { OnOk result (self.new.destination ≡
-            behind self.old.destination (sents frames.items)) }
+            after_frames self.old.destination (sents frames.items)) }
         ensures lines { OnOk result (self.new.output.items ≡
             self.old.output.items ++ answer_lines self.old.destination (sents frames.items)) }
         ensures count { OnOk result

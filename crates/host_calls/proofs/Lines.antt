@@ -20,7 +20,7 @@ use Rattle.engine.proofs.RawLines.{ended_line, last_line}
 use Rattle.engine.proofs.Transcripts.{run_promised}
 use Rattle.host_calls.specs.declared.stepper.Stepper.{Stepper}
 use Rattle.host_calls.specs.Parts.{Takes, Refuses}
-use Rattle.host_calls.specs.Stepped.{IsLine, IsWrong, MakesAny as Steps, Runs, Writes}
+use Rattle.host_calls.specs.Stepped.{IsLine, IsWrong, MakesAnyCalls as Steps, RunsCalls, WritesCalls}
 
 -- One line
 
@@ -37,7 +37,7 @@ refuses_line old number front text len ended fault e h = h
 record Ran (bytes : List ℕ) (old new : World) (text : List ℕ) : Type 0 where
   pub lines : List Line
   pub reads : Reads Script bytes lines []
-  pub runs : Runs old lines new text
+  pub runs : RunsCalls old lines new text
 
 ran_all : (old : Stepper) (n : ℕ) (raws : List (List ℕ)) (last : List ℕ) (new : Stepper) (text : List ℕ) → TakesAll Takes old n raws last new text → Ran (joined raws ++ last) old.world new.world text
 ran_all old n [] last new text p = elim p [
@@ -66,21 +66,21 @@ plain_line : (old : World) (step : Option Step) (new : World) (text : List ℕ) 
 plain_line old (Some step) new text made = (outcome_line made.0, (made.0, made.1, refl))
 plain_line old None new text told = (text, told)
 
-plain_run : (old : World) (lines : List Line) (new : World) (text : List ℕ) → Runs old lines new text → (plain : List ℕ) × Printed Lines old lines new plain
+plain_run : (old : World) (lines : List Line) (new : World) (text : List ℕ) → RunsCalls old lines new text → (plain : List ℕ) × Printed Lines old lines new plain
 plain_run old [] new text p = ([], (p.0, refl))
-plain_run old (Skipped ∷ lines) new text p = plain_run old lines new p.2 (subst (λ (w : World). Runs w lines new p.2) p.3.0 p.5)
+plain_run old (Skipped ∷ lines) new text p = plain_run old lines new p.2 (subst (λ (w : World). RunsCalls w lines new p.2) p.3.0 p.5)
 plain_run old (Do order ∷ lines) new text p =
     let line = plain_line old (step_of order (epoch_in old)) p.0 p.1 p.3 in
     let rest = plain_run p.0 lines new p.2 p.5 in
     (line.0 ++ rest.0, (p.0, line.0, rest.0, line.1, refl, rest.1))
 plain_run old (Enter entry ∷ lines) new text p = absurd p.3
 
-writes : (cpus : ℕ) (start end : Stepper) (input : List ℕ) (before after : Option (List ℕ)) → start.world ≡ first_world cpus → Finishes Takes start input end [] before after → Writes (first_world cpus) input before after
+writes : (cpus : ℕ) (start end : Stepper) (input : List ℕ) (before after : Option (List ℕ)) → start.world ≡ first_world cpus → Finishes Takes start input end [] before after → WritesCalls (first_world cpus) input before after
 writes cpus start end input before after is f =
     let t = f.1 in
     let ran = ran_all start 1 t.raws f.0 t.end (t.written ++ []) t.all in
-    let runs : Runs (first_world cpus) ran.lines t.end.world t.written =
-    subst (λ (w : World). Runs w ran.lines t.end.world t.written) is (subst (λ (o : List ℕ). Runs start.world ran.lines t.end.world o) (append-nil t.written) ran.runs) in
+    let runs : RunsCalls (first_world cpus) ran.lines t.end.world t.written =
+    subst (λ (w : World). RunsCalls w ran.lines t.end.world t.written) is (subst (λ (o : List ℕ). RunsCalls start.world ran.lines t.end.world o) (append-nil t.written) ran.runs) in
     let plain = plain_run (first_world cpus) ran.lines t.end.world t.written runs in
     record {
       lines = ran.lines;
@@ -91,7 +91,7 @@ writes cpus start end input before after is f =
     }
 
 pub run_written : {T E : Type 0} (result : Result T E) (cpus : ℕ) (start end : Stepper) (input before after : Option (List ℕ)) → start.world ≡ first_world cpus
-    → OnOk result (IfSome input (λ bytes. Finishes Takes start bytes end [] before after)) → OnOk result (IfSome input (λ bytes. Writes (first_world cpus) bytes before after))
+    → OnOk result (IfSome input (λ bytes. Finishes Takes start bytes end [] before after)) → OnOk result (IfSome input (λ bytes. WritesCalls (first_world cpus) bytes before after))
 run_written (Err x) cpus start end input before after is p = tt
 run_written (Ok x) cpus start end None before after is p = tt
 run_written (Ok x) cpus start end (Some bytes) before after is p = writes cpus start end bytes before after is p

@@ -18,7 +18,7 @@ use Rattle.mig_base.proofs.SetLemmas.{member_run}
 use Rattle.mig_model.specs.Destination.{Destination, copy_came, destination_act, destination_act_by, destination_acted_by, destination_took, install_by, received_of, resumed_by}
 use Rattle.mig_model.specs.Guest.{Act, Guest, is_present}
 use Rattle.mig_model.specs.Guest.Act.{Unprotected, Zeroed, Woke, Forgot, Requested}
-use Rattle.mig_model.specs.Handlers.{AreAccepted, AreRegistered, IsCopy, registered_in_turn}
+use Rattle.mig_model.specs.Handlers.{MayRegister, AreRegistered, IsCopy, registered_in_turn}
 use Rattle.mig_model.specs.Invariant.{IsSoundWorld}
 use Rattle.mig_model.specs.Ioctls.{event_features, handshaken, registered}
 use Rattle.mig_model.specs.Migration.{World, guest_by, next, outcome}
@@ -50,7 +50,7 @@ accepted result effect is = grind (arith, nat_tests)
 -- Start and Round
 
 -- calls that register areas in turn
-areas_made : (bytes : List ℕ) (areas : List Area) (mode : ℕ) (guest : Guest) → AreAccepted guest.space (runs_in areas) mode → AreMade bytes (registers areas mode) guest (record guest { space = registered_in_turn guest.space (runs_in areas) mode })
+areas_made : (bytes : List ℕ) (areas : List Area) (mode : ℕ) (guest : Guest) → MayRegister guest.space (runs_in areas) mode → AreMade bytes (registers areas mode) guest (record guest { space = registered_in_turn guest.space (runs_in areas) mode })
 areas_made bytes [] mode guest are = refl
 areas_made bytes (area ∷ areas) mode guest are =
     let mid : Guest = record guest { space = registered guest.space (4096 * area.first) (4096 * area.count) mode } in

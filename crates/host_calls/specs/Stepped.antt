@@ -22,27 +22,27 @@ unfoldable pub step_lines : Step → Outcome → World → List ℕ
 step_lines step outcome new = outcome_line outcome ++ call_lines (node_of step) (calls_by step outcome new)
 
 -- a step's effect on a world, and its output
-abbrev pub Makes : World → Step → World → List ℕ → Type 0
-Makes old step new text = (outcome : Outcome) × Answered old step outcome new × (text ≡ step_lines step outcome new)
+abbrev pub MakesCalls : World → Step → World → List ℕ → Type 0
+MakesCalls old step new text = (outcome : Outcome) × Answered old step outcome new × (text ≡ step_lines step outcome new)
 
 -- the same for the step of an order; an order for progress has none, and changes nothing
-abbrev pub MakesAny : World → Option Step → World → List ℕ → Type 0
-MakesAny old (Some step) new text = Makes old step new text
-MakesAny old None new text = (new ≡ old) × (text ≡ progress_line (progress_in old))
+abbrev pub MakesAnyCalls : World → Option Step → World → List ℕ → Type 0
+MakesAnyCalls old (Some step) new text = MakesCalls old step new text
+MakesAnyCalls old None new text = (new ≡ old) × (text ≡ progress_line (progress_in old))
 
 -- an order's effect on a world, and its output
-abbrev pub Obeys : World → Order → World → List ℕ → Type 0
-Obeys old order new text = MakesAny old (step_of order (epoch_in old)) new text
+abbrev pub ObeysCalls : World → Order → World → List ℕ → Type 0
+ObeysCalls old order new text = MakesAnyCalls old (step_of order (epoch_in old)) new text
 
 -- a line's effect on a world, and its output
-abbrev pub Does : World → Line → World → List ℕ → Type 0
-Does old Skipped new text = (new ≡ old) × (text ≡ [])
-Does old (Do order) new text = Obeys old order new text
-Does old (Enter entry) new text = ⊥
+abbrev pub DoesCalls : World → Line → World → List ℕ → Type 0
+DoesCalls old Skipped new text = (new ≡ old) × (text ≡ [])
+DoesCalls old (Do order) new text = ObeysCalls old order new text
+DoesCalls old (Enter entry) new text = ⊥
 
 -- a text spells a line of a script, which has this effect and this output
 abbrev pub IsLine : World → List ℕ → World → List ℕ → Type 0
-IsLine old text new out = (line : Line) × Spells Script text line × Does old line new out
+IsLine old text new out = (line : Line) × Spells Script text line × DoesCalls old line new out
 
 -- a text spells no line of a script
 abbrev pub IsWrong : List ℕ → Type 0
@@ -51,14 +51,14 @@ IsWrong text = (line : Line) → Spells Script text line → ⊥
 -- Runs
 
 -- these lines lead from one state to the other, with this output
-abbrev pub Runs : World → List Line → World → List ℕ → Type 0
-Runs old [] new text = (new ≡ old) × (text ≡ [])
-Runs old (line ∷ lines) new text = (mid : World) × (out : List ℕ) × (more : List ℕ) × Does old line mid out × (text ≡ out ++ more) × Runs mid lines new more
+abbrev pub RunsCalls : World → List Line → World → List ℕ → Type 0
+RunsCalls old [] new text = (new ≡ old) × (text ≡ [])
+RunsCalls old (line ∷ lines) new text = (mid : World) × (out : List ℕ) × (more : List ℕ) × DoesCalls old line mid out × (text ≡ out ++ more) × RunsCalls mid lines new more
 
 -- the lines are run from this state, with this output, and the promises hold for the last state
-abbrev pub Prints : World → List Line → List ℕ → Type 0
-Prints start lines text = (end : World) × Runs start lines end text × Headline end
+abbrev pub PrintsCalls : World → List Line → List ℕ → Type 0
+PrintsCalls start lines text = (end : World) × RunsCalls start lines end text × Headline end
 
 -- a run of a script reads the whole input, and writes its output
-abbrev pub Writes : World → List ℕ → Option (List ℕ) → Option (List ℕ) → Type 0
-Writes start input before after = Finishes Script (Prints start) input before after
+abbrev pub WritesCalls : World → List ℕ → Option (List ℕ) → Option (List ℕ) → Type 0
+WritesCalls start input before after = Finishes Script (PrintsCalls start) input before after

@@ -2,7 +2,7 @@
 
 ghost use Rattle.std.specs.Prelude.{◌≤◌, OnOk, IfSome};
 ghost use Rattle.mig_model.specs.Migration.{first_world};
-ghost use Rattle.host_calls.specs.Stepped.{Writes};
+ghost use Rattle.host_calls.specs.Stepped.{WritesCalls};
 
 use crate::stepper::Stepper;
 use engine::RunFault;
@@ -25,7 +25,7 @@ pub fn run_steps<R: Read, W: Write>(
     requires low { 1 ≤ cpus }
     requires high { cpus ≤ 16 }
     ensures { OnOk result (IfSome (R.remaining reader.old) (λ input.
-        Writes (first_world cpus) input (W.contents writer.old) (W.contents writer.new))) }
+        WritesCalls (first_world cpus) input (W.contents writer.old) (W.contents writer.new))) }
 {
     let mut stepper = Stepper::new(alloc, cpus)?;
     read_lines(alloc, reader, writer, &mut stepper)

@@ -6,7 +6,7 @@ ghost use Rattle.engine.specs.Lines.{LineFault};
 ghost use Rattle.mig_model.specs.Migration.{first_world};
 ghost use Rattle.host_calls.specs.Texts.{call_line, call_lines};
 ghost use Rattle.host_calls.specs.Calls.{IsWithin};
-ghost use Rattle.host_calls.specs.Stepped.{Makes, Obeys, IsLine, IsWrong, step_lines};
+ghost use Rattle.host_calls.specs.Stepped.{MakesCalls, ObeysCalls, IsLine, IsWrong, step_lines};
 ghost use Rattle.host_calls.specs.Parts.{Takes, Refuses};
 
 use crate::call::Call;
@@ -92,7 +92,7 @@ impl Stepper {
     fn make_step(&mut self, step: Step) -> Result<(), RunFault>
         requires { string_bytes self.old.printed ≡ [] }
         ensures ok { OnOk result
-            (Makes self.old.world step self.new.world (string_bytes self.new.printed)) }
+            (MakesCalls self.old.world step self.new.world (string_bytes self.new.printed)) }
         ensures fault { IfErr result (λ fault. fault ≡ OutOfMemory) }
     {
         self.world.headline();
@@ -113,7 +113,7 @@ impl Stepper {
     fn obey(&mut self, order: Order) -> Result<(), RunFault>
         requires { string_bytes self.old.printed ≡ [] }
         ensures ok { OnOk result
-            (Obeys self.old.world order self.new.world (string_bytes self.new.printed)) }
+            (ObeysCalls self.old.world order self.new.world (string_bytes self.new.printed)) }
         ensures fault { IfErr result (λ fault. fault ≡ OutOfMemory) }
     {
         match order.step(self.world.epoch()) {

@@ -27,7 +27,7 @@ use Rattle.mig_model.proofs.memory.CommandLemmas.{memory-changed}
 use Rattle.mig_model.proofs.memory.SpaceLemmas.{IsSoundSpace-accessed, IsSoundSpace-called, no_member}
 use Rattle.mig_model.proofs.owed.SourceCalls.{untold}
 use Rattle.uffd_ioctl.specs.Spaces as spaces
-use Rattle.hosts.specs.Spaces.{IsUnwatched, needs_room}
+use Rattle.hosts.specs.Spaces.{IsUnwatched, host_needs_room}
 
 -- Accesses
 
@@ -189,7 +189,7 @@ made_missing true false h = absurd (false≢true h)
 made_missing false true h = absurd (false≢true h)
 made_missing false false h = absurd (false≢true h)
 
-answered_needs : (space : Space) (command : Command) → is_access command ≡ true → spaces.needs_room_by (Answered (reply_of (memory space.host) command)) space command ≡ true → needs_room space.host command ≡ true
+answered_needs : (space : Space) (command : Command) → is_access command ≡ true → spaces.needs_room_by (Answered (reply_of (memory space.host) command)) space command ≡ true → host_needs_room space.host command ≡ true
 answered_needs space (Load addr width) access h = absurd (no_store (is_made (reply_of (memory space.host) (Load addr width))) (not (contains_key space.host.bytes (page_of (Load addr width)))) h)
 answered_needs space (Store addr width value) access h =
     made_missing (is_made (reply_of (memory space.host) (Store addr width value))) (not (contains_key space.host.bytes (page_of (Store addr width value)))) h
@@ -203,16 +203,16 @@ at_err : {A E P : Type 0} (r : Result A E) → P → OnErr r P
 at_err (Ok a) p = tt
 at_err (Err e) p = p
 
-pub access_needs : {A E : Type 0} (r : Result A E) (space : Space) (host : Host) (command : Command) → space.host ≡ host → is_access command ≡ true → IsUnwatched space → spaces.needs_room space command ≡ true → OnErr r (needs_room host command ≡ true)
+pub access_needs : {A E : Type 0} (r : Result A E) (space : Space) (host : Host) (command : Command) → space.host ≡ host → is_access command ≡ true → IsUnwatched space → spaces.needs_room space command ≡ true → OnErr r (host_needs_room host command ≡ true)
 access_needs r space host command view access unwatched h =
     at_err r (
-    sym (ap (λ k. needs_room k command) view) ∙ answered_needs space command access (sym (ap (λ a. spaces.needs_room_by a space command) (access_unwatched space command unwatched)) ∙ h))
+    sym (ap (λ k. host_needs_room k command) view) ∙ answered_needs space command access (sym (ap (λ a. spaces.needs_room_by a space command) (access_unwatched space command unwatched)) ∙ h))
 
 none_queued : (space : Space) (command : Command) → IsUnwatched space → queued_by space command ≡ 0
 none_queued space command unwatched =
     ap (λ o. length (call_messages o command (reply_of (memory space.host) command))) unwatched.object ∙ ap length (messages_fresh command (reply_of (memory space.host) command))
 
-map_call_needs : (space : Space) (command : Command) → is_access command ≡ false → IsUnwatched space → spaces.call_needs_room space command ≡ true → needs_room space.host command ≡ true
+map_call_needs : (space : Space) (command : Command) → is_access command ≡ false → IsUnwatched space → spaces.call_needs_room space command ≡ true → host_needs_room space.host command ≡ true
 map_call_needs space (Load addr width) call unwatched h = absurd (false≢true (sym call))
 map_call_needs space (Store addr width value) call unwatched h = absurd (false≢true (sym call))
 map_call_needs space (Mmap len prot place) call unwatched h = h
@@ -220,5 +220,5 @@ map_call_needs space (Munmap addr len) call unwatched h = h
 map_call_needs space (Mremap addr old_len new_len may_move fixed) call unwatched h = h
 map_call_needs space (DontNeed addr len) call unwatched h = absurd (false≢true (sym (ap (ltb 0) (none_queued space (DontNeed addr len) unwatched)) ∙ h))
 
-pub call_needs : {A E : Type 0} (r : Result A E) (space : Space) (host : Host) (command : Command) → space.host ≡ host → is_access command ≡ false → IsUnwatched space → spaces.call_needs_room space command ≡ true → OnErr r (needs_room host command ≡ true)
-call_needs r space host command view call unwatched h = at_err r (sym (ap (λ k. needs_room k command) view) ∙ map_call_needs space command call unwatched h)
+pub call_needs : {A E : Type 0} (r : Result A E) (space : Space) (host : Host) (command : Command) → space.host ≡ host → is_access command ≡ false → IsUnwatched space → spaces.call_needs_room space command ≡ true → OnErr r (host_needs_room host command ≡ true)
+call_needs r space host command view call unwatched h = at_err r (sym (ap (λ k. host_needs_room k command) view) ∙ map_call_needs space command call unwatched h)

@@ -19,9 +19,9 @@ pub record IsUnwatched (space : Space) : Type 0 where
 
 -- whether a command needs memory: a store that is made, for a page that is not present, and mmap, munmap or mremap that is not refused,
 -- for the mapping
-abbrev pub needs_room : Host → Command → Bool
-needs_room host (Load addr width) = false
-needs_room host (Store addr width value) =
+abbrev pub host_needs_room : Host → Command → Bool
+host_needs_room host (Load addr width) = false
+host_needs_room host (Store addr width value) =
     is_made (reply_of (memory host) (Store addr width value)) && not (contains_key host.bytes (page_of (Store addr width value)))
-needs_room host (DontNeed addr len) = false
-needs_room host command = not (is_refused (reply_of (memory host) command))
+host_needs_room host (DontNeed addr len) = false
+host_needs_room host command = not (is_refused (reply_of (memory host) command))

@@ -4,7 +4,7 @@ ghost use Rattle.std.specs.Prelude.{◌≡◌, true, IfOk, OnOk, OnErr};
 ghost use Rattle.mig_base.specs.Flat.{reply_of, after};
 ghost use Rattle.mig_model.specs.Host.{bare_host, memory, host_after};
 ghost use Rattle.mig_base.specs.Commands.{is_access as is_load_or_store};
-ghost use Rattle.hosts.specs.Spaces.{needs_room};
+ghost use Rattle.hosts.specs.Spaces.{host_needs_room};
 
 use mig_base::{Access, Command, NoMemory, Reply};
 use std::alloc::Global;
@@ -48,7 +48,7 @@ impl Host {
         ensures reply { IfOk result (λ reply. reply ≡ reply_of (memory self.old) command) }
         ensures memory { OnOk result (memory self.new ≡ after (memory self.old) command) }
         ensures host { OnOk result (self.new ≡ host_after self.old command) }
-        ensures needs { OnErr result (needs_room self.old command ≡ true) }
+        ensures needs { OnErr result (host_needs_room self.old command ≡ true) }
         ensures err { OnErr result (self.new ≡ self.old) }
     {
         // No page is registered: no access sleeps, and no message names a processor.

@@ -10,7 +10,7 @@ use Rattle.grammar.specs.Lines.{HasNoFeed}
 use Rattle.engine.specs.Lines.{raw_line, TakesAll, joined, Taken, Finishes, Stops as Breaks}
 use Rattle.engine.proofs.RawLines.{ended_line, ended_wrong, last_line, last_wrong}
 use Rattle.lint.specs.declared.linter.Linter.{Linter}
-use Rattle.lint.specs.Listing.{ListsLine, Lists, ListsAll, ListsWithin, Stops}
+use Rattle.lint.specs.Listing.{ListsLine, Lists, ListsAll, ListsWithin, ListingStops}
 use Rattle.lint.specs.Parts.{ListsRaw, Takes}
 
 -- One line
@@ -110,7 +110,7 @@ within l name start input last more held unread before after fresh t read =
     }
 
 pub lists_stopped : (l : Language) (name : List ℕ) (start : Linter) (input unread before after : Option (List ℕ)) (fault : RunFault) → IsNew l name start
-    → IfSome input (λ bytes. Breaks Takes (λ _ _ _. ⊥) start bytes unread fault before after) → IfSome input (λ bytes. Stops l name bytes unread fault before after)
+    → IfSome input (λ bytes. Breaks Takes (λ _ _ _. ⊥) start bytes unread fault before after) → IfSome input (λ bytes. ListingStops l name bytes unread fault before after)
 lists_stopped l name start None unread before after fault fresh s = tt
 lists_stopped l name start (Some x) unread before after (faults.Line n) fresh s = s.2.1.wrong
 lists_stopped l name start (Some x) unread before after faults.ReadFault fresh s = (s.0, s.1, within l name start x [] [] s.0 unread before after fresh s.2 s.3)

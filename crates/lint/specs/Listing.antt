@@ -48,12 +48,12 @@ pub record ListsWithin (language : Language) (name input : List ℕ) (unread : O
   pub appends : Appends before after written
 
 -- how a listing ends with a fault
-abbrev pub Stops : Language → List ℕ → List ℕ → Option (List ℕ) → RunFault → Option (List ℕ) → Option (List ℕ) → Type 0
+abbrev pub ListingStops : Language → List ℕ → List ℕ → Option (List ℕ) → RunFault → Option (List ℕ) → Option (List ℕ) → Type 0
 -- a wrong line ends none
-Stops language name input unread (faults.Line n) before after = ⊥
+ListingStops language name input unread (faults.Line n) before after = ⊥
 -- each line that was read to its line feed was listed
-Stops language name input unread faults.ReadFault before after = (held : List ℕ) × HasNoFeed held × ListsWithin language name input unread held [] before after
+ListingStops language name input unread faults.ReadFault before after = (held : List ℕ) × HasNoFeed held × ListsWithin language name input unread held [] before after
 -- a part of the listing is missing
-Stops language name input unread faults.WriteFault before after = (held : List ℕ) × (more : List ℕ) × (0 < length more) × ListsWithin language name input unread held more before after
+ListingStops language name input unread faults.WriteFault before after = (held : List ℕ) × (more : List ℕ) × (0 < length more) × ListsWithin language name input unread held more before after
 -- the listing of some lines from the first on was written
-Stops language name input unread faults.NoMemory before after = (held : List ℕ) × ListsWithin language name input unread held [] before after
+ListingStops language name input unread faults.NoMemory before after = (held : List ℕ) × ListsWithin language name input unread held [] before after

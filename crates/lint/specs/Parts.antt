@@ -7,12 +7,12 @@ use Rattle.lint.specs.declared.linter.Linter.{Linter}
 use Rattle.lint.specs.Listing.{IsListed}
 
 -- the line is one of the language
-abbrev pub IsRight : Language → RawLine → Type 0
-IsRight language raw = (line : Line) × SpellsRaw language raw line
+abbrev pub IsOfLanguage : Language → RawLine → Type 0
+IsOfLanguage language raw = (line : Line) × SpellsRaw language raw line
 
 -- what is listed of a line
 abbrev pub ListsRaw : Language → List ℕ → ℕ → RawLine → List ℕ → Type 0
-ListsRaw language name number raw text = (IsRight language raw × (text ≡ [])) ⊎ ((IsRight language raw → ⊥) × IsListed name number text)
+ListsRaw language name number raw text = (IsOfLanguage language raw × (text ≡ [])) ⊎ ((IsOfLanguage language raw → ⊥) × IsListed name number text)
 
 -- the line was listed, if it is wrong
 pub record Takes (old : Linter) (number : ℕ) (raw : RawLine) (new : Linter) (text : List ℕ) : Type 0 where

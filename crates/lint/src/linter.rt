@@ -4,7 +4,7 @@ ghost use Rattle.std.specs.Prelude.{◌≡◌, true, OnOk, IfOk, IfNone, IfSome}
 ghost use Rattle.grammar.specs.Lines.{HasNoFeed};
 ghost use Rattle.engine.specs.Lines.{held_line};
 ghost use Rattle.lint.specs.Listing.{IsListed};
-ghost use Rattle.lint.specs.Parts.{IsRight, Takes};
+ghost use Rattle.lint.specs.Parts.{IsOfLanguage, Takes};
 
 use crate::reason::{Reason, reason_of};
 use engine::RunFault;
@@ -35,9 +35,9 @@ fn wrong_in<'a>(
     ended: bool,
 ) -> Result<Option<Reason<'a>>, NoMemory>
     ensures right { IfOk result (λ found.
-        IfNone found (IsRight language (held_line front.now len ended))) }
+        IfNone found (IsOfLanguage language (held_line front.now len ended))) }
     ensures wrong { IfOk result (λ found.
-        IfSome found (λ reason. IsRight language (held_line front.now len ended) → ⊥)) }
+        IfSome found (λ reason. IsOfLanguage language (held_line front.now len ended) → ⊥)) }
 {
     if len > MAX_LINE as u64 {
         return Ok(Some(Reason::too_long(len)));

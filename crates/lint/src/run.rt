@@ -1,7 +1,7 @@
 //! Reading a script or a transcript from a reader, and writing the listing of its wrong lines to a writer.
 
 ghost use Rattle.std.specs.Prelude.{◌≡◌, IfOk, IfErr, IfSome};
-ghost use Rattle.lint.specs.Listing.{ListsAll, Stops};
+ghost use Rattle.lint.specs.Listing.{ListsAll, ListingStops};
 
 use crate::linter::Linter;
 use engine::RunFault;
@@ -28,7 +28,7 @@ pub fn lint_lines<R: Read, W: Write>(
     ensures ok { IfOk result (λ answer. IfSome (R.remaining reader.old) (λ input.
         ListsAll language name.now input answer (W.contents writer.old) (W.contents writer.new))) }
     ensures fault { IfErr result (λ fault. IfSome (R.remaining reader.old) (λ input.
-        Stops language name.now input (R.remaining reader.new) fault (W.contents writer.old)
+        ListingStops language name.now input (R.remaining reader.new) fault (W.contents writer.old)
         (W.contents writer.new))) }
 {
     let mut linter = Linter::new(alloc, name, language);

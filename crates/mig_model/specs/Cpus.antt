@@ -110,13 +110,13 @@ abbrev pub idle_answer : List CpuState → ℕ → Result (Unit {0}) Refusal
 idle_answer processors k = answer_by idle_by processors k
 
 -- only a processor that was woken retries its command
-abbrev pub woken_by : CpuState → Result Command Refusal
-woken_by CpuState.Idle = Err Refusal.NotAsleep
-woken_by (CpuState.Asleep command) = Err Refusal.NotWoken
-woken_by (CpuState.Woken command) = Ok command
-woken_by (CpuState.InCall reply left) = Err Refusal.NotAsleep
+abbrev pub woken_command : CpuState → Result Command Refusal
+woken_command CpuState.Idle = Err Refusal.NotAsleep
+woken_command (CpuState.Asleep command) = Err Refusal.NotWoken
+woken_command (CpuState.Woken command) = Ok command
+woken_command (CpuState.InCall reply left) = Err Refusal.NotAsleep
 
 -- the command that processor k retries: refused as NoCpu if there is no such processor, NotAsleep if it is idle or in a map call,
 -- NotWoken while it sleeps
 abbrev pub woken_answer : List CpuState → ℕ → Result Command Refusal
-woken_answer processors k = answer_by woken_by processors k
+woken_answer processors k = answer_by woken_command processors k

@@ -64,10 +64,10 @@ pub record AreRunsOf (areas : FinMap nat_cmp Prot) (runs : List Run) : Type 0 wh
   pub pages : (page : ℕ) → in_runs runs page ≡ contains_key areas page
 
 -- UFFDIO_REGISTER of the runs in turn, in this mode: none of the calls is refused
-abbrev pub AreAccepted : Space → List Run → ℕ → Type 0
-AreAccepted space [] bits = Unit {0}
-AreAccepted space (run ∷ runs) bits =
-    (register_error space (PAGE_SIZE * run.first) (PAGE_SIZE * run.count) bits ≡ None) × AreAccepted (registered space (PAGE_SIZE * run.first) (PAGE_SIZE * run.count) bits) runs bits
+abbrev pub MayRegister : Space → List Run → ℕ → Type 0
+MayRegister space [] bits = Unit {0}
+MayRegister space (run ∷ runs) bits =
+    (register_error space (PAGE_SIZE * run.first) (PAGE_SIZE * run.count) bits ≡ None) × MayRegister (registered space (PAGE_SIZE * run.first) (PAGE_SIZE * run.count) bits) runs bits
 
 -- the space after these calls
 abbrev pub registered_in_turn : Space → List Run → ℕ → Space
@@ -76,7 +76,7 @@ registered_in_turn space (run ∷ runs) bits = registered_in_turn (registered sp
 
 -- UFFDIO_REGISTER of the runs leads from one space to the other
 pub record AreRegistered (old new : Space) (runs : List Run) (bits : ℕ) : Type 0 where
-  pub accepted : AreAccepted old runs bits
+  pub accepted : MayRegister old runs bits
   pub leaves : new ≡ registered_in_turn old runs bits
 
 -- UFFDIO_API on the fresh object of a space with these pages, and then UFFDIO_REGISTER of the runs, lead to a space

@@ -33,18 +33,18 @@ use Rattle.mig_model.specs.Destination.{Destination, settled}
 -- Unread events
 
 -- whether an event is of whole pages, and a move between ranges that lie apart, to one that lies in the address space
-abbrev pub IsRight : Message → Type 0
-IsRight (Remap from to len) =
+abbrev pub IsWholeEvent : Message → Type 0
+IsWholeEvent (Remap from to len) =
     (from % PAGE_SIZE ≡ 0) × (to % PAGE_SIZE ≡ 0) × (len % PAGE_SIZE ≡ 0) × (to / PAGE_SIZE + len / PAGE_SIZE ≤ HIGH_PAGE)
     × ((from / PAGE_SIZE + len / PAGE_SIZE ≤ to / PAGE_SIZE) ⊎ (to / PAGE_SIZE + len / PAGE_SIZE ≤ from / PAGE_SIZE))
-IsRight (Remove start end) = (start % PAGE_SIZE ≡ 0) × (end % PAGE_SIZE ≡ 0)
-IsRight (Unmap start end) = (start % PAGE_SIZE ≡ 0) × (end % PAGE_SIZE ≡ 0)
-IsRight (PageFault addr write wp tid) = ⊥
+IsWholeEvent (Remove start end) = (start % PAGE_SIZE ≡ 0) × (end % PAGE_SIZE ≡ 0)
+IsWholeEvent (Unmap start end) = (start % PAGE_SIZE ≡ 0) × (end % PAGE_SIZE ≡ 0)
+IsWholeEvent (PageFault addr write wp tid) = ⊥
 
 -- each of these unread events is such an event
-abbrev pub AreRight : List Noted → Type 0
-AreRight [] = Unit {0}
-AreRight (noted ∷ events) = IsRight noted.message × AreRight events
+abbrev pub AreWholeEvents : List Noted → Type 0
+AreWholeEvents [] = Unit {0}
+AreWholeEvents (noted ∷ events) = IsWholeEvent noted.message × AreWholeEvents events
 
 -- What is in flight
 
@@ -192,8 +192,8 @@ pub record AreSoundSpaces (source destination : Space) : Type 0 where
   pub unprotected : (page : ℕ) → contains destination.protected page ≡ false
   pub only_missing : (page : ℕ) → contains destination.object.protect page ≡ false
   -- unread events are of whole pages, and moves are between ranges that lie apart
-  pub source_events : AreRight source.object.events
-  pub destination_events : AreRight destination.object.events
+  pub source_events : AreWholeEvents source.object.events
+  pub destination_events : AreWholeEvents destination.object.events
   -- the queue of page faults holds page faults alone: an event that was read from it would change the owed table before its turn
   pub destination_faults : AreFaults destination.object.faults
 

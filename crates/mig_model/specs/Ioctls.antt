@@ -21,10 +21,10 @@ use Rattle.mig_base.specs.Userfault.{Object, Mode, enabled_with, has_modes, is_r
 use Rattle.mig_model.specs.Space.{Space}
 
 -- whether two pages are mapped with one protection
-abbrev pub same_prot : Option Prot → Option Prot → Bool
-same_prot (Some prot) (Some other) = prot_number prot == prot_number other
-same_prot (Some prot) None = false
-same_prot None other = false
+abbrev pub same_protection : Option Prot → Option Prot → Bool
+same_protection (Some prot) (Some other) = prot_number prot == prot_number other
+same_protection (Some prot) None = false
+same_protection None other = false
 
 -- the answer of a call: its error if there is one, else the value
 abbrev pub answered_by : {A : Type 0} → Option Errno → A → Result A Errno
@@ -148,7 +148,7 @@ wake_answer space start len = answered_by (first_holding ((not space.object.enab
 -- whether two pages have one protection and one mode
 abbrev pub same_area : Space → ℕ → ℕ → Bool
 same_area space page other =
-    same_prot (get space.host.areas page) (get space.host.areas other)
+    same_protection (get space.host.areas page) (get space.host.areas other)
     && same_bool (contains space.object.missing page) (contains space.object.missing other)
     && same_bool (contains space.object.protect page) (contains space.object.protect other)
 
@@ -225,15 +225,15 @@ abbrev pub refused_put : Errno → Put
 refused_put errno = record { bytes = 0; fault = Some errno; wake = Nobody }
 
 -- the answer of a call: by the error found before any page is put, else by the pages that were put
-abbrev pub put_by : Option Errno → Put → Put
-put_by None put = put
-put_by (Some errno) put = refused_put errno
+abbrev pub answer_put : Option Errno → Put → Put
+answer_put None put = put
+answer_put (Some errno) put = refused_put errno
 
 -- what UFFDIO_COPY of a buffer answers: it puts the pages before the first that is present, where it stops with EEXIST, or EAGAIN if it
 -- has put any
 abbrev pub copy_answer : Space → ℕ → List ℕ → ℕ → Put
 copy_answer space start bytes bits =
-    put_by (copy_error space start (length bytes) bits)
+    answer_put (copy_error space start (length bytes) bits)
     (put_answer start (length bytes / PAGE_SIZE) (missing_run space (start / PAGE_SIZE) (length bytes / PAGE_SIZE)) bits Eexist)
 
 -- the space after UFFDIO_COPY: those pages are present with the bytes of the buffer, write-protected in the mode WP
@@ -245,7 +245,7 @@ copied space start bytes bits =
 -- what UFFDIO_ZEROPAGE of a range of bytes answers: it stops where UFFDIO_COPY does
 abbrev pub zeropage_answer : Space → ℕ → ℕ → ℕ → Put
 zeropage_answer space start len bits =
-    put_by (zeropage_error space start len bits)
+    answer_put (zeropage_error space start len bits)
     (put_answer start (len / PAGE_SIZE) (missing_run space (start / PAGE_SIZE) (len / PAGE_SIZE)) bits Eexist)
 
 -- the space after UFFDIO_ZEROPAGE: those pages are present and zeros

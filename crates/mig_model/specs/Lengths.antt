@@ -9,7 +9,7 @@ use Rattle.mig_base.specs.declared.TheConstants.{PAGE_SIZE, HIGH_PAGE}
 use Rattle.mig_base.specs.declared.command.Command.{Command}
 use Rattle.mig_base.specs.declared.command.Command.TheVariants.{Load, Store}
 use Rattle.mig_base.specs.Ranges.{count_below}
-use Rattle.mig_model.specs.Ioctls.{same_prot}
+use Rattle.mig_model.specs.Ioctls.{same_protection}
 use Rattle.mig_model.specs.Wire.{Frame}
 use Rattle.mig_model.specs.Wire.Frame.{Advise, Page, Zero, Run, Discard, Package, End, Resume, Request, Recv, Done}
 
@@ -19,7 +19,7 @@ begins_run pages page = contains pages page && not (nat_lt 0 page && contains pa
 
 -- whether an area begins at a page: it is mapped, and the page before it does not have its protection
 abbrev pub begins_area : FinMap nat_cmp Prot → ℕ → Bool
-begins_area areas page = contains_key areas page && not (nat_lt 0 page && same_prot (get areas page) (get areas (page - 1)))
+begins_area areas page = contains_key areas page && not (nat_lt 0 page && same_protection (get areas page) (get areas (page - 1)))
 
 -- how many runs of neighbours the pages of a set make
 unfoldable pub run_count : FinSet nat_cmp → ℕ

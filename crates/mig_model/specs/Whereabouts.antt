@@ -72,9 +72,9 @@ kept_by kept [] = kept
 kept_by kept (sent ∷ rest) = if is_package sent.frame then kept else kept_by (kept_after kept sent.frame) rest
 
 -- the frames after the Package
-abbrev pub behind : List Sent → List Sent
-behind [] = []
-behind (sent ∷ rest) = if is_package sent.frame then rest else behind rest
+abbrev pub after_package : List Sent → List Sent
+after_package [] = []
+after_package (sent ∷ rest) = if is_package sent.frame then rest else after_package rest
 
 -- the Package in flight, if any
 abbrev pub package_in : List Sent → Option Frame
@@ -113,8 +113,8 @@ pub record IsSwitching (source : Source) (kept : FinMap nat_cmp (List ℕ)) (for
   -- when it is taken, exactly the source's present pages that it does not owe are kept, with their bytes
   pub kept_rest : (page : ℕ) → get (kept_by kept forward) page ≡ (if contains owed page then None else get (space_of source).host.bytes page)
   -- what it owes is still to be pushed, on the urgent wire, or after it
-  pub whereabouts : (page : ℕ) → contains owed page ≡ true → (is_urgent_or_left source.remaining urgent page || has_copy (copies_of (behind forward)) page) ≡ true
-  pub faithful : AreFaithful (space_of source).host.bytes (copies_of (behind forward))
+  pub whereabouts : (page : ℕ) → contains owed page ≡ true → (is_urgent_or_left source.remaining urgent page || has_copy (copies_of (after_package forward)) page) ≡ true
+  pub faithful : AreFaithful (space_of source).host.bytes (copies_of (after_package forward))
 
 -- the first frame of a wire back is a Recv of this state. It lists at least the pages that the destination still needs, and all of them
 -- are present at the source; requests come after it

@@ -13,7 +13,7 @@ use Rattle.mig_base.specs.declared.TheConstants.{HIGH_PAGE}
 use Rattle.mig_base.specs.Ranges.{in_range, count_below}
 use Rattle.mig_base.proofs.PageLemmas.{same_pages, get-map_below, count_below-contains_key}
 use Rattle.mig_base.proofs.PlaceLemmas.{place_inside}
-use Rattle.owed_pages.specs.Tables.{Place, number_at, moved_number}
+use Rattle.owed_pages.specs.Tables.{Place, page_number, moved_number}
 use Rattle.owed_pages.specs.Owed.{pairs_of, AreLinks}
 use Rattle.owed_pages.proofs.TableLemmas.{past_places, place_of_number}
 
@@ -22,18 +22,18 @@ use Rattle.owed_pages.proofs.TableLemmas.{past_places, place_of_number}
 within : (q : ℕ) (o : Option ℕ) → (HIGH_PAGE ≤ q → o ≡ None) → cond (ltb q HIGH_PAGE) o None ≡ o
 within q o h = grind (arith, nat_tests)
 
-pub get-pairs_of : (forth : List Place) (q : ℕ) → length forth ≤ 1024 → get (pairs_of forth) q ≡ number_at forth q
+pub get-pairs_of : (forth : List Place) (q : ℕ) → length forth ≤ 1024 → get (pairs_of forth) q ≡ page_number forth q
 unfolding pairs_of
-get-pairs_of forth q few = get-map_below (number_at forth) HIGH_PAGE q ∙ within q (number_at forth q) (λ h. past_places forth q (omega arith))
+get-pairs_of forth q few = get-map_below (page_number forth) HIGH_PAGE q ∙ within q (page_number forth q) (λ h. past_places forth q (omega arith))
 
-pub pairs_of-is : (forth : List Place) (target : FinMap nat_cmp ℕ) → length forth ≤ 1024 → ((q : ℕ) → number_at forth q ≡ get target q) → pairs_of forth ≡ target
+pub pairs_of-is : (forth : List Place) (target : FinMap nat_cmp ℕ) → length forth ≤ 1024 → ((q : ℕ) → page_number forth q ≡ get target q) → pairs_of forth ≡ target
 pairs_of-is forth target few h = same_pages (pairs_of forth) target (λ q. get-pairs_of forth q few ∙ h q)
 
-pub none_past : (forth : List Place) (q : ℕ) → length forth ≤ 1024 → HIGH_PAGE ≤ q → number_at forth q ≡ None
+pub none_past : (forth : List Place) (q : ℕ) → length forth ≤ 1024 → HIGH_PAGE ≤ q → page_number forth q ≡ None
 none_past forth q few h = past_places forth q (omega arith)
 
 -- a page with a number lies below the end
-pub number_below : (places : List Place) (q number : ℕ) → length places ≤ 1024 → number_at places q ≡ Some number → q < HIGH_PAGE
+pub number_below : (places : List Place) (q number : ℕ) → length places ≤ 1024 → page_number places q ≡ Some number → q < HIGH_PAGE
 number_below places q number few h =
     let inside : q / 1024 < length places = place_inside places q (place_of_number places q number h) in
     omega arith
@@ -47,11 +47,11 @@ few_pairs forth few =
     let most : count_below (λ q. contains_key (pairs_of forth) q) HIGH_PAGE ≤ HIGH_PAGE = count_below-few (λ q. contains_key (pairs_of forth) q) HIGH_PAGE in
     omega (arith, counted, most)
 
-pub unlinked_map : (old new : List Place) (page : ℕ) → length old ≤ 1024 → length new ≤ 1024 → ((q : ℕ) → number_at new q ≡ cond (eqb q page) None (number_at old q)) → pairs_of new ≡ remove (pairs_of old) page
+pub unlinked_map : (old new : List Place) (page : ℕ) → length old ≤ 1024 → length new ≤ 1024 → ((q : ℕ) → page_number new q ≡ cond (eqb q page) None (page_number old q)) → pairs_of new ≡ remove (pairs_of old) page
 unlinked_map old new page few still h = pairs_of-is new (remove (pairs_of old) page) still
     (λ q. h q ∙ ap (λ o. cond (eqb q page) None o) (sym (get-pairs_of old q few)) ∙ ap (λ b. cond b None (get (pairs_of old) q)) (sym (unsigned_tied q page)) ∙ sym (get-remove nat_cmp_total (pairs_of old) page q))
 
-pub linked_map : (old new : List Place) (page origin : ℕ) → length old ≤ 1024 → length new ≤ 1024 → ((q : ℕ) → number_at new q ≡ cond (eqb q page) (Some origin) (number_at old q)) → pairs_of new ≡ insert (pairs_of old) page origin
+pub linked_map : (old new : List Place) (page origin : ℕ) → length old ≤ 1024 → length new ≤ 1024 → ((q : ℕ) → page_number new q ≡ cond (eqb q page) (Some origin) (page_number old q)) → pairs_of new ≡ insert (pairs_of old) page origin
 linked_map old new page origin few still h = pairs_of-is new (insert (pairs_of old) page origin) still
     (λ q. h q ∙ ap (λ o. cond (eqb q page) (Some origin) o) (sym (get-pairs_of old q few)) ∙ ap (λ b. cond b (Some origin) (get (pairs_of old) q)) (sym (unsigned_tied q page)) ∙ sym (get-insert nat_cmp_total (pairs_of old) page origin q))
 
@@ -95,15 +95,15 @@ no_pairs forth back none none_back = record {
   counted = ap len (pairs_of-is forth empty (omega arith) (λ q. past_places forth q (omega arith) ∙ sym (get-empty nat_cmp q))) ∙ len-empty nat_cmp ℕ;
 }
 
-has_one : (forth : List Place) (page origin : ℕ) → length forth ≤ 1024 → number_at forth page ≡ Some origin → contains_key (pairs_of forth) page ≡ true
+has_one : (forth : List Place) (page origin : ℕ) → length forth ≤ 1024 → page_number forth page ≡ Some origin → contains_key (pairs_of forth) page ≡ true
 has_one forth page origin few h = ap is_some (get-pairs_of forth page few ∙ h)
 
-has_none : (forth : List Place) (page : ℕ) → length forth ≤ 1024 → number_at forth page ≡ None → contains_key (pairs_of forth) page ≡ false
+has_none : (forth : List Place) (page : ℕ) → length forth ≤ 1024 → page_number forth page ≡ None → contains_key (pairs_of forth) page ≡ false
 has_none forth page few h = ap is_some (get-pairs_of forth page few ∙ h)
 
 -- one pair taken out
-pub unlinked : (forth back after after_back : List Place) (count page origin : ℕ) → AreLinks forth back count → number_at forth page ≡ Some origin → length after ≡ length forth → length after_back ≡ length back
-    → ((q : ℕ) → number_at after q ≡ cond (eqb q page) None (number_at forth q)) → ((s : ℕ) → number_at after_back s ≡ cond (eqb s origin) None (number_at back s))
+pub unlinked : (forth back after after_back : List Place) (count page origin : ℕ) → AreLinks forth back count → page_number forth page ≡ Some origin → length after ≡ length forth → length after_back ≡ length back
+    → ((q : ℕ) → page_number after q ≡ cond (eqb q page) None (page_number forth q)) → ((s : ℕ) → page_number after_back s ≡ cond (eqb s origin) None (page_number back s))
     → (len (pairs_of after) ≡ len (pairs_of forth) - 1) × AreLinks after after_back (count - 1)
 unlinked forth back after after_back count page origin links here size size_back is_after is_back =
     let few = links.few in
@@ -116,16 +116,16 @@ unlinked forth back after after_back count page origin links here size size_back
         few = still;
         few_back = still_back;
         agree = λ p s. (
-          cut_answers (number_at forth) (number_at back) (number_at after) (number_at after_back) page origin is_after is_back ((links.agree page origin).0 here) (λ p s. (links.agree p s).0) p s,
-          cut_answers (number_at back) (number_at forth) (number_at after_back) (number_at after) origin page is_back is_after here (λ s p. (links.agree p s).1) s p,
+          cut_answers (page_number forth) (page_number back) (page_number after) (page_number after_back) page origin is_after is_back ((links.agree page origin).0 here) (λ p s. (links.agree p s).0) p s,
+          cut_answers (page_number back) (page_number forth) (page_number after_back) (page_number after) origin page is_back is_after here (λ s p. (links.agree p s).1) s p,
         );
         counted = less ∙ ap (λ n. n - 1) links.counted;
       },
     )
 
 -- one pair put in
-pub linked : (forth back after after_back : List Place) (count page origin : ℕ) → AreLinks forth back count → number_at forth page ≡ None → number_at back origin ≡ None → length after ≡ length forth → length after_back ≡ length back
-    → ((q : ℕ) → number_at after q ≡ cond (eqb q page) (Some origin) (number_at forth q)) → ((s : ℕ) → number_at after_back s ≡ cond (eqb s origin) (Some page) (number_at back s))
+pub linked : (forth back after after_back : List Place) (count page origin : ℕ) → AreLinks forth back count → page_number forth page ≡ None → page_number back origin ≡ None → length after ≡ length forth → length after_back ≡ length back
+    → ((q : ℕ) → page_number after q ≡ cond (eqb q page) (Some origin) (page_number forth q)) → ((s : ℕ) → page_number after_back s ≡ cond (eqb s origin) (Some page) (page_number back s))
     → AreLinks after after_back (count + 1)
 linked forth back after after_back count page origin links free free_back size size_back is_after is_back =
     let few = links.few in
@@ -136,15 +136,15 @@ linked forth back after after_back count page origin links free free_back size s
       few = still;
       few_back = still_back;
       agree = λ p s. (
-        joined_answers (number_at forth) (number_at back) (number_at after) (number_at after_back) page origin is_after is_back free_back (λ p s. (links.agree p s).0) p s,
-        joined_answers (number_at back) (number_at forth) (number_at after_back) (number_at after) origin page is_back is_after free (λ s p. (links.agree p s).1) s p,
+        joined_answers (page_number forth) (page_number back) (page_number after) (page_number after_back) page origin is_after is_back free_back (λ p s. (links.agree p s).0) p s,
+        joined_answers (page_number back) (page_number forth) (page_number after_back) (page_number after) origin page is_back is_after free (λ s p. (links.agree p s).1) s p,
       );
       counted = ap len (linked_map forth after page origin few still is_after) ∙ len-insert nat_cmp_total (pairs_of forth) page origin
           ∙ ap (λ b. cond b (len (pairs_of forth)) (len (pairs_of forth) + 1)) (has_none forth page few free) ∙ ap (λ n. n + 1) links.counted;
     }
 
 -- a page that has a pair is counted
-pub some_pair : (forth back : List Place) (count page origin : ℕ) → AreLinks forth back count → number_at forth page ≡ Some origin → 1 ≤ count
+pub some_pair : (forth back : List Place) (count page origin : ℕ) → AreLinks forth back count → page_number forth page ≡ Some origin → 1 ≤ count
 some_pair forth back count page origin links here =
     ⊎_elim
     (λ (none : count < 1). none_some origin (sym (ap (λ m. get m page) (empty_of_len (pairs_of forth) (links.counted ∙ omega arith)) ∙ get-empty nat_cmp page) ∙ get-pairs_of forth page links.few ∙ here))
@@ -152,7 +152,7 @@ some_pair forth back count page origin links here =
     (cases_lt count 1)
 
 -- the same pairs in other tables
-pub same_links : (forth back after after_back : List Place) (count : ℕ) → AreLinks forth back count → length after ≤ 1024 → length after_back ≤ 1024 → ((q : ℕ) → number_at after q ≡ number_at forth q) → ((s : ℕ) → number_at after_back s ≡ number_at back s) → AreLinks after after_back count
+pub same_links : (forth back after after_back : List Place) (count : ℕ) → AreLinks forth back count → length after ≤ 1024 → length after_back ≤ 1024 → ((q : ℕ) → page_number after q ≡ page_number forth q) → ((s : ℕ) → page_number after_back s ≡ page_number back s) → AreLinks after after_back count
 same_links forth back after after_back count links few few_back is_after is_back = record {
   few = few;
   few_back = few_back;
@@ -161,15 +161,15 @@ same_links forth back after after_back count links few few_back is_after is_back
 }
 
 -- a page whose origin is in hand is the only one of that origin
-pub own_free : (forth back : List Place) (count page : ℕ) → AreLinks forth back count → ((q : ℕ) → number_at forth q ≡ Some page → q ≡ page) → number_at forth page ≡ None → number_at back page ≡ None
+pub own_free : (forth back : List Place) (count page : ℕ) → AreLinks forth back count → ((q : ℕ) → page_number forth q ≡ Some page → q ≡ page) → page_number forth page ≡ None → page_number back page ≡ None
 own_free forth back count page links own free =
-    by_case (number_at back page) refl
+    by_case (page_number back page) refl
   where
-    by_case : (o : Option ℕ) → number_at back page ≡ o → number_at back page ≡ None
+    by_case : (o : Option ℕ) → page_number back page ≡ o → page_number back page ≡ None
     by_case None e = e
     by_case (Some q) e =
-        let there : number_at forth q ≡ Some page = (links.agree q page).1 e in
-        none_some page (sym (ap (number_at forth) (own q there) ∙ free) ∙ there)
+        let there : page_number forth q ≡ Some page = (links.agree q page).1 e in
+        none_some page (sym (ap (page_number forth) (own q there) ∙ free) ∙ there)
 
 -- Ranges taken out
 

@@ -4,50 +4,50 @@ use mathlib.Core.Logic.{dite}
 use native.Mathlib.Decide.{ℕ_discrete}
 use Rattle.std.proofs.lemmas.Bool.{eq-eqb, ne_eqb, cases_lt}
 use Rattle.std.proofs.lemmas.List.{get_or_append_left, get_or-append_right}
-use Rattle.owed_pages.specs.Tables.{Place, number_in, number_at, is_place, has_place}
+use Rattle.owed_pages.specs.Tables.{Place, number_in, page_number, is_place, has_place}
 use Rattle.mig_base.proofs.PlaceLemmas.{said_at, said_here, said_past, said_same, said-push, said-put}
 
 abbrev pub Places : Type 0
 Places = List Place
 
 -- a page, by its table
-pub at_place : (places : Places) (q at : ℕ) → q / 1024 ≡ at → number_in (get_or places at None) (q % 1024) ≡ number_at places q
-unfolding number_at
+pub at_place : (places : Places) (q at : ℕ) → q / 1024 ≡ at → number_in (get_or places at None) (q % 1024) ≡ page_number places q
+unfolding page_number
 at_place places q at e = said_at number_in places q at e
 
-pub at_own_place : (places : Places) (place : Place) (q : ℕ) → q / 1024 < length places → place ≡ get_or places (q / 1024) place → number_in place (q % 1024) ≡ number_at places q
-unfolding number_at
+pub at_own_place : (places : Places) (place : Place) (q : ℕ) → q / 1024 < length places → place ≡ get_or places (q / 1024) place → number_in place (q % 1024) ≡ page_number places q
+unfolding page_number
 at_own_place places place q inside h = said_here number_in places place q inside h
 
-pub past_places : (places : Places) (q : ℕ) → length places ≤ q / 1024 → number_at places q ≡ None
-unfolding number_at
+pub past_places : (places : Places) (q : ℕ) → length places ≤ q / 1024 → page_number places q ≡ None
+unfolding page_number
 past_places places q h = said_past number_in places q h
 
 -- a table with the same cells
-pub numbers_stay : (places : Places) (at : ℕ) (place : Place) → at < length places → ((i : ℕ) → number_in place i ≡ number_in (get_or places at None) i) → (q : ℕ) → number_at (set places at place) q ≡ number_at places q
-unfolding number_at
+pub numbers_stay : (places : Places) (at : ℕ) (place : Place) → at < length places → ((i : ℕ) → number_in place i ≡ number_in (get_or places at None) i) → (q : ℕ) → page_number (set places at place) q ≡ page_number places q
+unfolding page_number
 numbers_stay places at place inside h q = said_same number_in places at place inside h q
 
-pub number_at-push : (places : Places) (q : ℕ) → number_at (places ++ None ∷ []) q ≡ number_at places q
-unfolding number_at
+pub number_at-push : (places : Places) (q : ℕ) → page_number (places ++ None ∷ []) q ≡ page_number places q
+unfolding page_number
 number_at-push places q = said-push number_in places q
 
 -- one page changed
-pub one_number : (places : Places) (page : ℕ) (place : Place) (number : Option ℕ) → page / 1024 < length places → ((i : ℕ) → number_in place i ≡ cond (eqb i (page % 1024)) number (number_in (get_or places (page / 1024) None) i)) → (q : ℕ) → number_at (set places (page / 1024) place) q ≡ cond (eqb q page) number (number_at places q)
-unfolding number_at
+pub one_number : (places : Places) (page : ℕ) (place : Place) (number : Option ℕ) → page / 1024 < length places → ((i : ℕ) → number_in place i ≡ cond (eqb i (page % 1024)) number (number_in (get_or places (page / 1024) None) i)) → (q : ℕ) → page_number (set places (page / 1024) place) q ≡ cond (eqb q page) number (page_number places q)
+unfolding page_number
 one_number places page place number inside h q = said-put number_in places page place number inside h q
 
-pub gone_already : (places : Places) (page q : ℕ) → number_at places page ≡ None → number_at places q ≡ cond (eqb q page) None (number_at places q)
+pub gone_already : (places : Places) (page q : ℕ) → page_number places page ≡ None → page_number places q ≡ cond (eqb q page) None (page_number places q)
 gone_already places page q h =
     dite (ℕ_discrete q page)
-    (λ e. rw (eq-eqb q page e) (ap (number_at places) e ∙ h))
+    (λ e. rw (eq-eqb q page e) (ap (page_number places) e ∙ h))
     (λ n. rw (ne_eqb q page n) refl)
 
 -- leaves that are made
 
 -- a page with a number has a leaf
-pub place_of_number : (places : Places) (page number : ℕ) → number_at places page ≡ Some number → has_place places page ≡ true
-unfolding number_at has_place
+pub place_of_number : (places : Places) (page number : ℕ) → page_number places page ≡ Some number → has_place places page ≡ true
+unfolding page_number has_place
 place_of_number places page number h = in_place (get_or places (page / 1024) None) h
   where
     in_place : (place : Place) → number_in place (page % 1024) ≡ Some number → is_place place ≡ true
@@ -55,8 +55,8 @@ place_of_number places page number h = in_place (get_or places (page / 1024) Non
     in_place (Some leaf) h = refl
 
 -- a page with no leaf has no number
-pub none_without_place : (places : Places) (page : ℕ) → has_place places page ≡ false → number_at places page ≡ None
-unfolding number_at has_place
+pub none_without_place : (places : Places) (page : ℕ) → has_place places page ≡ false → page_number places page ≡ None
+unfolding page_number has_place
 none_without_place places page h = in_place (get_or places (page / 1024) None) h
   where
     in_place : (place : Place) → is_place place ≡ false → number_in place (page % 1024) ≡ None
@@ -96,7 +96,7 @@ copied_more old copies at place size is here k l i =
     ∙ here i ∙ ap (λ n. number_in (get_or old n None) i) (sym e))
     (cases_lt k (length copies))
 
-pub copied_all : (old copies : Places) → length copies ≡ length old → IsCopied old copies (length old) → (q : ℕ) → number_at copies q ≡ number_at old q
+pub copied_all : (old copies : Places) → length copies ≡ length old → IsCopied old copies (length old) → (q : ℕ) → page_number copies q ≡ page_number old q
 copied_all old copies size is q =
     ⊎_elim
     (λ (below : q / 1024 < length old). sym (at_place copies q (q / 1024) refl) ∙ is (q / 1024) below (q % 1024) ∙ at_place old q (q / 1024) refl)

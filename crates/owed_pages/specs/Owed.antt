@@ -9,17 +9,17 @@ use Rattle.mig_base.specs.Pages.{map_below}
 pub use Rattle.mig_model.specs.Owed.{owes_to, home, origins}
 -- the table in which each page of a set is owed at its own place
 unfoldable pub use Rattle.mig_model.specs.Owed.{own_places}
-use Rattle.owed_pages.specs.Tables.{Place, number_at}
+use Rattle.owed_pages.specs.Tables.{Place, page_number}
 
 -- the map from page to origin that a table shows
 unfoldable pub pairs_of : List Place → FinMap nat_cmp ℕ
-pairs_of forth = map_below (number_at forth) HIGH_PAGE
+pairs_of forth = map_below (page_number forth) HIGH_PAGE
 
 -- the table from pages to origins and the table from origins to pages have the same pairs, `count` of them
 pub record AreLinks (forth back : List Place) (count : ℕ) : Type 0 where
   pub few : length forth ≤ CHUNKS
   pub few_back : length back ≤ CHUNKS
-  pub agree : (page origin : ℕ) → (number_at forth page ≡ Some origin) ↔ (number_at back origin ≡ Some page)
+  pub agree : (page origin : ℕ) → (page_number forth page ≡ Some origin) ↔ (page_number back origin ≡ Some page)
   pub counted : len (pairs_of forth) ≡ count
 
 -- each page of the target range has a leaf if the page that will move there has a number

@@ -19,8 +19,8 @@ number_in None i = None
 number_in (Some leaf) i = slice_index_or leaf.value i None
 
 -- the number of a page
-unfoldable pub number_at : List Place → ℕ → Option ℕ
-number_at places page = number_in (slice_index_or places (page / CHUNK) None) (page % CHUNK)
+unfoldable pub page_number : List Place → ℕ → Option ℕ
+page_number places page = number_in (slice_index_or places (page / CHUNK) None) (page % CHUNK)
 
 -- the numbers after a range moved to another that it does not overlap
 abbrev pub moved_number : (ℕ → Option ℕ) → ℕ → ℕ → ℕ → ℕ → Option ℕ

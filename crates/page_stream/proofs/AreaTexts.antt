@@ -17,7 +17,7 @@ use Rattle.mig_base.specs.Sets.{pages_where, run_length}
 use Rattle.mig_base.proofs.RangeLemmas.{count_below-few}
 use Rattle.mig_base.proofs.SetLemmas.{member_below}
 use Rattle.mig_base.proofs.TestLemmas.{and_false}
-use Rattle.mig_model.specs.Ioctls.{same_prot}
+use Rattle.mig_model.specs.Ioctls.{same_protection}
 use Rattle.mig_model.proofs.memory.IoctlLemmas.{same_prot-self}
 use Rattle.mig_model.specs.Lengths.{area_count, begins_area}
 use Rattle.frame_texts.specs.Texts.{area_at, areas_of, list_below}
@@ -87,7 +87,7 @@ area_is : (value : FinMap nat_cmp Prot) (a : Area) → IsAreaOf (λ q. get value
 area_is value a is =
     let some = is.some in
     let high = is.high in
-    let alike : ℕ → Bool = λ page. same_prot (get value a.first) (get value page) in
+    let alike : ℕ → Bool = λ page. same_protection (get value a.first) (get value page) in
     let here = is.within a.first (omega arith) (omega (arith, some)) in
     let inside : (q : ℕ) → a.first ≤ q → q < a.first + a.count → contains (pages_where alike) q ≡ true =
     λ q l m. let below : ltb q HIGH_PAGE ≡ true = lt-ltb q HIGH_PAGE (omega (arith, m, high)) in let there = is.within q l m in member_below alike HIGH_PAGE q ∙ rw (below, here, there) (same_prot-self a.prot) in

@@ -14,7 +14,7 @@ use Rattle.mig_base.specs.declared.TheConstants.{HIGH_PAGE}
 use Rattle.mig_base.specs.Ranges.{count_below}
 use Rattle.mig_base.proofs.RangeLemmas.{count_below-constant, count_below-same}
 use Rattle.mig_base.proofs.TestLemmas.{eqb-above, eqb-self}
-use Rattle.mig_model.specs.Ioctls.{same_prot}
+use Rattle.mig_model.specs.Ioctls.{same_protection}
 use Rattle.mig_model.proofs.memory.IoctlLemmas.{same_prot-self}
 use Rattle.mig_model.specs.Lengths.{begins_area, area_count}
 
@@ -35,7 +35,7 @@ count_below-one_more p q k (suc n) is out below =
 
 -- whether an area begins at a page, by what each page has
 abbrev pub begins_by : (ℕ → Option Prot) → ℕ → Bool
-begins_by prots q = is_some (prots q) && not (ltb 0 q && same_prot (prots q) (prots (q - 1)))
+begins_by prots q = is_some (prots q) && not (ltb 0 q && same_protection (prots q) (prots (q - 1)))
 
 pub begins_by-same : (prots others : ℕ → Option Prot) (q : ℕ) → prots q ≡ others q → prots (q - 1) ≡ others (q - 1) → begins_by prots q ≡ begins_by others q
 begins_by-same prots others q here before = rw (here, before) refl
@@ -54,7 +54,7 @@ begins_first prots prot q here before = grind (arith, nat_tests)
 begins_next : (prots others : ℕ → Option Prot) (prot : Prot) (q : ℕ) → prots q ≡ others q → prots (q - 1) ≡ Some prot → others (q - 1) ≡ None → (others q ≡ Some prot → ⊥) → begins_by prots q ≡ begins_by others q
 begins_next prots others prot q here before none other = rw (here, before, none) (differ (others q) prot (ltb 0 q) other)
   where
-    differ : (o : Option Prot) (prot : Prot) (b : Bool) → (o ≡ Some prot → ⊥) → (is_some o && not (b && same_prot o (Some prot))) ≡ (is_some o && not (b && same_prot o None))
+    differ : (o : Option Prot) (prot : Prot) (b : Bool) → (o ≡ Some prot → ⊥) → (is_some o && not (b && same_protection o (Some prot))) ≡ (is_some o && not (b && same_protection o None))
     differ None prot b other = refl
     differ (Some p) prot b other = grind (arith, nat_tests)
 

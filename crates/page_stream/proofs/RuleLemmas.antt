@@ -9,18 +9,18 @@ use Rattle.mig_base.specs.declared.command.Command.{Command}
 use Rattle.mig_base.specs.Ranges.{count_below}
 use Rattle.mig_base.proofs.RangeLemmas.{count_below-constant}
 use Rattle.mig_model.specs.Bounds.{ArePageBytes, AreRightAccesses, IsMapping, IsPageBytes}
-use Rattle.page_stream.specs.Rules.{IsRight}
+use Rattle.page_stream.specs.Rules.{IsProperWait}
 
 pub page_bytes_each : (pages : List (List ℕ)) → ((k : ℕ) (d : List ℕ) → k < length pages → IsPageBytes (get_or pages k d)) → ArePageBytes pages
 page_bytes_each [] each = tt
 page_bytes_each (page ∷ pages) each = (each 0 page (omega arith), page_bytes_each pages (λ k d l. each (suc k) d (omega arith)))
 
-pub right_each : (commands : List (Option Command)) → ((k : ℕ) → k < length commands → IsRight (get_or commands k None)) → AreRightAccesses commands
+pub right_each : (commands : List (Option Command)) → ((k : ℕ) → k < length commands → IsProperWait (get_or commands k None)) → AreRightAccesses commands
 right_each [] each = tt
 right_each (None ∷ commands) each = right_each commands (λ k l. each (suc k) (omega arith))
 right_each (Some command ∷ commands) each = (each 0 (omega arith), right_each commands (λ k l. each (suc k) (omega arith)))
 
-pub right_at : (commands : List (Option Command)) (k : ℕ) (d : Option Command) → k < length commands → AreRightAccesses commands → IsRight (get_or commands k d)
+pub right_at : (commands : List (Option Command)) (k : ℕ) (d : Option Command) → k < length commands → AreRightAccesses commands → IsProperWait (get_or commands k d)
 right_at [] k d l are = absurd (omega arith)
 right_at (None ∷ commands) zero d l are = tt
 right_at (Some command ∷ commands) zero d l are = are.0

@@ -9,6 +9,6 @@ abbrev pub IsRunOf : ℕ → List (List ℕ) → Type 0
 IsRunOf first pages = (0 < length pages) × (length pages ≤ MAX_RUN) × (LOW_PAGE ≤ first) × (first + length pages ≤ HIGH_PAGE) × ArePageBytes pages
 
 -- a processor waits for nothing, or for an aligned load or store whose value fits its width
-abbrev pub IsRight : Option Command → Type 0
-IsRight None = Unit {0}
-IsRight (Some command) = IsRightAccess command
+abbrev pub IsProperWait : Option Command → Type 0
+IsProperWait None = Unit {0}
+IsProperWait (Some command) = IsRightAccess command

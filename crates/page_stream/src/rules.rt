@@ -3,7 +3,7 @@
 ghost use Rattle.std.specs.Prelude.{◌↔◌, length, IsTrue};
 ghost use Rattle.mig_model.specs.Bounds.{AreFewPages, ArePages, AreRightAccesses, IsCpuCount, IsFrame, IsMapping, IsPage};
 ghost use Rattle.page_stream.specs.Frames.{frame_of};
-ghost use Rattle.page_stream.specs.Rules.{IsRight, IsRunOf};
+ghost use Rattle.page_stream.specs.Rules.{IsProperWait, IsRunOf};
 
 use crate::frame::Frame;
 use crate::lists::Pages;
@@ -108,7 +108,7 @@ fn are_right(commands: &[Option<Command>]) -> bool
 
 /// Whether a processor waits for nothing, or for a load or store of the right form.
 fn is_right(command: Option<Command>) -> bool
-    ensures { IsTrue result ↔ IsRight command }
+    ensures { IsTrue result ↔ IsProperWait command }
 {
     match command {
         None => true,

@@ -9,7 +9,7 @@ use Rattle.mig_base.proofs.SetLemmas.{member_without}
 use Rattle.mig_base.proofs.PlaceLemmas.{in_this, before_this, not_this}
 use Rattle.mig_base.proofs.TestLemmas.{and_true, and_first}
 use Rattle.page_table.specs.Leaves.{Cell, Place, cell_in, cell_at, opened_cell}
-use Rattle.page_table.specs.Views.{Pages, pages_of, IsTable}
+use Rattle.page_table.specs.Views.{Pages, shown_pages, IsTable}
 use Rattle.page_table.proofs.TableLemmas.{Places, at_place, past_places, cell_at-set}
 use Rattle.page_table.proofs.ViewLemmas.{bytes_by, flags_by, bytes_seen, flag_seen}
 
@@ -42,10 +42,10 @@ opened_past old places first count at same past is = λ q.
 
 -- What is shown
 
-pub opened_bytes : (old new : List Place) (value : Pages) (first count : ℕ) → length old ≤ 1024 → length new ≤ 1024 → pages_of old ≡ value → ((q : ℕ) → cell_at new q ≡ opened_cell (cell_at old q) (in_range first count q)) → (pages_of new).bytes ≡ value.bytes
+pub opened_bytes : (old new : List Place) (value : Pages) (first count : ℕ) → length old ≤ 1024 → length new ≤ 1024 → shown_pages old ≡ value → ((q : ℕ) → cell_at new q ≡ opened_cell (cell_at old q) (in_range first count q)) → (shown_pages new).bytes ≡ value.bytes
 opened_bytes old new value first count few still view h = bytes_by new value.bytes still (λ q. ap (λ x. x.0) (h q) ∙ bytes_seen old value q few view)
 
-pub opened_flags : (old new : List Place) (value : Pages) (first count : ℕ) → length old ≤ 1024 → length new ≤ 1024 → pages_of old ≡ value → ((q : ℕ) → cell_at new q ≡ opened_cell (cell_at old q) (in_range first count q)) → (pages_of new).protected ≡ without value.protected first count
+pub opened_flags : (old new : List Place) (value : Pages) (first count : ℕ) → length old ≤ 1024 → length new ≤ 1024 → shown_pages old ≡ value → ((q : ℕ) → cell_at new q ≡ opened_cell (cell_at old q) (in_range first count q)) → (shown_pages new).protected ≡ without value.protected first count
 opened_flags old new value first count few still view h =
     flags_by new (without value.protected first count) still
     (λ q. ap (λ x. x.1) (h q) ∙ ap (λ b. b && not (in_range first count q)) (flag_seen old value q few view) ∙ sym (member_without value.protected first count q))

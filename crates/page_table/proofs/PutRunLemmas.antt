@@ -8,7 +8,7 @@ use Rattle.mig_base.specs.Ranges.{in_range}
 use Rattle.mig_base.specs.Sets.{without}
 use Rattle.mig_base.proofs.SetLemmas.{member_without}
 use Rattle.page_table.specs.Leaves.{Cell, Place, cell_at, put_cell}
-use Rattle.page_table.specs.Views.{Pages, pages_of}
+use Rattle.page_table.specs.Views.{Pages, shown_pages}
 use Rattle.page_table.proofs.ViewLemmas.{bytes_seen, bytes_shown, flag_seen, flags_by}
 
 -- the last page before the others
@@ -40,12 +40,12 @@ put_second true run (o, false) = refl
 put_second false run (o, true) = refl
 put_second false run (o, false) = refl
 
-pub run_bytes : (old new : List Place) (value : Pages) (first : ℕ) (run : List (List ℕ)) → length old ≤ 1024 → length new ≤ 1024 → pages_of old ≡ value → ((q : ℕ) → cell_at new q ≡ put_cell (cell_at old) first run q) → (q : ℕ) → finmap.get (pages_of new).bytes q ≡ cond (in_range first (length run) q) (Some (get_or run (q - first) [])) (finmap.get value.bytes q)
+pub run_bytes : (old new : List Place) (value : Pages) (first : ℕ) (run : List (List ℕ)) → length old ≤ 1024 → length new ≤ 1024 → shown_pages old ≡ value → ((q : ℕ) → cell_at new q ≡ put_cell (cell_at old) first run q) → (q : ℕ) → finmap.get (shown_pages new).bytes q ≡ cond (in_range first (length run) q) (Some (get_or run (q - first) [])) (finmap.get value.bytes q)
 run_bytes old new value first run few still view h q =
     bytes_shown new q still ∙ ap (λ x. x.0) (h q) ∙ put_first (in_range first (length run) q) (get_or run (q - first) []) (cell_at old q)
     ∙ ap (λ o. cond (in_range first (length run) q) (Some (get_or run (q - first) [])) o) (bytes_seen old value q few view)
 
-pub run_flags : (old new : List Place) (value : Pages) (first : ℕ) (run : List (List ℕ)) → length old ≤ 1024 → length new ≤ 1024 → pages_of old ≡ value → ((q : ℕ) → cell_at new q ≡ put_cell (cell_at old) first run q) → (pages_of new).protected ≡ without value.protected first (length run)
+pub run_flags : (old new : List Place) (value : Pages) (first : ℕ) (run : List (List ℕ)) → length old ≤ 1024 → length new ≤ 1024 → shown_pages old ≡ value → ((q : ℕ) → cell_at new q ≡ put_cell (cell_at old) first run q) → (shown_pages new).protected ≡ without value.protected first (length run)
 run_flags old new value first run few still view h =
     flags_by new (without value.protected first (length run)) still
     (λ q. ap (λ x. x.1) (h q) ∙ put_second (in_range first (length run) q) (get_or run (q - first) []) (cell_at old q) ∙ ap (λ b. b && not (in_range first (length run) q)) (flag_seen old value q few view) ∙ sym (member_without value.protected first (length run) q))

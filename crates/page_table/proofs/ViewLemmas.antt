@@ -19,38 +19,38 @@ use Rattle.std.proofs.Common.{get_or, ◌%◌, ◌*◌}
 use Rattle.page_table.specs.Leaves.{Cell, Place, cell_at, cell_in, is_place, has_place, no_cell, written_cell, moved_cell}
 use Rattle.mig_base.specs.Bytes.{overwrite, page_at}
 use Rattle.mig_base.proofs.TestLemmas.{none_below_zero, all_below, cond_false, cond_true, and_not}
-use Rattle.page_table.specs.Views.{Pages, pages_of, IsTable}
+use Rattle.page_table.specs.Views.{Pages, shown_pages, IsTable}
 use Rattle.page_table.proofs.TableLemmas.{past_places, at_place}
 
 all_bytes : (q : ℕ) (o : Option (List ℕ)) → (HIGH_PAGE ≤ q → o ≡ None) → cond (ltb q HIGH_PAGE) o None ≡ o
 all_bytes q o h = grind (arith, nat_tests)
 
 -- a page's bytes and flag, from what is shown
-pub bytes_shown : (places : List Place) (q : ℕ) → length places ≤ 1024 → map.get (pages_of places).bytes q ≡ (cell_at places q).0
-unfolding pages_of
+pub bytes_shown : (places : List Place) (q : ℕ) → length places ≤ 1024 → map.get (shown_pages places).bytes q ≡ (cell_at places q).0
+unfolding shown_pages
 bytes_shown places q few = get-map_below (λ p. (cell_at places p).0) HIGH_PAGE q ∙ all_bytes q (cell_at places q).0 (λ h. ap (λ x. x.0) (past_places places q (omega arith)))
 
-pub flag_shown : (places : List Place) (q : ℕ) → length places ≤ 1024 → set.contains (pages_of places).protected q ≡ (cell_at places q).1
-unfolding pages_of
+pub flag_shown : (places : List Place) (q : ℕ) → length places ≤ 1024 → set.contains (shown_pages places).protected q ≡ (cell_at places q).1
+unfolding shown_pages
 flag_shown places q few = member_below (λ p. (cell_at places p).1) HIGH_PAGE q ∙ all_below q HIGH_PAGE (cell_at places q).1 (λ h. ap (λ x. x.1) (past_places places q (omega arith)))
 
-pub bytes_seen : (places : List Place) (value : Pages) (q : ℕ) → length places ≤ 1024 → pages_of places ≡ value → (cell_at places q).0 ≡ map.get value.bytes q
+pub bytes_seen : (places : List Place) (value : Pages) (q : ℕ) → length places ≤ 1024 → shown_pages places ≡ value → (cell_at places q).0 ≡ map.get value.bytes q
 bytes_seen places value q few view = sym (bytes_shown places q few) ∙ ap (λ v. map.get v.bytes q) view
 
-pub flag_seen : (places : List Place) (value : Pages) (q : ℕ) → length places ≤ 1024 → pages_of places ≡ value → (cell_at places q).1 ≡ set.contains value.protected q
+pub flag_seen : (places : List Place) (value : Pages) (q : ℕ) → length places ≤ 1024 → shown_pages places ≡ value → (cell_at places q).1 ≡ set.contains value.protected q
 flag_seen places value q few view = sym (flag_shown places q few) ∙ ap (λ v. set.contains v.protected q) view
 
 -- equal cells show equal pages
-pub same_cells_shown : (old new : List Place) (value : Pages) → length old ≤ 1024 → length new ≤ 1024 → pages_of old ≡ value → ((q : ℕ) → cell_at new q ≡ cell_at old q) → pages_of new ≡ value
-unfolding pages_of
+pub same_cells_shown : (old new : List Place) (value : Pages) → length old ≤ 1024 → length new ≤ 1024 → shown_pages old ≡ value → ((q : ℕ) → cell_at new q ≡ cell_at old q) → shown_pages new ≡ value
+unfolding shown_pages
 same_cells_shown old new value few still view h =
     (λ k. record { bytes = map_below (λ q. (h q k).0) HIGH_PAGE; protected = set_below (λ q. (h q k).1) HIGH_PAGE }) ∙ view
 
-pub bytes_by : (places : List Place) (target : map.FinMap nat_cmp (List ℕ)) → length places ≤ 1024 → ((q : ℕ) → (cell_at places q).0 ≡ map.get target q) → (pages_of places).bytes ≡ target
-bytes_by places target few h = same_pages (pages_of places).bytes target (λ q. bytes_shown places q few ∙ h q)
+pub bytes_by : (places : List Place) (target : map.FinMap nat_cmp (List ℕ)) → length places ≤ 1024 → ((q : ℕ) → (cell_at places q).0 ≡ map.get target q) → (shown_pages places).bytes ≡ target
+bytes_by places target few h = same_pages (shown_pages places).bytes target (λ q. bytes_shown places q few ∙ h q)
 
-pub flags_by : (places : List Place) (target : set.FinSet nat_cmp) → length places ≤ 1024 → ((q : ℕ) → (cell_at places q).1 ≡ set.contains target q) → (pages_of places).protected ≡ target
-flags_by places target few h = same_members (pages_of places).protected target (λ q. flag_shown places q few ∙ h q)
+pub flags_by : (places : List Place) (target : set.FinSet nat_cmp) → length places ≤ 1024 → ((q : ℕ) → (cell_at places q).1 ≡ set.contains target q) → (shown_pages places).protected ≡ target
+flags_by places target few h = same_members (shown_pages places).protected target (λ q. flag_shown places q few ∙ h q)
 
 cond_bytes : (b : Bool) (x y : Cell) → (cond b x y).0 ≡ cond b x.0 y.0
 cond_bytes true x y = refl
@@ -61,18 +61,18 @@ cond_flag true x y = refl
 cond_flag false x y = refl
 
 -- a range made missing
-pub dropped_bytes : (old new : List Place) (value : Pages) (first count : ℕ) → length old ≤ 1024 → length new ≤ 1024 → pages_of old ≡ value → ((q : ℕ) → cell_at new q ≡ cond (in_range first count q) no_cell (cell_at old q)) → (pages_of new).bytes ≡ remove_range value.bytes first count
+pub dropped_bytes : (old new : List Place) (value : Pages) (first count : ℕ) → length old ≤ 1024 → length new ≤ 1024 → shown_pages old ≡ value → ((q : ℕ) → cell_at new q ≡ cond (in_range first count q) no_cell (cell_at old q)) → (shown_pages new).bytes ≡ remove_range value.bytes first count
 dropped_bytes old new value first count few still view h =
     bytes_by new (remove_range value.bytes first count) still
     (λ q. ap (λ x. x.0) (h q) ∙ cond_bytes (in_range first count q) no_cell (cell_at old q) ∙ ap (λ o. cond (in_range first count q) None o) (bytes_seen old value q few view) ∙ sym (get-remove_range value.bytes first count q))
 
-pub dropped_flags : (old new : List Place) (value : Pages) (first count : ℕ) → length old ≤ 1024 → length new ≤ 1024 → pages_of old ≡ value → ((q : ℕ) → cell_at new q ≡ cond (in_range first count q) no_cell (cell_at old q)) → (pages_of new).protected ≡ without value.protected first count
+pub dropped_flags : (old new : List Place) (value : Pages) (first count : ℕ) → length old ≤ 1024 → length new ≤ 1024 → shown_pages old ≡ value → ((q : ℕ) → cell_at new q ≡ cond (in_range first count q) no_cell (cell_at old q)) → (shown_pages new).protected ≡ without value.protected first count
 dropped_flags old new value first count few still view h =
     flags_by new (without value.protected first count) still
     (λ q. ap (λ x. x.1) (h q) ∙ cond_flag (in_range first count q) no_cell (cell_at old q) ∙ sym (and_not (cell_at old q).1 (in_range first count q)) ∙ ap (λ b. b && not (in_range first count q)) (flag_seen old value q few view) ∙ sym (member_without value.protected first count q))
 
 -- a page put in
-pub put_bytes : (old new : List Place) (value : Pages) (page : ℕ) (bytes : List ℕ) (flag : Bool) → length old ≤ 1024 → length new ≤ 1024 → pages_of old ≡ value → ((q : ℕ) → cell_at new q ≡ cond (eqb q page) (Some bytes, flag) (cell_at old q)) → (pages_of new).bytes ≡ map.insert value.bytes page bytes
+pub put_bytes : (old new : List Place) (value : Pages) (page : ℕ) (bytes : List ℕ) (flag : Bool) → length old ≤ 1024 → length new ≤ 1024 → shown_pages old ≡ value → ((q : ℕ) → cell_at new q ≡ cond (eqb q page) (Some bytes, flag) (cell_at old q)) → (shown_pages new).bytes ≡ map.insert value.bytes page bytes
 put_bytes old new value page bytes flag few still view h =
     bytes_by new (map.insert value.bytes page bytes) still
     (λ q. ap (λ x. x.0) (h q) ∙ cond_bytes (eqb q page) (Some bytes, flag) (cell_at old q) ∙ ap (λ o. cond (eqb q page) (Some bytes) o) (bytes_seen old value q few view)
@@ -84,7 +84,7 @@ same_flag q page f flag h = dite (ℕ_discrete q page) (λ e. rw (eq-eqb q page 
 same_bytes : (q page : ℕ) (f : ℕ → Option (List ℕ)) (o : Option (List ℕ)) → f page ≡ o → cond (eqb q page) o (f q) ≡ f q
 same_bytes q page f o h = dite (ℕ_discrete q page) (λ e. rw (eq-eqb q page e) (sym h ∙ ap f (sym e))) (λ n. rw (ne_eqb q page n) refl)
 
-pub put_flags : (old new : List Place) (value : Pages) (page : ℕ) (o : Option (List ℕ)) → length old ≤ 1024 → length new ≤ 1024 → pages_of old ≡ value → (cell_at old page).1 ≡ false → ((q : ℕ) → cell_at new q ≡ cond (eqb q page) (o, false) (cell_at old q)) → (pages_of new).protected ≡ value.protected
+pub put_flags : (old new : List Place) (value : Pages) (page : ℕ) (o : Option (List ℕ)) → length old ≤ 1024 → length new ≤ 1024 → shown_pages old ≡ value → (cell_at old page).1 ≡ false → ((q : ℕ) → cell_at new q ≡ cond (eqb q page) (o, false) (cell_at old q)) → (shown_pages new).protected ≡ value.protected
 put_flags old new value page o few still view off h =
     flags_by new value.protected still
     (λ q. ap (λ x. x.1) (h q) ∙ cond_flag (eqb q page) (o, false) (cell_at old q) ∙ same_flag q page (λ p. (cell_at old p).1) false off ∙ flag_seen old value q few view)
@@ -94,14 +94,14 @@ some_written : (o : Option (List ℕ)) (offset : ℕ) (bytes : List ℕ) → is_
 some_written None offset bytes h = absurd (false≢true h)
 some_written (Some held) offset bytes h = refl
 
-pub written_bytes : (old new : List Place) (value : Pages) (page offset : ℕ) (bytes : List ℕ) → length old ≤ 1024 → length new ≤ 1024 → pages_of old ≡ value → map.contains_key value.bytes page ≡ true → ((q : ℕ) → cell_at new q ≡ cond (eqb q page) (written_cell (cell_at old page) offset bytes) (cell_at old q)) → (pages_of new).bytes ≡ map.insert value.bytes page (overwrite (page_at value.bytes page) offset bytes)
+pub written_bytes : (old new : List Place) (value : Pages) (page offset : ℕ) (bytes : List ℕ) → length old ≤ 1024 → length new ≤ 1024 → shown_pages old ≡ value → map.contains_key value.bytes page ≡ true → ((q : ℕ) → cell_at new q ≡ cond (eqb q page) (written_cell (cell_at old page) offset bytes) (cell_at old q)) → (shown_pages new).bytes ≡ map.insert value.bytes page (overwrite (page_at value.bytes page) offset bytes)
 written_bytes old new value page offset bytes few still view there h =
     let here : option_map (λ held. overwrite held offset bytes) (cell_at old page).0 ≡ Some (overwrite (page_at value.bytes page) offset bytes) =
     ap (option_map (λ held. overwrite held offset bytes)) (bytes_seen old value page few view) ∙ some_written (map.get value.bytes page) offset bytes there in
     put_bytes old new value page (overwrite (page_at value.bytes page) offset bytes) (cell_at old page).1 few still view
     (λ q. h q ∙ ap (λ o. cond (eqb q page) (o, (cell_at old page).1) (cell_at old q)) here)
 
-pub written_flags : (old new : List Place) (value : Pages) (page offset : ℕ) (bytes : List ℕ) → length old ≤ 1024 → length new ≤ 1024 → pages_of old ≡ value → ((q : ℕ) → cell_at new q ≡ cond (eqb q page) (written_cell (cell_at old page) offset bytes) (cell_at old q)) → (pages_of new).protected ≡ value.protected
+pub written_flags : (old new : List Place) (value : Pages) (page offset : ℕ) (bytes : List ℕ) → length old ≤ 1024 → length new ≤ 1024 → shown_pages old ≡ value → ((q : ℕ) → cell_at new q ≡ cond (eqb q page) (written_cell (cell_at old page) offset bytes) (cell_at old q)) → (shown_pages new).protected ≡ value.protected
 written_flags old new value page offset bytes few still view h =
     flags_by new value.protected still
     (λ q. ap (λ x. x.1) (h q) ∙ cond_flag (eqb q page) (written_cell (cell_at old page) offset bytes) (cell_at old q) ∙ same_flag q page (λ p. (cell_at old p).1) (cell_at old page).1 refl ∙ flag_seen old value q few view)
@@ -111,22 +111,22 @@ pub not_protected : (places : List Place) (page : ℕ) → IsTable places → is
 not_protected places page inv none = ⊎_elim (λ (on : (cell_at places page).1 ≡ true). absurd (false≢true (sym none ∙ inv.inside page on))) (λ (off : (cell_at places page).1 ≡ false). off) (cases_Bool (cell_at places page).1)
 
 -- protection put on or ended
-pub flagged_bytes : (old new : List Place) (value : Pages) (page : ℕ) (flag : Bool) → length old ≤ 1024 → length new ≤ 1024 → pages_of old ≡ value → ((q : ℕ) → cell_at new q ≡ cond (eqb q page) ((cell_at old page).0, flag) (cell_at old q)) → (pages_of new).bytes ≡ value.bytes
+pub flagged_bytes : (old new : List Place) (value : Pages) (page : ℕ) (flag : Bool) → length old ≤ 1024 → length new ≤ 1024 → shown_pages old ≡ value → ((q : ℕ) → cell_at new q ≡ cond (eqb q page) ((cell_at old page).0, flag) (cell_at old q)) → (shown_pages new).bytes ≡ value.bytes
 flagged_bytes old new value page flag few still view h =
     bytes_by new value.bytes still
     (λ q. ap (λ x. x.0) (h q) ∙ cond_bytes (eqb q page) ((cell_at old page).0, flag) (cell_at old q) ∙ same_bytes q page (λ p. (cell_at old p).0) (cell_at old page).0 refl ∙ bytes_seen old value q few view)
 
-pub protected_flags : (old new : List Place) (value : Pages) (page : ℕ) → length old ≤ 1024 → length new ≤ 1024 → pages_of old ≡ value → ((q : ℕ) → cell_at new q ≡ cond (eqb q page) ((cell_at old page).0, true) (cell_at old q)) → (pages_of new).protected ≡ set.insert value.protected page
+pub protected_flags : (old new : List Place) (value : Pages) (page : ℕ) → length old ≤ 1024 → length new ≤ 1024 → shown_pages old ≡ value → ((q : ℕ) → cell_at new q ≡ cond (eqb q page) ((cell_at old page).0, true) (cell_at old q)) → (shown_pages new).protected ≡ set.insert value.protected page
 protected_flags old new value page few still view h =
     flags_by new (set.insert value.protected page) still
     (λ q. ap (λ x. x.1) (h q) ∙ cond_flag (eqb q page) ((cell_at old page).0, true) (cell_at old q) ∙ cond_true (eqb q page) (cell_at old q).1 ∙ ap (λ b. eqb q page || b) (flag_seen old value q few view) ∙ sym (member_inserted value.protected page q))
 
-pub removed_flags : (old new : List Place) (value : Pages) (page : ℕ) (o : Option (List ℕ)) → length old ≤ 1024 → length new ≤ 1024 → pages_of old ≡ value → ((q : ℕ) → cell_at new q ≡ cond (eqb q page) (o, false) (cell_at old q)) → (pages_of new).protected ≡ set.remove value.protected page
+pub removed_flags : (old new : List Place) (value : Pages) (page : ℕ) (o : Option (List ℕ)) → length old ≤ 1024 → length new ≤ 1024 → shown_pages old ≡ value → ((q : ℕ) → cell_at new q ≡ cond (eqb q page) (o, false) (cell_at old q)) → (shown_pages new).protected ≡ set.remove value.protected page
 removed_flags old new value page o few still view h =
     flags_by new (set.remove value.protected page) still
     (λ q. ap (λ x. x.1) (h q) ∙ cond_flag (eqb q page) (o, false) (cell_at old q) ∙ cond_false (eqb q page) (cell_at old q).1 ∙ ap (λ b. not (eqb q page) && b) (flag_seen old value q few view) ∙ sym (member_removed value.protected page q))
 
-pub unprotected_flags : (old new : List Place) (value : Pages) (page : ℕ) → length old ≤ 1024 → length new ≤ 1024 → pages_of old ≡ value → ((q : ℕ) → cell_at new q ≡ cond (eqb q page) ((cell_at old page).0, false) (cell_at old q)) → (pages_of new).protected ≡ set.remove value.protected page
+pub unprotected_flags : (old new : List Place) (value : Pages) (page : ℕ) → length old ≤ 1024 → length new ≤ 1024 → shown_pages old ≡ value → ((q : ℕ) → cell_at new q ≡ cond (eqb q page) ((cell_at old page).0, false) (cell_at old q)) → (shown_pages new).protected ≡ set.remove value.protected page
 unprotected_flags old new value page few still view h = removed_flags old new value page (cell_at old page).0 few still view h
 
 still_inside : (b flag : Bool) (o : Option (List ℕ)) (x : Cell) → is_some o ≡ true → (x.1 ≡ true → is_some x.0 ≡ true) → (cond b (o, flag) x).1 ≡ true → is_some (cond b (o, flag) x).0 ≡ true
@@ -151,7 +151,7 @@ unfolding cell_at has_place
 place_of_cell places q h = place_of (get_or places (q / 1024) None) (q % 1024) h
 
 -- whether a page is present, as callers see it
-pub present_seen : (places : List Place) (value : Pages) (q : ℕ) → length places ≤ 1024 → pages_of places ≡ value → is_some (cell_at places q).0 ≡ map.contains_key value.bytes q
+pub present_seen : (places : List Place) (value : Pages) (q : ℕ) → length places ≤ 1024 → shown_pages places ≡ value → is_some (cell_at places q).0 ≡ map.contains_key value.bytes q
 present_seen places value q few view = ap is_some (bytes_seen places value q few view)
 
 -- a range moved
@@ -165,18 +165,18 @@ nest_flag true b x y = refl
 nest_flag false true x y = refl
 nest_flag false false x y = refl
 
-pub moved_bytes : (old new : List Place) (value : Pages) (from to count : ℕ) → length old ≤ 1024 → length new ≤ 1024 → pages_of old ≡ value → ((q : ℕ) → cell_at new q ≡ moved_cell (cell_at old) from to count q) → (q : ℕ) → map.get (pages_of new).bytes q ≡ cond (in_range to count q) (map.get value.bytes (from + (q - to))) (cond (in_range from count q) None (map.get value.bytes q))
+pub moved_bytes : (old new : List Place) (value : Pages) (from to count : ℕ) → length old ≤ 1024 → length new ≤ 1024 → shown_pages old ≡ value → ((q : ℕ) → cell_at new q ≡ moved_cell (cell_at old) from to count q) → (q : ℕ) → map.get (shown_pages new).bytes q ≡ cond (in_range to count q) (map.get value.bytes (from + (q - to))) (cond (in_range from count q) None (map.get value.bytes q))
 moved_bytes old new value from to count few still view h q =
     bytes_shown new q still ∙ ap (λ x. x.0) (h q) ∙ nest_bytes (in_range to count q) (in_range from count q) (cell_at old (from + (q - to))) (cell_at old q)
     ∙ (λ k. cond (in_range to count q) (bytes_seen old value (from + (q - to)) few view k) (cond (in_range from count q) None (bytes_seen old value q few view k)))
 
-pub moved_flags : (old new : List Place) (value : Pages) (from to count : ℕ) → length old ≤ 1024 → length new ≤ 1024 → pages_of old ≡ value → ((q : ℕ) → cell_at new q ≡ moved_cell (cell_at old) from to count q) → (q : ℕ) → set.contains (pages_of new).protected q ≡ cond (in_range to count q) (set.contains value.protected (from + (q - to))) (cond (in_range from count q) false (set.contains value.protected q))
+pub moved_flags : (old new : List Place) (value : Pages) (from to count : ℕ) → length old ≤ 1024 → length new ≤ 1024 → shown_pages old ≡ value → ((q : ℕ) → cell_at new q ≡ moved_cell (cell_at old) from to count q) → (q : ℕ) → set.contains (shown_pages new).protected q ≡ cond (in_range to count q) (set.contains value.protected (from + (q - to))) (cond (in_range from count q) false (set.contains value.protected q))
 moved_flags old new value from to count few still view h q =
     flag_shown new q still ∙ ap (λ x. x.1) (h q) ∙ nest_flag (in_range to count q) (in_range from count q) (cell_at old (from + (q - to))) (cell_at old q)
     ∙ (λ k. cond (in_range to count q) (flag_seen old value (from + (q - to)) few view k) (cond (in_range from count q) false (flag_seen old value q few view k)))
 
 -- a table with no place
-pub none_shown : (places : List Place) → ((q : ℕ) → cell_at places q ≡ no_cell) → length places ≤ 1024 → ((pages_of places).bytes ≡ map.empty) × ((pages_of places).protected ≡ set.empty)
+pub none_shown : (places : List Place) → ((q : ℕ) → cell_at places q ≡ no_cell) → length places ≤ 1024 → ((shown_pages places).bytes ≡ map.empty) × ((shown_pages places).protected ≡ set.empty)
 none_shown places h few = (
   bytes_by places map.empty few (λ q. ap (λ x. x.0) (h q) ∙ sym (map.get-empty nat_cmp q)),
   flags_by places set.empty few (λ q. ap (λ x. x.1) (h q) ∙ sym (set.contains-empty nat_cmp q)),

@@ -20,8 +20,8 @@ abbrev pub coded_pages : Coded Pages
 coded_pages = code_by (map.FinMap nat_cmp (List ℕ) × set.FinSet nat_cmp) (coded× (map.code coded_ℕ (coded_list coded_ℕ)) (set.code coded_ℕ)) (λ p. (p.bytes, p.protected)) (λ p. record { bytes = p.0; protected = p.1 }) (λ _. refl)
 
 -- the pages that the places show
-unfoldable pub pages_of : List Place → Pages
-pages_of places = record { bytes = map_below (λ q. (cell_at places q).0) HIGH_PAGE; protected = set_below (λ q. (cell_at places q).1) HIGH_PAGE }
+unfoldable pub shown_pages : List Place → Pages
+shown_pages places = record { bytes = map_below (λ q. (cell_at places q).0) HIGH_PAGE; protected = set_below (λ q. (cell_at places q).1) HIGH_PAGE }
 
 -- there are no more places than the address space needs, and only present pages are protected
 pub record IsTable (places : List Place) : Type 0 where

@@ -45,13 +45,13 @@ pub struct PageTable {
 }
 
 impl Model for PageTable {
-    ghost use Rattle.page_table.specs.Views.{Pages, coded_pages, pages_of, IsTable};
+    ghost use Rattle.page_table.specs.Views.{Pages, coded_pages, shown_pages, IsTable};
 
     ghost Value = { Pages };
 
     ghost coded = { coded_pages };
 
-    ghost view = { λ a. pages_of a.places.items };
+    ghost view = { λ a. shown_pages a.places.items };
 
     ghost invariant = { λ a. IsTable a.places.items };
 }

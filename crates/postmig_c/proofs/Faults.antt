@@ -3,14 +3,14 @@ use Rattle.std.proofs.Common.{◌≡◌, ℕ, List, [], Ok, Err, ap, subst, ◌�
 use Rattle.std.specs.Prelude.{◌≢◌, Result, OnOk, OnErr, IfErr}
 use Rattle.frame_decoder.specs.declared.fault.StreamFault.{StreamFault}
 use Rattle.frame_decoder.specs.declared.fault.StreamFault.TheVariants as faults
-use Rattle.frame_decoder.specs.Feeding.{Answer, Fed}
+use Rattle.frame_decoder.specs.Feeding.{FeedAnswer, Fed}
 use Rattle.frame_decoder.specs.Streams.{Held}
 use Rattle.postmig_c.specs.declared.queue.FeedFault.{FeedFault}
 use Rattle.postmig_c.specs.declared.queue.FeedFault.TheVariants as refusals
 use Rattle.postmig_c.specs.Queues.{Queue, Feeds}
 
 -- the fault of an answer, or another if it has frames
-abbrev fault_in : StreamFault → Answer → StreamFault
+abbrev fault_in : StreamFault → FeedAnswer → StreamFault
 fault_in other (Ok frames) = other
 fault_in other (Err fault) = fault
 

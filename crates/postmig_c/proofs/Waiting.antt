@@ -5,13 +5,13 @@ use Rattle.mig_model.specs.Bounds.{IsFrame}
 use Rattle.mig_model.specs.Wire.{Sent}
 use Rattle.page_stream.specs.declared.frame.Frame.{Frame}
 use Rattle.page_stream.specs.Frames.{frame_of}
-use Rattle.frame_decoder.specs.Streams.{sent_of, sents}
+use Rattle.frame_decoder.specs.Streams.{decoded_sent, sents}
 use Rattle.std.specs.Prelude.{Bool, true, false, T, not, IsTrue}
-use Rattle.postmig_c.specs.Queues.{AreFrames}
+use Rattle.postmig_c.specs.Queues.{AreWellFormed}
 
 -- as many wait as were not handed out
 pub waiting_len : (n : ℕ) (frames : List (ℕ × Frame)) → n ≤ length frames → length (sents (drop n frames)) + n ≡ length frames
-waiting_len n frames within = omega (arith, length-map (drop n frames) sent_of, length-drop n frames, within)
+waiting_len n frames within = omega (arith, length-map (drop n frames) decoded_sent, length-drop n frames, within)
 
 -- one that waits was not handed out
 pub is_behind : (n : ℕ) (frames : List (ℕ × Frame)) (waiting : List Sent) → sents (drop n frames) ≡ waiting → n ≤ length frames → 0 < length waiting → n < length frames
@@ -30,7 +30,7 @@ pub one_less : (n : ℕ) (frames : List (ℕ × Frame)) (d : ℕ × Frame) → n
 one_less n frames d within = sym (ap (λ (waiting : List (ℕ × Frame)). drop 1 (sents waiting)) (drop_more frames n d within))
 
 -- each frame is well formed
-pub frame_at : (n : ℕ) (frames : List (ℕ × Frame)) (d : ℕ × Frame) → AreFrames (sents frames) → n < length frames → IsFrame (frame_of (get_or frames n d).1)
+pub frame_at : (n : ℕ) (frames : List (ℕ × Frame)) (d : ℕ × Frame) → AreWellFormed (sents frames) → n < length frames → IsFrame (frame_of (get_or frames n d).1)
 frame_at n [] d are within = absurd (omega (arith, within))
 frame_at zero (frame ∷ frames) d are within = are.0
 frame_at (suc n) (frame ∷ frames) d are within = frame_at n frames d are.1 (omega (arith, within))

@@ -9,8 +9,8 @@ use Rattle.grammar.specs.Spelling.{Spells}
 use Rattle.engine.specs.declared.fault.RunFault.TheVariants as faults
 use Rattle.engine.specs.declared.line_runner.Mode.{Mode}
 use Rattle.engine.specs.Checking.{CheckStops}
-use Rattle.engine.specs.Engine.{Work, Gathered, Made, Loses, language_of, world_of}
-use Rattle.engine.specs.Script.{Stops}
+use Rattle.engine.specs.Engine.{Work, Gathered, Made, Loses, language_of, run_world}
+use Rattle.engine.specs.Script.{ScriptStops}
 use Rattle.mig_model.specs.Migration.{World as Machine}
 use Rattle.engine.specs.Worlds.{epoch_in, progress_in}
 use Rattle.postmig_c.specs.declared.handle.Content.{Content}
@@ -28,14 +28,14 @@ HasNoWorld (Some (Frames queue)) = Unit {0}
 HasNoWorld (Some (World runner)) = ⊥
 
 -- the handle has a world, and this holds of it
-abbrev pub Tells : Option Content → (Gathered → Type 0) → Type 0
-Tells None P = ⊥
-Tells (Some (Frames queue)) P = ⊥
-Tells (Some (World runner)) P = P runner
+abbrev pub OfWorld : Option Content → (Gathered → Type 0) → Type 0
+OfWorld None P = ⊥
+OfWorld (Some (Frames queue)) P = ⊥
+OfWorld (Some (World runner)) P = P runner
 
 -- the handle had a world and has one, and this holds of the two
 abbrev pub Has : Option Content → Option Content → (Gathered → Gathered → Type 0) → Type 0
-Has old new P = Tells old (λ before. Tells new (P before))
+Has old new P = OfWorld old (λ before. OfWorld new (P before))
 
 -- A line
 
@@ -82,14 +82,14 @@ counts_in state =
 -- these are the numbers of the world that is run
 pub record CountsAre (runner : Gathered) (counts : Counts) : Type 0 where
   pub state : Machine
-  pub runs : world_of runner.work ≡ Some state
+  pub runs : run_world runner.work ≡ Some state
   pub counts_are : counts ≡ counts_in state
 
 -- Whole scripts
 
 -- the first line of the script that is not one has this number
 abbrev pub StopsAtLine : Mode → Machine → List ℕ → ℕ → Type 0
-StopsAtLine mode start script number = (unread : Option (List ℕ)) × (text : Option (List ℕ)) × Stops mode start script unread (faults.Line number) (Some []) text
+StopsAtLine mode start script number = (unread : Option (List ℕ)) × (text : Option (List ℕ)) × ScriptStops mode start script unread (faults.Line number) (Some []) text
 
 -- the first line of the transcript that is not one has this number
 abbrev pub CheckStopsAtLine : List ℕ → ℕ → Type 0

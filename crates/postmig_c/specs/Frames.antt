@@ -9,7 +9,7 @@ use Rattle.frame_decoder.specs.declared.fault.StreamFault.{StreamFault}
 use Rattle.frame_decoder.specs.declared.fault.StreamFault.TheVariants as faults
 use Rattle.postmig_c.specs.declared.numbers.FrameNumbers.{FrameNumbers}
 use Rattle.postmig_c.specs.Numbers.{numbers_of}
-use Rattle.postmig_c.specs.Queues.{Queue, Refills, IsFedUp, Stops}
+use Rattle.postmig_c.specs.Queues.{Queue, Refills, IsFedUp, QueueStops}
 use Rattle.postmig_c.specs.declared.handle.Content.{Content}
 use Rattle.postmig_c.specs.declared.handle.Content.TheVariants.{World, Frames}
 use Rattle.postmig_c.specs.Room.{Fills, IsTooLong}
@@ -62,4 +62,4 @@ fault_number faults.BadField = 10
 
 -- no frame waits, and the fault of this number stands there
 abbrev pub IsFaulty : Queue → ℕ → Queue → Type 0
-IsFaulty old number new = (fault : StreamFault) × (number ≡ fault_number fault) × Stops old fault new
+IsFaulty old number new = (fault : StreamFault) × (number ≡ fault_number fault) × QueueStops old fault new

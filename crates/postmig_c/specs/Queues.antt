@@ -10,7 +10,7 @@ use Rattle.frame_texts.specs.Texts.Version.{Two}
 use Rattle.frame_decoder.specs.contracts.decoder.Decoder as decoder
 use Rattle.frame_decoder.specs.declared.fault.StreamFault.{StreamFault}
 use Rattle.frame_decoder.specs.declared.fault.StreamFault.TheVariants as faults
-use Rattle.frame_decoder.specs.Feeding.{Answer, Fed, fresh}
+use Rattle.frame_decoder.specs.Feeding.{FeedAnswer, Fed, fresh}
 use Rattle.frame_decoder.specs.Streams.{Held}
 use Rattle.postmig_c.specs.declared.numbers.FrameNumbers.{FrameNumbers}
 use Rattle.postmig_c.specs.Numbers.{numbers_of}
@@ -32,23 +32,23 @@ abbrev pub empty_queue : Queue
 empty_queue = record { decoder = fresh; waiting = []; text = [] }
 
 -- each frame is well formed
-abbrev pub AreFrames : List Sent → Type 0
-AreFrames frames = AllByRecursion (λ sent. IsFrame sent.frame) frames
+abbrev pub AreWellFormed : List Sent → Type 0
+AreWellFormed frames = AllByRecursion (λ sent. IsFrame sent.frame) frames
 
 -- the frames of an answer; a fault comes with none
-abbrev pub frames_in : Answer → List Sent
-frames_in (Ok frames) = frames
-frames_in (Err fault) = []
+abbrev pub frames_answered : FeedAnswer → List Sent
+frames_answered (Ok frames) = frames
+frames_answered (Err fault) = []
 
 -- no frame waited, and the decoder was fed the piece, with this answer; its frames wait now
-pub record Decodes (old : Queue) (piece : List ℕ) (answer : Answer) (new : Queue) : Type 0 where
+pub record Decodes (old : Queue) (piece : List ℕ) (answer : FeedAnswer) (new : Queue) : Type 0 where
   pub none : old.waiting ≡ []
   pub fed : Fed old.decoder piece answer new.decoder
-  pub waiting : new.waiting ≡ frames_in answer
+  pub waiting : new.waiting ≡ frames_answered answer
 
 -- the piece was taken; if it completes no frame, a fault may stand there now
 abbrev pub Feeds : Queue → List ℕ → Queue → Type 0
-Feeds old piece new = (answer : Answer) × (answer ≢ Err faults.NoMemory) × Decodes old piece answer new
+Feeds old piece new = (answer : FeedAnswer) × (answer ≢ Err faults.NoMemory) × Decodes old piece answer new
 
 -- the same frames wait; if there are none, the decoder was fed nothing
 abbrev pub Refills : Queue → Queue → Type 0
@@ -68,11 +68,11 @@ abbrev pub IsFedUp : Queue → Queue → Type 0
 IsFedUp old new = Decodes old [] (Ok []) new
 
 -- no frame waits, and this fault stands there; or memory ran out, and the same frames wait
-abbrev pub Stops : Queue → StreamFault → Queue → Type 0
-Stops old faults.NoMemory new = Refills old new ⊎ Decodes old [] (Err faults.NoMemory) new
-Stops old faults.BadTag new = Decodes old [] (Err faults.BadTag) new
-Stops old faults.BadLength new = Decodes old [] (Err faults.BadLength) new
-Stops old faults.BadField new = Decodes old [] (Err faults.BadField) new
+abbrev pub QueueStops : Queue → StreamFault → Queue → Type 0
+QueueStops old faults.NoMemory new = Refills old new ⊎ Decodes old [] (Err faults.NoMemory) new
+QueueStops old faults.BadTag new = Decodes old [] (Err faults.BadTag) new
+QueueStops old faults.BadLength new = Decodes old [] (Err faults.BadLength) new
+QueueStops old faults.BadField new = Decodes old [] (Err faults.BadField) new
 
 -- the first frame that waited is gone, and nothing else changed
 pub record DropsFirst (old new : Queue) : Type 0 where

@@ -3,7 +3,7 @@
 ghost use Rattle.std.specs.Prelude.{◌≡◌};
 ghost use Rattle.frame_texts.specs.Texts.{tag_code};
 ghost use Rattle.page_stream.specs.Frames.{frame_of};
-ghost use Rattle.frame_decoder.specs.Streams.{sent_of};
+ghost use Rattle.frame_decoder.specs.Streams.{decoded_sent};
 ghost use Rattle.postmig_c.specs.Numbers.{address_in, count_in, numbers_of};
 
 use mig_base::page_address;
@@ -77,7 +77,7 @@ fn count_of(frame: &Frame) -> u64
 
 /// The numbers of a frame that was sent in an epoch.
 pub fn numbers_of(epoch: u32, frame: &Frame) -> FrameNumbers
-    ensures { result ≡ numbers_of (sent_of (epoch, frame.now)) }
+    ensures { result ≡ numbers_of (decoded_sent (epoch, frame.now)) }
 {
     FrameNumbers {
         tag: tag_of(frame),

@@ -2,7 +2,7 @@
 
 ghost use Rattle.std.specs.Prelude.{◌≡◌, ◌≢◌, ◌≤◌, ◌<◌, [], length, drop, IfOk, OnOk, OnErr, IfErr, IfSome, IfNone, IsTrue, ◌↔◌, Err};
 ghost use Rattle.frame_decoder.specs.Streams.{sents};
-ghost use Rattle.postmig_c.specs.Queues.{Queue, coded_queue, empty_queue, AreFrames, Feeds, Refills, Shows, IsFedUp, Stops, DropsFirst};
+ghost use Rattle.postmig_c.specs.Queues.{Queue, coded_queue, empty_queue, AreWellFormed, Feeds, Refills, Shows, IsFedUp, QueueStops, DropsFirst};
 
 use crate::numbers::{FrameNumbers, numbers_of};
 use frame_decoder::{Decoder, StreamFault};
@@ -39,7 +39,7 @@ impl Model for FrameQueue {
 
     ghost view = { λ q. record { decoder = q.decoder; waiting = sents (drop q.handed q.frames.items); text = q.text.items } };
 
-    ghost invariant = { λ q. (q.handed ≤ length q.frames.items) × AreFrames (sents q.frames.items) };
+    ghost invariant = { λ q. (q.handed ≤ length q.frames.items) × AreWellFormed (sents q.frames.items) };
 }
 
 /// Whether a piece was taken at which a decoder returned a fault: all but `NoMemory` are those of the stream.
@@ -96,7 +96,7 @@ impl FrameQueue {
     /// Feeds the decoder nothing if no frame waits: it then returns the fault after the last frame.
     fn refill(&mut self) -> Result<(), StreamFault>
         ensures ok { OnOk result (Refills self.old self.new) }
-        ensures fault { IfErr result (λ fault. Stops self.old fault self.new) }
+        ensures fault { IfErr result (λ fault. QueueStops self.old fault self.new) }
     {
         if self.has_frame() {
             return Ok(());
@@ -113,7 +113,7 @@ impl FrameQueue {
         ensures some { IfOk result (λ shown.
             IfSome shown (λ numbers. Shows self.old numbers self.new)) }
         ensures none { IfOk result (λ shown. IfNone shown (IsFedUp self.old self.new)) }
-        ensures fault { IfErr result (λ fault. Stops self.old fault self.new) }
+        ensures fault { IfErr result (λ fault. QueueStops self.old fault self.new) }
     {
         self.refill()?;
         if !self.has_frame() {

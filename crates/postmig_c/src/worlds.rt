@@ -5,7 +5,7 @@ ghost use Rattle.std.specs.declared.option.Option.TheVariants.{None as Nothing, 
 ghost use Rattle.engine.specs.Engine.{Running, tested_mode};
 ghost use Rattle.mig_model.specs.Migration.{World as Machine, first_world};
 ghost use Rattle.mig_model.specs.Views.{new_world_with};
-ghost use Rattle.postmig_c.specs.Calls.{a_world, counts_in, phase_number, CountsAre, HasNoWorld, IsDone, IsNoLine, IsCutShort, Has, Tells};
+ghost use Rattle.postmig_c.specs.Calls.{a_world, counts_in, phase_number, CountsAre, HasNoWorld, IsDone, IsNoLine, IsCutShort, Has, OfWorld};
 ghost use Rattle.postmig_c.specs.Room.{Fills, IsTooLong};
 
 use crate::handle::{Content, Handle};
@@ -179,9 +179,9 @@ pub extern "C" fn postmig_world_answer(
 ) -> u32
     ensures same { handle.new.content ≡ handle.old.content }
     ensures answer { result ≡ 0 →
-        Tells handle.old.content (λ runner. Fills runner.output written.new out.new) }
+        OfWorld handle.old.content (λ runner. Fills runner.output written.new out.new) }
     ensures long { result ≡ 1 →
-        Tells handle.old.content (λ runner. IsTooLong runner.output written.new out.new) }
+        OfWorld handle.old.content (λ runner. IsTooLong runner.output written.new out.new) }
     ensures not_open { result ≡ 2 → HasNoWorld handle.old.content }
     ensures range { result ≤ 2 }
 {
@@ -234,7 +234,7 @@ pub extern "C" fn postmig_world_counts(
     counts: &mut Counts,
 ) -> u32
     ensures same { handle.new.content ≡ handle.old.content }
-    ensures counts { result ≡ 0 → Tells handle.old.content (λ runner. CountsAre runner counts.new) }
+    ensures counts { result ≡ 0 → OfWorld handle.old.content (λ runner. CountsAre runner counts.new) }
     ensures range { (result ≡ 0) ⊎ (result ≡ 2) }
 {
     let Some(content) = handle.take(alloc) else {

@@ -17,7 +17,7 @@ use Rattle.mig_model.specs.Source.{Source, run_of, space_of}
 use Rattle.mig_model.specs.Space.{Space}
 use Rattle.mig_model.specs.Wire.{Frame}
 use Rattle.mig_model.proofs.memory.HandlerCalls.{some_bound}
-use Rattle.dirty_log.specs.Answers.{IsRefusedFor, send_refusal}
+use Rattle.dirty_log.specs.Answers.{IsRefusedAs, send_refusal}
 use Rattle.dirty_log.specs.Spaces.{is_sendable}
 use Rattle.precopy.specs.Order.{AreSendable}
 use Rattle.precopy.proofs.SendLemmas.{least_sent, no_unread, only_memory, quiet, send_checked}
@@ -72,7 +72,7 @@ run_accepted node first bound is kept =
     quiet_accepted (space_of node) first _ none (all_sendable (space_of node) first _ (λ page inside. kept page (member_run node.log.todo first bound page inside) (no_unread (space_of node).object.events page none)))
 
 -- what a run that is refused then lacks is memory
-pub run_stopped : (node : Source) (first count pages : ℕ) (refusal : Refusal) → next_to_send node ≡ Ok first → pages ≡ pages_from node first count → AreSendable node.log (space_of node) → IsRefusedFor (send_refusal (space_of node) first pages) refusal →
+pub run_stopped : (node : Source) (first count pages : ℕ) (refusal : Refusal) → next_to_send node ≡ Ok first → pages ≡ pages_from node first count → AreSendable node.log (space_of node) → IsRefusedAs (send_refusal (space_of node) first pages) refusal →
     IsStepRefused (send_run node count) refusal
 run_stopped node first count pages refusal is few kept why =
     rw (only_memory refusal _ (ap (send_refusal (space_of node) first) few ∙ run_accepted node first (run_bound count) is kept) why) (lacks (send_run node count) (send_checked node _ is ∙ run_checked node count))

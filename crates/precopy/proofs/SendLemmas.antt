@@ -17,7 +17,7 @@ use Rattle.mig_model.specs.Space.{Space}
 use Rattle.mig_model.specs.Source.{Source, bytes_of, is_released, page_sent, space_of}
 use Rattle.mig_model.specs.SourceSteps.{next_to_send, send}
 use Rattle.mig_model.specs.Wire.{Frame, page_frame}
-use Rattle.dirty_log.specs.Answers.{IsRefusedFor, send_refusal}
+use Rattle.dirty_log.specs.Answers.{IsRefusedAs, send_refusal}
 use Rattle.dirty_log.specs.Spaces.{is_sendable}
 use Rattle.precopy.specs.Order.{AreSendable}
 use Rattle.precopy.proofs.StepLemmas.{lacks, stops}
@@ -62,9 +62,9 @@ pub send_accepted : (node : Source) (page : ℕ) → next_to_send node ≡ Ok pa
 send_accepted node page is kept = next_accepted node page is (least_below_tells (contains node.log.todo) HIGH_PAGE page (least_sent node page is)) kept
 
 -- what a send that is refused then lacks is memory
-pub only_memory : (refusal : Refusal) (reason : Option Refusal) → reason ≡ None → IsRefusedFor reason refusal → refusal ≡ Refusal.NoMemory
+pub only_memory : (refusal : Refusal) (reason : Option Refusal) → reason ≡ None → IsRefusedAs reason refusal → refusal ≡ Refusal.NoMemory
 only_memory refusal reason none (inl is) = absurd (let other : Some refusal ≡ None = sym is ∙ none in grind arith)
 only_memory refusal reason none (inr is) = is.1
 
-pub send_stopped : (node : Source) (page : ℕ) (refusal : Refusal) → next_to_send node ≡ Ok page → AreSendable node.log (space_of node) → IsRefusedFor (send_refusal (space_of node) page 1) refusal → IsStepRefused (send node) refusal
+pub send_stopped : (node : Source) (page : ℕ) (refusal : Refusal) → next_to_send node ≡ Ok page → AreSendable node.log (space_of node) → IsRefusedAs (send_refusal (space_of node) page 1) refusal → IsStepRefused (send node) refusal
 send_stopped node page refusal is kept why = rw (only_memory refusal _ (send_accepted node page is kept) why) (lacks (send node) (send_checked node _ is))

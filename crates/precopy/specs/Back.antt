@@ -9,6 +9,6 @@ source_heard node (Frame.Recv state owed) = node
 source_heard node frame = source_took node frame
 
 -- whether a frame requests a page
-abbrev pub is_request : Frame → Bool
-is_request (Frame.Request page) = true
-is_request frame = false
+abbrev pub requests_page : Frame → Bool
+requests_page (Frame.Request page) = true
+requests_page frame = false

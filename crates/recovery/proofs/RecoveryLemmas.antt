@@ -20,22 +20,22 @@ use Rattle.mig_model.proofs.memory.Facts.{no_page}
 use Rattle.mig_model.specs.Bounds.{AreFewPages, AreListed}
 use Rattle.mig_model.specs.Wire as wire
 use Rattle.page_stream.specs.declared.frame.Frame.{Frame}
-use Rattle.recovery.specs.Breaks.{AreWellFormed, frames_of, received_by}
+use Rattle.recovery.specs.Breaks.{AreWellFormed, frames_of, recv_of}
 
 pub asked_again : (pages : List ℕ) → frames_of (map Frame.Request pages) ≡ map wire.Frame.Request pages
 asked_again [] = refl
 asked_again (page ∷ pages) = ap (λ frames. wire.Frame.Request page ∷ frames) (asked_again pages)
 
 -- what is sent for a Resume
-sent_by : (state : Received) (node : Destination) → (state ≡ Received.Running → ⊥) → recv_by state node ≡ received_by state node ∷ []
+sent_by : (state : Received) (node : Destination) → (state ≡ Received.Running → ⊥) → recv_by state node ≡ recv_of state node ∷ []
 sent_by Received.NotRun node other = refl
 sent_by Received.Ended node other = refl
 sent_by Received.Running node other = absurd (other refl)
 
-pub running_sends : (node : Destination) → received_of node ≡ Received.Running → recv_by (received_of node) node ≡ received_by (received_of node) node ∷ map wire.Frame.Request node.requests
+pub running_sends : (node : Destination) → received_of node ≡ Received.Running → recv_by (received_of node) node ≡ recv_of (received_of node) node ∷ map wire.Frame.Request node.requests
 running_sends node is = rw is refl
 
-pub others_send : (node : Destination) → (received_of node ≡ Received.Running → ⊥) → recv_by (received_of node) node ≡ received_by (received_of node) node ∷ []
+pub others_send : (node : Destination) → (received_of node ≡ Received.Running → ⊥) → recv_by (received_of node) node ≡ recv_of (received_of node) node ∷ []
 others_send node other = sent_by (received_of node) node other
 
 -- Pages that are present

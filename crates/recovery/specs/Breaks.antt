@@ -19,13 +19,13 @@ AreWellFormed [] = Unit {0}
 AreWellFormed (frame ∷ frames) = IsFrame frame × AreWellFormed frames
 
 -- the Recv of a destination that has come this far; it lists the owed pages of the source if the destination runs, and none otherwise
-abbrev pub received_by : Received → Destination → machine.Frame
-received_by Received.Running node = machine.Frame.Recv Received.Running (origins node.owed)
-received_by state node = machine.Frame.Recv state no_pages
+abbrev pub recv_of : Received → Destination → machine.Frame
+recv_of Received.Running node = machine.Frame.Recv Received.Running (origins node.owed)
+recv_of state node = machine.Frame.Recv state no_pages
 
 -- the Recv of a destination: the first frame that it sends back for a Resume
 abbrev pub received_frame : Destination → machine.Frame
-received_frame node = received_by (received_of node) node
+received_frame node = recv_of (received_of node) node
 
 -- whether a source that continues from there needs memory: for the pages that a running destination still needs, or for all of its own,
 -- once it has switched and the destination has not run

@@ -10,7 +10,7 @@ use Rattle.mig_base.specs.declared.command.Entry.{Entry}
 use Rattle.rig.specs.declared.seat.Answer.{Answer}
 use Rattle.std.specs.Prelude.{Result, Ok, Err, IfOk}
 use Rattle.mig_model.specs.Migration.{World}
-use Rattle.rig.specs.Seats.{Seat, Handed, picked, seats_of, list_of, answers_of, answer_of, calls_of, AreAnswered, IsRight}
+use Rattle.rig.specs.Seats.{Seat, Handed, values_of, seats_of, list_of, answers_of, entry_answer, calls_of, AreAnswered, IsRight}
 
 same-number : (m n : ℕ) → m ≡ n → (m == n) ≡ true
 same-number m n same = grind (arith, nat_tests)
@@ -87,22 +87,22 @@ picked-more : {Y : Type 0} (list rest : List Y) (b : Bool) → length (if b then
 picked-more list rest true = length-append list rest
 picked-more list rest false = omega arith
 
-picked-total : (X Y : Type 0) (number : X → ℕ) (value : X → List Y) (n : ℕ) (xs : List X) → All (λ x. number x < n) xs → total n (λ k. length (picked number value k xs)) ≡ weight X Y value xs
+picked-total : (X Y : Type 0) (number : X → ℕ) (value : X → List Y) (n : ℕ) (xs : List X) → All (λ x. number x < n) xs → total n (λ k. length (values_of number value k xs)) ≡ weight X Y value xs
 unfolding weight
 picked-total X Y number value n [] all = total-empty n
 picked-total X Y number value n (x ∷ xs) all =
-    let rest : total n (λ k. length (picked number value k xs)) ≡ weight X Y value xs = picked-total X Y number value n xs (All-tail (λ x. number x < n) x xs all) in
+    let rest : total n (λ k. length (values_of number value k xs)) ≡ weight X Y value xs = picked-total X Y number value n xs (All-tail (λ x. number x < n) x xs all) in
     let one : total n (λ k. if number x == k then length (value x) else 0) ≡ length (value x) = total-one n (number x) (length (value x)) (All-head (λ x. number x < n) x xs all) in
-    let split : total n (λ k. length (picked number value k (x ∷ xs))) ≡ total n (λ k. (if number x == k then length (value x) else 0) + length (picked number value k xs)) =
-    total-same n (λ k. length (picked number value k (x ∷ xs))) (λ k. (if number x == k then length (value x) else 0) + length (picked number value k xs)) (λ k less. picked-more (value x) (picked number value k xs) (number x == k)) in
-    let plus : total n (λ k. (if number x == k then length (value x) else 0) + length (picked number value k xs)) ≡ total n (λ k. if number x == k then length (value x) else 0) + total n (λ k. length (picked number value k xs)) =
-    total-plus n (λ k. if number x == k then length (value x) else 0) (λ k. length (picked number value k xs)) in
+    let split : total n (λ k. length (values_of number value k (x ∷ xs))) ≡ total n (λ k. (if number x == k then length (value x) else 0) + length (values_of number value k xs)) =
+    total-same n (λ k. length (values_of number value k (x ∷ xs))) (λ k. (if number x == k then length (value x) else 0) + length (values_of number value k xs)) (λ k less. picked-more (value x) (values_of number value k xs) (number x == k)) in
+    let plus : total n (λ k. (if number x == k then length (value x) else 0) + length (values_of number value k xs)) ≡ total n (λ k. if number x == k then length (value x) else 0) + total n (λ k. length (values_of number value k xs)) =
+    total-plus n (λ k. if number x == k then length (value x) else 0) (λ k. length (values_of number value k xs)) in
     omega arith
 
-weight-entries : (entries : List Entry) → weight Entry Answer (λ e. answer_of e ∷ []) entries ≡ length entries
+weight-entries : (entries : List Entry) → weight Entry Answer (λ e. entry_answer e ∷ []) entries ≡ length entries
 unfolding weight
 weight-entries [] = refl
-weight-entries (e ∷ es) = let rest : weight Entry Answer (λ e. answer_of e ∷ []) es ≡ length es = weight-entries es in omega arith
+weight-entries (e ∷ es) = let rest : weight Entry Answer (λ e. entry_answer e ∷ []) es ≡ length es = weight-entries es in omega arith
 
 weight-seats : (seats : List Seat) → weight Seat Answer (λ s. s.answers) seats ≡ calls_of seats
 unfolding weight
@@ -115,8 +115,8 @@ few number m n xs most all k d inside = let one : number (get_or xs k d) < m = a
 -- the entries are those of the opening transcript, and one for each answer of a seat
 pub counted : (rig : Handed) (seats : List Seat) (entries : List Entry) (cpus n : ℕ) → ((k : ℕ) → k < n → IsRight rig seats entries cpus k) → All (λ e. e.cpu < n) entries → All (λ e. e.cpu < n) rig.opening → All (λ s. s.cpu < n) seats → length entries ≡ length rig.opening + calls_of seats
 counted rig seats entries cpus n right all_entries all_opening all_seats =
-    let one : total n (λ k. length (answers_of k entries)) ≡ length entries = picked-total Entry Answer (λ e. e.cpu) (λ e. answer_of e ∷ []) n entries all_entries ∙ weight-entries entries in
-    let two : total n (λ k. length (answers_of k rig.opening)) ≡ length rig.opening = picked-total Entry Answer (λ e. e.cpu) (λ e. answer_of e ∷ []) n rig.opening all_opening ∙ weight-entries rig.opening in
+    let one : total n (λ k. length (answers_of k entries)) ≡ length entries = picked-total Entry Answer (λ e. e.cpu) (λ e. entry_answer e ∷ []) n entries all_entries ∙ weight-entries entries in
+    let two : total n (λ k. length (answers_of k rig.opening)) ≡ length rig.opening = picked-total Entry Answer (λ e. e.cpu) (λ e. entry_answer e ∷ []) n rig.opening all_opening ∙ weight-entries rig.opening in
     let three : total n (λ k. length (list_of k seats)) ≡ calls_of seats = picked-total Seat Answer (λ s. s.cpu) (λ s. s.answers) n seats all_seats ∙ weight-seats seats in
     let split : total n (λ k. length (answers_of k entries)) ≡ total n (λ k. length (answers_of k rig.opening) + length (list_of k seats)) =
     total-same n (λ k. length (answers_of k entries)) (λ k. length (answers_of k rig.opening) + length (list_of k seats)) (λ k less. ap length (right k less).answers ∙ length-append (answers_of k rig.opening) (list_of k seats)) in

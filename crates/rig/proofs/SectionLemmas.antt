@@ -21,7 +21,7 @@ use Rattle.mig_model.proofs.steps.StepLemmas.{next-refused}
 use Rattle.mig_model.proofs.steps.StepCases.{made-effect}
 use Rattle.mig_model.specs.Promises.{IsReached}
 use Rattle.rig.specs.declared.section.Tried.{Tried}
-use Rattle.rig.specs.Sections.{IsEntered, IsOutcome, IsReplyTo, IsToldOf, IsTry, entries_by}
+use Rattle.rig.specs.Sections.{IsEntered, IsSomeOutcome, IsReplyTo, IsToldOf, IsTried, entries_by}
 
 entered_by : (entries : List Entry) (cpu : ℕ) (command : Command) (took : Took) → IsEntered (try_effect cpu took) entries (entries ++ entries_of cpu command took) cpu command
 entered_by entries cpu command (Answer reply) = refl
@@ -69,12 +69,12 @@ same_woken world cpu one other is also =
     same_Some one other (ap outstanding (sym (state_is world cpu (CpuState.Woken one) is) ∙ state_is world cpu (CpuState.Woken other) also))
 
 -- what became of a command whose step was made
-pub told_of : (old new : World) (step : Step) (cpu : ℕ) (command : Command) (tried : Tried) → IsReached old → IsTry old step (Ok tried) new → new.transcript ≡ old.transcript ++ entries_by cpu command tried → IsToldOf cpu command tried
+pub told_of : (old new : World) (step : Step) (cpu : ℕ) (command : Command) (tried : Tried) → IsReached old → IsTried old step (Ok tried) new → new.transcript ≡ old.transcript ++ entries_by cpu command tried → IsToldOf cpu command tried
 unfolding IsReplyTo
 told_of old new step cpu command (Tried.Replied reply) reached try entered = (old, new, step, try.0, reached, try.1, entered)
 told_of old new step cpu command Tried.Asleep reached try entered = tt
 
 -- the outcome of a Serve that was made in the right epoch
-pub served : (old new : World) (result : Outcome) → IsReached old → (result ≡ Err Refusal.StaleEpoch) ⊎ Happens old Step.Serve result new → (result ≡ Err Refusal.StaleEpoch) ⊎ IsOutcome Step.Serve result
+pub served : (old new : World) (result : Outcome) → IsReached old → (result ≡ Err Refusal.StaleEpoch) ⊎ Happens old Step.Serve result new → (result ≡ Err Refusal.StaleEpoch) ⊎ IsSomeOutcome Step.Serve result
 served old new result reached (inl stale) = inl stale
 served old new result reached (inr happens) = inr (new, (old, reached, happens))

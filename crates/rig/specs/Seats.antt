@@ -17,21 +17,21 @@ pub record Handed : Type 0 where
   pub handed : List Bool
 
 -- the values of the items with the number `k`, joined
-abbrev pub picked : {X : Type 0} → {Y : Type 0} → (X → ℕ) → (X → List Y) → ℕ → List X → List Y
-picked number value k [] = []
-picked number value k (x ∷ xs) = if number x == k then value x ++ picked number value k xs else picked number value k xs
+abbrev pub values_of : {X : Type 0} → {Y : Type 0} → (X → ℕ) → (X → List Y) → ℕ → List X → List Y
+values_of number value k [] = []
+values_of number value k (x ∷ xs) = if number x == k then value x ++ values_of number value k xs else values_of number value k xs
 
 -- the command and the reply of an entry
-abbrev pub answer_of : Entry → Answer
-answer_of entry = record { command = entry.command; reply = entry.reply }
+abbrev pub entry_answer : Entry → Answer
+entry_answer entry = record { command = entry.command; reply = entry.reply }
 
 -- the answers of a processor, in the order of the transcript
 abbrev pub answers_of : ℕ → List Entry → List Answer
-answers_of k entries = picked (λ (e : Entry). e.cpu) (λ e. answer_of e ∷ []) k entries
+answers_of k entries = values_of (λ (e : Entry). e.cpu) (λ e. entry_answer e ∷ []) k entries
 
 -- the answers of a processor's seat, [] if there is no seat
 abbrev pub list_of : ℕ → List Seat → List Answer
-list_of k seats = picked (λ (s : Seat). s.cpu) (λ s. s.answers) k seats
+list_of k seats = values_of (λ (s : Seat). s.cpu) (λ s. s.answers) k seats
 
 -- the number of seats of a processor
 abbrev pub seats_of : ℕ → List Seat → ℕ
@@ -57,8 +57,8 @@ pub record IsLeastWrong (rig : Handed) (seats : List Seat) (entries : List Entry
   pub least : (j : ℕ) → j < k → IsRight rig seats entries cpus j
 
 -- every processor is right
-abbrev pub AreRight : Handed → List Seat → World → Type 0
-AreRight rig seats world = (k : ℕ) → k < MAX_CPUS → IsRight rig seats world.transcript (length world.source.guest.cpus) k
+abbrev pub SeatsAreRight : Handed → List Seat → World → Type 0
+SeatsAreRight rig seats world = (k : ℕ) → k < MAX_CPUS → IsRight rig seats world.transcript (length world.source.guest.cpus) k
 
 -- each processor's answers are those of the opening and then its seat's, at most one seat of it has come back, and the transcript has no
 -- further entries

@@ -17,8 +17,8 @@ abbrev pub IsMade : Step → Outcome → World → Type 0
 IsMade step outcome new = (old : World) × IsReached old × Happens old step outcome new
 
 -- some world that steps can reach gives this outcome to the step
-abbrev pub IsOutcome : Step → Outcome → Type 0
-IsOutcome step outcome = (new : World) × IsMade step outcome new
+abbrev pub IsSomeOutcome : Step → Outcome → Type 0
+IsSomeOutcome step outcome = (new : World) × IsMade step outcome new
 
 -- what became of a command, by the effect of its step: it has a reply, also where a map call still waits for its messages, or it sleeps
 abbrev pub IsTriedAs : Effect → Tried → Type 0
@@ -27,14 +27,14 @@ IsTriedAs (Effect.InCall k messages) tried = (reply : Reply) × (tried ≡ Tried
 IsTriedAs effect tried = tried ≡ Tried.Asleep
 
 -- one step, made or refused, and what became of its command
-abbrev pub IsTry : World → Step → Result Tried Refusal → World → Type 0
-IsTry old step (Ok tried) new = (effect : Effect) × Happens old step (Ok effect) new × IsTriedAs effect tried
-IsTry old step (Err refusal) new = Happens old step (Err refusal) new
+abbrev pub IsTried : World → Step → Result Tried Refusal → World → Type 0
+IsTried old step (Ok tried) new = (effect : Effect) × Happens old step (Ok effect) new × IsTriedAs effect tried
+IsTried old step (Err refusal) new = Happens old step (Err refusal) new
 
 -- the same of a command that is tried again
 abbrev pub IsRetry : World → ℕ → Command → Result (Command × Tried) Refusal → World → Type 0
-IsRetry old cpu command (Ok r) new = (r.0 ≡ command) × IsTry old (Step.Retry cpu) (Ok r.1) new
-IsRetry old cpu command (Err refusal) new = IsTry old (Step.Retry cpu) (Err refusal) new
+IsRetry old cpu command (Ok r) new = (r.0 ≡ command) × IsTried old (Step.Retry cpu) (Ok r.1) new
+IsRetry old cpu command (Err refusal) new = IsTried old (Step.Retry cpu) (Err refusal) new
 
 -- the entry of a command and its reply
 abbrev pub entry_of : ℕ → Command → Reply → Entry

@@ -3,7 +3,7 @@
 ghost use Rattle.std.specs.Prelude.{◌≡◌, ◌⊎◌, Err};
 ghost use Rattle.mig_base.specs.declared.schedule.Step.{Step};
 ghost use Rattle.rig.specs.declared.turns.Leave.{Leave};
-ghost use Rattle.rig.specs.Sections.{IsOutcome};
+ghost use Rattle.rig.specs.Sections.{IsSomeOutcome};
 
 use crate::gate::{Gate, Pass, StepKind, Worker};
 use crate::rig::Rig;

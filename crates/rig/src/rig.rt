@@ -7,8 +7,8 @@ ghost use Rattle.mig_base.specs.declared.command.Command.{Command};
 ghost use Rattle.mig_base.specs.declared.schedule.Step.{Step};
 ghost use Rattle.pusher.specs.Seats.{IsSeatOf};
 ghost use Rattle.rig.specs.Claiming.{AreFound, IsLost};
-ghost use Rattle.rig.specs.Seats.{answers_of, list_of, seats_of, AreAnswered, AreRight, IsLeastWrong, calls_of};
-ghost use Rattle.rig.specs.Sections.{IsMade, IsOutcome, IsReplyOf, IsReplyTo};
+ghost use Rattle.rig.specs.Seats.{answers_of, list_of, seats_of, AreAnswered, SeatsAreRight, IsLeastWrong, calls_of};
+ghost use Rattle.rig.specs.Sections.{IsMade, IsSomeOutcome, IsReplyOf, IsReplyTo};
 ghost use Rattle.std.specs.Sync.Mutex.{mutex_guard_value};
 
 mod commands;
@@ -180,7 +180,7 @@ impl Rig {
 
     /// Starts the migration, as [`Step::Start`].
     pub fn start<R: Wait>(&self, rt: &R) -> Result<Effect, Refusal>
-        ensures { IsOutcome Step.Start result }
+        ensures { IsSomeOutcome Step.Start result }
     {
         let (_world, outcome) = self.make(rt, Step::Start);
         outcome
@@ -188,7 +188,7 @@ impl Rig {
 
     /// Stops the processors at the source and hands them over, as [`Step::Switch`].
     pub fn switch<R: Wait>(&self, rt: &R) -> Result<Effect, Refusal>
-        ensures { IsOutcome Step.Switch result }
+        ensures { IsSomeOutcome Step.Switch result }
     {
         let (_world, outcome) = self.make(rt, Step::Switch);
         outcome
@@ -196,7 +196,7 @@ impl Rig {
 
     /// Breaks the channel, as [`Step::Break`].
     pub fn cut<R: Wait>(&self, rt: &R) -> Result<Effect, Refusal>
-        ensures { IsOutcome Step.Break result }
+        ensures { IsSomeOutcome Step.Break result }
     {
         let (_world, outcome) = self.make(rt, Step::Break);
         outcome
@@ -204,7 +204,7 @@ impl Rig {
 
     /// Continues over a new channel, as [`Step::Resume`].
     pub fn resume<R: Wait>(&self, rt: &R) -> Result<Effect, Refusal>
-        ensures { IsOutcome Step.Resume result }
+        ensures { IsSomeOutcome Step.Resume result }
     {
         let (_world, outcome) = self.make(rt, Step::Resume);
         outcome
@@ -217,7 +217,7 @@ impl Rig {
 
     /// Dequeues a request in one section of the lock. `StaleEpoch`, and no step, if the world's epoch is another.
     pub(crate) fn serve<R: Wait>(&self, rt: &R, epoch: u32) -> Result<Effect, Refusal>
-        ensures { (result ≡ Err Refusal.StaleEpoch) ⊎ IsOutcome Step.Serve result }
+        ensures { (result ≡ Err Refusal.StaleEpoch) ⊎ IsSomeOutcome Step.Serve result }
     {
         let mut world = self.world.lock(rt);
         world.headline();
@@ -265,7 +265,7 @@ impl Rig {
     ) -> Result<World, (CloseFault, World)>
         requires { IfSome claims (λ c. IsSeatOf c.0 c.1) }
         ensures flat { IfOk result (λ world. IsFlatRun world.transcript) }
-        ensures right { IfOk result (λ world. AreRight self seats.items world) }
+        ensures right { IfOk result (λ world. SeatsAreRight self seats.items world) }
         ensures answers { IfOk result (λ world. (k : ℕ) → k < length world.source.guest.cpus →
             answers_of k world.transcript ≡ answers_of k self.opening ++ list_of k seats.items) }
         ensures once { IfOk result (λ world. (k : ℕ) → k < length world.source.guest.cpus →
@@ -289,7 +289,7 @@ impl Rig {
     ) -> Result<World, (CloseFault, World)>
         requires { IfSome claims (λ c. IsSeatOf c.0 c.1) }
         ensures flat { IfOk result (λ world. IsFlatRun world.transcript) }
-        ensures right { IfOk result (λ world. AreRight self seats.now world) }
+        ensures right { IfOk result (λ world. SeatsAreRight self seats.now world) }
         ensures answered { IfOk result (λ world.
             AreAnswered self seats.now world.transcript (length world.source.guest.cpus)) }
         ensures kept { IfOk result (λ world. AreFound claims world) }
@@ -314,7 +314,7 @@ impl Rig {
     /// Returns the world, and tests the seats.
     fn close_seats(self, seats: &[CpuSeat]) -> Result<World, (CloseFault, World)>
         ensures flat { IfOk result (λ world. IsFlatRun world.transcript) }
-        ensures right { IfOk result (λ world. AreRight self seats.now world) }
+        ensures right { IfOk result (λ world. SeatsAreRight self seats.now world) }
         ensures answered { IfOk result (λ world.
             AreAnswered self seats.now world.transcript (length world.source.guest.cpus)) }
         ensures fault { IfErr result (λ r. (k : ℕ) → r.0 ≡ CloseFault.Answers k →

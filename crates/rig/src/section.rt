@@ -10,7 +10,7 @@ ghost use Rattle.mig_base.specs.declared.cpu_state.CpuState.{CpuState};
 ghost use Rattle.mig_base.specs.declared.refusal.Refusal.{Refusal};
 ghost use Rattle.mig_base.specs.declared.schedule.Step.{Step};
 ghost use Rattle.rig.specs.declared.section.Tried.{Tried};
-ghost use Rattle.rig.specs.Sections.{IsEntered, IsRetry, IsToldOf, IsTriedAs, IsTry, entries_by, is_calling};
+ghost use Rattle.rig.specs.Sections.{IsEntered, IsRetry, IsToldOf, IsTriedAs, IsTried, entries_by, is_calling};
 
 use mig_base::cpu_state::CpuState;
 use mig_base::effect::Effect;
@@ -37,7 +37,7 @@ pub(crate) fn step_in(world: &mut World, step: Step) -> Result<Effect, Refusal>
 
 /// A processor begins a command.
 pub(crate) fn issue_in(world: &mut World, cpu: u8, command: Command) -> Result<Tried, Refusal>
-    ensures step { IsTry world.old (Step.Issue cpu command) result world.new }
+    ensures step { IsTried world.old (Step.Issue cpu command) result world.new }
     ensures entered { IfOk result (λ tried.
         world.new.transcript ≡ world.old.transcript ++ entries_by cpu command tried) }
     ensures told { IsReached world.old → IfOk result (λ tried. IsToldOf cpu command tried) }

@@ -7,7 +7,7 @@ ghost use Rattle.rig.specs.declared.gate.Pass.{Pass};
 ghost use Rattle.rig.specs.declared.gate.StepKind.{StepKind};
 ghost use Rattle.rig.specs.declared.gate.Worker.{Worker};
 ghost use Rattle.rig.specs.declared.turns.Leave.{Leave};
-ghost use Rattle.rig.specs.Sections.{IsOutcome};
+ghost use Rattle.rig.specs.Sections.{IsSomeOutcome};
 ghost use Rattle.rig.specs.Turns.{Asks, IsStepOf, kind_of, steps_of};
 
 use crate::gate::{Pass, StepKind, Worker};
@@ -59,7 +59,7 @@ pub trait Turns {
         ensures who { who self.new ≡ who self.old }
         ensures turn { turn self.new ≡ turn self.old }
         ensures leave { leave self.new ≡ Leave.Nothing }
-        ensures outcome { IsOutcome step result };
+        ensures outcome { IsSomeOutcome step result };
 
     /// Makes a Serve, if the world is in this epoch; `StaleEpoch`, and no step, if not.
     fn serve(&mut self, epoch: u32) -> Result<Effect, Refusal>
@@ -67,7 +67,7 @@ pub trait Turns {
         ensures who { who self.new ≡ who self.old }
         ensures turn { turn self.new ≡ turn self.old }
         ensures leave { leave self.new ≡ Leave.Nothing }
-        ensures outcome { (result ≡ Err Refusal.StaleEpoch) ⊎ IsOutcome Step.Serve result };
+        ensures outcome { (result ≡ Err Refusal.StaleEpoch) ⊎ IsSomeOutcome Step.Serve result };
 
     /// The epoch of the world now. No step is made.
     fn epoch(&self) -> u32;

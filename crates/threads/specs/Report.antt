@@ -26,8 +26,8 @@ abbrev pub count_line : ℕ → List ℕ
 count_line entries = codes "transcript " ++ decimal entries ++ 10 ∷ []
 
 -- the line if the seats agree with the transcript
-abbrev pub ok_line : List ℕ
-ok_line = codes "close ok\n"
+abbrev pub agreed_line : List ℕ
+agreed_line = codes "close ok\n"
 
 -- the name of a fault, without its processor
 abbrev pub fault_name : CloseFault → List ℕ
@@ -51,7 +51,7 @@ pub record IsHistory (seats : List Seat) (world : World) : Type 0 where
 
 -- the last lines: the number of entries of the world, and what was found when the rig was closed
 abbrev pub verdict_lines : ℕ → Option CloseFault → List ℕ
-verdict_lines entries None = count_line entries ++ ok_line
+verdict_lines entries None = count_line entries ++ agreed_line
 verdict_lines entries (Some fault) = count_line entries ++ fault_line fault
 
 -- the report: a line for each seat, and the last lines
@@ -76,8 +76,8 @@ abbrev pub Reports : ℕ → ℕ → Bool → Option (List ℕ) → Option (List
 Reports cpus calls answer before after = (text : List ℕ) × IsReport cpus calls answer text × Appends before after text
 
 -- a run ends without a whole report: if memory ran out, nothing was written; if writing failed, the first part of a report was
-abbrev pub Stops : ℕ → ℕ → RunFault → Option (List ℕ) → Option (List ℕ) → Type 0
-Stops cpus calls (faults.Line n) before after = ⊥
-Stops cpus calls faults.ReadFault before after = ⊥
-Stops cpus calls faults.WriteFault before after = (answer : Bool) × (text : List ℕ) × IsReport cpus calls answer text × Front text before after
-Stops cpus calls faults.NoMemory before after = Appends before after []
+abbrev pub ThreadsStop : ℕ → ℕ → RunFault → Option (List ℕ) → Option (List ℕ) → Type 0
+ThreadsStop cpus calls (faults.Line n) before after = ⊥
+ThreadsStop cpus calls faults.ReadFault before after = ⊥
+ThreadsStop cpus calls faults.WriteFault before after = (answer : Bool) × (text : List ℕ) × IsReport cpus calls answer text × Front text before after
+ThreadsStop cpus calls faults.NoMemory before after = Appends before after []

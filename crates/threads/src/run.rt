@@ -3,7 +3,7 @@
 ghost use Rattle.std.specs.Prelude.{◌≡◌, ◌≤◌, ◌+◌, ◌*◌, [], None, length, IfOk, IfErr, string_bytes};
 ghost use Rattle.engine.specs.declared.fault.RunFault.TheVariants.{NoMemory as OutOfMemory};
 ghost use Rattle.mig_base.specs.Flat.{IsFlatRun};
-ghost use Rattle.threads.specs.Report.{AreFrom, IsHistory, IsReport, Reports, Stops};
+ghost use Rattle.threads.specs.Report.{AreFrom, IsHistory, IsReport, Reports, ThreadsStop};
 
 use crate::course::Course;
 use crate::driver::{Cut, Plan, run_all};
@@ -91,7 +91,7 @@ pub fn run_threads<R: Threads + Wait + Sync, W: Write>(
     ensures ok { IfOk result (λ answer.
         Reports cpus (1 + 2 * calls) answer (W.contents writer.old) (W.contents writer.new)) }
     ensures fault { IfErr result (λ fault.
-        Stops cpus (1 + 2 * calls) fault (W.contents writer.old) (W.contents writer.new)) }
+        ThreadsStop cpus (1 + 2 * calls) fault (W.contents writer.old) (W.contents writer.new)) }
 {
     let mut text = String::new(alloc);
     let answer = run_and_print(rt, alloc, cpus, calls, cut, &mut text)?;

@@ -3,7 +3,7 @@
 ghost use Rattle.std.specs.Prelude.{◌≡◌, ◌++◌, true, OnOk, IfOk, IfErr, IfSome, string_bytes, length};
 ghost use Rattle.engine.specs.declared.fault.RunFault.TheVariants.{NoMemory as OutOfMemory};
 ghost use Rattle.pusher.specs.Seats.{IsSeatOf};
-ghost use Rattle.threads.specs.Report.{seat_line, seat_lines, count_line, ok_line, fault_name, fault_line, report_lines, AreFrom};
+ghost use Rattle.threads.specs.Report.{seat_line, seat_lines, count_line, agreed_line, fault_name, fault_line, report_lines, AreFrom};
 
 use crate::run::Run;
 use crate::sending::Sent;
@@ -71,7 +71,7 @@ pub(crate) fn print_run(text: &mut String, run: &Run) -> Result<(), RunFault>
 /// Appends the number of entries to a text, and that the tests of `close` passed.
 fn print_ok(text: &mut String, entries: usize) -> Result<(), RunFault>
     ensures ok { OnOk result (string_bytes text.new ≡
-        string_bytes text.old ++ (count_line entries ++ ok_line)) }
+        string_bytes text.old ++ (count_line entries ++ agreed_line)) }
     ensures err { IfErr result (λ fault. fault ≡ OutOfMemory) }
 {
     print_count(text, entries)?;

@@ -21,7 +21,7 @@ use Rattle.mig_model.proofs.memory.CommandLemmas.{memory-changed}
 use Rattle.mig_model.proofs.memory.HostLemmas.{is_mapped-memory, get-put}
 use Rattle.mig_model.proofs.memory.Facts.{some_either}
 use Rattle.page_table.specs.Views.{Pages}
-use Rattle.uffd_ioctl.specs.Spaces.{space_of}
+use Rattle.uffd_ioctl.specs.Spaces.{machine_space}
 use Rattle.uffd_ioctl.proofs.AnswerLemmas.{sound_put, put_is, sound_write, write_is}
 
 -- A page made present, and written
@@ -30,8 +30,8 @@ pub stays_present : (bytes : FinMap nat_cmp (List ℕ)) (page q : ℕ) (held : L
 stays_present bytes page q held h = ap is_some (get-put bytes page q held) ∙ some_either (eqb q page) held (get bytes q) h
 
 -- a space stays sound whose host does, if all its present pages stay so
-sound_pages : (areas : FinMap nat_cmp Prot) (old new : Pages) (object : Object) (page : ℕ) (held : List ℕ) → IsSoundSpace (space_of areas old object) → IsSound (record { areas = areas; bytes = new.bytes }) →
-    new.bytes ≡ insert old.bytes page held → new.protected ≡ old.protected → IsSoundSpace (space_of areas new object)
+sound_pages : (areas : FinMap nat_cmp Prot) (old new : Pages) (object : Object) (page : ℕ) (held : List ℕ) → IsSoundSpace (machine_space areas old object) → IsSound (record { areas = areas; bytes = new.bytes }) →
+    new.bytes ≡ insert old.bytes page held → new.protected ≡ old.protected → IsSoundSpace (machine_space areas new object)
 sound_pages areas old new object page held sound host is same =
     let was = λ (q : ℕ) (h : contains new.protected q ≡ true). sym (ap (λ s. contains s q) same) ∙ h in
     record {
@@ -41,25 +41,25 @@ sound_pages areas old new object page held sound host is same =
       watched = λ q h. sound.watched q (was q h);
     }
 
-pub sound_present : (areas : FinMap nat_cmp Prot) (old new : Pages) (object : Object) (page : ℕ) → IsSoundSpace (space_of areas old object) → contains_key areas page ≡ true →
-    new.bytes ≡ insert old.bytes page (contents old.bytes page) → new.protected ≡ old.protected → IsSoundSpace (space_of areas new object)
+pub sound_present : (areas : FinMap nat_cmp Prot) (old new : Pages) (object : Object) (page : ℕ) → IsSoundSpace (machine_space areas old object) → contains_key areas page ≡ true →
+    new.bytes ≡ insert old.bytes page (contents old.bytes page) → new.protected ≡ old.protected → IsSoundSpace (machine_space areas new object)
 sound_present areas old new object page sound mapped is same =
     sound_pages areas old new object page (contents old.bytes page) sound (sound_put (record { areas = areas; bytes = old.bytes }) page new.bytes sound.host mapped is) is same
 
-pub sound_written : (areas : FinMap nat_cmp Prot) (old new : Pages) (object : Object) (addr width number : ℕ) (digits : List ℕ) → IsSoundSpace (space_of areas old object) →
+pub sound_written : (areas : FinMap nat_cmp Prot) (old new : Pages) (object : Object) (addr width number : ℕ) (digits : List ℕ) → IsSoundSpace (machine_space areas old object) →
     contains_key areas (addr / 4096) ≡ true → contains_key old.bytes (addr / 4096) ≡ true → is_aligned addr width ≡ true → digits ≡ low_bytes number width →
-    new.bytes ≡ insert old.bytes (addr / 4096) (overwrite (page_at old.bytes (addr / 4096)) (addr % 4096) digits) → new.protected ≡ old.protected → IsSoundSpace (space_of areas new object)
+    new.bytes ≡ insert old.bytes (addr / 4096) (overwrite (page_at old.bytes (addr / 4096)) (addr % 4096) digits) → new.protected ≡ old.protected → IsSoundSpace (machine_space areas new object)
 sound_written areas old new object addr width number digits sound mapped present form number_is is same =
     sound_pages areas old new object (addr / 4096) (overwrite (page_at old.bytes (addr / 4096)) (addr % 4096) digits) sound
     (sound_write (record { areas = areas; bytes = old.bytes }) new.bytes addr width number digits sound.host mapped present form number_is is) is same
 
 -- the same pages make the same space
-kept_space : (areas : FinMap nat_cmp Prot) (old new : Pages) (object : Object) → new.bytes ≡ old.bytes → new.protected ≡ old.protected → space_of areas old object ≡ space_of areas new object
+kept_space : (areas : FinMap nat_cmp Prot) (old new : Pages) (object : Object) → new.bytes ≡ old.bytes → new.protected ≡ old.protected → machine_space areas old object ≡ machine_space areas new object
 kept_space areas old new object is same =
     ap (λ b. record { host = record { areas = areas; bytes = b }; protected = old.protected; object = object }) (sym is)
     ∙ ap (λ s. record { host = record { areas = areas; bytes = new.bytes }; protected = s; object = object }) (sym same)
 
-pub sound_kept : (areas : FinMap nat_cmp Prot) (old new : Pages) (object : Object) → IsSoundSpace (space_of areas old object) → new.bytes ≡ old.bytes → new.protected ≡ old.protected → IsSoundSpace (space_of areas new object)
+pub sound_kept : (areas : FinMap nat_cmp Prot) (old new : Pages) (object : Object) → IsSoundSpace (machine_space areas old object) → new.bytes ≡ old.bytes → new.protected ≡ old.protected → IsSoundSpace (machine_space areas new object)
 sound_kept areas old new object sound is same = subst IsSoundSpace (kept_space areas old new object is same) sound
 
 -- a space whose host is another, and whose protected pages and object are the same
@@ -67,17 +67,17 @@ with_host : (host other : Host) (object : Object) (value : Space) (protected : F
     record { host = host; protected = protected; object = object } ≡ record value { host = other }
 with_host host other object value protected is same object_is = cc
 
-pub present_space : (areas : FinMap nat_cmp Prot) (old new : Pages) (object : Object) (value : Space) (page : ℕ) → space_of areas old object ≡ value →
+pub present_space : (areas : FinMap nat_cmp Prot) (old new : Pages) (object : Object) (value : Space) (page : ℕ) → machine_space areas old object ≡ value →
     new.bytes ≡ insert old.bytes page (contents old.bytes page) → new.protected ≡ old.protected →
-    space_of areas new object ≡ record value { host = record value.host { bytes = insert value.host.bytes page (contents value.host.bytes page) } }
+    machine_space areas new object ≡ record value { host = record value.host { bytes = insert value.host.bytes page (contents value.host.bytes page) } }
 present_space areas old new object value page view is same =
     with_host (record { areas = areas; bytes = new.bytes }) (record value.host { bytes = insert value.host.bytes page (contents value.host.bytes page) }) object value new.protected
     (put_is (record { areas = areas; bytes = old.bytes }) value.host page new.bytes (ap (λ s. s.host) view) is) (same ∙ ap (λ s. s.protected) view) (ap (λ s. s.object) view)
 
-pub written_space : (areas : FinMap nat_cmp Prot) (old new : Pages) (object : Object) (middle value : Space) (addr width number : ℕ) (digits : List ℕ) → space_of areas old object ≡ middle →
+pub written_space : (areas : FinMap nat_cmp Prot) (old new : Pages) (object : Object) (middle value : Space) (addr width number : ℕ) (digits : List ℕ) → machine_space areas old object ≡ middle →
     middle ≡ record value { host = record value.host { bytes = insert value.host.bytes (addr / 4096) (contents value.host.bytes (addr / 4096)) } } → digits ≡ low_bytes number width →
     new.bytes ≡ insert old.bytes (addr / 4096) (overwrite (page_at old.bytes (addr / 4096)) (addr % 4096) digits) → new.protected ≡ old.protected →
-    space_of areas new object ≡ record value { host = host_changed value.host (Store addr width number) Done }
+    machine_space areas new object ≡ record value { host = host_changed value.host (Store addr width number) Done }
 written_space areas old new object middle value addr width number digits view made number_is is same =
     with_host (record { areas = areas; bytes = new.bytes }) (host_changed value.host (Store addr width number) Done) object value new.protected
     (write_is (record { areas = areas; bytes = old.bytes }) middle.host value.host new.bytes addr width number digits (ap (λ s. s.host) view) (ap (λ s. s.host) made) number_is is)

@@ -30,7 +30,7 @@ use Rattle.mig_model.specs.Space.{Space, IsSoundSpace, message_if, remap_message
 use Rattle.mig_model.proofs.memory.CommandLemmas.{remapped_place}
 use Rattle.mig_model.proofs.memory.SpaceLemmas.{IsSoundSpace-called}
 use Rattle.page_table.specs.Views.{Pages}
-use Rattle.uffd_ioctl.specs.Spaces.{space_of}
+use Rattle.uffd_ioctl.specs.Spaces.{machine_space}
 use Rattle.uffd_ioctl.proofs.AnswerLemmas.{munmap_done}
 use Rattle.uffd_ioctl.proofs.ChangeLemmas.{dropped_below}
 use Rattle.uffd_ioctl.proofs.MapCallLemmas.{past_not_all}
@@ -56,7 +56,7 @@ answered_is : (space : Space) (cpu : ℕ) (command : Command) (reply : Reply) �
 answered_is space cpu command reply h = ap (answered space cpu command) h
 
 parts_are : (areas others : PageMap Prot) (pages : Pages) (bytes : PageMap (List ℕ)) (protected : Set) (object other : Object) → areas ≡ others → pages.bytes ≡ bytes → pages.protected ≡ protected → object ≡ other
-    → space_of areas pages object ≡ record { host = record { areas = others; bytes = bytes }; protected = protected; object = other }
+    → machine_space areas pages object ≡ record { host = record { areas = others; bytes = bytes }; protected = protected; object = other }
 parts_are areas others pages bytes protected object other is_areas is_bytes is_protected is_object =
     ap (λ a. record { host = record { areas = a; bytes = pages.bytes }; protected = pages.protected; object = object }) is_areas
     ∙ ap (λ b. record { host = record { areas = others; bytes = b }; protected = pages.protected; object = object }) is_bytes
@@ -80,7 +80,7 @@ registered_below space sound page past =
 pub space_made : (space : Space) (areas : PageMap Prot) (pages : Pages) (object : Object) (cpu bytes start count end : ℕ) (prot : Prot) (place : Place) → At start ≡ mmap_reply (memory space.host) bytes prot place → count ≡ pages_of bytes → end ≡ 4096 * (start / 4096 + count)
     → areas ≡ set_range space.host.areas (start / 4096) count prot → pages.bytes ≡ remove_range space.host.bytes (start / 4096) count → pages.protected ≡ without space.protected (start / 4096) count
     → object ≡ all_queued (unregistered space.object (start / 4096) count) (message_if (is_watched space.object (start / 4096) count) (Unmap start end)) cpu
-    → space_of areas pages object ≡ called space cpu (Mmap bytes prot place)
+    → machine_space areas pages object ≡ called space cpu (Mmap bytes prot place)
 space_made space areas pages object cpu bytes start count end prot place reply size is_end is_areas is_bytes is_protected is_object =
     let whole = (mmap_inside (memory space.host) bytes prot place start reply).whole in
     let last : end ≡ start + rounded bytes = omega arith in
@@ -98,7 +98,7 @@ space_made space areas pages object cpu bytes start count end prot place reply s
 pub space_unmapped : (space : Space) (areas : PageMap Prot) (pages : Pages) (object : Object) (cpu addr bytes count end : ℕ) → addr % 4096 ≡ 0 → 0 < bytes → count ≡ pages_of bytes → addr / 4096 + count ≤ HIGH_PAGE → end ≡ 4096 * (addr / 4096 + count)
     → areas ≡ remove_range space.host.areas (addr / 4096) count → pages.bytes ≡ remove_range space.host.bytes (addr / 4096) count → pages.protected ≡ without space.protected (addr / 4096) count
     → object ≡ all_queued (unregistered space.object (addr / 4096) count) (message_if (is_watched space.object (addr / 4096) count) (Unmap addr end)) cpu
-    → space_of areas pages object ≡ called space cpu (Munmap addr bytes)
+    → machine_space areas pages object ≡ called space cpu (Munmap addr bytes)
 space_unmapped space areas pages object cpu addr bytes count end whole some size high is_end is_areas is_bytes is_protected is_object =
     let last : end ≡ addr + rounded bytes = omega arith in
     parts_are areas _ pages _ _ object _
@@ -139,7 +139,7 @@ queued_moved space value addr old_len new_len may_move fixed target count new_co
 pub space_moved : (space : Space) (areas : PageMap Prot) (pages : Pages) (object : Object) (cpu addr old_len new_len : ℕ) (may_move : Bool) (fixed : Option ℕ) (target count new_count : ℕ) → IsSoundSpace space → At target ≡ mremap_reply (memory space.host) addr old_len new_len may_move fixed → count ≡ pages_of old_len → new_count ≡ pages_of new_len
     → areas ≡ moved_range space.host.areas (addr / 4096) count (target / 4096) new_count (get space.host.areas (addr / 4096)) → pages.bytes ≡ moved_range space.host.bytes (addr / 4096) count (target / 4096) new_count None → pages.protected ≡ moved_set space.protected (addr / 4096) count (target / 4096) new_count false
     → object ≡ all_queued (moved_modes space.object (addr / 4096) count (target / 4096) new_count (mode_at space.object (addr / 4096 + (count - 1)))) (remap_messages space.object (4096 * (addr / 4096)) count (4096 * (target / 4096)) new_count) cpu
-    → space_of areas pages object ≡ called space cpu (Mremap addr old_len new_len may_move fixed)
+    → machine_space areas pages object ≡ called space cpu (Mremap addr old_len new_len may_move fixed)
 space_moved space areas pages object cpu addr old_len new_len may_move fixed target count new_count sound reply size new_size is_areas is_bytes is_protected is_object =
     let from = addr / 4096 in
     let to = target / 4096 in
@@ -279,7 +279,7 @@ dropped_cases true false false false space cpu addr bytes reply is other = by_re
 
 pub space_dropped : (space : Space) (pages : Pages) (object : Object) (cpu addr bytes low end last : ℕ) (reply : Reply) → IsSoundSpace space → reply ≡ dontneed_reply (memory space.host) addr bytes → (reply ≡ Refused Einval → ⊥) → low ≡ min (addr / 4096) HIGH_PAGE → end ≡ min (addr / 4096 + pages_of bytes) HIGH_PAGE → last ≡ 4096 * end
     → pages.bytes ≡ remove_range space.host.bytes low (end - low) → pages.protected ≡ without space.protected low (end - low) → object ≡ all_queued space.object (message_if (is_watched space.object low (end - low)) (Remove addr last)) cpu
-    → space_of space.host.areas pages object ≡ called space cpu (DontNeed addr bytes)
+    → machine_space space.host.areas pages object ≡ called space cpu (DontNeed addr bytes)
 space_dropped space pages object cpu addr bytes low end last reply sound is other is_low is_end is_last is_bytes is_protected is_object =
     parts_are space.host.areas space.host.areas pages _ _ object _ refl
     (is_bytes ∙ dropped_below space.host (addr / 4096) (pages_of bytes) low end sound.host is_low is_end)

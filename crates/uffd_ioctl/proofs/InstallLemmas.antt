@@ -20,7 +20,7 @@ use Rattle.mig_base.proofs.RangeLemmas.{none_below-from, none_below-not, least_b
 use Rattle.mig_model.specs.Bounds.{IsPage}
 use Rattle.mig_base.specs.Userfault.{Object, changing, is_registered}
 use Rattle.mig_model.specs.Space.{Space, IsSoundSpace}
-use Rattle.mig_model.specs.Ioctls.{put_pages, handed, installed, is_bad_range, is_one_area, same_area, same_prot, missing_run, copied, copy_errors, copy_error, zeropage_errors, zeropage_error, stop_error, wakes, put_answer, put_by, left_by}
+use Rattle.mig_model.specs.Ioctls.{put_pages, handed, installed, is_bad_range, is_one_area, same_area, same_protection, missing_run, copied, copy_errors, copy_error, zeropage_errors, zeropage_error, stop_error, wakes, put_answer, answer_put, left_by}
 use Rattle.mig_base.specs.Tests.{same_bool, is_every}
 use Rattle.mig_base.proofs.TestLemmas.{eqb-self}
 use Rattle.mig_model.proofs.memory.IoctlLemmas.{CanPut, IsSoundSpace-installed, IsSoundSpace-copied, get-put_pages, every_page, none_holds, protect_told, can_put, length-handed}
@@ -36,8 +36,8 @@ use Rattle.userfault.proofs.ModeLemmas.{is_pages_where}
 use Rattle.uffd_ioctl.specs.declared.fault.IoctlFault.TheVariants as fault
 use Rattle.uffd_ioctl.specs.declared.fault.Copied.{Copied}
 use Rattle.uffd_ioctl.specs.declared.fault.CopyFault.{CopyFault}
-use Rattle.uffd_ioctl.specs.Puts.{IsPut, IsShort, put_result, result_by, result_of, fault_of, stop_fault, own_fault, pages_put}
-use Rattle.uffd_ioctl.specs.Spaces.{space_of}
+use Rattle.uffd_ioctl.specs.Puts.{IsPut, IsShort, put_result, result_by, result_of, ioctl_fault_of, stop_fault, own_fault, pages_put}
+use Rattle.uffd_ioctl.specs.Spaces.{machine_space}
 use Rattle.uffd_ioctl.proofs.AnswerLemmas.{get-put_same}
 use Rattle.uffd_ioctl.proofs.CallLemmas.{protected_below}
 
@@ -123,27 +123,27 @@ protected_more first done q old protect now new before more = grind (arith, nat_
 same_number : (a b : Prot) → eqb (prot_number a) (prot_number b) ≡ true → b ≡ a
 same_number a b h = sym (prot_numbered-prot_number b) ∙ ap prot_numbered (sym (eqb-true (prot_number a) (prot_number b) h)) ∙ prot_numbered-prot_number a
 
-same_tells : (a b : Option Prot) → same_prot a b ≡ true → b ≡ a
+same_tells : (a b : Option Prot) → same_protection a b ≡ true → b ≡ a
 same_tells (Some a) (Some b) h = ap Some (same_number a b h)
 same_tells (Some a) None h = absurd (false≢true h)
 same_tells None b h = absurd (false≢true h)
 
-prot_there : (a : Option Prot) → same_prot a a ≡ true → (prot : Prot) × (a ≡ Some prot)
+prot_there : (a : Option Prot) → same_protection a a ≡ true → (prot : Prot) × (a ≡ Some prot)
 prot_there (Some prot) h = (prot, refl)
 prot_there None h = absurd (false≢true h)
 
-both_have : (a b : Option Prot) (prot : Prot) → a ≡ Some prot → b ≡ Some prot → same_prot a b ≡ true
-both_have a b prot p q = ap (λ o. same_prot o b) p ∙ ap (same_prot (Some prot)) q ∙ eqb-self (prot_number prot)
+both_have : (a b : Option Prot) (prot : Prot) → a ≡ Some prot → b ≡ Some prot → same_protection a b ≡ true
+both_have a b prot p q = ap (λ o. same_protection o b) p ∙ ap (same_protection (Some prot)) q ∙ eqb-self (prot_number prot)
 
 -- what a search for one protection tells
-pub every_prot : (prots : ℕ → Option Prot) (first count : ℕ) (found : Option Prot) → 0 < count → IfSome found (HasOneProt prots first count) → IfNone found ((prot : Prot) → HasOneProt prots first count prot → ⊥) → is_some found ≡ is_every (λ page. same_prot (prots first) (prots page)) first count
+pub every_prot : (prots : ℕ → Option Prot) (first count : ℕ) (found : Option Prot) → 0 < count → IfSome found (HasOneProt prots first count) → IfNone found ((prot : Prot) → HasOneProt prots first count prot → ⊥) → is_some found ≡ is_every (λ page. same_protection (prots first) (prots page)) first count
 every_prot prots first count (Some prot) some has none =
-    sym (none_below-from (λ i. not (same_prot (prots first) (prots (first + i)))) count
+    sym (none_below-from (λ i. not (same_protection (prots first) (prots (first + i)))) count
     (λ i l. ap not (both_have (prots first) (prots (first + i)) prot (has first (omega arith) (omega arith)) (has (first + i) (omega arith) (omega arith)))))
 every_prot prots first count None some has none =
-    sym (false_from_ne_true (is_every (λ page. same_prot (prots first) (prots page)) first count) (λ e.
-    let one = prot_there (prots first) (every_page (λ page. same_prot (prots first) (prots page)) first count first e (omega arith) (omega arith)) in
-    none one.0 (λ page a b. same_tells (prots first) (prots page) (every_page (λ q. same_prot (prots first) (prots q)) first count page e a b) ∙ one.1)))
+    sym (false_from_ne_true (is_every (λ page. same_protection (prots first) (prots page)) first count) (λ e.
+    let one = prot_there (prots first) (every_page (λ page. same_protection (prots first) (prots page)) first count first e (omega arith) (omega arith)) in
+    none one.0 (λ page a b. same_tells (prots first) (prots page) (every_page (λ q. same_protection (prots first) (prots q)) first count page e a b) ∙ one.1)))
 
 -- each page passes as the first does
 every_alike : (test : ℕ → Bool) (here : Bool) (first count : ℕ) → 0 < count → ((page : ℕ) → first ≤ page → page < first + count → test page ≡ here) → is_every test first count ≡ here
@@ -167,10 +167,10 @@ area_tests : (here all prot missing protect : Bool) → ((missing && protect) �
 area_tests here all prot missing protect h = grind (arith, nat_tests)
 
 -- the three tests of a range
-pub one_area_is : (space : Space) (first count : ℕ) → 0 < count → ((is_registered space.object first && is_every (has_mode_of space.object first) first count) && is_every (λ page. same_prot (get space.host.areas first) (get space.host.areas page)) first count) ≡ is_one_area space first count
+pub one_area_is : (space : Space) (first count : ℕ) → 0 < count → ((is_registered space.object first && is_every (has_mode_of space.object first) first count) && is_every (λ page. same_protection (get space.host.areas first) (get space.host.areas page)) first count) ≡ is_one_area space first count
 one_area_is space first count some =
     let object = space.object in
-    let prot = λ (page : ℕ). same_prot (get space.host.areas first) (get space.host.areas page) in
+    let prot = λ (page : ℕ). same_protection (get space.host.areas first) (get space.host.areas page) in
     let missing = λ (page : ℕ). same_bool (contains object.missing first) (contains object.missing page) in
     let protect = λ (page : ℕ). same_bool (contains object.protect first) (contains object.protect page) in
     let modes : is_every (has_mode_of object first) first count ≡ (is_every missing first count && is_every protect first count) = every_both missing protect first count in
@@ -182,9 +182,9 @@ one_area_is space first count some =
     ∙ sym (every_both (is_registered object) (λ page. (prot page && missing page) && protect page) first count)
 
 -- what the tests of the code say of such a range: its first page is registered, all have its mode, and all one protection
-pub one_area_found : (space : Space) (first count : ℕ) (watched value some : Bool) → 0 < count → watched ≡ is_registered space.object first → value ≡ (watched && is_every (has_mode_of space.object first) first count) → value ≡ true → some ≡ is_every (λ page. same_prot (get space.host.areas first) (get space.host.areas page)) first count → some ≡ is_one_area space first count
+pub one_area_found : (space : Space) (first count : ℕ) (watched value some : Bool) → 0 < count → watched ≡ is_registered space.object first → value ≡ (watched && is_every (has_mode_of space.object first) first count) → value ≡ true → some ≡ is_every (λ page. same_protection (get space.host.areas first) (get space.host.areas page)) first count → some ≡ is_one_area space first count
 one_area_found space first count watched value some enough here modes found prots =
-    let prot = is_every (λ page. same_prot (get space.host.areas first) (get space.host.areas page)) first count in
+    let prot = is_every (λ page. same_protection (get space.host.areas first) (get space.host.areas page)) first count in
     prots
     ∙ ap (λ b. b && prot) (sym found)
     ∙ ap (λ b. b && prot) modes
@@ -193,7 +193,7 @@ one_area_found space first count watched value some enough here modes found prot
 
 pub one_area_not : (space : Space) (first count : ℕ) (watched value : Bool) → 0 < count → watched ≡ is_registered space.object first → value ≡ (watched && is_every (has_mode_of space.object first) first count) → value ≡ false → value ≡ is_one_area space first count
 one_area_not space first count watched value enough here modes found =
-    let prot = is_every (λ page. same_prot (get space.host.areas first) (get space.host.areas page)) first count in
+    let prot = is_every (λ page. same_protection (get space.host.areas first) (get space.host.areas page)) first count in
     found
     ∙ ap (λ b. b && prot) (sym found)
     ∙ ap (λ b. b && prot) modes
@@ -206,12 +206,12 @@ new_below : (first done page : ℕ) (old protect : Bool) → first + done ≤ HI
 new_below first done page old protect inside past none = grind (arith, nat_tests)
 
 -- the code changes the pages as the machine does
-pub is_installed : (areas : FinMap nat_cmp Prot) (old new : Pages) (object : Object) (first done : ℕ) (bytes : ℕ → List ℕ) (protect : Bool) → IsSoundSpace (space_of areas old object) → first + done ≤ HIGH_PAGE → new.bytes ≡ put_pages old.bytes first done bytes → ((q : ℕ) → contains new.protected q ≡ (contains old.protected q || (protect && in_range first done q))) → space_of areas new object ≡ installed (space_of areas old object) first done bytes protect
+pub is_installed : (areas : FinMap nat_cmp Prot) (old new : Pages) (object : Object) (first done : ℕ) (bytes : ℕ → List ℕ) (protect : Bool) → IsSoundSpace (machine_space areas old object) → first + done ≤ HIGH_PAGE → new.bytes ≡ put_pages old.bytes first done bytes → ((q : ℕ) → contains new.protected q ≡ (contains old.protected q || (protect && in_range first done q))) → machine_space areas new object ≡ installed (machine_space areas old object) first done bytes protect
 is_installed areas old new object first done bytes protect sound inside put protected =
-    ap (λ b. space_of areas (record { bytes = b; protected = new.protected }) object) put
-    ∙ ap (λ p. space_of areas (record { bytes = put_pages old.bytes first done bytes; protected = p }) object)
+    ap (λ b. machine_space areas (record { bytes = b; protected = new.protected }) object) put
+    ∙ ap (λ p. machine_space areas (record { bytes = put_pages old.bytes first done bytes; protected = p }) object)
     (is_pages_where new.protected (λ q. contains old.protected q || (protect && in_range first done q)) protected
-    (λ q past. new_below first done q (contains old.protected q) protect inside past (protected_below (space_of areas old object) sound q past)))
+    (λ q past. new_below first done q (contains old.protected q) protect inside past (protected_below (machine_space areas old object) sound q past)))
 
 none_added : (old here : Bool) → old ≡ (old || (false && here))
 none_added true here = refl
@@ -273,19 +273,19 @@ other_count a b h = grind (arith, nat_tests)
 not_zero : (n : ℕ) → eqb (suc n) 0 ≡ false
 not_zero n = grind (arith, nat_tests)
 
-stopped_by : (done : ℕ) → stop_fault done (Some stop.Present) ≡ fault_of (Some (stop_error done Eexist))
+stopped_by : (done : ℕ) → stop_fault done (Some stop.Present) ≡ ioctl_fault_of (Some (stop_error done Eexist))
 stopped_by zero = refl
 stopped_by (suc done) = ap (λ b. Some (cond b (own_fault stop.Present) (fault.Errno Eagain))) (not_zero done)
 
-answer_of : (start count done bits : ℕ) (why : Option PutFault) → stop_fault done why ≡ fault_of (cond (eqb done count) None (Some (stop_error done Eexist))) → put_result start done (is_one bits 0) why ≡ result_of (put_answer start count done bits Eexist)
+answer_of : (start count done bits : ℕ) (why : Option PutFault) → stop_fault done why ≡ ioctl_fault_of (cond (eqb done count) None (Some (stop_error done Eexist))) → put_result start done (is_one bits 0) why ≡ result_of (put_answer start count done bits Eexist)
 answer_of start count done bits why h = ap (λ f. result_by (4096 * done) (wakes start done bits) f) h
 
 -- where memory was found
 row_answer : (bytes : FinMap nat_cmp (List ℕ)) (first start count done bits : ℕ) (why : Option PutFault) → IsPut bytes first count done why → (why ≡ Some stop.NoMemory → ⊥) → put_result start done (is_one bits 0) why ≡ result_of (put_answer start count done bits Eexist)
 row_answer bytes first start count done bits None put h =
-    answer_of start count done bits None (ap (λ b. fault_of (cond b None (Some (stop_error done Eexist)))) (sym (eq-eqb done count put.stops)))
+    answer_of start count done bits None (ap (λ b. ioctl_fault_of (cond b None (Some (stop_error done Eexist)))) (sym (eq-eqb done count put.stops)))
 row_answer bytes first start count done bits (Some stop.Present) put h =
-    answer_of start count done bits (Some stop.Present) (stopped_by done ∙ ap (λ b. fault_of (cond b None (Some (stop_error done Eexist)))) (sym (other_count done count put.stops.0)))
+    answer_of start count done bits (Some stop.Present) (stopped_by done ∙ ap (λ b. ioctl_fault_of (cond b None (Some (stop_error done Eexist)))) (sym (other_count done count put.stops.0)))
 row_answer bytes first start count done bits (Some stop.NoMemory) put h = absurd (h refl)
 
 -- The row of a call
@@ -293,7 +293,7 @@ row_answer bytes first start count done bits (Some stop.NoMemory) put h = absurd
 -- either the row of the table, or a call that ran out of memory
 abbrev pub IsRow : Option Errno → Space → Space → ℕ → ℕ → ℕ → (ℕ → List ℕ) → Bool → Result Copied CopyFault → Type 0
 IsRow error old new start count bits bytes protect result =
-    ((result ≡ result_of (put_by error (put_answer start count (missing_run old (start / 4096) count) bits Eexist)))
+    ((result ≡ result_of (answer_put error (put_answer start count (missing_run old (start / 4096) count) bits Eexist)))
     × (new ≡ left_by error old (installed old (start / 4096) (missing_run old (start / 4096) count) bytes protect)))
     ⊎ ((error ≡ None) × IsShort old new start count bits bytes protect result)
 
@@ -306,7 +306,7 @@ row_found error old new start count bits done bytes protect quiet why result fin
           ∙ ap (λ b. put_result start done b why) same
           ∙ row_answer old.host.bytes (start / 4096) start count done bits why put found
           ∙ ap (λ n. result_of (put_answer start count n bits Eexist)) all
-          ∙ ap (λ e. result_of (put_by e (put_answer start count (missing_run old (start / 4096) count) bits Eexist))) (sym fine),
+          ∙ ap (λ e. result_of (answer_put e (put_answer start count (missing_run old (start / 4096) count) bits Eexist))) (sym fine),
       after
           ∙ ap (λ n. installed old (start / 4096) n bytes protect) all
           ∙ ap (λ e. left_by e old (installed old (start / 4096) (missing_run old (start / 4096) count) bytes protect)) (sym fine),
@@ -342,44 +342,44 @@ pub record IsCall (error : Option Errno) (old new : Space) (start count bits : �
   pub row : IsRow error old new start count bits bytes protect result
 
 call_of : (error : Option Errno) (areas : FinMap nat_cmp Prot) (old new : Pages) (object : Object) (start count bits done : ℕ) (bytes : ℕ → List ℕ) (protect quiet : Bool) (why : Option PutFault) (result : Result Copied CopyFault)
-    → IsSoundSpace (space_of areas old object) → error ≡ None → CanPut (space_of areas old object) (start / 4096) (missing_run (space_of areas old object) (start / 4096) count) bytes protect
+    → IsSoundSpace (machine_space areas old object) → error ≡ None → CanPut (machine_space areas old object) (start / 4096) (missing_run (machine_space areas old object) (start / 4096) count) bytes protect
     → start / 4096 + count ≤ HIGH_PAGE → quiet ≡ is_one bits 0 → HasPut old new (start / 4096) count done bytes protect why → result ≡ put_result start done quiet why
-    → IsCall error (space_of areas old object) (space_of areas new object) start count bits bytes protect result
+    → IsCall error (machine_space areas old object) (machine_space areas new object) start count bits bytes protect result
 call_of error areas old new object start count bits done bytes protect quiet why result sound fine can inside same put is =
-    let space = space_of areas old object in
+    let space = machine_space areas old object in
     let few = put.put.few in
-    let after : space_of areas new object ≡ installed space (start / 4096) done bytes protect = is_installed areas old new object (start / 4096) done bytes protect sound (omega (arith, few, inside)) put.now put.protected in
+    let after : machine_space areas new object ≡ installed space (start / 4096) done bytes protect = is_installed areas old new object (start / 4096) done bytes protect sound (omega (arith, few, inside)) put.now put.protected in
     let run = run_is space (start / 4096) count done why put.put in
     record {
       sound = subst IsSoundSpace (sym after) (IsSoundSpace-installed space (start / 4096) done bytes protect (fewer_put space (start / 4096) (missing_run space (start / 4096) count) done bytes protect run.few can) sound);
-      row = row_of error space (space_of areas new object) start count bits done bytes protect quiet why result fine same put.put is after;
+      row = row_of error space (machine_space areas new object) start count bits done bytes protect quiet why result fine same put.put is after;
     }
 
 pub copy_call : (areas : FinMap nat_cmp Prot) (old new : Pages) (object : Object) (now : Space) (start bits first done : ℕ) (bytes : List ℕ) (protect quiet : Bool) (why : Option PutFault) (result : Result Copied CopyFault)
-    → space_of areas old object ≡ now → IsSoundSpace (space_of areas old object) → None ≡ copy_error now start (length bytes) bits → first ≡ start / 4096 → first + length bytes / 4096 ≤ HIGH_PAGE
+    → machine_space areas old object ≡ now → IsSoundSpace (machine_space areas old object) → None ≡ copy_error now start (length bytes) bits → first ≡ start / 4096 → first + length bytes / 4096 ≤ HIGH_PAGE
     → protect ≡ is_one bits 1 → quiet ≡ is_one bits 0 → HasPut old new first (length bytes / 4096) done (handed bytes) protect why → result ≡ put_result start done quiet why
-    → IsCall (copy_error now start (length bytes) bits) now (space_of areas new object) start (length bytes / 4096) bits (handed bytes) (is_one bits 1) result
+    → IsCall (copy_error now start (length bytes) bits) now (machine_space areas new object) start (length bytes / 4096) bits (handed bytes) (is_one bits 1) result
 copy_call areas old new object now start bits first done bytes protect quiet why result view sound fine at inside asked same put is =
-    let space = space_of areas old object in
+    let space = machine_space areas old object in
     let count = length bytes / 4096 in
     let none : copy_error space start (length bytes) bits ≡ None = ap (λ s. copy_error s start (length bytes) bits) view ∙ sym fine in
     let told = none_holds (copy_errors space start (length bytes) bits) none in
     let can = can_put space (start / 4096) count (handed bytes) (is_one bits 1) sound (not-false (is_one_area space (start / 4096) count) told.1.1.1.1.0) (λ i l. length-handed bytes i l)
     (protect_told (is_one bits 1) (contains object.protect (start / 4096)) told.1.1.1.1.1.0) in
-    subst (λ s. IsCall (copy_error s start (length bytes) bits) s (space_of areas new object) start count bits (handed bytes) (is_one bits 1) result) view
+    subst (λ s. IsCall (copy_error s start (length bytes) bits) s (machine_space areas new object) start count bits (handed bytes) (is_one bits 1) result) view
     (call_of (copy_error space start (length bytes) bits) areas old new object start count bits done (handed bytes) (is_one bits 1) quiet why result sound none can (subst (λ f. f + count ≤ HIGH_PAGE) at inside) same
     (subst (λ f. HasPut old new f count done (handed bytes) (is_one bits 1) why) at (subst (λ p. HasPut old new first count done (handed bytes) p why) asked put)) is)
 
 pub zeropage_call : (areas : FinMap nat_cmp Prot) (old new : Pages) (object : Object) (now : Space) (start len bits first count done : ℕ) (quiet : Bool) (why : Option PutFault) (result : Result Copied CopyFault)
-    → space_of areas old object ≡ now → IsSoundSpace (space_of areas old object) → None ≡ zeropage_error now start len bits → first ≡ start / 4096 → count ≡ len / 4096 → first + count ≤ HIGH_PAGE
+    → machine_space areas old object ≡ now → IsSoundSpace (machine_space areas old object) → None ≡ zeropage_error now start len bits → first ≡ start / 4096 → count ≡ len / 4096 → first + count ≤ HIGH_PAGE
     → quiet ≡ is_one bits 0 → HasPut old new first count done (λ i. zero_page) false why → result ≡ put_result start done quiet why
-    → IsCall (zeropage_error now start len bits) now (space_of areas new object) start (len / 4096) bits (λ i. zero_page) false result
+    → IsCall (zeropage_error now start len bits) now (machine_space areas new object) start (len / 4096) bits (λ i. zero_page) false result
 zeropage_call areas old new object now start len bits first count done quiet why result view sound fine at size inside same put is =
-    let space = space_of areas old object in
+    let space = machine_space areas old object in
     let none : zeropage_error space start len bits ≡ None = ap (λ s. zeropage_error s start len bits) view ∙ sym fine in
     let told = none_holds (zeropage_errors space start len bits) none in
     let can = can_put space (start / 4096) (len / 4096) (λ i. zero_page) false sound (not-false (is_one_area space (start / 4096) (len / 4096)) told.1.1.1.1.0) (λ i l. length-zero_page) (λ e. absurd (false≢true e)) in
-    subst (λ s. IsCall (zeropage_error s start len bits) s (space_of areas new object) start (len / 4096) bits (λ i. zero_page) false result) view
+    subst (λ s. IsCall (zeropage_error s start len bits) s (machine_space areas new object) start (len / 4096) bits (λ i. zero_page) false result) view
     (call_of (zeropage_error space start len bits) areas old new object start (len / 4096) bits done (λ i. zero_page) false quiet why result sound none can (omega (arith, at, size, inside)) same
     (subst (λ f. HasPut old new f (len / 4096) done (λ i. zero_page) false why) at (subst (λ n. HasPut old new first n done (λ i. zero_page) false why) size put)) is)
 
@@ -411,15 +411,15 @@ pub record IsMovedIn (old new : Space) (page : ℕ) (bytes : List ℕ) : Type 0 
 pub quiet_tested : (count : ℕ) → count ≡ 0 → ltb 0 count ≡ false
 quiet_tested count h = rw h refl
 
-pub moved_in : (areas : FinMap nat_cmp Prot) (old new : Pages) (object : Object) (now : Space) (page : ℕ) (bytes : List ℕ) → space_of areas old object ≡ now → IsSoundSpace (space_of areas old object) → IsPage page
+pub moved_in : (areas : FinMap nat_cmp Prot) (old new : Pages) (object : Object) (now : Space) (page : ℕ) (bytes : List ℕ) → machine_space areas old object ≡ now → IsSoundSpace (machine_space areas old object) → IsPage page
     → now.object.enabled ≡ true → changing now.object ≡ 0 → is_registered now.object page ≡ true → contains_key now.host.bytes page ≡ false → new.bytes ≡ insert old.bytes page bytes → new.protected ≡ old.protected
-    → ((q : ℕ) (held : List ℕ) → get new.bytes q ≡ Some held → length held ≡ 4096) → IsMovedIn now (space_of areas new object) page bytes
+    → ((q : ℕ) (held : List ℕ) → get new.bytes q ≡ Some held → length held ≡ 4096) → IsMovedIn now (machine_space areas new object) page bytes
 moved_in areas old new object now page bytes view sound inside enabled quiet registered missing put same all =
     let high = inside.1 in
     let none = copy_accepted now page (record { enabled = enabled; quiet = quiet_tested (changing now.object) quiet; inside = inside }) ((subst IsSoundSpace view sound).mapped page registered) registered in
-    let space = space_of areas old object in
+    let space = machine_space areas old object in
     let whole = all page bytes (ap (λ m. get m page) put ∙ get-put_same old.bytes page bytes) in
-    let after : space_of areas new object ≡ installed space page 1 (λ i. bytes) false =
+    let after : machine_space areas new object ≡ installed space page 1 (λ i. bytes) false =
     is_installed areas old new object page 1 (λ i. bytes) false sound (omega (arith, high)) (put ∙ put_one_page old.bytes page bytes) (λ q. same_protected old.protected new.protected page 1 q same) in
     let copied_now = copied_one now page bytes (subst IsSoundSpace view sound) high none missing whole in
     let installed_now = after ∙ ap (λ s. installed s page 1 (λ i. bytes) false) view in

@@ -26,7 +26,7 @@ use Rattle.mig_model.specs.Space.{Space, IsSoundSpace}
 use Rattle.mig_model.specs.Ioctls.{event_features, mode_of, left_by, is_mapped_in, registered_in, unregistered_in, protected_in}
 use Rattle.mig_model.proofs.memory.Registering.{past_none}
 use Rattle.uffd_ioctl.specs.Remaps.{AreLow}
-use Rattle.uffd_ioctl.specs.Spaces.{space_of, assembled_object}
+use Rattle.uffd_ioctl.specs.Spaces.{machine_space, assembled_object}
 use Rattle.uffd_ioctl.proofs.CallLemmas.{protected_below}
 
 -- Flags
@@ -215,7 +215,7 @@ made_by error old new made none is = is ∙ ap (λ e. left_by e old new) (sym no
 
 -- a range that is registered no longer
 pub opened : (areas : FinMap nat_cmp Prot) (pages new : Pages) (object after : Object) (first count : ℕ) → new.bytes ≡ pages.bytes → new.protected ≡ without pages.protected first count → after ≡ unregistered object first count
-    → space_of areas new after ≡ unregistered_in (space_of areas pages object) first count
+    → machine_space areas new after ≡ unregistered_in (machine_space areas pages object) first count
 opened areas pages new object after first count bytes is same =
     λ i. record { host = record { areas = areas; bytes = bytes i }; protected = is i; object = same i }
 
@@ -225,11 +225,11 @@ kept_false true false present old h k = refl
 kept_false false protect present old h k = k
 
 -- pages protected, or no longer
-pub set_in : (areas : FinMap nat_cmp Prot) (pages new : Pages) (object : Object) (first count : ℕ) (protect : Bool) → IsSoundSpace (space_of areas pages object) → new.bytes ≡ pages.bytes
-    → ((q : ℕ) → contains new.protected q ≡ cond (in_range first count q) (protect && contains_key pages.bytes q) (contains pages.protected q)) → space_of areas new object ≡ protected_in (space_of areas pages object) first count protect
+pub set_in : (areas : FinMap nat_cmp Prot) (pages new : Pages) (object : Object) (first count : ℕ) (protect : Bool) → IsSoundSpace (machine_space areas pages object) → new.bytes ≡ pages.bytes
+    → ((q : ℕ) → contains new.protected q ≡ cond (in_range first count q) (protect && contains_key pages.bytes q) (contains pages.protected q)) → machine_space areas new object ≡ protected_in (machine_space areas pages object) first count protect
 set_in areas pages new object first count protect sound bytes is =
-    let protected : new.protected ≡ (protected_in (space_of areas pages object) first count protect).protected = is_pages_where new.protected _ is
-    (λ q past. kept_false (in_range first count q) protect (contains_key pages.bytes q) (contains pages.protected q) (ap is_some (sound.host.mapped q (sound.host.bound q past))) (protected_below (space_of areas pages object) sound q past)) in
+    let protected : new.protected ≡ (protected_in (machine_space areas pages object) first count protect).protected = is_pages_where new.protected _ is
+    (λ q past. kept_false (in_range first count q) protect (contains_key pages.bytes q) (contains pages.protected q) (ap is_some (sound.host.mapped q (sound.host.bound q past))) (protected_below (machine_space areas pages object) sound q past)) in
     λ i. record { host = record { areas = areas; bytes = bytes i }; protected = protected i; object = object }
 
 -- Pages registered in a space
@@ -252,11 +252,11 @@ still_protected : (old here low mapped has asked own : Bool) → (old ≡ true �
 still_protected false here low mapped has asked own h k m = refl
 still_protected true here low mapped has asked own h k m = rw (h refl, k refl, m refl) (watched_at here has asked)
 
-pub watched_in : (areas : FinMap nat_cmp Prot) (pages new : Pages) (object after : Object) (first count : ℕ) (mode : Mode) → IsSoundSpace (space_of areas pages object) → new.bytes ≡ pages.bytes
-    → after ≡ registered_where object (is_mapped_in (space_of areas pages object) first count) mode
-    → ((q : ℕ) → contains new.protected q ≡ (contains pages.protected q && (not (in_range first count q) || contains after.protect q))) → space_of areas new after ≡ registered_in (space_of areas pages object) first count mode
+pub watched_in : (areas : FinMap nat_cmp Prot) (pages new : Pages) (object after : Object) (first count : ℕ) (mode : Mode) → IsSoundSpace (machine_space areas pages object) → new.bytes ≡ pages.bytes
+    → after ≡ registered_where object (is_mapped_in (machine_space areas pages object) first count) mode
+    → ((q : ℕ) → contains new.protected q ≡ (contains pages.protected q && (not (in_range first count q) || contains after.protect q))) → machine_space areas new after ≡ registered_in (machine_space areas pages object) first count mode
 watched_in areas pages new object after first count mode sound bytes is kept =
-    let space = space_of areas pages object in
+    let space = machine_space areas pages object in
     let watching = registered_where object (is_mapped_in space first count) mode in
     let same : after ≡ watching = is in
     let mapped : (q : ℕ) → contains pages.protected q ≡ true → contains_key areas q ≡ true = λ q h. sound.mapped q (or_right (contains object.missing q) (contains object.protect q) (sound.watched q h)) in

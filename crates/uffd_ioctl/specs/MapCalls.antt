@@ -15,12 +15,12 @@ abbrev pub host_of : FinMap nat_cmp Prot → FinMap nat_cmp (List ℕ) → Host
 host_of areas bytes = record { areas = areas; bytes = bytes }
 
 -- P holds for the memory of every host with these areas
-abbrev pub Tells : FinMap nat_cmp Prot → (Memory → Type 0) → Type 0
-Tells areas P = (bytes : FinMap nat_cmp (List ℕ)) → IsSound (host_of areas bytes) → P (memory (host_of areas bytes))
+abbrev pub OfMemory : FinMap nat_cmp Prot → (Memory → Type 0) → Type 0
+OfMemory areas P = (bytes : FinMap nat_cmp (List ℕ)) → IsSound (host_of areas bytes) → P (memory (host_of areas bytes))
 
 -- every host with these areas gives this reply to the command
-abbrev pub Answers : FinMap nat_cmp Prot → Reply → Command → Type 0
-Answers areas reply command = Tells areas (λ memory. reply ≡ reply_of memory command)
+abbrev pub Replies : FinMap nat_cmp Prot → Reply → Command → Type 0
+Replies areas reply command = OfMemory areas (λ memory. reply ≡ reply_of memory command)
 
 -- the reply of a call that returns a place, or is refused
 abbrev pub reply_at : Result ℕ Errno → Reply

@@ -23,13 +23,13 @@ result_by bytes wake None = Ok (record { bytes = bytes; wake = wake })
 result_by bytes wake (Some fault) = Err (record { copied = bytes; fault = fault; wake = wake })
 
 -- an errno of the machine's table as an error of the code
-abbrev pub fault_of : Option Errno → Option IoctlFault
-fault_of None = None
-fault_of (Some errno) = Some (fault.Errno errno)
+abbrev pub ioctl_fault_of : Option Errno → Option IoctlFault
+ioctl_fault_of None = None
+ioctl_fault_of (Some errno) = Some (fault.Errno errno)
 
 -- the result that a row of the machine's table gives
 abbrev pub result_of : Put → Result Copied CopyFault
-result_of put = result_by put.bytes put.wake (fault_of put.fault)
+result_of put = result_by put.bytes put.wake (ioctl_fault_of put.fault)
 
 -- the error of a page that could not be put: EEXIST if it is present
 abbrev pub own_fault : PutFault → IoctlFault
@@ -51,16 +51,16 @@ pages_put (Ok copied) = copied.bytes / PAGE_SIZE
 pages_put (Err fault) = fault.copied / PAGE_SIZE
 
 -- why a call of `count` pages put exactly `done`: they were all, or the next page was present, or memory ran out at a missing page
-abbrev pub Stops : FinMap nat_cmp (List ℕ) → ℕ → ℕ → ℕ → Option PutFault → Type 0
-Stops pages first count done None = done ≡ count
-Stops pages first count done (Some stop.Present) = (done < count) × (contains_key pages (first + done) ≡ true)
-Stops pages first count done (Some stop.NoMemory) = (done < count) × (contains_key pages (first + done) ≡ false)
+abbrev pub PutsStop : FinMap nat_cmp (List ℕ) → ℕ → ℕ → ℕ → Option PutFault → Type 0
+PutsStop pages first count done None = done ≡ count
+PutsStop pages first count done (Some stop.Present) = (done < count) × (contains_key pages (first + done) ≡ true)
+PutsStop pages first count done (Some stop.NoMemory) = (done < count) × (contains_key pages (first + done) ≡ false)
 
 -- a call put the first `done` pages of the range, all of which were missing, and `stop` is why it put no more
 pub record IsPut (pages : FinMap nat_cmp (List ℕ)) (first count done : ℕ) (stop : Option PutFault) : Type 0 where
   pub few : done ≤ count
   pub missing : (i : ℕ) → i < done → contains_key pages (first + i) ≡ false
-  pub stops : Stops pages first count done stop
+  pub stops : PutsStop pages first count done stop
 
 -- a call ran out of memory before the first page that is present: the pages that it put stay, and its result says how many
 pub record IsShort (old new : Space) (start count bits : ℕ) (bytes : ℕ → List ℕ) (protect : Bool) (result : Result Copied CopyFault) : Type 0 where

@@ -34,8 +34,8 @@ coded_space =
     (λ _. refl)
 
 -- the machine's space that the fields of a space mean
-abbrev pub space_of : FinMap nat_cmp Prot → Pages → Object → Space
-space_of areas pages object = record { host = record { areas = areas; bytes = pages.bytes }; protected = pages.protected; object = object }
+abbrev pub machine_space : FinMap nat_cmp Prot → Pages → Object → Space
+machine_space areas pages object = record { host = record { areas = areas; bytes = pages.bytes }; protected = pages.protected; object = object }
 
 -- the answer of a row of the machine's table, as the result of a call that may also run out of memory
 abbrev pub ioctl_result : {A : Type 0} → Result A Errno → Result A IoctlFault

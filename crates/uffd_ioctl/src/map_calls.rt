@@ -5,7 +5,7 @@ ghost use Rattle.mig_base.specs.Ranges.{pages_of, rounded};
 ghost use Rattle.mig_base.specs.Flat as flat;
 ghost use Rattle.mig_base.specs.declared.command.Errno.TheVariants.{Einval};
 ghost use Rattle.mig_base.specs.declared.command.Command.TheVariants.{Mmap, Mremap, DontNeed};
-ghost use Rattle.uffd_ioctl.specs.MapCalls.{Tells, Answers, reply_at, unless_refused};
+ghost use Rattle.uffd_ioctl.specs.MapCalls.{OfMemory, Replies, reply_at, unless_refused};
 
 use area_map::AreaMap;
 use mig_base::{
@@ -29,7 +29,7 @@ fn ends_inside(addr: Addr, len: u64) -> bool
 
 /// Where mmap puts `len` bytes, or the error that it returns.
 pub(crate) fn mmap_place(areas: &AreaMap, len: u64, place: Place) -> Result<Addr, Errno>
-    ensures { (prot : Prot) → Answers areas.now (reply_at result) (Mmap len prot place) }
+    ensures { (prot : Prot) → Replies areas.now (reply_at result) (Mmap len prot place) }
 {
     match place {
         Place::Anywhere => free_place(areas, len),
@@ -40,7 +40,7 @@ pub(crate) fn mmap_place(areas: &AreaMap, len: u64, place: Place) -> Result<Addr
 
 /// The lowest free place.
 fn free_place(areas: &AreaMap, len: u64) -> Result<Addr, Errno>
-    ensures { (prot : Prot) → Answers areas.now (reply_at result) (Mmap len prot Place.Anywhere) }
+    ensures { (prot : Prot) → Replies areas.now (reply_at result) (Mmap len prot Place.Anywhere) }
 {
     if len == 0 {
         return Err(Errno::Einval);
@@ -61,7 +61,7 @@ fn free_place(areas: &AreaMap, len: u64) -> Result<Addr, Errno>
 /// The address itself: what is mapped there is replaced.
 fn fixed_place(areas: &AreaMap, addr: Addr, len: u64) -> Result<Addr, Errno>
     ensures { (prot : Prot) →
-        Answers areas.now (reply_at result) (Mmap len prot (Place.Fixed addr)) }
+        Replies areas.now (reply_at result) (Mmap len prot (Place.Fixed addr)) }
 {
     if let Some(errno) = place_refusal(addr, len) {
         return Err(errno);
@@ -77,7 +77,7 @@ fn fixed_place(areas: &AreaMap, addr: Addr, len: u64) -> Result<Addr, Errno>
 /// The address itself, if nothing is mapped there.
 fn unmapped_place(areas: &AreaMap, addr: Addr, len: u64) -> Result<Addr, Errno>
     ensures { (prot : Prot) →
-        Answers areas.now (reply_at result) (Mmap len prot (Place.NoReplace addr)) }
+        Replies areas.now (reply_at result) (Mmap len prot (Place.NoReplace addr)) }
 {
     if let Some(errno) = place_refusal(addr, len) {
         return Err(errno);
@@ -114,7 +114,7 @@ fn place_refusal(addr: Addr, len: u64) -> Option<Errno>
 
 /// What madvise answers to MADV_DONTNEED.
 pub(crate) fn dontneed_reply(areas: &AreaMap, addr: Addr, len: u64) -> Reply
-    ensures { Answers areas.now result (DontNeed addr len) }
+    ensures { Replies areas.now result (DontNeed addr len) }
 {
     if addr % PAGE_SIZE != 0 {
         return Reply::Refused(Errno::Einval);
@@ -143,7 +143,7 @@ pub(crate) fn is_invalid(reply: Reply) -> bool
 fn is_all_mapped(areas: &AreaMap, addr: Addr, len: u64) -> bool
     requires whole { addr % 4096 ≡ 0 }
     requires some { 0 < len }
-    ensures { Tells areas.now (λ memory. result ≡ flat.is_all_mapped memory addr (rounded len)) }
+    ensures { OfMemory areas.now (λ memory. result ≡ flat.is_all_mapped memory addr (rounded len)) }
 {
     if !ends_inside(addr, len) {
         return false;
@@ -161,7 +161,7 @@ pub(crate) fn mremap_place(
     may_move: bool,
     fixed: Option<Addr>,
 ) -> Result<Addr, Errno>
-    ensures { Answers areas.now (reply_at result) (Mremap addr old_len new_len may_move fixed) }
+    ensures { Replies areas.now (reply_at result) (Mremap addr old_len new_len may_move fixed) }
 {
     if addr % PAGE_SIZE != 0 || old_len == 0 || new_len == 0 {
         return Err(Errno::Einval);
@@ -213,7 +213,7 @@ fn has_one_prot(areas: &AreaMap, addr: Addr, len: u64) -> bool
     requires whole { addr % 4096 ≡ 0 }
     requires some { 0 < len }
     ensures inside { result ≡ true → addr + rounded len ≤ HIGH }
-    ensures one { Tells areas.now (λ memory. result ≡ flat.has_one_prot memory addr (rounded len)) }
+    ensures one { OfMemory areas.now (λ memory. result ≡ flat.has_one_prot memory addr (rounded len)) }
 {
     if !ends_inside(addr, len) {
         return false;
@@ -235,7 +235,7 @@ fn resized_place(
     requires whole { addr % 4096 ≡ 0 }
     requires some { 0 < old_len }
     requires inside { addr + rounded old_len ≤ HIGH }
-    ensures { Tells areas.now (λ memory. flat.has_one_prot memory addr (rounded old_len) ≡ true →
+    ensures { OfMemory areas.now (λ memory. flat.has_one_prot memory addr (rounded old_len) ≡ true →
         reply_at result ≡
         flat.mremap_target memory addr (rounded old_len) (rounded new_len) may_move None) }
 {
@@ -260,7 +260,7 @@ fn resized_place(
 fn can_grow(areas: &AreaMap, addr: Addr, old_len: u64, new_len: u64) -> bool
     requires whole { addr % 4096 ≡ 0 }
     requires longer { pages_of old_len < pages_of new_len }
-    ensures { Tells areas.now (λ memory.
+    ensures { OfMemory areas.now (λ memory.
         result ≡ flat.can_grow memory addr (rounded old_len) (rounded new_len)) }
 {
     if !ends_inside(addr, new_len) {
@@ -283,7 +283,7 @@ fn moved_place(
     requires some { 0 < old_len }
     requires target { flat.is_bad_target addr (rounded old_len) (rounded new_len) true (Some target)
         ≡ false }
-    ensures { Tells areas.now (λ memory. flat.has_one_prot memory addr (rounded old_len) ≡ true →
+    ensures { OfMemory areas.now (λ memory. flat.has_one_prot memory addr (rounded old_len) ≡ true →
         (may_move : Bool) →
         reply_at result ≡
         flat.mremap_target memory addr (rounded old_len) (rounded new_len) may_move (Some target)) }

@@ -39,15 +39,15 @@ pub struct Space {
 
 impl Model for Space {
     ghost use Rattle.mig_model.specs.Space.{Space as Machine, IsSoundSpace};
-    ghost use Rattle.uffd_ioctl.specs.Spaces.{coded_space, space_of};
+    ghost use Rattle.uffd_ioctl.specs.Spaces.{coded_space, machine_space};
 
     ghost Value = { Machine };
 
     ghost coded = { coded_space };
 
-    ghost view = { λ s. space_of s.areas s.pages s.object };
+    ghost view = { λ s. machine_space s.areas s.pages s.object };
 
-    ghost invariant = { λ s. IsSoundSpace (space_of s.areas s.pages s.object) };
+    ghost invariant = { λ s. IsSoundSpace (machine_space s.areas s.pages s.object) };
 }
 
 impl Space {

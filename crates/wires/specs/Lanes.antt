@@ -22,8 +22,8 @@ pub record Lane : Type 0 where
   pub room : ℕ
 
 -- the bytes in flight
-abbrev pub bytes_of : Lane → List ℕ
-bytes_of lane = concat lane.pieces
+abbrev pub lane_bytes : Lane → List ℕ
+lane_bytes lane = concat lane.pieces
 
 -- the length of the first frame's text is known, or it is 0; and it is 0 if no frame is in flight
 abbrev pub IsFirstLen : List machine.Sent → ℕ → Type 0

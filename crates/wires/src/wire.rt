@@ -13,7 +13,7 @@ ghost use Rattle.frame_decoder.specs.Feeding.{Decodes};
 ghost use Rattle.frame_decoder.specs.Streams.{IsSent, texts};
 ghost use Rattle.frame_decoder.specs.declared.version.Version.TheVariants.{Two};
 ghost use Rattle.wires.specs.Chunks.{IsFrontLen};
-ghost use Rattle.wires.specs.Lanes.{Arrives, bytes_of};
+ghost use Rattle.wires.specs.Lanes.{Arrives, lane_bytes};
 
 use crate::chunks::Chunks;
 use crate::sent::Sent;
@@ -94,9 +94,9 @@ impl Wire {
     /// order; a decoder that is fed them, cut anywhere, returns these frames and no fault, and then holds no byte.
     pub fn pieces(&self) -> usize
         ensures count { result ≡ length self.now.pieces }
-        ensures texts { bytes_of self.now ≡ texts Two self.now.wire.frames }
+        ensures texts { lane_bytes self.now ≡ texts Two self.now.wire.frames }
         ensures sent { AllByRecursion (IsSent Two) self.now.wire.frames }
-        ensures decoded { Decodes (bytes_of self.now) self.now.wire.frames [] }
+        ensures decoded { Decodes (lane_bytes self.now) self.now.wire.frames [] }
     {
         self.chunks.pieces()
     }
@@ -114,8 +114,8 @@ impl Wire {
     pub fn held(&self) -> u64
         ensures count { result ≡ self.now.wire.held }
         ensures short { HeldFits self.now.wire.frames self.now.wire.held }
-        ensures decoded { Decodes (take self.now.wire.held (bytes_of self.now)) []
-            (take self.now.wire.held (bytes_of self.now)) }
+        ensures decoded { Decodes (take self.now.wire.held (lane_bytes self.now)) []
+            (take self.now.wire.held (lane_bytes self.now)) }
     {
         self.held
     }
@@ -123,7 +123,7 @@ impl Wire {
     /// Reserves room for `count` frames, however long they are. `NoMemory` comes if it is refused; what is in flight stays either way.
     pub fn reserve(&mut self, count: usize) -> Result<(), NoMemory>
         ensures stays { self.new.wire ≡ self.old.wire }
-        ensures bytes { bytes_of self.new ≡ bytes_of self.old }
+        ensures bytes { lane_bytes self.new ≡ lane_bytes self.old }
         ensures room { OnOk result (count ≤ self.new.room) }
     {
         self.chunks.reserve(self.alloc, count)
@@ -134,8 +134,8 @@ impl Wire {
         requires well_formed { IsFrame (frame_of frame) }
         requires room { 0 < self.old.room }
         ensures wire { self.new.wire ≡ machine.wire_with self.old.wire epoch (frame_of frame ∷ []) }
-        ensures bytes { bytes_of self.new ≡
-            bytes_of self.old ++ written.text written.Version.Two epoch (frame_of frame) }
+        ensures bytes { lane_bytes self.new ≡
+            lane_bytes self.old ++ written.text written.Version.Two epoch (frame_of frame) }
         ensures room { self.old.room ≤ self.new.room + 1 }
     {
         self.chunks.write(epoch, &frame);
@@ -147,8 +147,8 @@ impl Wire {
         requires room { 0 < self.old.room }
         ensures wire { self.new.wire ≡
             machine.wire_with self.old.wire epoch (machine.Frame.Page page bytes.now ∷ []) }
-        ensures bytes { bytes_of self.new ≡
-            bytes_of self.old ++
+        ensures bytes { lane_bytes self.new ≡
+            lane_bytes self.old ++
             written.text written.Version.Two epoch (machine.Frame.Page page bytes.now) }
         ensures room { self.old.room ≤ self.new.room + 1 }
     {
@@ -162,7 +162,7 @@ impl Wire {
     /// `NoMemory` comes if memory for the frame is refused, so only if the bytes complete one. It leaves the wire as it was.
     pub fn arrive(&mut self, n: u64) -> Result<Option<Sent>, NoMemory>
         ensures arrived { Arrives self.old.wire n result self.new.wire }
-        ensures bytes { bytes_of self.new ≡ bytes_of self.old }
+        ensures bytes { lane_bytes self.new ≡ lane_bytes self.old }
         ensures frame { IfOk result (λ read. IfSome read (λ sent. IsFrame (frame_of sent.frame))) }
     {
         self.chunks.turn();
@@ -189,8 +189,8 @@ impl Wire {
             self.old.wire.frames ≡ sent ∷ rest → self.new.wire ≡ machine.wire_behind rest }
         ensures bytes { (sent : machine.Sent) (rest : List machine.Sent) →
             self.old.wire.frames ≡ sent ∷ rest →
-            bytes_of self.old ≡
-            written.text written.Version.Two sent.epoch sent.frame ++ bytes_of self.new }
+            lane_bytes self.old ≡
+            written.text written.Version.Two sent.epoch sent.frame ++ lane_bytes self.new }
         ensures none { self.old.wire.frames ≡ [] → self.new.wire ≡ self.old.wire }
     {
         self.chunks.turn();
@@ -206,7 +206,7 @@ impl Wire {
     /// Drops all that is in flight: the channel breaks. The room stays.
     pub fn clear(&mut self)
         ensures wire { self.new.wire ≡ machine.empty_wire }
-        ensures bytes { bytes_of self.new ≡ [] }
+        ensures bytes { lane_bytes self.new ≡ [] }
         ensures room { self.old.room ≤ self.new.room }
     {
         self.chunks.clear();

@@ -13,14 +13,14 @@ use Rattle.grammar.specs.Orders.{step_of}
 use Rattle.grammar.proofs.Cuts.{no_feed-append, feed_inside, one_cut}
 use Rattle.mig_base.specs.declared.schedule.Step.{Step}
 use Rattle.engine.specs.declared.line_runner.Mode.{Mode}
-use Rattle.engine.specs.Engine.{Place, Work, Running, Keeping, language_of, Does, Works, ReadsEnded, Passes, Closes, world_of}
+use Rattle.engine.specs.Engine.{Place, Work, Running, Keeping, language_of, Does, Works, ReadsEnded, Passes, Closes, run_world}
 use Rattle.engine.specs.Script.{MakesAny}
 use Rattle.mig_model.specs.Migration.{World}
 use Rattle.engine.specs.Worlds.{epoch_in}
 use Rattle.wiretap.specs.declared.marks.Marks.{Marks}
 use Rattle.wiretap.specs.declared.taps.Taps.{Taps}
 use Rattle.wiretap.specs.Traffic.{Traffic, no_traffic, with_more, put_between, Gets}
-use Rattle.wiretap.specs.Moves.{IsRunning, AreMarks, behind, put_by, Carries, EndsOne, Moves, Ends}
+use Rattle.wiretap.specs.Moves.{IsRunning, AreMarks, bytes_in_flight, put_on_wires, Carries, EndsOne, Moves, Ends}
 use Rattle.wiretap.proofs.Puts.{ArePut, put_nothing, put_happens, behind_put}
 
 -- At most one line
@@ -55,12 +55,12 @@ few l held bytes lines rest one ends r = elim ends [
 ]
 
 -- the bytes up to a line feed
-pub line_cut : (rest front behind line : List ℕ) → HasNoFeed front → rest ≡ front ++ 10 ∷ behind → line ≡ take (length front + 1) rest → EndsOne line
-line_cut rest front behind line one whole is =
+pub line_cut : (rest front bytes_in_flight line : List ℕ) → HasNoFeed front → rest ≡ front ++ 10 ∷ bytes_in_flight → line ≡ take (length front + 1) rest → EndsOne line
+line_cut rest front bytes_in_flight line one whole is =
     inr (
       front,
       one,
-      is ∙ ap (take (length front + 1)) (whole ∙ sym (append_assoc front (10 ∷ []) behind)) ∙ take_at (front ++ 10 ∷ []) behind (length front + 1) (length-append front (10 ∷ [])),
+      is ∙ ap (take (length front + 1)) (whole ∙ sym (append_assoc front (10 ∷ []) bytes_in_flight)) ∙ take_at (front ++ 10 ∷ []) bytes_in_flight (length front + 1) (length-append front (10 ∷ [])),
     )
 
 -- nothing is a line
@@ -87,17 +87,17 @@ none_put wire = ap (texts Two) (drop_all (length wire.frames) wire.frames (omega
 pub nothing_between : (state : World) → put_between state state ≡ no_traffic
 nothing_between state = λ i. record { forward = none_put state.forward i; back = none_put state.back i; urgent = none_put state.urgent i }
 
-nothing_by : (work : Work) → IsRunning work → put_by work work ≡ no_traffic
+nothing_by : (work : Work) → IsRunning work → put_on_wires work work ≡ no_traffic
 nothing_by work runs = rw runs.is (nothing_between runs.state)
 
 more_of_nothing : (traffic : Traffic) → with_more traffic no_traffic ≡ traffic
 more_of_nothing traffic = λ i. record { forward = append-nil traffic.forward i; back = append-nil traffic.back i; urgent = append-nil traffic.urgent i }
 
 -- a line that carries one piece of work to another puts what lies between them
-carries_few : (old : Work) (lines : List Line) (new : Work) (text : List ℕ) → IsRunning old → IsFew lines → Works old lines new text → Carries old lines new text (put_by old new)
-carries_few old [] new text runs is w = (w.0, w.1, ap (put_by old) w.0 ∙ nothing_by old runs)
+carries_few : (old : Work) (lines : List Line) (new : Work) (text : List ℕ) → IsRunning old → IsFew lines → Works old lines new text → Carries old lines new text (put_on_wires old new)
+carries_few old [] new text runs is w = (w.0, w.1, ap (put_on_wires old) w.0 ∙ nothing_by old runs)
 carries_few old (line ∷ []) new text runs is w =
-    (w.0, w.1, w.2, no_traffic, w.3, w.4, ap (put_by old) w.5.0 ∙ sym (more_of_nothing (put_by old w.0)), (w.5.0, w.5.1, refl))
+    (w.0, w.1, w.2, no_traffic, w.3, w.4, ap (put_on_wires old) w.5.0 ∙ sym (more_of_nothing (put_on_wires old w.0)), (w.5.0, w.5.1, refl))
 carries_few old (line ∷ other ∷ lines) new text runs is w = absurd is
 
 -- Its frames come after those in flight
@@ -107,7 +107,7 @@ made_any mode old (Some step) new text m = put_happens old step m.0 new m.1.1
 made_any mode old None new text m = put_nothing old new m.0
 
 same_state : (again mode : Mode) (new old : World) → Running again new ≡ Running mode old → new ≡ old
-same_state again mode new old e = let h : Some new ≡ Some old = ap world_of e in cc
+same_state again mode new old e = let h : Some new ≡ Some old = ap run_world e in cc
 
 does_put : (mode : Mode) (old : World) (line : Line) (again : Mode) (new : World) (text : List ℕ) → Does (Running mode old) line (Running again new) text → ArePut old new
 does_put mode old Skipped again new text d = put_nothing old new (same_state again mode new old d.0)
@@ -128,7 +128,7 @@ does_running a Skipped b text r d = record { mode = r.mode; state = r.state; is 
 does_running (Running mode state) (Do order) b text r d = record { mode = mode; state = d.0; is = d.1 }
 does_running (Running mode state) (Enter entry) b text r d = absurd d
 does_running (Keeping entries) (Do order) b text r d = absurd d
-does_running (Keeping entries) (Enter entry) b text r d = let h : None ≡ Some r.state = ap world_of r.is in absurd cc
+does_running (Keeping entries) (Enter entry) b text r d = let h : None ≡ Some r.state = ap run_world r.is in absurd cc
 
 works_running : (a : Work) (lines : List Line) (b : Work) (text : List ℕ) → IsRunning a → Works a lines b text → IsRunning b
 works_running a [] b text r w = record { mode = r.mode; state = r.state; is = w.0 ∙ r.is }
@@ -144,13 +144,13 @@ closes_running a end rest text more u v r c = works_running a.work c.lines end (
 
 -- the bytes after those that were in flight are what the line has put
 written : (old new : Work) (lines : List Line) (text : List ℕ) (marks : Marks) (r : IsRunning old) (s : IsRunning new) → IsFew lines → Works old lines new text
-    → ((mode : Mode) (state : World) → old ≡ Running mode state → AreMarks state marks) → behind marks s.state ≡ put_by old new
+    → ((mode : Mode) (state : World) → old ≡ Running mode state → AreMarks state marks) → bytes_in_flight marks s.state ≡ put_on_wires old new
 written old new lines text marks r s is w are =
     let works = rw (r.is, s.is) at w in
-    behind_put r.state s.state marks (are r.mode r.state r.is) (lines_put r.mode r.state lines s.mode s.state text is works) ∙ sym (λ i. put_by (r.is i) (s.is i))
+    behind_put r.state s.state marks (are r.mode r.state r.is) (lines_put r.mode r.state lines s.mode s.state text is works) ∙ sym (λ i. put_on_wires (r.is i) (s.is i))
 
 pub moves_line : {T : Type 0} (contents : T → Option (List ℕ)) (a b : Place) (bytes : List ℕ) (w0 w1 : Option (List ℕ)) (t0 t1 : Taps T) (marks : Marks) (p : Passes a bytes b w0 w1) → IsRunning a.work → HasNoFeed a.line → EndsOne bytes
-    → ((mode : Mode) (state : World) → a.work ≡ Running mode state → AreMarks state marks) → ((mode : Mode) (state : World) → b.work ≡ Running mode state → Gets contents t0 t1 (behind marks state)) → Moves contents a bytes b w0 w1 t0 t1
+    → ((mode : Mode) (state : World) → a.work ≡ Running mode state → AreMarks state marks) → ((mode : Mode) (state : World) → b.work ≡ Running mode state → Gets contents t0 t1 (bytes_in_flight marks state)) → Moves contents a bytes b w0 w1 t0 t1
 moves_line contents a b bytes w0 w1 t0 t1 marks p r one ends are gets =
     let l : language_of a.work ≡ Script = ap language_of r.is in
     let s = passes_running a b bytes w0 w1 r p in
@@ -158,7 +158,7 @@ moves_line contents a b bytes w0 w1 t0 t1 marks p r one ends are gets =
     record {
       lines = p.advances.lines;
       text = p.text;
-      traffic = put_by a.work b.work;
+      traffic = put_on_wires a.work b.work;
       reads = subst (λ (k : Language). ReadsEnded k (a.line ++ bytes) p.advances.lines b.line) l p.advances.reads;
       carries = carries_few a.work p.advances.lines b.work p.text r is p.advances.works;
       appends = p.appends;
@@ -166,7 +166,7 @@ moves_line contents a b bytes w0 w1 t0 t1 marks p r one ends are gets =
     }
 
 pub ends_line : {T : Type 0} (contents : T → Option (List ℕ)) (a : Place) (end : Work) (text : List ℕ) (w0 w1 : Option (List ℕ)) (t0 t1 : Taps T) (marks : Marks) (c : Closes a end [] text [] w0 w1) → IsRunning a.work → HasNoFeed a.line
-    → ((mode : Mode) (state : World) → a.work ≡ Running mode state → AreMarks state marks) → ((mode : Mode) (state : World) → end ≡ Running mode state → Gets contents t0 t1 (behind marks state)) → Ends contents a end w0 w1 t0 t1
+    → ((mode : Mode) (state : World) → a.work ≡ Running mode state → AreMarks state marks) → ((mode : Mode) (state : World) → end ≡ Running mode state → Gets contents t0 t1 (bytes_in_flight marks state)) → Ends contents a end w0 w1 t0 t1
 ends_line contents a end text w0 w1 t0 t1 marks c r one are gets =
     let l : language_of a.work ≡ Script = ap language_of r.is in
     let s = closes_running a end [] text [] w0 w1 r c in
@@ -175,7 +175,7 @@ ends_line contents a end text w0 w1 t0 t1 marks c r one are gets =
     record {
       lines = c.lines;
       text = text;
-      traffic = put_by a.work end;
+      traffic = put_on_wires a.work end;
       reads = subst (λ (k : Language). Reads k a.line c.lines []) l c.reads;
       carries = carries_few a.work c.lines end text r is works;
       appends = c.appends;

@@ -14,7 +14,7 @@ use Rattle.frame_decoder.proofs.Whole.{texts_join}
 use Rattle.frame_decoder.specs.Streams.{texts}
 use Rattle.frame_decoder.specs.declared.version.Version.TheVariants.{Two}
 use Rattle.wiretap.specs.Traffic.{IsPut, put_on, put_between}
-use Rattle.wiretap.specs.Moves.{AreMarks, behind}
+use Rattle.wiretap.specs.Moves.{AreMarks, bytes_in_flight}
 use Rattle.wiretap.specs.declared.marks.Marks.{Marks}
 
 -- One wire
@@ -125,7 +125,7 @@ texts_put old new p = elim p [
 ]
 
 -- what comes after the bytes that were in flight is what was put
-pub behind_put : (old new : World) (marks : Marks) → AreMarks old marks → ArePut old new → behind marks new ≡ put_between old new
+pub behind_put : (old new : World) (marks : Marks) → AreMarks old marks → ArePut old new → bytes_in_flight marks new ≡ put_between old new
 behind_put old new marks are p = λ i. record {
   forward = (ap (λ (n : ℕ). drop n (texts Two new.forward.frames)) are.forward ∙ texts_put old.forward new.forward p.forward) i;
   back = (ap (λ (n : ℕ). drop n (texts Two new.back.frames)) are.back ∙ texts_put old.back new.back p.back) i;

@@ -17,7 +17,7 @@ use Rattle.engine.proofs.Whole.{input_is}
 use Rattle.wiretap.specs.declared.fault.TapFault.{TapFault}
 use Rattle.wiretap.specs.declared.taps.Taps.{Taps}
 use Rattle.wiretap.specs.Traffic.{Traffic, no_traffic, with_more, put_between, Puts, Gets, IsTapped}
-use Rattle.wiretap.specs.Moves.{put_by, Carries, Moves, Ends, ReadsAll}
+use Rattle.wiretap.specs.Moves.{put_on_wires, Carries, Moves, Ends, ReadsAll}
 use Rattle.wiretap.proofs.OneLine.{nothing_between}
 
 -- One after the other
@@ -35,7 +35,7 @@ carries_then a (x ∷ xs) b t u ys c v w p q = (
   with_more p.3 w,
   p.4,
   ap (λ (z : List ℕ). z ++ v) p.5 ∙ append_assoc p.1 p.2 v,
-  ap (λ (z : Traffic). with_more z w) p.6 ∙ more_then (put_by a p.0) p.3 w,
+  ap (λ (z : Traffic). with_more z w) p.6 ∙ more_then (put_on_wires a p.0) p.3 w,
   carries_then p.0 xs b p.2 p.3 ys c v w p.7 q,
 )
 
@@ -147,11 +147,11 @@ puts_of mode old [] new text traffic p = (old, (refl, p.1, p.2))
 puts_of mode old (Skipped ∷ lines) new text traffic p =
     let rest = puts_of mode old lines new p.2 p.3 (subst (λ (w : Work). Carries w lines new p.2 p.3) p.4.0 p.7) in
     let same : text ≡ p.2 = p.5 ∙ ap (λ (t : List ℕ). t ++ p.2) p.4.1 in
-    let none : traffic ≡ p.3 = p.6 ∙ ap (λ (w : Work). with_more (put_by (Running mode old) w) p.3) p.4.0 ∙ ap (λ (t : Traffic). with_more t p.3) (nothing_between old) ∙ nothing_more p.3 in
+    let none : traffic ≡ p.3 = p.6 ∙ ap (λ (w : Work). with_more (put_on_wires (Running mode old) w) p.3) p.4.0 ∙ ap (λ (t : Traffic). with_more t p.3) (nothing_between old) ∙ nothing_more p.3 in
     (rest.0, rw (same, none) rest.1)
 puts_of mode old (Do order ∷ lines) new text traffic p =
     let rest = puts_of mode p.4.0 lines new p.2 p.3 (subst (λ (w : Work). Carries w lines new p.2 p.3) p.4.1 p.7) in
-    let put : traffic ≡ with_more (put_between old p.4.0) p.3 = p.6 ∙ ap (λ (w : Work). with_more (put_by (Running mode old) w) p.3) p.4.1 in
+    let put : traffic ≡ with_more (put_between old p.4.0) p.3 = p.6 ∙ ap (λ (w : Work). with_more (put_on_wires (Running mode old) w) p.3) p.4.1 in
     (rest.0, (p.4.0, p.1, p.2, p.3, p.4.2, p.5, put, rest.1))
 puts_of mode old (Enter entry ∷ lines) new text traffic p = absurd p.4
 

@@ -26,8 +26,8 @@ pub record AreMarks (state : World) (marks : Marks) : Type 0 where
   pub urgent : marks.urgent ≡ length (texts Two state.urgent.frames)
 
 -- the bytes in flight in a world, on each wire those after the number that its count says
-abbrev pub behind : Marks → World → Traffic
-behind marks state =
+abbrev pub bytes_in_flight : Marks → World → Traffic
+bytes_in_flight marks state =
     record {
       forward = drop marks.forward (texts Two state.forward.frames);
       back = drop marks.back (texts Two state.back.frames);
@@ -35,16 +35,16 @@ behind marks state =
     }
 
 -- what was put on the wires of a world that is run
-abbrev pub put_by : Work → Work → Traffic
-put_by (Running mode old) (Running again new) = put_between old new
-put_by (Running mode old) (Keeping entries) = no_traffic
-put_by (Keeping entries) work = no_traffic
+abbrev pub put_on_wires : Work → Work → Traffic
+put_on_wires (Running mode old) (Running again new) = put_between old new
+put_on_wires (Running mode old) (Keeping entries) = no_traffic
+put_on_wires (Keeping entries) work = no_traffic
 
 -- the effect of lines on the work, their output, and what they put on the wires
 abbrev pub Carries : Work → List Line → Work → List ℕ → Traffic → Type 0
 Carries old [] new text traffic = (new ≡ old) × (text ≡ []) × (traffic ≡ no_traffic)
-Carries old (line ∷ lines) new text traffic = (mid : Work) × (out : List ℕ) × (more : List ℕ) × (behind : Traffic)
-    × Does old line mid out × (text ≡ out ++ more) × (traffic ≡ with_more (put_by old mid) behind) × Carries mid lines new more behind
+Carries old (line ∷ lines) new text traffic = (mid : Work) × (out : List ℕ) × (more : List ℕ) × (bytes_in_flight : Traffic)
+    × Does old line mid out × (text ≡ out ++ more) × (traffic ≡ with_more (put_on_wires old mid) bytes_in_flight) × Carries mid lines new more bytes_in_flight
 
 -- the bytes have no line feed, or one, which is the last of them
 abbrev pub EndsOne : List ℕ → Type 0

@@ -7,7 +7,7 @@ ghost use Rattle.engine.specs.Engine.{Running, start_of};
 ghost use Rattle.engine.specs.Script.{Writes};
 ghost use Rattle.mig_model.specs.Migration.{World, first_world};
 ghost use Rattle.wiretap.specs.Traffic.{IsTapped, Gets};
-ghost use Rattle.wiretap.specs.Moves.{IsRunning, EndsOne, Moves, Ends, ReadsAll, AreMarks, behind};
+ghost use Rattle.wiretap.specs.Moves.{IsRunning, EndsOne, Moves, Ends, ReadsAll, AreMarks, bytes_in_flight};
 
 use crate::fault::TapFault;
 use crate::marks::Marks;
@@ -161,7 +161,7 @@ fn write_put<T: Write + Drop>(
 ) -> Result<(), TapFault>
     requires { IsRunning script.now.work }
     ensures { OnOk result ((mode : AMode) (state : World) → script.now.work ≡ Running mode state →
-        Gets T.contents taps.old taps.new (behind before state)) }
+        Gets T.contents taps.old taps.new (bytes_in_flight before state)) }
 {
     match script.world() {
         Some(world) => taps.write_all_put(world, before),

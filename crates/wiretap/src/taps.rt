@@ -6,7 +6,7 @@ ghost use Rattle.frame_decoder.specs.Streams.{texts};
 ghost use Rattle.frame_decoder.specs.declared.version.Version.TheVariants.{Two};
 ghost use Rattle.wiretap.specs.declared.fault.TapFault.TheVariants.{Wire as OfWire};
 ghost use Rattle.wiretap.specs.Traffic.{Gets};
-ghost use Rattle.wiretap.specs.Moves.{behind};
+ghost use Rattle.wiretap.specs.Moves.{bytes_in_flight};
 
 use crate::fault::{Channel, TapFault};
 use crate::marks::Marks;
@@ -64,7 +64,7 @@ fn write_put<W: Write>(
 impl<T: Write + Drop> Taps<T> {
     /// Writes what a line has put on the wires of a world, which had that many bytes before it.
     pub(crate) fn write_all_put(&mut self, world: &World, before: Marks) -> Result<(), TapFault>
-        ensures { OnOk result (Gets T.contents self.old self.new (behind before world.now)) }
+        ensures { OnOk result (Gets T.contents self.old self.new (bytes_in_flight before world.now)) }
     {
         write_put(
             &mut self.forward,

@@ -9,7 +9,7 @@ ghost use Rattle.mig_model.specs.NodeSteps.{first_of};
 ghost use Rattle.mig_model.specs.Source.{Source, source_act, source_acted, space_of};
 ghost use Rattle.uffd_ioctl.specs.Lent.{IsLent};
 ghost use Rattle.dirty_log.specs.Acts.{act_is};
-ghost use Rattle.dirty_log.specs.Answers.{IsRefusedFor, act_refusal, read_answer};
+ghost use Rattle.dirty_log.specs.Answers.{IsRefusedAs, act_refusal, read_answer};
 ghost use Rattle.dirty_log.specs.Spaces.{source_of};
 
 use super::DirtyLog;
@@ -110,7 +110,7 @@ impl DirtyLog {
         requires lent { IsLent space.old }
         ensures accepted { OnOk result (act_refusal self.old space.old ≡ None) }
         ensures refused { IfErr result (λ refusal.
-            IsRefusedFor (act_refusal self.old space.old) refusal) }
+            IsRefusedAs (act_refusal self.old space.old) refusal) }
         ensures act { (fault : guest.Fault) (rest : List guest.Fault) →
             self.old.held ≡ fault ∷ rest →
             IfOk result (λ done.

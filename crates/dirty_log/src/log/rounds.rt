@@ -14,7 +14,7 @@ ghost use Rattle.mig_model.specs.Ioctls.{protected_in};
 ghost use Rattle.mig_model.specs.Log as machine;
 ghost use Rattle.mig_model.specs.Source.{Source, all_registered, run_of, space_of};
 ghost use Rattle.uffd_ioctl.specs.Lent.{IsLent};
-ghost use Rattle.dirty_log.specs.Answers.{IsRefusedFor, send_refusal};
+ghost use Rattle.dirty_log.specs.Answers.{IsRefusedAs, send_refusal};
 ghost use Rattle.mig_model.specs.Wire.{page_frame};
 ghost use Rattle.dirty_log.specs.Lending.{LeavesSpace};
 ghost use Rattle.dirty_log.specs.Sending.{frame_sent};
@@ -87,7 +87,7 @@ impl DirtyLog {
         requires page { page < HIGH_PAGE }
         ensures accepted { OnOk result (send_refusal space.old page 1 ≡ None) }
         ensures refused { IfErr result (λ refusal.
-            IsRefusedFor (send_refusal space.old page 1) refusal) }
+            IsRefusedAs (send_refusal space.old page 1) refusal) }
         ensures log { OnOk result (self.new ≡ machine.log_sent self.old page) }
         ensures space { OnOk result (space.new ≡ protected_in space.old page 1 true) }
         ensures err { OnErr result ((self.new ≡ self.old) × (space.new ≡ space.old)) }
@@ -117,7 +117,7 @@ impl DirtyLog {
             (last ≡ protected_in space.old page 1 true) × IsLent last)) }
         ensures accepted { OnOk result (send_refusal space.old page 1 ≡ None) }
         ensures refused { IfErr result (λ refusal.
-            IsRefusedFor (send_refusal space.old page 1) refusal) }
+            IsRefusedAs (send_refusal space.old page 1) refusal) }
         ensures log { OnOk result (log.new ≡ machine.log_sent log.old page) }
         ensures sent { IfOk result (λ sent.
             frame_sent page sent ≡ page_frame page (contents space.old.host.bytes page)) }
@@ -146,7 +146,7 @@ impl DirtyLog {
         requires inside { first + count ≤ HIGH_PAGE }
         ensures accepted { OnOk result (send_refusal space.old first count ≡ None) }
         ensures refused { IfErr result (λ refusal.
-            IsRefusedFor (send_refusal space.old first count) refusal) }
+            IsRefusedAs (send_refusal space.old first count) refusal) }
         ensures log { OnOk result (self.new ≡ machine.log_run_sent self.old first count) }
         ensures space { OnOk result (space.new ≡ protected_in space.old first count true) }
         ensures err { OnErr result ((self.new ≡ self.old) × (space.new ≡ space.old)) }
@@ -169,7 +169,7 @@ impl DirtyLog {
         requires inside { first + count ≤ HIGH_PAGE }
         ensures accepted { OnOk result (send_refusal space.old first count ≡ None) }
         ensures refused { IfErr result (λ refusal.
-            IsRefusedFor (send_refusal space.old first count) refusal) }
+            IsRefusedAs (send_refusal space.old first count) refusal) }
         ensures log { OnOk result (self.new ≡ machine.log_run_sent self.old first count) }
         ensures space { OnOk result (space.new ≡ protected_in space.old first count true) }
         ensures bytes { IfOk result (λ pages. (node : Source) → space_of node ≡ space.old →

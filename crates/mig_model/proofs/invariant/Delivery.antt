@@ -14,7 +14,7 @@ use Rattle.mig_model.specs.Wire.Frame.{End, Done, Resume, Request, Recv, Advise,
 use Rattle.mig_model.specs.Migration.{World}
 use Rattle.mig_model.specs.Faults.{is_end}
 use Rattle.mig_model.proofs.steps.StepWorlds.{after_deliver}
-use Rattle.mig_model.specs.Whereabouts.{copies_of, has_copy, is_urgent_or_left, IsSwitching, are_requests, behind, kept_by, package_in, AreFaithful}
+use Rattle.mig_model.specs.Whereabouts.{copies_of, has_copy, is_urgent_or_left, IsSwitching, are_requests, after_package, kept_by, package_in, AreFaithful}
 use Rattle.mig_model.specs.Invariant.{Wires, IsSoundWorld, IsFlowing, AreOf, flow_of, RanAt, EpochAt, flow_after, AreWhole}
 use Rattle.mig_model.specs.Invariant.Flow.{Pushed, AfterEnd}
 use Rattle.mig_model.proofs.invariant.WireLemmas.{flight_up, AreOf-append, are_requests_and_done-push, sending-behind, AreOf-sending, are_requests-sending, has_copy-append, fits-append, fits-none, fits-more}
@@ -258,7 +258,7 @@ precopy_advised : (epoch : ℕ) (frame : Frame) (rest : List Sent) (world : Worl
 precopy_advised epoch frame rest world kept = grind (arith, nat_tests, copies_kept, ends_late)
 
 -- the Package and the pages after it are the same
-switching_on : (source : Source) (kept keeps : FinMap nat_cmp (List ℕ)) (wire rest urgent : List Sent) → package_in wire ≡ package_in rest → kept_by kept wire ≡ kept_by keeps rest → behind wire ≡ behind rest →
+switching_on : (source : Source) (kept keeps : FinMap nat_cmp (List ℕ)) (wire rest urgent : List Sent) → package_in wire ≡ package_in rest → kept_by kept wire ≡ kept_by keeps rest → after_package wire ≡ after_package rest →
     IsSwitching source kept wire urgent → IsSwitching source keeps rest urgent
 switching_on source kept keeps wire rest urgent same held after old =
     record {

@@ -25,7 +25,7 @@ use Rattle.mig_model.specs.Migration.{World, runs, guest_by, with_guest_by}
 use Rattle.mig_model.proofs.steps.StepWorlds.{after_dest_read, after_command}
 use Rattle.mig_model.specs.Whereabouts.{IsReceiving, AreFaithful, has_copy, seen_host, current_host, current_by}
 use Rattle.mig_model.specs.Promises.{AreFaults}
-use Rattle.mig_model.specs.Invariant.{IsSoundWorld, Wires, IsFlowing, AreRight}
+use Rattle.mig_model.specs.Invariant.{IsSoundWorld, Wires, IsFlowing, AreWholeEvents}
 use Rattle.mig_model.proofs.memory.IoctlLemmas.{IsSoundSpace-read}
 use Rattle.mig_model.proofs.owed.SettledLemmas.{get-owed_table_after, settled_by-applied, values-after, IsOneToOne-after, owed_below-after}
 use Rattle.mig_model.specs.Cpus.{Took, entries_of}
@@ -56,7 +56,7 @@ pub record IsHandled (world : World) (guest : Guest) (owed : FinMap nat_cmp ℕ)
   pub space : IsSoundSpace guest.space
   pub unprotected : (page : ℕ) → contains guest.space.protected page ≡ false
   pub only_missing : (page : ℕ) → contains guest.space.object.protect page ≡ false
-  pub events : AreRight guest.space.object.events
+  pub events : AreWholeEvents guest.space.object.events
   pub faults : AreFaults guest.space.object.faults
   -- the guest sees the same memory
   pub same_memory : memory (seen_host guest.space.host (space_of world.source).host (settled_by guest.space.object.events (get owed)))
@@ -133,7 +133,7 @@ event_read message cpu events world processors faults kept runs =
     let old : World = at_queues [] (noted ∷ events) world in
     let owed : FinMap nat_cmp ℕ = world.destination.owed in
     let guest : Guest = record (at_queues [] events world).destination.guest { cpus = processors } in
-    let right : AreRight (noted ∷ events) = kept.spaces.destination_events in
+    let right : AreWholeEvents (noted ∷ events) = kept.spaces.destination_events in
     let still : settled_by events (get (owed_table_after message owed)) ≡ settled_by (noted ∷ events) (get owed) = settled_by-applied noted events owed in
     let before = λ (page origin : ℕ) (h : get (owed_table_after message owed) page ≡ Some origin). sym (get-owed_table_after message owed page) ∙ h in
     let space = IsSoundSpace-read old.destination.guest.space kept.spaces.destination_space in
@@ -226,7 +226,7 @@ kept-tried_at true world cpu command is ran kept =
     let destination_space : IsSoundSpace new.destination.guest.space = ready.sound in
     let unprotected : (page : ℕ) → contains new.destination.guest.space.protected page ≡ false = ready.unprotected in
     let only_missing : (page : ℕ) → contains new.destination.guest.space.object.protect page ≡ false = ready.only_missing in
-    let destination_events : AreRight new.destination.guest.space.object.events = ready.events in
+    let destination_events : AreWholeEvents new.destination.guest.space.object.events = ready.events in
     let destination_faults : AreFaults new.destination.guest.space.object.faults = AreFaults-tried (is_access command) space cpu command kept.spaces.destination_faults in
     let not_run : new.destination.has_run ≡ false → (new.destination.owed ≡ finmap.empty) × (new.destination.guest.space ≡ fresh_space) × (new.destination.arrivals ≡ []) =
     λ never. absurd (false≢true (sym never ∙ ran)) in

@@ -20,7 +20,7 @@ use Rattle.mig_model.specs.Source.{source_act, source_acted_by, source_took, spa
 use Rattle.mig_model.specs.Destination.{destination_act, destination_acted_by, destination_took, install_by, urgent_took}
 use Rattle.mig_model.specs.Migration.{World, after_steps, answer, guest_by, next, with_guest_by}
 use Rattle.mig_model.proofs.steps.StepWorlds.{after_dest_read, after_source_read}
-use Rattle.mig_model.specs.Invariant.{AreRight, IsSoundWorld}
+use Rattle.mig_model.specs.Invariant.{AreWholeEvents, IsSoundWorld}
 use Rattle.mig_model.specs.Promises.{IsReached}
 use Rattle.mig_model.specs.Bounds.{IsMapping, IsPage}
 use Rattle.mig_model.proofs.invariant.Bounded.{IsBounded, bounded-first, bounded-next, has_memory}
@@ -77,7 +77,7 @@ held_pages : (message : Message) (held : List Fault) → IsFaultPage message →
 held_pages message held is are = grind (arith, nat_tests, held-push)
 
 -- the message that is read next is of a page that may be mapped, if it is of a fault
-next_page : (faults events : List Noted) (noted : Noted) → next_of faults events ≡ Some noted → AreFaultPages faults → AreRight events → IsFaultPage noted.message
+next_page : (faults events : List Noted) (noted : Noted) → next_of faults events ≡ Some noted → AreFaultPages faults → AreWholeEvents events → IsFaultPage noted.message
 next_page faults events noted is are right = grind (arith, nat_tests)
 
 -- Both nodes

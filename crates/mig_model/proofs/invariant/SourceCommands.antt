@@ -20,7 +20,7 @@ use Rattle.mig_model.specs.Guest.{took_by, tried}
 use Rattle.mig_model.specs.Migration.{World}
 use Rattle.mig_model.proofs.steps.StepWorlds.{after_command}
 use Rattle.mig_model.specs.Whereabouts.{is_unread}
-use Rattle.mig_model.specs.Invariant.{IsSoundWorld, AreRight}
+use Rattle.mig_model.specs.Invariant.{IsSoundWorld, AreWholeEvents}
 use Rattle.mig_model.proofs.memory.HostLemmas.{get-put}
 use Rattle.mig_model.proofs.memory.SpaceLemmas.{IsSoundSpace-accessed, IsSoundSpace-called, access_reply}
 use Rattle.mig_model.proofs.invariant.SourceKept.{source_holds, IsChanged, changed}
@@ -94,7 +94,7 @@ slept_changed world processors object kept bare unswitched alike sound =
       holds = source_holds world kept bare ∙ ap memory_of (sym (append-nil world.transcript));
       space = sound;
       modes = λ page. ap (λ s. contains s page) alike.missing ∙ kept.spaces.both_modes page ∙ sym (ap (λ s. contains s page) alike.protect);
-      events = subst AreRight (sym events) kept.spaces.source_events;
+      events = subst AreWholeEvents (sym events) kept.spaces.source_events;
       idle = λ h. let was = kept.precopy.idle_source h in (was.0, was.1, was.2, events ∙ was.3, λ page. ap (λ s. contains s page) alike.missing ∙ was.4 page);
       protected = λ page h u. kept.precopy.clean_protected unswitched page h (unread page u);
       sendable = λ page h u. let was = kept.precopy.todo_sendable unswitched page h (unread page u) in (was.0, ap (λ s. contains s page) alike.protect ∙ was.1);
@@ -140,7 +140,7 @@ call_changed world cpu command processors kept bare unswitched call =
       holds = holds_after space.host world.transcript cpu command sound.host holds ∙ ap memory_of entered;
       space = IsSoundSpace-called space cpu command call sound;
       modes = λ page. ap (λ s. contains s page) (missing ∙ modes_same space.object command reply both ∙ sym protect);
-      events = subst AreRight (sym events) (AreRight-append space.object.events messages cpu kept.spaces.source_events (right_messages space.host space.object command reply sound.host refl));
+      events = subst AreWholeEvents (sym events) (AreRight-append space.object.events messages cpu kept.spaces.source_events (right_messages space.host space.object command reply sound.host refl));
       idle = λ h.
           let was = kept.precopy.idle_source h in
           let none : IsUnregistered space.object = λ page. ap (λ b. b || contains space.object.protect page) (was.4 page) ∙ sym (kept.spaces.both_modes page) ∙ was.4 page in

@@ -15,7 +15,7 @@ use Rattle.mig_model.specs.Wire.{Sent}
 use Rattle.mig_model.specs.Migration.{World, next}
 use Rattle.mig_model.proofs.steps.StepWorlds.{after_source_act, after_source_read}
 use Rattle.mig_model.specs.Whereabouts.{AreFaithful, is_unread, copies_of, current_by, current_host}
-use Rattle.mig_model.specs.Invariant.{IsSoundWorld, IsSoundFlight, AreSoundEpochs, Wires, AreRight, AreWhole, RanAt, SwitchedAt, HeldFits}
+use Rattle.mig_model.specs.Invariant.{IsSoundWorld, IsSoundFlight, AreSoundEpochs, Wires, AreWholeEvents, AreWhole, RanAt, SwitchedAt, HeldFits}
 use Rattle.mig_model.specs.Log.{no_pages, present, unchanged}
 use Rattle.mig_model.specs.Source.{Source, is_source_idle, space_of, source_act, source_act_by, source_acted_by}
 use Rattle.mig_model.specs.Destination.{Destination, settled}
@@ -54,7 +54,7 @@ pub record IsNext (world : World) (source : Source) (forward : List Sent) (trans
   pub holds : memory (space_of source).host ≡ memory_of transcript
   pub space : IsSoundSpace (space_of source)
   pub modes : (page : ℕ) → contains (space_of source).object.missing page ≡ contains (space_of source).object.protect page
-  pub events : AreRight (space_of source).object.events
+  pub events : AreWholeEvents (space_of source).object.events
   pub phase : SwitchedAt source.phase source.switched
   pub unswitched : source.switched ≡ false
   pub remaining : source.remaining ≡ no_pages
@@ -111,7 +111,7 @@ pub record IsChanged (source : Source) (guest : Guest) (clean todo : FinSet nat_
   pub holds : memory guest.space.host ≡ memory_of transcript
   pub space : IsSoundSpace guest.space
   pub modes : (page : ℕ) → contains guest.space.object.missing page ≡ contains guest.space.object.protect page
-  pub events : AreRight guest.space.object.events
+  pub events : AreWholeEvents guest.space.object.events
   pub idle : IdleEmpty source.phase guest.space clean todo source.log.sent
   pub protected : (page : ℕ) → contains clean page ≡ true → is_unread guest.space.object.events page ≡ false → contains guest.space.protected page ≡ true
   pub sendable : (page : ℕ) → contains todo page ≡ true → is_unread guest.space.object.events page ≡ false → (is_present guest.space page ≡ true) × (contains guest.space.object.protect page ≡ true)
@@ -155,7 +155,7 @@ zero_bytes here o i h = grind (arith, nat_tests, get_or-zero_page)
 record IsRead (object new : Object) (message : Message) : Type 0 where
   missing : new.missing ≡ object.missing
   protect : new.protect ≡ object.protect
-  right : AreRight object.events → AreRight new.events
+  right : AreWholeEvents object.events → AreWholeEvents new.events
   unread : (page : ℕ) → is_changed_by message page ≡ false → is_unread new.events page ≡ false → is_unread object.events page ≡ false
 
 member_unchanged : (s : FinSet nat_cmp) (message : Message) (page : ℕ) → contains (unchanged s message) page ≡ true → (contains s page ≡ true) × (is_changed_by message page ≡ false)

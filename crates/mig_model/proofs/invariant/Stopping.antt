@@ -18,7 +18,7 @@ use Rattle.mig_model.specs.Wire.Frame.{End, Discard, Package}
 use Rattle.mig_model.specs.Guest.{is_present, is_changing}
 use Rattle.mig_model.specs.Migration.{World}
 use Rattle.mig_model.proofs.steps.StepWorlds.{after_end, after_push, after_serve, after_switch}
-use Rattle.mig_model.specs.Whereabouts.{IsSwitching, copies_of, has_copy, AreFaithful, behind, is_urgent_or_left, IsPrecopying, is_unread, kept_by, package_in}
+use Rattle.mig_model.specs.Whereabouts.{IsSwitching, copies_of, has_copy, AreFaithful, after_package, is_urgent_or_left, IsPrecopying, is_unread, kept_by, package_in}
 use Rattle.mig_model.specs.Invariant.{IsSoundWorld, IsSoundLog, IsSoundPushing, StoppedWires, Flow, flow_after, flow_of, AreWhole, AreSoundPhases, PrecopyWires}
 use Rattle.mig_model.specs.Invariant.Flow.{BeforeAdvise, Copies, BeforePackage, Pushed, AfterEnd}
 use Rattle.mig_model.proofs.invariant.WireLemmas.{flow_sent, has_package, copies_of-page, page_flow, fits-more, has_copy-append, flight_up, has_no_package}
@@ -72,8 +72,8 @@ pushed_switching : (source : Source) (kept : FinMap nat_cmp (List ℕ)) (forward
 pushed_switching source kept forward urgent page held whole old =
     let more = pushed_frame source page ∷ [] in
     let there = has_package kept forward more _ old.plan in
-    let copies : copies_of (behind (forward ++ more)) ≡ copies_of (behind forward) ++ record { page = page; bytes = bytes_of source page } ∷ [] =
-    ap copies_of there.behind_more ∙ copies_of-append (behind forward) more ∙ ap (λ c. copies_of (behind forward) ++ c) (copies_of-page source.epoch page (bytes_of source page) whole) in
+    let copies : copies_of (after_package (forward ++ more)) ≡ copies_of (after_package forward) ++ record { page = page; bytes = bytes_of source page } ∷ [] =
+    ap copies_of there.behind_more ∙ copies_of-append (after_package forward) more ∙ ap (λ c. copies_of (after_package forward) ++ c) (copies_of-page source.epoch page (bytes_of source page) whole) in
     record {
       owed = old.owed;
       plan = there.same ∙ old.plan;
@@ -81,8 +81,8 @@ pushed_switching source kept forward urgent page held whole old =
       kept_rest = λ q. ap (λ k. get k q) there.kept_same ∙ old.kept_rest q;
       whereabouts = λ q owes.
           ap (λ c. is_urgent_or_left (finset.remove source.remaining page) urgent q || has_copy c q) copies
-          ∙ pushed_whereabouts source.remaining urgent (copies_of (behind forward)) page q (bytes_of source page) (old.whereabouts q owes);
-      faithful = subst (λ c. AreFaithful (space_of source).host.bytes c) (sym copies) (AreFaithful-append (space_of source).host.bytes (copies_of (behind forward)) _ old.faithful (held, tt));
+          ∙ pushed_whereabouts source.remaining urgent (copies_of (after_package forward)) page q (bytes_of source page) (old.whereabouts q owes);
+      faithful = subst (λ c. AreFaithful (space_of source).host.bytes c) (sym copies) (AreFaithful-append (space_of source).host.bytes (copies_of (after_package forward)) _ old.faithful (held, tt));
     }
 
 -- a world whose source is stopped
@@ -179,7 +179,7 @@ ended_switching : (source : Source) (kept : FinMap nat_cmp (List ℕ)) (forward 
 ended_switching source kept forward urgent old =
     let more = end_frame source ∷ [] in
     let there = has_package kept forward more _ old.plan in
-    let copies : copies_of (behind (forward ++ more)) ≡ copies_of (behind forward) = ap copies_of there.behind_more ∙ copies_of-append (behind forward) more ∙ append-nil (copies_of (behind forward)) in
+    let copies : copies_of (after_package (forward ++ more)) ≡ copies_of (after_package forward) = ap copies_of there.behind_more ∙ copies_of-append (after_package forward) more ∙ append-nil (copies_of (after_package forward)) in
     record {
       owed = old.owed;
       plan = there.same ∙ old.plan;
@@ -260,7 +260,7 @@ switching flow world kept quiet flows old =
     let more = discard_frame source ∷ package_frame source ∷ [] in
     let joined : switched_wire source world.forward.frames ≡ world.forward.frames ++ more = append_assoc world.forward.frames (discard_frame source ∷ []) (package_frame source ∷ []) in
     let there = has_no_package flow world.destination.kept world.forward.frames more flows in
-    let nothing_behind : copies_of (behind (switched_wire source world.forward.frames)) ≡ [] = ap (λ w. copies_of (behind w)) joined ∙ ap copies_of there.behind_then in
+    let nothing_behind : copies_of (after_package (switched_wire source world.forward.frames)) ≡ [] = ap (λ w. copies_of (after_package w)) joined ∙ ap copies_of there.behind_then in
     record {
       owed = not_clean source;
       plan = ap package_in joined ∙ there.plan;
@@ -274,7 +274,7 @@ switching flow world kept quiet flows old =
           (λ clean. old.clean_copy page clean (ap (λ e. is_unread e page) quiet)) (old.copies_sent page) refl
           (λ is. lt-ltb page HIGH_PAGE (present_below (space_of source) page kept.spaces.source_space.host is))
           ∙ sym (ap (λ b. cond b None (get (space_of source).host.bytes page)) (member_not_clean source page));
-      whereabouts = λ page h. ap (λ b. (b || has_copy (copies_of world.urgent.frames) page) || has_copy (copies_of (behind (switched_wire source world.forward.frames))) page) h;
+      whereabouts = λ page h. ap (λ b. (b || has_copy (copies_of world.urgent.frames) page) || has_copy (copies_of (after_package (switched_wire source world.forward.frames))) page) h;
       faithful = subst (λ c. AreFaithful (space_of source).host.bytes c) (sym nothing_behind) tt;
     }
 

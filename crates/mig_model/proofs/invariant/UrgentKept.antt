@@ -16,7 +16,7 @@ use Rattle.mig_model.specs.Wire.Frame.{Page, Zero}
 use Rattle.mig_model.specs.Migration.{World}
 use Rattle.mig_model.proofs.steps.StepWorlds.{after_deliver_urgent, after_push_urgent}
 use Rattle.mig_model.specs.Source.{Source, is_stopped, bytes_of, space_of, urgent_pushed}
-use Rattle.mig_model.specs.Whereabouts.{AreFaithful, IsSwitching, behind, copies_of, has_copy, is_urgent_or_left}
+use Rattle.mig_model.specs.Whereabouts.{AreFaithful, IsSwitching, after_package, copies_of, has_copy, is_urgent_or_left}
 use Rattle.mig_model.specs.Invariant.{Wires, AreSoundUrgent, IsSoundWorld, StoppedWires, are_copies}
 use Rattle.mig_model.specs.Destination.{urgent_came}
 use Rattle.mig_model.specs.Log.{present, no_pages}
@@ -48,7 +48,7 @@ urgent_switching source kept forward urgent sent page bytes copies old =
       owed_present = old.owed_present;
       kept_rest = old.kept_rest;
       whereabouts = λ q owes.
-          first_by (is_urgent_or_left source.remaining urgent q) (is_urgent_or_left (finset.remove source.remaining page) (urgent ++ sent ∷ []) q) (has_copy (copies_of (behind forward)) q)
+          first_by (is_urgent_or_left source.remaining urgent q) (is_urgent_or_left (finset.remove source.remaining page) (urgent ++ sent ∷ []) q) (has_copy (copies_of (after_package forward)) q)
           (still_urgent source.remaining urgent sent page q bytes copies) (old.whereabouts q owes);
       faithful = old.faithful;
     }

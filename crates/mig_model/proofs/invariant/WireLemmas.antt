@@ -6,7 +6,7 @@ use Rattle.std.specs.Ordering.{nat_cmp}
 use Rattle.std.specs.FinMap.{FinMap}
 use Rattle.mig_model.specs.Wire.{Frame, Sent, Copy, kept_after, sending, Wire, page_frame, copies_in}
 use Rattle.mig_model.specs.Wire.Frame.{Request}
-use Rattle.mig_model.specs.Whereabouts.{has_copy, is_package, kept_by, behind, package_in, copies_of, AreFaithful, is_request, are_requests}
+use Rattle.mig_model.specs.Whereabouts.{has_copy, is_package, kept_by, after_package, package_in, copies_of, AreFaithful, is_request, are_requests}
 use Rattle.mig_model.specs.Invariant.{Flow, flow_next, flow_after, AreOf, Wires, IsSoundFlight, is_done, are_requests_and_done, HeldFits}
 use Rattle.mig_model.specs.Migration.{World, is_short, next}
 use Rattle.mig_model.specs.Source.{space_of}
@@ -59,7 +59,7 @@ pub package_in-append : (a b : List Sent) → package_in (a ++ b) ≡ (if is_som
 package_in-append [] b = refl
 package_in-append (sent ∷ a) b = grind (arith, nat_tests, package_in-append a b)
 
-pub behind-append : (a b : List Sent) → behind (a ++ b) ≡ (if is_some (package_in a) then behind a ++ b else behind b)
+pub behind-append : (a b : List Sent) → after_package (a ++ b) ≡ (if is_some (package_in a) then after_package a ++ b else after_package b)
 behind-append [] b = refl
 behind-append (sent ∷ a) b = grind (arith, nat_tests, behind-append a b)
 
@@ -122,7 +122,7 @@ flow_sent flow before after wire sent h n = grind (arith, nat_tests, flow_after-
 pub record HasPackage (kept : FinMap nat_cmp (List ℕ)) (wire more : List Sent) : Type 0 where
   pub same : package_in (wire ++ more) ≡ package_in wire
   pub kept_same : kept_by kept (wire ++ more) ≡ kept_by kept wire
-  pub behind_more : behind (wire ++ more) ≡ behind wire ++ more
+  pub behind_more : after_package (wire ++ more) ≡ after_package wire ++ more
 
 pub has_package : (kept : FinMap nat_cmp (List ℕ)) (wire more : List Sent) (frame : Frame) → package_in wire ≡ Some frame → HasPackage kept wire more
 has_package kept wire more frame h = grind (arith, nat_tests, package_in-append, kept_by-append, behind-append)
@@ -144,7 +144,7 @@ no_package flow (sent ∷ wire) h =
 pub record HasNoPackage (kept : FinMap nat_cmp (List ℕ)) (wire more : List Sent) : Type 0 where
   pub plan : package_in (wire ++ more) ≡ package_in more
   pub kept_then : kept_by kept (wire ++ more) ≡ kept_by (kept_by kept wire) more
-  pub behind_then : behind (wire ++ more) ≡ behind more
+  pub behind_then : after_package (wire ++ more) ≡ after_package more
 
 -- a wire of copies alone, or of Advise and copies, has no Package
 pub has_no_package : (flow : Flow) (kept : FinMap nat_cmp (List ℕ)) (wire more : List Sent) → flow_after flow wire ≡ Some Copies → HasNoPackage kept wire more

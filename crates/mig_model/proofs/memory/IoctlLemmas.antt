@@ -18,12 +18,12 @@ use Rattle.mig_base.proofs.RangeLemmas.{none_below_tells, in_range-none}
 use Rattle.mig_base.proofs.SetLemmas.{member_without, member_below}
 use Rattle.mig_base.specs.Userfault.{Mode, is_registered, message_read, enabled_with}
 use Rattle.mig_model.specs.Space.{Space, IsSoundSpace}
-use Rattle.mig_model.specs.Ioctls.{same_prot, left_by, mode_of, registered_in, registered, register_error, range_unregistered, handshaken, put_pages, handed, missing_run, installed, same_area, is_one_area, copy_errors, copy_error, copied, zeropage_errors, zeropage_error, zeropaged, protected_in, writeprotect_errors, writeprotect_error, write_protected, read_error, read_space}
+use Rattle.mig_model.specs.Ioctls.{same_protection, left_by, mode_of, registered_in, registered, register_error, range_unregistered, handshaken, put_pages, handed, missing_run, installed, same_area, is_one_area, copy_errors, copy_error, copied, zeropage_errors, zeropage_error, zeropaged, protected_in, writeprotect_errors, writeprotect_error, write_protected, read_error, read_space}
 use Rattle.mig_base.specs.Tests.{first_holding, same_bool, is_every}
 use Rattle.mig_model.proofs.memory.HostLemmas.{get-put}
 use Rattle.mig_model.proofs.memory.Facts.{eqb-self, none_absurd, and_second, and_left, in_range_first, some_either}
 
-pub same_prot-self : (prot : Prot) → same_prot (Some prot) (Some prot) ≡ true
+pub same_prot-self : (prot : Prot) → same_protection (Some prot) (Some prot) ≡ true
 same_prot-self prot = eqb-self (prot_number prot)
 
 -- Registered pages

@@ -23,7 +23,7 @@ use Rattle.mig_base.proofs.RangeLemmas.{least_below-none, none_below-from}
 use Rattle.mig_base.specs.Userfault.{changing, is_registered}
 use Rattle.mig_model.specs.Space.{Space}
 use Rattle.mig_model.specs.Guest.{Guest, resolved, is_present, zero_installed}
-use Rattle.mig_model.specs.Ioctls.{Put, copy_error, handed, installed, is_bad_range, is_one_area, missing_run, protected_in, put_answer, put_by, put_pages, same_prot, zeropage_error}
+use Rattle.mig_model.specs.Ioctls.{Put, copy_error, handed, installed, is_bad_range, is_one_area, missing_run, protected_in, put_answer, answer_put, put_pages, same_protection, zeropage_error}
 use Rattle.mig_model.specs.Bounds.{IsPage}
 use Rattle.mig_model.specs.Handlers.{IsCopy, IsWake, IsWriteProtect, IsZeroPage, page_put, woken_by}
 use Rattle.mig_model.proofs.memory.Registering.{left_new, nothing_holds, pages_again, range_good}
@@ -44,7 +44,7 @@ at_page page i l = omega (arith, l)
 pub every_one : (test : ℕ → Bool) (page : ℕ) → test page ≡ true → is_every test page 1 ≡ true
 every_one test page h = none_below-from (λ i. not (test (page + i))) 1 (λ i l. not_from_true (test (page + i)) (ap test (at_page page i l) ∙ h))
 
-pub same_prot_self : (o : Option Prot) → is_some o ≡ true → same_prot o o ≡ true
+pub same_prot_self : (o : Option Prot) → is_some o ≡ true → same_protection o o ≡ true
 same_prot_self o h = grind (arith, nat_tests)
 
 pub same_bool_self : (b : Bool) → same_bool b b ≡ true
@@ -58,7 +58,7 @@ one_area space page mapped registered = grind (arith, nat_tests, every_one, same
 missing_one : (space : Space) (page : ℕ) → is_present space page ≡ false → missing_run space page 1 ≡ 1
 missing_one space page h = ap (λ o. unwrap_or o 1) (least_below-none (λ i. contains_key space.host.bytes (page + i)) 1 (λ i l. ap (contains_key space.host.bytes) (at_page page i l) ∙ h))
 
-put_new : (error : Option Errno) (put : Put) → error ≡ None → put_by error put ≡ put
+put_new : (error : Option Errno) (put : Put) → error ≡ None → answer_put error put ≡ put
 put_new error put h = grind (arith, nat_tests)
 
 one_put : (addr : ℕ) → put_answer addr 1 1 0 Eexist ≡ page_put addr

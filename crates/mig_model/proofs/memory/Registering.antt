@@ -21,7 +21,7 @@ use Rattle.mig_base.specs.Userfault.{Mode, Object, has_modes, registered_where}
 use Rattle.mig_model.specs.Space.{Space, IsSoundSpace}
 use Rattle.mig_model.specs.Ioctls.{has_events, is_bad_mode, is_bad_range, is_bare, is_mapped_in, left_by, mode_of, register_error, registered, registered_in}
 use Rattle.mig_model.specs.Bounds.{IsMapping}
-use Rattle.mig_model.specs.Handlers.{AreAccepted, AreRegistered, AreRunsOf, AreSome, registered_in_turn}
+use Rattle.mig_model.specs.Handlers.{MayRegister, AreRegistered, AreRunsOf, AreSome, registered_in_turn}
 use Rattle.mig_model.proofs.memory.Facts.{and_true}
 use Rattle.mig_model.proofs.memory.IoctlLemmas.{IsSoundSpace-range_registered, NoneHolds, below_high}
 use Rattle.mig_model.proofs.invariant.Stopping.{or_true}
@@ -169,7 +169,7 @@ run_registered space first count bits can mode mapping some mapped =
 -- One run after the other
 
 abbrev Turned : List Run → ℕ → Space → Type 0
-Turned runs bits space = AreAccepted space runs bits × (registered_in_turn space runs bits ≡ registered_by space (in_runs runs) (mode_of bits))
+Turned runs bits space = MayRegister space runs bits × (registered_in_turn space runs bits ≡ registered_by space (in_runs runs) (mode_of bits))
 
 turned : (runs : List Run) (space : Space) (bits : ℕ) → IsSoundSpace space → CanRegister space.object → is_bad_mode bits ≡ false → IsMapping space.host.areas → AreSome runs →
     ((page : ℕ) → in_runs runs page ≡ true → contains_key space.host.areas page ≡ true) → Turned runs bits space

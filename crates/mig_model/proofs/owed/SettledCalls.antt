@@ -8,7 +8,7 @@ use Rattle.mig_base.specs.Ranges.{in_range}
 use Rattle.mig_base.proofs.RangeLemmas.{none_below_tells}
 use Rattle.mig_base.specs.Userfault.{Object, is_registered, event_queued, is_watched}
 use Rattle.mig_model.specs.Space.{message_if, all_queued}
-use Rattle.mig_model.specs.Invariant.{AreRight}
+use Rattle.mig_model.specs.Invariant.{AreWholeEvents}
 use Rattle.mig_model.proofs.owed.SeenLemmas.{owed_none}
 use Rattle.mig_model.specs.Owed.{owed_after, settled_by}
 use Rattle.mig_model.specs.Promises.{gone}
@@ -32,8 +32,8 @@ pub settled-append : (some more : List Message) (owed : ℕ → Option ℕ) → 
 settled-append [] more owed = refl
 settled-append (message ∷ some) more owed = settled-append some more (owed_after message owed)
 
-pub right-queued : (object : Object) (messages : List Message) (cpu : ℕ) → AreRight object.events → AllRight messages → AreRight (all_queued object messages cpu).events
-right-queued object messages cpu are all = subst AreRight (sym (events_queued object messages cpu)) (AreRight-append object.events messages cpu are all)
+pub right-queued : (object : Object) (messages : List Message) (cpu : ℕ) → AreWholeEvents object.events → AllRight messages → AreWholeEvents (all_queued object messages cpu).events
+right-queued object messages cpu are all = subst AreWholeEvents (sym (events_queued object messages cpu)) (AreRight-append object.events messages cpu are all)
 
 -- Pairs of a range that goes, and of one that moves
 

@@ -10,7 +10,7 @@ use Rattle.mig_base.specs.Ranges.{in_range}
 use Rattle.mig_base.proofs.RangeLemmas.{least_below_tells, least_below-is, least_below-some}
 use Rattle.mig_base.proofs.PageLemmas.{get-remove_range, get-moved_range}
 use Rattle.mig_base.specs.Userfault.{Noted}
-use Rattle.mig_model.specs.Invariant.{IsRight}
+use Rattle.mig_model.specs.Invariant.{IsWholeEvent}
 use Rattle.mig_model.specs.Owed.{home, owed_after, owed_table_after, owes_to, settled_by}
 
 -- no source page has two pages
@@ -91,7 +91,7 @@ IsOneToOne-settled (noted ∷ events) owed one = IsOneToOne-settled events (owed
 -- Pages of the address space
 
 -- owed pages lie in the address space, and still do after an event that is right
-pub owed_below-after : (message : Message) (owed : ℕ → Option ℕ) → IsRight message → ((page origin : ℕ) → owed page ≡ Some origin → page < HIGH_PAGE) → (page origin : ℕ) → owed_after message owed page ≡ Some origin → page < HIGH_PAGE
+pub owed_below-after : (message : Message) (owed : ℕ → Option ℕ) → IsWholeEvent message → ((page origin : ℕ) → owed page ≡ Some origin → page < HIGH_PAGE) → (page origin : ℕ) → owed_after message owed page ≡ Some origin → page < HIGH_PAGE
 owed_below-after message owed right below page origin h = grind (arith, nat_tests)
 
 -- The page to which a source page is owed

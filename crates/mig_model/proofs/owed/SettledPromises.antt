@@ -24,7 +24,7 @@ use Rattle.mig_model.specs.Migration.{World, with_guest_by, guest_by, next, outc
 use Rattle.mig_model.specs.Effects.{install_effect}
 use Rattle.mig_model.proofs.steps.StepWorlds.{after_command, after_dest_read}
 use Rattle.mig_model.specs.Promises.{AreFaults}
-use Rattle.mig_model.specs.Invariant.{IsSoundWorld, AreRight}
+use Rattle.mig_model.specs.Invariant.{IsSoundWorld, AreWholeEvents}
 use Rattle.mig_model.specs.Promises.{owed_changed, leaves_settled, AreAccesses}
 use Rattle.mig_model.proofs.owed.SettledLemmas.{settled_by-applied}
 use Rattle.mig_model.proofs.owed.TriedLemmas.{settled_then}
@@ -59,7 +59,7 @@ at_queues faults events world =
       };
     }
 
-read_settled : (faults events : List Noted) (noted : Noted) (world : World) → next_of faults events ≡ Some noted → AreFaults faults → AreRight events → (page : ℕ) →
+read_settled : (faults events : List Noted) (noted : Noted) (world : World) → next_of faults events ≡ Some noted → AreFaults faults → AreWholeEvents events → (page : ℕ) →
     settled (after_dest_read (at_queues faults events world) noted).destination page ≡ settled (at_queues faults events world).destination page
 read_settled faults events noted world is are right page = grind (arith, nat_tests, some_is, settled_by-applied)
 

@@ -11,7 +11,7 @@ use Rattle.mig_base.specs.Userfault.{Noted, Object, is_registered, event_queued,
 use Rattle.mig_model.specs.Guest.{is_changed_by, in_bytes}
 use Rattle.mig_model.specs.Space.{message_if, all_queued}
 use Rattle.mig_model.specs.Whereabouts.{is_unread}
-use Rattle.mig_model.specs.Invariant.{IsRight, AreRight}
+use Rattle.mig_model.specs.Invariant.{IsWholeEvent, AreWholeEvents}
 use Rattle.mig_model.proofs.memory.Facts.{in_range_first, or_assoc}
 
 -- Messages and the events that they become
@@ -36,9 +36,9 @@ is_unread-append (noted ∷ events) messages cpu page = grind (arith, nat_tests,
 
 abbrev pub AllRight : List Message → Type 0
 AllRight [] = Unit {0}
-AllRight (message ∷ messages) = IsRight message × AllRight messages
+AllRight (message ∷ messages) = IsWholeEvent message × AllRight messages
 
-pub AreRight-append : (events : List Noted) (messages : List Message) (cpu : ℕ) → AreRight events → AllRight messages → AreRight (events ++ noted_all messages cpu)
+pub AreRight-append : (events : List Noted) (messages : List Message) (cpu : ℕ) → AreWholeEvents events → AllRight messages → AreWholeEvents (events ++ noted_all messages cpu)
 AreRight-append [] [] cpu old new = tt
 AreRight-append [] (message ∷ messages) cpu old new = (new.0, AreRight-append [] messages cpu tt new.1)
 AreRight-append (noted ∷ events) messages cpu old new = (old.0, AreRight-append events messages cpu old.1 new)
@@ -47,7 +47,7 @@ pub AllRight-append : (a b : List Message) → AllRight a → AllRight b → All
 AllRight-append [] b one two = two
 AllRight-append (message ∷ a) b one two = (one.0, AllRight-append a b one.1 two)
 
-pub told_right : (reason : Bool) (message : Message) → (reason ≡ true → IsRight message) → AllRight (message_if reason message)
+pub told_right : (reason : Bool) (message : Message) → (reason ≡ true → IsWholeEvent message) → AllRight (message_if reason message)
 told_right reason message right = grind (arith, nat_tests)
 
 -- A message is queued if a page of its range was registered

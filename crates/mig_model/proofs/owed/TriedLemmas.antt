@@ -17,7 +17,7 @@ use Rattle.mig_model.specs.Space.{Space, IsSoundSpace, is_made, access_of, acces
 use Rattle.mig_model.specs.Guest.{took_by, space_by}
 use Rattle.mig_model.specs.Cpus.Took.{Answer, Sleep}
 use Rattle.mig_model.specs.Whereabouts.{seen_host}
-use Rattle.mig_model.specs.Invariant.{AreRight}
+use Rattle.mig_model.specs.Invariant.{AreWholeEvents}
 use Rattle.mig_model.proofs.memory.HostLemmas.{get-put}
 use Rattle.mig_model.proofs.memory.SpaceLemmas.{IsSoundSpace-accessed, IsSoundSpace-called}
 use Rattle.mig_model.proofs.owed.SeenLemmas.{answered_seen, owed_none, watched_mapped, seen_own, reply_of-seen_call}
@@ -39,7 +39,7 @@ pub record IsReady (space : Space) (owed : ℕ → Option ℕ) : Type 0 where
   pub sound : IsSoundSpace space
   pub unprotected : HasNone space.protected
   pub only_missing : HasNone space.object.protect
-  pub events : AreRight space.object.events
+  pub events : AreWholeEvents space.object.events
   pub pairs : ArePairs space (settled_in space owed)
 
 -- what a try enters in the transcript, and how the seen host changes: nothing, or an entry as its memory answers
@@ -129,7 +129,7 @@ call_tried there owed space cpu command far call ready =
         sound = new_sound;
         unprotected = none_protected space.protected command reply ready.unprotected;
         only_missing = λ page. ap (λ s. contains s page) (queued_protect modes messages cpu) ∙ none_in_mode space.object command reply ready.only_missing page;
-        events = right-queued modes messages cpu (subst AreRight (sym (modes_events space.object command reply)) ready.events) (right_called space command reply sound refl);
+        events = right-queued modes messages cpu (subst AreWholeEvents (sym (modes_events space.object command reply)) ready.events) (right_called space command reply sound refl);
         pairs = subst (ArePairs new) (sym settles) pairs;
       };
       entered = Entered

@@ -18,7 +18,7 @@ use Rattle.mig_model.specs.Space.{access_of, call_messages, modes_after}
 use Rattle.mig_model.specs.Wire.{Frame}
 use Rattle.mig_model.specs.Wire.Frame.{Package}
 use Rattle.mig_model.specs.Promises.{unread_of, CallFits, HasSoundCalls, AreSoundCalls}
-use Rattle.mig_model.specs.Invariant.{IsSoundWorld, AreRight}
+use Rattle.mig_model.specs.Invariant.{IsSoundWorld, AreWholeEvents}
 use Rattle.mig_model.proofs.owed.SourceMessages.{noted_all, events_queued}
 use Rattle.mig_model.proofs.owed.SettledPromises.{accessed_events}
 use Rattle.mig_model.proofs.owed.FaultLemmas.{AreFaults-tried}
@@ -142,7 +142,7 @@ event_fits cpus first events test fits k =
 abbrev with_queues : List Noted → List Noted → Guest → Guest
 with_queues faults events guest = record guest { space = record guest.space { object = record guest.space.object { faults = faults; events = events } } }
 
-event_calls : (message : Message) (cpu : ℕ) (events : List Noted) (guest : Guest) → AreRight (record { message = message; cpu = cpu } ∷ events) → HasSoundCalls (with_queues [] (record { message = message; cpu = cpu } ∷ events) guest) →
+event_calls : (message : Message) (cpu : ℕ) (events : List Noted) (guest : Guest) → AreWholeEvents (record { message = message; cpu = cpu } ∷ events) → HasSoundCalls (with_queues [] (record { message = message; cpu = cpu } ∷ events) guest) →
     HasSoundCalls (read_guest (with_queues [] (record { message = message; cpu = cpu } ∷ events) guest) cpu message)
 event_calls (PageFault addr write wp tid) cpu events guest right calls = absurd right.0
 event_calls (Remap from to len) cpu events guest right calls = record { fits = event_fits guest.cpus (record { message = Remap from to len; cpu = cpu }) events (is_left_by (Remap from to len)) calls.fits; faults = tt }
@@ -156,7 +156,7 @@ fault_calls message cpu faults events guest calls = grind (arith, nat_tests)
 same_noted : (one other : Noted) → Some one ≡ Some other → one ≡ other
 same_noted one other is = cc
 
-queued_calls : (faults events : List Noted) (guest : Guest) (noted : Noted) → next_message (with_queues faults events guest).space.object ≡ Some noted → AreRight events → HasSoundCalls (with_queues faults events guest) →
+queued_calls : (faults events : List Noted) (guest : Guest) (noted : Noted) → next_message (with_queues faults events guest).space.object ≡ Some noted → AreWholeEvents events → HasSoundCalls (with_queues faults events guest) →
     HasSoundCalls (read_guest (with_queues faults events guest) noted.cpu noted.message)
 queued_calls [] [] guest noted is right calls = absurd (let none : None ≡ Some noted = is in cc)
 queued_calls [] (event ∷ events) guest noted is right calls =
@@ -164,7 +164,7 @@ queued_calls [] (event ∷ events) guest noted is right calls =
 queued_calls (fault ∷ faults) events guest noted is right calls =
     subst (λ (n : Noted). HasSoundCalls (read_guest (with_queues (fault ∷ faults) events guest) n.cpu n.message)) (same_noted fault noted is) (fault_calls fault.message fault.cpu faults events guest calls)
 
-read_calls : (guest : Guest) (noted : Noted) → next_message guest.space.object ≡ Some noted → AreRight guest.space.object.events → HasSoundCalls guest → HasSoundCalls (read_guest guest noted.cpu noted.message)
+read_calls : (guest : Guest) (noted : Noted) → next_message guest.space.object ≡ Some noted → AreWholeEvents guest.space.object.events → HasSoundCalls guest → HasSoundCalls (read_guest guest noted.cpu noted.message)
 read_calls guest = queued_calls guest.space.object.faults guest.space.object.events guest
 
 -- a processor that is taken over is in no call

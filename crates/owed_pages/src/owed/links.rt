@@ -6,7 +6,7 @@
 ghost use Rattle.std.specs.Prelude.{◌≡◌, ◌≢◌, ℕ, ◌+◌, ◌<◌, ◌≤◌, ◌⊎◌, true, nat_eq, if◌then◌else◌, Some, None, OnOk, OnErr, IfOk};
 ghost use Rattle.mig_base.specs.Ranges.{in_range};
 ghost use Rattle.mig_base.specs.declared.TheConstants.{HIGH_PAGE};
-ghost use Rattle.owed_pages.specs.Tables.{number_at, has_place, moved_number};
+ghost use Rattle.owed_pages.specs.Tables.{page_number, has_place, moved_number};
 ghost use Rattle.owed_pages.specs.Owed.{AreLinks, HasRoom};
 
 use crate::owed::table::{
@@ -30,7 +30,7 @@ pub struct Links {
 impl Links {
     /// No pairs. It takes no memory.
     pub fn new(alloc: Global) -> Self
-        ensures { (q : ℕ) → number_at result.forth.items q ≡ None }
+        ensures { (q : ℕ) → page_number result.forth.items q ≡ None }
     {
         Links {
             forth: Vec::new(alloc),
@@ -42,7 +42,7 @@ impl Links {
     /// The same pairs, in memory of their own. `NoMemory` if that cannot be allocated.
     pub fn copy(&self, alloc: Global) -> Result<Self, NoMemory>
         ensures { IfOk result (λ copy. (q : ℕ) →
-            number_at copy.forth.items q ≡ number_at self.now.forth.items q) }
+            page_number copy.forth.items q ≡ page_number self.now.forth.items q) }
     {
         let forth = copy_places(alloc, &self.forth)?;
         Ok(Links {
@@ -55,10 +55,10 @@ impl Links {
     /// Removes the pair of a page, if there is one.
     pub fn unlink(&mut self, page: PageNo)
         ensures pairs { (q : ℕ) →
-            number_at self.new.forth.items q ≡
-            (if nat_eq q page then None else number_at self.old.forth.items q) }
-        ensures free { (s : ℕ) → number_at self.old.forth.items page ≡ Some s →
-            number_at self.new.back.items s ≡ None }
+            page_number self.new.forth.items q ≡
+            (if nat_eq q page then None else page_number self.old.forth.items q) }
+        ensures free { (s : ℕ) → page_number self.old.forth.items page ≡ Some s →
+            page_number self.new.back.items s ≡ None }
         ensures stay { (q : ℕ) →
             has_place self.new.forth.items q ≡ has_place self.old.forth.items q }
         ensures stay_back { (s : ℕ) →
@@ -75,11 +75,11 @@ impl Links {
     pub fn link(&mut self, page: PageNo, origin: PageNo)
         requires room { (has_place self.old.forth.items page ≡ true) ×
             (has_place self.old.back.items origin ≡ true) }
-        requires free { (number_at self.old.forth.items page ≡ None) ×
-            (number_at self.old.back.items origin ≡ None) }
+        requires free { (page_number self.old.forth.items page ≡ None) ×
+            (page_number self.old.back.items origin ≡ None) }
         ensures pairs { (q : ℕ) →
-            number_at self.new.forth.items q ≡
-            (if nat_eq q page then Some origin else number_at self.old.forth.items q) }
+            page_number self.new.forth.items q ≡
+            (if nat_eq q page then Some origin else page_number self.old.forth.items q) }
         ensures stay { (q : ℕ) →
             has_place self.new.forth.items q ≡ has_place self.old.forth.items q }
     {
@@ -91,11 +91,11 @@ impl Links {
     /// Inserts the pair of a page with itself. `NoMemory` leaves the pairs as they were.
     pub fn link_itself(&mut self, alloc: Global, page: PageNo) -> Result<(), NoMemory>
         requires page { page < HIGH_PAGE }
-        requires free { (number_at self.old.forth.items page ≡ None) ×
-            (number_at self.old.back.items page ≡ None) }
+        requires free { (page_number self.old.forth.items page ≡ None) ×
+            (page_number self.old.back.items page ≡ None) }
         ensures pairs { OnOk result ((q : ℕ) →
-            number_at self.new.forth.items q ≡
-            (if nat_eq q page then Some page else number_at self.old.forth.items q)) }
+            page_number self.new.forth.items q ≡
+            (if nat_eq q page then Some page else page_number self.old.forth.items q)) }
     {
         make_leaf(alloc, &mut self.forth, page)?;
         make_leaf(alloc, &mut self.back, page)?;
@@ -114,9 +114,9 @@ impl Links {
     ) -> Result<(), NoMemory>
         requires inside { (from + count ≤ HIGH_PAGE) × (to + count ≤ HIGH_PAGE) }
         ensures same { (q : ℕ) →
-            number_at self.new.forth.items q ≡ number_at self.old.forth.items q }
+            page_number self.new.forth.items q ≡ page_number self.old.forth.items q }
         ensures room { OnOk result
-            (HasRoom (number_at self.new.forth.items) (has_place self.new.forth.items) from to
+            (HasRoom (page_number self.new.forth.items) (has_place self.new.forth.items) from to
             count) }
     {
         let mut made = 0;
@@ -134,8 +134,8 @@ impl Links {
     fn unlink_run(&mut self, first: PageNo, count: u32)
         requires { first + count ≤ HIGH_PAGE }
         ensures pairs { (q : ℕ) →
-            number_at self.new.forth.items q ≡
-            (if in_range first count q then None else number_at self.old.forth.items q) }
+            page_number self.new.forth.items q ≡
+            (if in_range first count q then None else page_number self.old.forth.items q) }
         ensures stay { (q : ℕ) →
             has_place self.new.forth.items q ≡ has_place self.old.forth.items q }
     {
@@ -148,8 +148,8 @@ impl Links {
     pub fn unlink_range(&mut self, first: PageNo, count: u32)
         requires { first + count ≤ HIGH_PAGE }
         ensures pairs { (q : ℕ) →
-            number_at self.new.forth.items q ≡
-            (if in_range first count q then None else number_at self.old.forth.items q) }
+            page_number self.new.forth.items q ≡
+            (if in_range first count q then None else page_number self.old.forth.items q) }
         ensures stay { (q : ℕ) →
             has_place self.new.forth.items q ≡ has_place self.old.forth.items q }
     {
@@ -166,13 +166,13 @@ impl Links {
 
     /// Moves the pair of a page, if there is one, to another page that has none.
     fn move_link(&mut self, from: PageNo, to: PageNo)
-        requires room { (s : ℕ) → number_at self.old.forth.items from ≡ Some s →
+        requires room { (s : ℕ) → page_number self.old.forth.items from ≡ Some s →
             has_place self.old.forth.items to ≡ true }
-        requires free { number_at self.old.forth.items to ≡ None }
+        requires free { page_number self.old.forth.items to ≡ None }
         requires apart { from ≢ to }
         ensures moved { (q : ℕ) →
-            number_at self.new.forth.items q ≡
-            moved_number (number_at self.old.forth.items) from to 1 q }
+            page_number self.new.forth.items q ≡
+            moved_number (page_number self.old.forth.items) from to 1 q }
         ensures stay { (q : ℕ) →
             has_place self.new.forth.items q ≡ has_place self.old.forth.items q }
     {
@@ -186,13 +186,13 @@ impl Links {
     fn move_run(&mut self, from: PageNo, to: PageNo, count: u32)
         requires inside { (from + count ≤ HIGH_PAGE) × (to + count ≤ HIGH_PAGE) }
         requires apart { (from + count ≤ to) ⊎ (to + count ≤ from) }
-        requires room { HasRoom (number_at self.old.forth.items) (has_place self.old.forth.items)
+        requires room { HasRoom (page_number self.old.forth.items) (has_place self.old.forth.items)
             from to count }
         requires free { (q : ℕ) → to ≤ q → q < to + count →
-            number_at self.old.forth.items q ≡ None }
+            page_number self.old.forth.items q ≡ None }
         ensures moved { (q : ℕ) →
-            number_at self.new.forth.items q ≡
-            moved_number (number_at self.old.forth.items) from to count q }
+            page_number self.new.forth.items q ≡
+            moved_number (page_number self.old.forth.items) from to count q }
         ensures stay { (q : ℕ) →
             has_place self.new.forth.items q ≡ has_place self.old.forth.items q }
     {
@@ -205,13 +205,13 @@ impl Links {
     pub fn move_links(&mut self, from: PageNo, to: PageNo, count: u32)
         requires inside { (from + count ≤ HIGH_PAGE) × (to + count ≤ HIGH_PAGE) }
         requires apart { (from + count ≤ to) ⊎ (to + count ≤ from) }
-        requires room { HasRoom (number_at self.old.forth.items) (has_place self.old.forth.items)
+        requires room { HasRoom (page_number self.old.forth.items) (has_place self.old.forth.items)
             from to count }
         requires free { (q : ℕ) → to ≤ q → q < to + count →
-            number_at self.old.forth.items q ≡ None }
+            page_number self.old.forth.items q ≡ None }
         ensures moved { (q : ℕ) →
-            number_at self.new.forth.items q ≡
-            moved_number (number_at self.old.forth.items) from to count q }
+            page_number self.new.forth.items q ≡
+            moved_number (page_number self.old.forth.items) from to count q }
     {
         let mut moved = 0;
         while moved < count {

@@ -4,7 +4,7 @@ ghost use Rattle.std.specs.Prelude.{◌≡◌, ℕ, ◌+◌, ◌/◌, ◌<◌, �
 ghost use Rattle.std.specs.FinSet.{contains};
 ghost use Rattle.mig_base.specs.declared.TheConstants.{HIGH_PAGE};
 ghost use Rattle.mig_base.specs.declared.chunk.TheConstants.{CHUNK, CHUNKS};
-ghost use Rattle.owed_pages.specs.Tables.{number_in, number_at, is_place, has_place};
+ghost use Rattle.owed_pages.specs.Tables.{number_in, page_number, is_place, has_place};
 
 use mig_base::chunk::CHUNK;
 use mig_base::page_set::PageSet;
@@ -83,7 +83,7 @@ fn place_copy(alloc: Global, place: &Place) -> Result<Place, NoMemory>
 /// Places with the same numbers, in memory of their own. On `NoMemory` there are none.
 pub fn copy_places(alloc: Global, places: &Vec<Place>) -> Result<Vec<Place>, NoMemory>
     ensures same { IfOk result (λ copy. (q : ℕ) →
-        number_at copy.items q ≡ number_at places.now.items q) }
+        page_number copy.items q ≡ page_number places.now.items q) }
     ensures size { IfOk result (λ copy. length copy.items ≡ length places.now.items) }
 {
     let mut copies = Vec::new(alloc);
@@ -95,7 +95,7 @@ pub fn copy_places(alloc: Global, places: &Vec<Place>) -> Result<Vec<Place>, NoM
 
 /// The number of a page. Any page number is allowed.
 pub fn get_number(places: &Vec<Place>, page: PageNo) -> Option<PageNo>
-    ensures { result ≡ number_at places.now.items page }
+    ensures { result ≡ page_number places.now.items page }
 {
     let at = (page / CHUNK) as usize;
     if at < places.len() {
@@ -121,8 +121,8 @@ pub fn has_leaf(places: &Vec<Place>, page: PageNo) -> bool
 pub fn put_number(places: &mut Vec<Place>, page: PageNo, number: Option<PageNo>)
     requires { has_place places.old.items page ≡ true }
     ensures put { (q : ℕ) →
-        number_at places.new.items q ≡
-        (if nat_eq q page then number else number_at places.old.items q) }
+        page_number places.new.items q ≡
+        (if nat_eq q page then number else page_number places.old.items q) }
     ensures stay { (q : ℕ) → has_place places.new.items q ≡ has_place places.old.items q }
     ensures size { length places.new.items ≡ length places.old.items }
 {
@@ -132,7 +132,7 @@ pub fn put_number(places: &mut Vec<Place>, page: PageNo, number: Option<PageNo>)
 /// Makes the leaf of a page if there is none. `NoMemory` leaves all numbers as they were.
 pub fn make_leaf(alloc: Global, places: &mut Vec<Place>, page: PageNo) -> Result<(), NoMemory>
     requires { (page < HIGH_PAGE) × (length places.old.items ≤ CHUNKS) }
-    ensures same { (q : ℕ) → number_at places.new.items q ≡ number_at places.old.items q }
+    ensures same { (q : ℕ) → page_number places.new.items q ≡ page_number places.old.items q }
     ensures few { length places.new.items ≤ CHUNKS }
     ensures there { OnOk result (has_place places.new.items page ≡ true) }
     ensures stay { (q : ℕ) → has_place places.old.items q ≡ true →
@@ -155,7 +155,7 @@ pub fn make_leaves(
     count: u32,
 ) -> Result<(), NoMemory>
     requires { (first + count ≤ HIGH_PAGE) × (length places.old.items ≤ CHUNKS) }
-    ensures same { (q : ℕ) → number_at places.new.items q ≡ number_at places.old.items q }
+    ensures same { (q : ℕ) → page_number places.new.items q ≡ page_number places.old.items q }
     ensures few { length places.new.items ≤ CHUNKS }
     ensures there { OnOk result ((q : ℕ) → first ≤ q → q < first + count →
         has_place places.new.items q ≡ true) }
@@ -186,7 +186,7 @@ pub fn next_leaf(page: PageNo, end: PageNo) -> PageNo
 pub fn numbered(alloc: Global, places: &Vec<Place>) -> Result<PageSet, NoMemory>
     requires { length places.now.items ≤ CHUNKS }
     ensures { IfOk result (λ pages. (q : ℕ) →
-        contains pages q ≡ is_some (number_at places.now.items q)) }
+        contains pages q ≡ is_some (page_number places.now.items q)) }
 {
     let mut pages = PageSet::new(alloc);
     let end = places.len() as u32 * CHUNK;
@@ -211,9 +211,9 @@ fn insert_numbered(
 ) -> Result<(), NoMemory>
     requires range { (first ≤ end) × (end ≤ HIGH_PAGE) }
     requires first { (q : ℕ) →
-        contains pages.old q ≡ (nat_lt q first && is_some (number_at places.now.items q)) }
+        contains pages.old q ≡ (nat_lt q first && is_some (page_number places.now.items q)) }
     ensures { OnOk result ((q : ℕ) →
-        contains pages.new q ≡ (nat_lt q end && is_some (number_at places.now.items q))) }
+        contains pages.new q ≡ (nat_lt q end && is_some (page_number places.now.items q))) }
 {
     for page in first..end {
         if get_number(places, page).is_some() {

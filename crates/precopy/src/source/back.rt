@@ -7,7 +7,7 @@ ghost use Rattle.mig_model.specs.Log as log;
 ghost use Rattle.mig_model.specs.Source.{commands_of, space_of};
 ghost use Rattle.mig_model.specs.Wire as machine;
 ghost use Rattle.page_stream.specs.Frames.{frame_of};
-ghost use Rattle.precopy.specs.Back.{is_request, source_heard};
+ghost use Rattle.precopy.specs.Back.{requests_page, source_heard};
 
 use super::Source;
 use mig_base::fault::BackFault;
@@ -24,7 +24,7 @@ impl Source {
         ensures accepted { OnOk result (back_fault self.old epoch (frame_of frame.now) ≡ None) }
         ensures refused { IfErr result (λ fault.
             fault ≡ unwrap_or (back_fault self.old epoch (frame_of frame.now)) BackFault.NoMemory) }
-        ensures memory { result ≡ Err BackFault.NoMemory → is_request (frame_of frame.now) ≡ true }
+        ensures memory { result ≡ Err BackFault.NoMemory → requests_page (frame_of frame.now) ≡ true }
         ensures took { OnOk result (self.new ≡ source_heard self.old (frame_of frame.now)) }
         ensures err { OnErr result (self.new ≡ self.old) }
     {

@@ -2,14 +2,14 @@ use Rattle.std.proofs.Common.{◌≡◌, length, Err, ap, subst, arith}
 use Rattle.std.proofs.lemmas.List.{length-drop}
 use Rattle.std.proofs.lemmas.Result.{err_from_is_err_and}
 use Rattle.frame_decoder.specs.declared.fault.StreamFault.TheVariants as faults
-use Rattle.frame_decoder.specs.Reading.{Fails, page_at}
+use Rattle.frame_decoder.specs.Reading.{FailsToRead, page_in}
 use Rattle.frame_decoder.proofs.HeadLemmas.{page_body, page_body_bad, page_body_long, page_rest}
 use Rattle.frame_decoder.proofs.head.read_page_head.Goals as goal
 
 pub returns-in_err-page-clause-head : goal.returns-in_err-page-clause-head
 returns-in_err-page-clause-head c =
     let p = err_from_is_err_and c.from_residual.result c.from_residual.ensures.1 in
-    let bad : page_at c.args.body.now ≡ Err faults.BadField = subst (λ f. Fails f (page_at c.args.body.now)) c.in_err-page.ensures.fault c.in_err-page.ensures.gives in
+    let bad : page_in c.args.body.now ≡ Err faults.BadField = subst (λ f. FailsToRead f (page_in c.args.body.now)) c.in_err-page.ensures.fault c.in_err-page.ensures.gives in
     rw (p.1, p.2, c.in_err-page.ensures.fault) (page_body_bad c.args.version c.args.body.now bad)
 
 pub returns-then-bytes-ne-PAGE_BYTES-clause-head : goal.returns-then-bytes-ne-PAGE_BYTES-clause-head

@@ -3,13 +3,13 @@ use Rattle.std.specs.Prelude.{IfOk}
 use Rattle.mig_base.specs.declared.NoMemory.{NoMemory}
 use Rattle.frame_decoder.specs.declared.stream.Next.{Next}
 use Rattle.frame_decoder.specs.declared.version.Version.{Version}
-use Rattle.frame_decoder.specs.Reading.{next_of, next_at}
+use Rattle.frame_decoder.specs.Reading.{front_of, next_at}
 use Rattle.frame_decoder.specs.Taking.{Stands}
 use Rattle.frame_decoder.proofs.FieldLemmas.{IsBytes}
 use Rattle.frame_decoder.proofs.Fronts.{next_stands}
 use Rattle.frame_decoder.proofs.stream.front.Goals as goal
 
-answer : (fixed : Option Version) (bytes : List ℕ) (r : Result Next NoMemory) → IsBytes bytes → IfOk r (λ next. next_of next ≡ next_at fixed bytes) → IfOk r (λ next. Stands fixed bytes (next_of next))
+answer : (fixed : Option Version) (bytes : List ℕ) (r : Result Next NoMemory) → IsBytes bytes → IfOk r (λ next. front_of next ≡ next_at fixed bytes) → IfOk r (λ next. Stands fixed bytes (front_of next))
 answer fixed bytes (Ok next) fits e = subst (Stands fixed bytes) (sym e) (next_stands fixed bytes fits)
 answer fixed bytes (Err error) fits e = tt
 

@@ -3,13 +3,13 @@ use Rattle.grammar.specs.declared.line.Language.{Language}
 use Rattle.grammar.specs.declared.line.Line.{Line}
 use Rattle.grammar.specs.Spelling.{Spells}
 use Rattle.engine.specs.Lines.{held_line, line_text}
-use Rattle.lint.specs.Parts.{IsRight}
+use Rattle.lint.specs.Parts.{IsOfLanguage}
 use Rattle.lint.proofs.linter.wrong_in.Goals as goal
 
-is_right : (language : Language) (front text : List ℕ) (len : ℕ) (ended : Bool) (line : Line) → text ≡ line_text ended front → len ≤ 256 → Spells language text line → IsRight language (held_line front len ended)
+is_right : (language : Language) (front text : List ℕ) (len : ℕ) (ended : Bool) (line : Line) → text ≡ line_text ended front → len ≤ 256 → Spells language text line → IsOfLanguage language (held_line front len ended)
 is_right language front text len ended line e short spells = (line, (short, subst (λ (t : List ℕ). Spells language t line) e spells))
 
-is_wrong : (language : Language) (front text : List ℕ) (len : ℕ) (ended : Bool) → text ≡ line_text ended front → ((line : Line) → Spells language text line → ⊥) → IsRight language (held_line front len ended) → ⊥
+is_wrong : (language : Language) (front text : List ℕ) (len : ℕ) (ended : Bool) → text ≡ line_text ended front → ((line : Line) → Spells language text line → ⊥) → IsOfLanguage language (held_line front len ended) → ⊥
 is_wrong language front text len ended e none right = none right.0 (subst (λ (t : List ℕ). Spells language t right.0) (sym e) right.1.1)
 
 pub returns-in-Some-clause-right : goal.returns-in-Some-clause-right

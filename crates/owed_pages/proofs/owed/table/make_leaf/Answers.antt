@@ -1,13 +1,13 @@
 use Rattle.std.proofs.Common.{◌∙◌, ap, arith, ◌/◌, length-append}
 use Rattle.std.proofs.lemmas.Result.{IfOk-weaker}
-use Rattle.owed_pages.specs.Tables.{number_in, number_at, has_place, is_place}
+use Rattle.owed_pages.specs.Tables.{number_in, page_number, has_place, is_place}
 use Rattle.owed_pages.proofs.TableLemmas.{number_at-push, numbers_stay}
 use Rattle.owed_pages.proofs.owed.table.make_leaf.Goals as goal
 use Rattle.mig_base.proofs.PlaceLemmas.{read_place, has_place-push, place_of_set, places_kept}
 
 pub loop-places-preserved : goal.loop-places-preserved
 loop-places-preserved c = record {
-  same = λ q. ap (λ xs. number_at xs q) c.in-Ok.ensures.items ∙ number_at-push c.loop-places.places.items q ∙ c.loop-places.invariant.same q;
+  same = λ q. ap (λ xs. page_number xs q) c.in-Ok.ensures.items ∙ number_at-push c.loop-places.places.items q ∙ c.loop-places.invariant.same q;
   kept = λ q. ap (λ xs. has_place xs q) c.in-Ok.ensures.items ∙ has_place-push c.loop-places.places.items q ∙ c.loop-places.invariant.kept q;
   few = rw c.in-Ok.ensures.items (simp length-append (omega arith));
 }

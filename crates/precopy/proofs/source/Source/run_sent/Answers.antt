@@ -1,6 +1,6 @@
 use Rattle.std.proofs.lemmas.Result.{err_from_is_err_and}
 use Rattle.mig_base.specs.declared.refusal.Refusal.{Refusal}
-use Rattle.dirty_log.specs.Answers.{IsRefusedFor, send_refusal}
+use Rattle.dirty_log.specs.Answers.{IsRefusedAs, send_refusal}
 use Rattle.precopy.proofs.OrderLemmas.{sent_order}
 use Rattle.precopy.proofs.RunLemmas.{run_found, run_stopped}
 use Rattle.precopy.proofs.source.Source.run_sent.Goals as goal
@@ -11,7 +11,7 @@ returns-in_err-protect_run-clause-refused c =
     let count = c.in_ok-first.count in
     let found = c.in_ok-first.ensures in
     let few = run_found c.args.self.now c.args.most first count found.first found.run in
-    let stopped = λ (refusal : Refusal) (why : IsRefusedFor (send_refusal c.self.inside.space first count) refusal).
+    let stopped = λ (refusal : Refusal) (why : IsRefusedAs (send_refusal c.self.inside.space first count) refusal).
     run_stopped c.args.self.now first c.args.most count refusal found.first few (rw (← c.self.view_is) c.self.invariant.0.todo) (rw (← c.self.view_is) why) in
     let p = err_from_is_err_and c.from_residual-in_err-protect_run.result c.from_residual-in_err-protect_run.ensures.1 in
     rw (p.1, p.2) (stopped _ c.in_err-protect_run.ensures.refused)

@@ -5,7 +5,7 @@ use Rattle.mig_base.specs.declared.refusal.Refusal.{Refusal}
 use Rattle.mig_model.specs.Source.{Source, bytes_of}
 use Rattle.mig_model.specs.Wire.{page_frame}
 use Rattle.mig_model.proofs.memory.Facts.{counted_is}
-use Rattle.dirty_log.specs.Answers.{IsRefusedFor, send_refusal}
+use Rattle.dirty_log.specs.Answers.{IsRefusedAs, send_refusal}
 use Rattle.dirty_log.specs.declared.sent.Sent.{Sent}
 use Rattle.dirty_log.proofs.SendLemmas.{one_sent, zero_shown}
 use Rattle.mig_model.specs.SourceSteps.{next_to_send}
@@ -23,7 +23,7 @@ returns-in_err-page c =
 
 pub returns-in_err-protect_page : goal.returns-in_err-protect_page
 returns-in_err-protect_page c =
-    let stopped = λ (refusal : Refusal) (why : IsRefusedFor (send_refusal c.self.inside.space c.in_ok-page.page 1) refusal).
+    let stopped = λ (refusal : Refusal) (why : IsRefusedAs (send_refusal c.self.inside.space c.in_ok-page.page 1) refusal).
     send_stopped c.args.self.now c.in_ok-page.page refusal (ap next_to_send (sym c.self.view_is) ∙ sym c.next_to_send.ensures.answer ∙ c.in_ok-page.was) (rw (← c.self.view_is) c.self.invariant.0.todo) (rw (← c.self.view_is) why) in
     let p = err_from_is_err_and c.from_residual-in_err-protect_page.result c.from_residual-in_err-protect_page.ensures.1 in
     let kept = c.in_err-protect_page.ensures.err in

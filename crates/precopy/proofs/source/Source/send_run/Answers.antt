@@ -2,7 +2,7 @@ use Rattle.std.proofs.Common.{refl, ap, ◌∙◌, arith}
 use Rattle.std.proofs.lemmas.Result.{err_from_is_err_and}
 use Rattle.mig_base.specs.declared.refusal.Refusal.{Refusal}
 use Rattle.mig_model.specs.Source.{Source, is_released}
-use Rattle.dirty_log.specs.Answers.{IsRefusedFor, send_refusal}
+use Rattle.dirty_log.specs.Answers.{IsRefusedAs, send_refusal}
 use Rattle.precopy.proofs.OrderLemmas.{sent_order}
 use Rattle.dirty_log.proofs.SendLemmas.{page_of_present, page_there}
 use Rattle.precopy.proofs.SendLemmas.{send_unreleased}
@@ -15,7 +15,7 @@ returns-in_err-sent-clause-refused c =
     let pages = c.in_ok-first.pages in
     let found = c.in_ok-first.ensures in
     let few = run_found c.args.self.now c.args.count first pages found.first found.run in
-    let stopped = λ (refusal : Refusal) (why : IsRefusedFor (send_refusal c.self.inside.space first pages) refusal).
+    let stopped = λ (refusal : Refusal) (why : IsRefusedAs (send_refusal c.self.inside.space first pages) refusal).
     run_stopped c.args.self.now first c.args.count pages refusal found.first few (rw (← c.self.view_is) c.self.invariant.0.todo) (rw (← c.self.view_is) why) in
     let p = err_from_is_err_and c.from_residual-in_err-sent.result c.from_residual-in_err-sent.ensures.1 in
     rw (p.1, p.2) (stopped _ c.in_err-sent.ensures.refused)

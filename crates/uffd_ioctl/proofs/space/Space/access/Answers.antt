@@ -3,7 +3,7 @@ use Rattle.std.specs.FinMap.{contains_key}
 use Rattle.mig_base.specs.declared.TheConstants.{HIGH_PAGE}
 use Rattle.mig_model.specs.Space.{IsSoundSpace}
 use Rattle.mig_base.specs.Commands.{page_of}
-use Rattle.uffd_ioctl.specs.Spaces.{space_of}
+use Rattle.uffd_ioctl.specs.Spaces.{machine_space}
 use Rattle.uffd_ioctl.proofs.AccessLemmas.{made_mapped, made_below, memory_stored}
 use Rattle.uffd_ioctl.proofs.space.Space.access.Goals as goal
 
@@ -24,5 +24,5 @@ write-requires-clause-mapped c =
 
 pub returns-in_ok-write-clause-memory : goal.returns-in_ok-write-clause-memory
 returns-in_ok-write-clause-memory c =
-    memory_stored (space_of c.self.inside.areas c.self.inside.pages c.self.inside.object) c.args.self.now c.write.new.self c.in-Store.addr c.in-Store.width c.in-Store.value c.args.command c.reply_to-reply.result
+    memory_stored (machine_space c.self.inside.areas c.self.inside.pages c.self.inside.object) c.args.self.now c.write.new.self c.in-Store.addr c.in-Store.width c.in-Store.value c.args.command c.reply_to-reply.result
     c.self.view_is c.self.invariant c.in-Store.is c.reply_to-reply.ensures (sym c.is_made.ensures ∙ c.if-not-is_made.false) c.in_ok-write.ensures.ok

@@ -1,7 +1,7 @@
 use Rattle.std.proofs.Common.{arith, ◌∙◌, ap, refl}
 use Rattle.mig_base.specs.declared.command.Command.TheVariants.{Mmap}
 use Rattle.mig_model.specs.Space.{called}
-use Rattle.uffd_ioctl.specs.Spaces.{space_of}
+use Rattle.uffd_ioctl.specs.Spaces.{machine_space}
 use Rattle.uffd_ioctl.proofs.ChangeLemmas.{made_inside}
 use Rattle.uffd_ioctl.proofs.CallLemmas.{space_made, sound_called}
 use Rattle.uffd_ioctl.proofs.MoveLemmas.{told_of}
@@ -51,12 +51,12 @@ forget_range-requires c =
 
 pub invariant_of-self-in-Ok : goal.invariant_of-self-in-Ok
 invariant_of-self-in-Ok c =
-    sound_called _ (space_of c.self.inside.areas c.self.inside.pages c.self.inside.object) c.args.cpu (Mmap c.args.len c.args.prot c.args.place) refl c.self.invariant
-    (space_made (space_of c.self.inside.areas c.self.inside.pages c.self.inside.object) c.map.new.self c.drop_range.new.self c.forget_range.new.self c.args.cpu c.args.len c.in-Ok.start c.page_count-count.result c.page_address-end.result c.args.prot c.args.place
+    sound_called _ (machine_space c.self.inside.areas c.self.inside.pages c.self.inside.object) c.args.cpu (Mmap c.args.len c.args.prot c.args.place) refl c.self.invariant
+    (space_made (machine_space c.self.inside.areas c.self.inside.pages c.self.inside.object) c.map.new.self c.drop_range.new.self c.forget_range.new.self c.args.cpu c.args.len c.in-Ok.start c.page_count-count.result c.page_address-end.result c.args.prot c.args.place
     (c.in-Ok.ensures c.args.prot c.self.inside.pages.bytes c.self.invariant.host) c.page_count-count.ensures c.page_address-end.ensures c.in-Ok-map.ensures.ok c.drop_range.ensures.bytes c.drop_range.ensures.protected (told_of c.self.inside.object c.queue_if_due.new.object c.forget_range.new.self _ _ c.args.cpu _ _ c.in_ok-queued-in-Ok.ensures.object c.forget_range.ensures c.is_any_registered-is_due.ensures))
 
 pub returns-in-Ok-map-clause-space : goal.returns-in-Ok-map-clause-space
 returns-in-Ok-map-clause-space c =
-    space_made (space_of c.self.inside.areas c.self.inside.pages c.self.inside.object) c.map.new.self c.drop_range.new.self c.forget_range.new.self c.args.cpu c.args.len c.in-Ok.start c.page_count-count.result c.page_address-end.result c.args.prot c.args.place
+    space_made (machine_space c.self.inside.areas c.self.inside.pages c.self.inside.object) c.map.new.self c.drop_range.new.self c.forget_range.new.self c.args.cpu c.args.len c.in-Ok.start c.page_count-count.result c.page_address-end.result c.args.prot c.args.place
     (c.in-Ok.ensures c.args.prot c.self.inside.pages.bytes c.self.invariant.host) c.page_count-count.ensures c.page_address-end.ensures c.in-Ok-map.ensures.ok c.drop_range.ensures.bytes c.drop_range.ensures.protected (told_of c.self.inside.object c.queue_if_due.new.object c.forget_range.new.self _ _ c.args.cpu _ _ c.in_ok-queued-in-Ok.ensures.object c.forget_range.ensures c.is_any_registered-is_due.ensures)
     ∙ ap (λ s. called s c.args.cpu (Mmap c.args.len c.args.prot c.args.place)) c.self.view_is

@@ -3,13 +3,13 @@ use Rattle.mig_model.specs.Space as machine
 use Rattle.mig_model.specs.Ioctls as table
 use Rattle.mig_model.proofs.memory.IoctlLemmas.{IsSoundSpace-range_registered}
 use Rattle.userfault.specs.Modes as modes
-use Rattle.uffd_ioctl.specs.Spaces.{space_of}
+use Rattle.uffd_ioctl.specs.Spaces.{machine_space}
 use Rattle.uffd_ioctl.proofs.RegisterLemmas.{made_by, sound_low, watched_in}
 use Rattle.uffd_ioctl.proofs.space.Space.register.Goals as goal
 use Rattle.mig_base.proofs.TestLemmas.{never_some}
 
 pub registered-requires-clause-low : goal.registered-requires-clause-low
-registered-requires-clause-low c = sound_low (space_of c.self.inside.areas c.self.inside.pages c.self.inside.object) c.self.invariant
+registered-requires-clause-low c = sound_low (machine_space c.self.inside.areas c.self.inside.pages c.self.inside.object) c.self.invariant
 
 pub returns-clause-space : goal.returns-clause-space
 returns-clause-space c =

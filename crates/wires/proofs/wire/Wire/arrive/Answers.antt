@@ -6,7 +6,7 @@ use Rattle.frame_decoder.specs.declared.version.Version.TheVariants as versions
 use Rattle.wires.specs.Chunks.{in_flight}
 use Rattle.wires.proofs.WireLemmas.{completes, completes_first, has_front, held_below, held_there, known_there, moves, none_is_not, read_is}
 use Rattle.mig_model.specs.Invariant.{HeldFits}
-use Rattle.wires.specs.Lanes.{IsFirstLen, bytes_of}
+use Rattle.wires.specs.Lanes.{IsFirstLen, lane_bytes}
 use Rattle.wires.proofs.ByteLemmas.{same_bytes}
 use Rattle.wires.proofs.wire.Wire.arrive.Goals as goal
 
@@ -52,10 +52,10 @@ returns-clause-arrived c =
     )
 
 pub returns-then-is_empty-clause-bytes : goal.returns-then-is_empty-clause-bytes
-returns-then-is_empty-clause-bytes c = same_bytes c.self.inside.chunks c.turn.new.self c.self.invariant.0 c.turn.ensures.chunks c.turn.ensures.stays ∙ ap bytes_of c.self.view_is
+returns-then-is_empty-clause-bytes c = same_bytes c.self.inside.chunks c.turn.new.self c.self.invariant.0 c.turn.ensures.chunks c.turn.ensures.stays ∙ ap lane_bytes c.self.view_is
 
 pub returns-then-n-len-clause-bytes : goal.returns-then-n-len-clause-bytes
-returns-then-n-len-clause-bytes c = same_bytes c.self.inside.chunks c.turn.new.self c.self.invariant.0 c.turn.ensures.chunks c.turn.ensures.stays ∙ ap bytes_of c.self.view_is
+returns-then-n-len-clause-bytes c = same_bytes c.self.inside.chunks c.turn.new.self c.self.invariant.0 c.turn.ensures.chunks c.turn.ensures.stays ∙ ap lane_bytes c.self.view_is
 
 pub returns-in_err-epoch-clause-arrived : goal.returns-in_err-epoch-clause-arrived
 returns-in_err-epoch-clause-arrived c =
@@ -68,10 +68,10 @@ returns-in_err-epoch-clause-arrived c =
     )
 
 pub returns-in_err-epoch-clause-bytes : goal.returns-in_err-epoch-clause-bytes
-returns-in_err-epoch-clause-bytes c = same_bytes c.self.inside.chunks c.turn.new.self c.self.invariant.0 c.turn.ensures.chunks c.turn.ensures.stays ∙ ap bytes_of c.self.view_is
+returns-in_err-epoch-clause-bytes c = same_bytes c.self.inside.chunks c.turn.new.self c.self.invariant.0 c.turn.ensures.chunks c.turn.ensures.stays ∙ ap lane_bytes c.self.view_is
 
 pub returns-clause-bytes : goal.returns-clause-bytes
-returns-clause-bytes c = same_bytes c.self.inside.chunks c.turn.new.self c.self.invariant.0 c.turn.ensures.chunks c.turn.ensures.stays ∙ ap bytes_of c.self.view_is
+returns-clause-bytes c = same_bytes c.self.inside.chunks c.turn.new.self c.self.invariant.0 c.turn.ensures.chunks c.turn.ensures.stays ∙ ap lane_bytes c.self.view_is
 
 pub invariant_of-self-in_err-epoch : goal.invariant_of-self-in_err-epoch
 invariant_of-self-in_err-epoch c =

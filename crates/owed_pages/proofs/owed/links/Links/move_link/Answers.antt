@@ -1,5 +1,5 @@
 use Rattle.std.proofs.Common.{◌∙◌, sym, ap, cond, eqb, Some}
-use Rattle.owed_pages.specs.Tables.{number_at}
+use Rattle.owed_pages.specs.Tables.{page_number}
 use Rattle.owed_pages.proofs.TableLemmas.{place_of_number}
 use Rattle.owed_pages.proofs.LinkLemmas.{moved_one, none_otherwise}
 use Rattle.owed_pages.proofs.owed.links.Links.move_link.Goals as goal
@@ -12,7 +12,7 @@ link-requires-clause-room c = (
 
 pub link-requires-clause-free : goal.link-requires-clause-free
 link-requires-clause-free c = (
-  c.unlink.ensures.pairs c.args.to ∙ none_otherwise c.args.to c.args.from (number_at c.args.self.now.forth.items c.args.to) c.requires.free,
+  c.unlink.ensures.pairs c.args.to ∙ none_otherwise c.args.to c.args.from (page_number c.args.self.now.forth.items c.args.to) c.requires.free,
   c.unlink.ensures.free c.in-Some.origin (sym c.get_number.ensures ∙ c.in-Some.is),
 )
 
@@ -20,4 +20,4 @@ pub returns-in-Some-clause-moved : goal.returns-in-Some-clause-moved
 returns-in-Some-clause-moved c = λ q.
     c.link.ensures.pairs q
     ∙ ap (λ o. cond (eqb q c.args.to) (Some c.in-Some.origin) o) (c.unlink.ensures.pairs q)
-    ∙ moved_one (number_at c.args.self.now.forth.items) c.args.from c.args.to q (Some c.in-Some.origin) (sym c.in-Some.is ∙ c.get_number.ensures)
+    ∙ moved_one (page_number c.args.self.now.forth.items) c.args.from c.args.to q (Some c.in-Some.origin) (sym c.in-Some.is ∙ c.get_number.ensures)

@@ -1,10 +1,10 @@
 use Rattle.std.proofs.Common.{◌≡◌, ◌≤◌, ◌-◌, ℕ, cond, None}
 use Rattle.mig_base.specs.Ranges.{in_range}
-use Rattle.owed_pages.specs.Tables.{number_at, has_place}
+use Rattle.owed_pages.specs.Tables.{page_number, has_place}
 use Rattle.owed_pages.proofs.owed.links.Links.unlink_range.Given as goal
 
 abbrev pub invariant-loop-page : goal.invariant-loop-page
-invariant-loop-page l = record { pairs : (q : ℕ) → number_at l.self.forth.items q ≡ cond (in_range l.first (l.page - l.first) q) None (number_at l.fn.self.forth.items q); stay : (q : ℕ) → has_place l.self.forth.items q ≡ has_place l.fn.self.forth.items q; from : l.first ≤ l.page; up : l.page ≤ l.end }
+invariant-loop-page l = record { pairs : (q : ℕ) → page_number l.self.forth.items q ≡ cond (in_range l.first (l.page - l.first) q) None (page_number l.fn.self.forth.items q); stay : (q : ℕ) → has_place l.self.forth.items q ≡ has_place l.fn.self.forth.items q; from : l.first ≤ l.page; up : l.page ≤ l.end }
 
 abbrev pub decreases-loop-page : goal.decreases-loop-page
 decreases-loop-page l = l.end - l.page
