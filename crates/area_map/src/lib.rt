@@ -171,7 +171,8 @@ impl AreaMap {
         requires to_bound { to + count ≤ HIGH_PAGE }
         requires apart { (from + count ≤ to) ⊎ (to + count ≤ from) }
         ensures ok { OnOk result ((page : ℕ) →
-            map.get self.new page ≡ moved_protections (λ before. map.get self.old before) from to count page) }
+            map.get self.new page ≡
+            moved_protections (λ before. map.get self.old before) from to count page) }
         ensures err { OnErr result (self.new ≡ self.old) }
     {
         let mut moved = self.copy()?;

@@ -33,7 +33,8 @@ pub fn run_script<R: Read, W: Write>(
     ensures ok { OnOk result (IfSome (R.remaining reader.old) (λ input.
         Writes mode (first_world cpus) input (W.contents writer.old) (W.contents writer.new))) }
     ensures fault { IfErr result (λ fault. IfSome (R.remaining reader.old) (λ input.
-        ScriptStops mode (first_world cpus) input (R.remaining reader.new) fault (W.contents writer.old)
+        ScriptStops mode (first_world cpus) input (R.remaining reader.new) fault
+        (W.contents writer.old)
         (W.contents writer.new))) }
 {
     let runner = LineRunner::on_world(alloc, cpus, mode)?;

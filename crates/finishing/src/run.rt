@@ -32,9 +32,11 @@ pub fn finish_script<R: Read, W: Write>(
     requires low { 1 ≤ cpus }
     requires high { cpus ≤ 16 }
     ensures ok { IfOk result (λ ending. IfSome (R.remaining reader.old) (λ input.
-        FinishesScript ending (first_world cpus) input (W.contents writer.old) (W.contents writer.new))) }
+        FinishesScript ending (first_world cpus) input (W.contents writer.old)
+        (W.contents writer.new))) }
     ensures fault { IfErr result (λ fault. IfSome (R.remaining reader.old) (λ input.
-        FinishStops (first_world cpus) input fault (W.contents writer.old) (W.contents writer.new))) }
+        FinishStops (first_world cpus) input fault (W.contents writer.old)
+        (W.contents writer.new))) }
 {
     let runner = LineRunner::on_world(alloc, cpus, Mode::Transcript)?;
     let mut script = ScriptReader::new(alloc, runner);

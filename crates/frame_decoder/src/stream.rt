@@ -106,7 +106,8 @@ pub(crate) fn front(alloc: Global, fixed: Option<Version>, bytes: &[u8]) -> Resu
 /// The bytes are read in place. `NoMemory` comes if the frame's memory is refused.
 pub fn read_text(alloc: Global, bytes: &[u8]) -> Result<Option<(u32, Frame)>, NoMemory>
     ensures read { IfOk result (λ read.
-        IfSome read (λ sent. (version : Version) × IsTextOf version bytes.now (decoded_sent sent))) }
+        IfSome read (λ sent.
+        (version : Version) × IsTextOf version bytes.now (decoded_sent sent))) }
     ensures whole { (version : Version) (sent : Sent) → IsTextOf version bytes.now sent →
         IfOk result (λ read. option_map decoded_sent read ≡ Some sent) }
 {

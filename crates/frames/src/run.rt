@@ -33,7 +33,8 @@ pub fn run_frames<R: Read, W: Write>(
         IsWhole (first_destination cpus) input refused (W.contents writer.old)
         (W.contents writer.new))) }
     ensures fault { IfErr result (λ fault. IfSome (R.remaining reader.old) (λ input.
-        FramesStop (first_destination cpus) input (R.remaining reader.new) fault (W.contents writer.old)
+        FramesStop (first_destination cpus) input (R.remaining reader.new) fault
+        (W.contents writer.old)
         (W.contents writer.new))) }
 {
     let mut frames = FrameReader::new(alloc, cpus)?;

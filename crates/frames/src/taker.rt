@@ -95,7 +95,8 @@ impl FrameTaker {
         ensures destination { OnOk result (self.new.destination ≡
             after_frame self.old.destination (decoded_sent (epoch, frame))) }
         ensures line { OnOk result (self.new.output.items ≡
-            self.old.output.items ++ answer_line self.old.destination (decoded_sent (epoch, frame))) }
+            self.old.output.items ++
+            answer_line self.old.destination (decoded_sent (epoch, frame))) }
         ensures count { OnOk result
             (Adds self.old.refused (refusals_of self.old.destination (decoded_sent (epoch, frame)))
             self.new.refused) }

@@ -234,7 +234,8 @@ pub extern "C" fn postmig_world_counts(
     counts: &mut Counts,
 ) -> u32
     ensures same { handle.new.content ≡ handle.old.content }
-    ensures counts { result ≡ 0 → OfWorld handle.old.content (λ runner. CountsAre runner counts.new) }
+    ensures counts { result ≡ 0 →
+        OfWorld handle.old.content (λ runner. CountsAre runner counts.new) }
     ensures range { (result ≡ 0) ⊎ (result ≡ 2) }
 {
     let Some(content) = handle.take(alloc) else {

@@ -213,7 +213,8 @@ fn has_one_prot(areas: &AreaMap, addr: Addr, len: u64) -> bool
     requires whole { addr % 4096 ≡ 0 }
     requires some { 0 < len }
     ensures inside { result ≡ true → addr + rounded len ≤ HIGH }
-    ensures one { OfMemory areas.now (λ memory. result ≡ flat.has_one_prot memory addr (rounded len)) }
+    ensures one { OfMemory areas.now (λ memory.
+        result ≡ flat.has_one_prot memory addr (rounded len)) }
 {
     if !ends_inside(addr, len) {
         return false;

@@ -64,7 +64,8 @@ fn write_put<W: Write>(
 impl<T: Write + Drop> Taps<T> {
     /// Writes what a line has put on the wires of a world, which had that many bytes before it.
     pub(crate) fn write_all_put(&mut self, world: &World, before: Marks) -> Result<(), TapFault>
-        ensures { OnOk result (Gets T.contents self.old self.new (bytes_in_flight before world.now)) }
+        ensures { OnOk result
+            (Gets T.contents self.old self.new (bytes_in_flight before world.now)) }
     {
         write_put(
             &mut self.forward,

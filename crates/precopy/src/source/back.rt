@@ -24,7 +24,8 @@ impl Source {
         ensures accepted { OnOk result (back_fault self.old epoch (frame_of frame.now) ≡ None) }
         ensures refused { IfErr result (λ fault.
             fault ≡ unwrap_or (back_fault self.old epoch (frame_of frame.now)) BackFault.NoMemory) }
-        ensures memory { result ≡ Err BackFault.NoMemory → requests_page (frame_of frame.now) ≡ true }
+        ensures memory { result ≡ Err BackFault.NoMemory →
+            requests_page (frame_of frame.now) ≡ true }
         ensures took { OnOk result (self.new ≡ source_heard self.old (frame_of frame.now)) }
         ensures err { OnErr result (self.new ≡ self.old) }
     {
