@@ -3,7 +3,9 @@
 use crate::parts::{Areas, NONE, Ranges, areas, set};
 use mig_base::phase::Received;
 use mig_base::{Command, NoMemory, PAGE_BYTES, PageBytes, PageNo, Prot};
-use page_stream::{Frame, Pages, Waiting, encode, encode_into, encode_page_into};
+use page_stream::{
+    Frame, Pages, Waiting, encode, encode_into, encode_page_into, page_head, run_head,
+};
 use std::alloc::Global;
 use std::process::Abort;
 use std::test::Fail;
@@ -298,6 +300,21 @@ fn a_page_from_its_place(rt: HostRuntime) -> Result<(), Fail> {
     assert_eq!(&rt; bytes.get(0), Some(&0xee));
     assert_eq!(&rt; bytes.get(1..), Some(wanted.as_slice()));
     Ok(())
+}
+
+/// The text in front of the bytes of pages, of which each number has bytes of its own.
+#[test]
+fn heads_of_pages(rt: HostRuntime) {
+    assert_eq!(&rt; page_head(1, 0x10).as_slice(), PAGE_FRONT);
+    assert_eq!(&rt; run_head(1, 0x10, 2).as_slice(), RUN_FRONT);
+    assert_eq!(&rt;
+        page_head(0x0102_0304, 0x000f_fffe).as_slice(),
+        b"\x02\x02\x00\x00\x01\x02\x03\x04\x00\x00\x10\x04\x00\x0f\xff\xfe".as_slice()
+    );
+    assert_eq!(&rt;
+        run_head(0xffff_ffff, 0x000f_ffc0, 64).as_slice(),
+        b"\x02\x08\x00\x00\xff\xff\xff\xff\x00\x04\x00\x08\x00\x0f\xff\xc0\x00\x00\x00\x40".as_slice()
+    );
 }
 
 /// Where there is room no memory is taken.
