@@ -32,9 +32,16 @@ pub(super) enum Call {
     Round,
     Send,
     SendRun(u8),
+    /// What would be sent, and the same step without its frame.
+    NextRun(u8),
+    RunSent(u8),
     Read,
     Act,
+    /// How a fault would be resolved.
+    NextAct,
     Switch,
+    /// The first page from this one on that remains.
+    NextRemaining(PageNo),
     /// An epoch and a page.
     Push(u32, PageNo),
     PushUrgent(u32, PageNo),
@@ -59,9 +66,9 @@ pub(super) enum Call {
 }
 
 use Call::{
-    Act, Back, Counts, Cpu, DontNeed, End, Load, Map, Package, Pause, Phase, Push, PushUrgent,
-    Read, Release, Retry, Round, Send, SendRun, Serve, SetEpoch, Start, Store, Switch, ToPrecopy,
-    ToStopped,
+    Act, Back, Counts, Cpu, DontNeed, End, Load, Map, NextAct, NextRemaining, NextRun, Package,
+    Pause, Phase, Push, PushUrgent, Read, Release, Retry, Round, RunSent, Send, SendRun, Serve,
+    SetEpoch, Start, Store, Switch, ToPrecopy, ToStopped,
 };
 
 /// A frame from the destination.
@@ -106,6 +113,11 @@ pub(super) enum Answer {
     Sends(Effect, Brief),
     Hands(Effect, Two<Brief>),
     Gives(Brief),
+    /// A first page, and how many they are.
+    Finds(PageNo, u32),
+    Marks(Effect, PageNo, u32),
+    WouldAct(dirty_log::Act, Addr),
+    Remains(Option<PageNo>),
     NotTaken(BackFault),
     /// The phase, whether the source has switched, and its epoch.
     Stands(SourcePhase, bool, u32),
@@ -115,7 +127,10 @@ pub(super) enum Answer {
     Is(CpuState),
 }
 
-use Answer::{Counted, Done, Gives, Hands, Is, NotTaken, Sends, Stands, Told, Tries};
+use Answer::{
+    Counted, Done, Finds, Gives, Hands, Is, Marks, NotTaken, Remains, Sends, Stands, Told, Tries,
+    WouldAct,
+};
 
 /// The commands of the first two processors.
 fn first_two(commands: &Waiting) -> Two<Option<Command>> {
@@ -345,6 +360,25 @@ fn recovered(
     Ok(Done)
 }
 
+/// Asks a source what it would do next, or makes the step of a run without its frame.
+fn asked(source: &mut Source, call: Call) -> Option<Result<Answer, Refusal>> {
+    match call {
+        NextRun(most) => Some(
+            source
+                .next_run(most)
+                .map(|(first, count)| Finds(first, count)),
+        ),
+        RunSent(most) => Some(
+            source
+                .run_sent(most)
+                .map(|(effect, first, count)| Marks(effect, first, count)),
+        ),
+        NextAct => Some(source.next_act().map(|(act, addr)| WouldAct(act, addr))),
+        NextRemaining(from) => Some(Ok(Remains(source.next_remaining(from)))),
+        _ => None,
+    }
+}
+
 /// Makes a call.
 pub(super) fn make(
     rt: &impl Abort,
@@ -354,6 +388,9 @@ pub(super) fn make(
 ) -> Result<Answer, Refusal> {
     if let Some((cpu, command)) = command(call) {
         return tried(source.issue(cpu, command));
+    }
+    if let Some(answer) = asked(source, call) {
+        return answer;
     }
     match call {
         Retry(cpu) => tried(source.retry(cpu)),
