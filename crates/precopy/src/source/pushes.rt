@@ -92,7 +92,7 @@ impl Source {
             contains self.now.remaining other ≡ false }
     {
         self.remaining.ends_by_high_page();
-        let page = self.remaining.next(from.min(HIGH_PAGE), true);
+        let page = self.remaining.next_member(from.min(HIGH_PAGE));
         if page < HIGH_PAGE { Some(page) } else { None }
     }
 
