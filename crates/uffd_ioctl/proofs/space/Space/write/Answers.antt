@@ -11,13 +11,12 @@ write-requires-clause-inside c =
 pub invariant_of-self : goal.invariant_of-self
 invariant_of-self c =
     let own = c.self.inside in
-    let mapped : contains_key own.areas (c.args.addr / 4096) ≡ true = ap (λ s. contains_key s.host.areas (c.args.addr / 4096)) (c.self.view_is ∙ c.in_ok-make_present.ensures.ok) ∙ c.requires.mapped in
-    let present : contains_key own.pages.bytes (c.args.addr / 4096) ≡ true = ap (λ s. contains_key s.host.bytes (c.args.addr / 4096)) c.self.view_is ∙ c.in_ok-make_present.ensures.present in
-    sound_written own.areas own.pages c.write.new.self own.object c.args.addr c.args.width c.args.value _ c.self.invariant mapped present c.requires.aligned
-    (digits_of c.write_u64.new.buf c.from.result c.args.width c.args.value c.write_u64.ensures c.from.ensures) c.write.ensures.bytes c.write.ensures.protected
+    let mapped : contains_key own.areas (c.args.addr / 4096) ≡ true = ap (λ s. contains_key s.host.areas (c.args.addr / 4096)) c.self.view_is ∙ c.requires.mapped in
+    sound_written own.areas own.pages c.write.new.self own.object c.args.addr c.args.width c.args.value _ c.self.invariant mapped c.requires.aligned
+    (digits_of c.write_u64.new.buf c.from.result c.args.width c.args.value c.write_u64.ensures c.from.ensures) c.in_ok-write.ensures.bytes c.write.ensures.protected
 
 pub returns-clause-ok : goal.returns-clause-ok
 returns-clause-ok c =
     let own = c.self.inside in
-    written_space own.areas own.pages c.write.new.self own.object c.make_present.new.self c.args.self.now c.args.addr c.args.width c.args.value _ c.self.view_is c.in_ok-make_present.ensures.ok
-    (digits_of c.write_u64.new.buf c.from.result c.args.width c.args.value c.write_u64.ensures c.from.ensures) c.write.ensures.bytes c.write.ensures.protected
+    written_space own.areas own.pages c.write.new.self own.object c.args.self.now c.args.addr c.args.width c.args.value _ c.self.view_is
+    (digits_of c.write_u64.new.buf c.from.result c.args.width c.args.value c.write_u64.ensures c.from.ensures) c.in_ok-write.ensures.bytes c.write.ensures.protected
