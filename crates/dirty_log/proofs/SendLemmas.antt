@@ -1,7 +1,6 @@
 -- What is sent of pages, and of a log whose pages were sent.
-use Rattle.std.proofs.Common.{◌≡◌, ◌↔◌, lt-ltb, ℕ, zero, suc, ◌+◌, ◌<◌, ◌≤◌, ◌||◌, Bool, true, false, cond, not, eqb, ltb, Some, None, is_some, List, [], ◌∷◌, ◌++◌, length, replicate, set, take, refl, sym, ap, ◌∙◌, arith}
+use Rattle.std.proofs.Common.{◌≡◌, ◌↔◌, lt-ltb, ℕ, zero, suc, ◌+◌, ◌<◌, ◌≤◌, ◌||◌, Bool, true, false, cond, not, eqb, ltb, Some, None, is_some, List, [], ◌∷◌, ◌++◌, length, set, take, refl, sym, ap, ◌∙◌, arith}
 use Rattle.std.specs.Ordering.{nat_cmp}
-use Rattle.std.specs.List.{list_all}
 use Rattle.std.specs.FinMap.{contains_key, get}
 use Rattle.std.specs.FinSet.{FinSet, contains, insert}
 use Rattle.std.proofs.lemmas.Bool.{and_parts, false≢true, not-false}
@@ -29,6 +28,7 @@ use Rattle.mig_model.proofs.memory.Facts.{zero_bytes}
 use Rattle.mig_model.proofs.memory.IoctlLemmas.{every_page}
 use Rattle.mig_model.proofs.invariant.SourceSending.{present_bytes, protected_now, whole_bytes}
 use Rattle.uffd_ioctl.specs.Lent.{IsLent}
+use Rattle.uffd_ioctl.proofs.AccessLemmas.{all_zeros}
 use Rattle.dirty_log.specs.Answers.{send_refusal}
 use Rattle.dirty_log.specs.Sending.{frame_sent}
 use Rattle.dirty_log.specs.Spaces.{is_sendable}
@@ -69,14 +69,6 @@ pub one_sent : (log : Log) (page : ℕ) → log_run_sent log page 1 ≡ log_sent
 one_sent log page = λ i. record { todo = without_one log.todo page i; clean = one_in log.clean page i; sent = one_in log.sent page i; held = log.held }
 
 -- What is sent
-
-zeros_pass : (n : ℕ) → list_all (λ byte. eqb byte 0) (replicate n 0) ≡ true
-zeros_pass zero = refl
-zeros_pass (suc n) = zeros_pass n
-
-all_zeros : is_zeros zero_page ≡ true
-unfolding zero_page
-all_zeros = zeros_pass 4096
 
 zeros_by : (zeros : Bool) (page : ℕ) (bytes : List ℕ) → Frame.Zero page ≡ cond zeros (Frame.Zero page) (Frame.Page page bytes) → zeros ≡ true
 zeros_by true page bytes h = refl

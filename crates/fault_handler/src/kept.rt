@@ -93,14 +93,25 @@ impl Kept {
         }
     }
 
-    /// Keeps a page of zeros; it replaces an older copy. `NoMemory` changes nothing.
+    /// Keeps a page of zeros, which takes no memory for its bytes; it replaces an older copy. `NoMemory` changes nothing, and never comes
+    /// for a page that is kept.
     pub fn keep_zero(&mut self, page: PageNo) -> Result<(), NoMemory>
         requires { page < HIGH_PAGE }
         ensures ok { OnOk result (self.new ≡ map.insert self.old page zero_page) }
         ensures err { OnErr result (self.new ≡ self.old) }
     {
-        let zeros = PageBytes::zeros(self.alloc)?;
-        self.keep(page, zeros)
+        if self.set.contains(page) {
+            self.pages.replace_by_zeros(page);
+            return Ok(());
+        }
+        self.set.insert(page)?;
+        match self.pages.put_zero(page) {
+            Ok(()) => Ok(()),
+            Err(_) => {
+                self.set.remove(page);
+                Err(NoMemory)
+            }
+        }
     }
 
     /// Keeps the copies of neighbouring pages; they replace older ones. `NoMemory` changes nothing.

@@ -16,6 +16,7 @@ enum Call {
     PutZero(PageNo),
     /// A page, and the byte that fills it.
     Replace(PageNo, u8),
+    ReplaceByZeros(PageNo),
     /// The first of two pages, and the bytes that fill them.
     PutRun(PageNo, [u8; 2]),
     /// A page, an offset and what is written there.
@@ -35,7 +36,7 @@ enum Call {
 
 use Call::{
     ByteAt, DropRange, IsProtected, Move, Present, Protect, Put, PutRun, PutZero, Replace,
-    Unprotect, Write, WriteOne,
+    ReplaceByZeros, Unprotect, Write, WriteOne,
 };
 
 #[derive(Clone, Copy, PartialEq, Eq)]
@@ -138,10 +139,19 @@ fn run_of(alloc: Global, bytes: [u8; 2]) -> Result<Vec<PageBytes>, NoMemory> {
     Ok(run)
 }
 
-fn write(rt: &impl Abort, table: &mut PageTable, page: PageNo, offset: usize, bytes: &[u8]) {
+fn write(
+    rt: &impl Abort,
+    table: &mut PageTable,
+    page: PageNo,
+    offset: usize,
+    bytes: &[u8],
+) -> Result<Answer, PutFault> {
     assert!(rt; offset <= 4096 && bytes.len() <= 4096 - offset);
-    assert!(rt; table.get(page).is_some());
-    table.write(page, offset, bytes);
+    inside(rt, page, 1);
+    if table.write(page, offset, bytes).is_err() {
+        return Err(PutFault::NoMemory);
+    }
+    Ok(Done)
 }
 
 fn move_range(
@@ -189,8 +199,12 @@ fn make(
         }
         Replace(page, byte) => return replace(rt, alloc, table, page, byte),
         PutRun(first, bytes) => return put_run(rt, alloc, table, first, bytes),
-        Write(page, offset, bytes) => write(rt, table, page, offset, bytes.as_slice()),
-        WriteOne(page, offset, byte) => write(rt, table, page, offset, [byte].as_slice()),
+        ReplaceByZeros(page) => {
+            assert!(rt; table.get(page).is_some());
+            table.replace_by_zeros(page);
+        }
+        Write(page, offset, bytes) => return write(rt, table, page, offset, bytes.as_slice()),
+        WriteOne(page, offset, byte) => return write(rt, table, page, offset, [byte].as_slice()),
         DropRange(first, count) => {
             inside(rt, first, count);
             table.drop_range(first, count);
@@ -272,6 +286,34 @@ const WRITES: [(Call, Answer); 15] = [
 #[test]
 fn a_write_leaves_its_neighbours(rt: HostRuntime) {
     play(&rt, rt.alloc(), &WRITES);
+}
+
+/// Pages of zeros: stores of zeros and of other bytes, and a store to a missing page.
+const ZEROS: [(Call, Answer); 19] = [
+    (PutZero(0x10), Done),
+    (PutZero(0x11), Done),
+    (Protect(0x11), Done),
+    (Write(0x10, 0x20, [0, 0, 0]), Done),
+    (ByteAt(0x10, 0x20), Byte(Some(0))),
+    (Write(0x10, 0x20, [0, 5, 0]), Done),
+    (ByteAt(0x10, 0x20), Byte(Some(0))),
+    (ByteAt(0x10, 0x21), Byte(Some(5))),
+    (ByteAt(0x10, 0), Byte(Some(0))),
+    (ByteAt(0x11, 0x21), Byte(Some(0))),
+    (WriteOne(0x11, 0, 6), Done),
+    (ByteAt(0x11, 0), Byte(Some(6))),
+    (IsProtected(0x11), Is(true)),
+    (WriteOne(0x12, 0, 0), Done),
+    (WriteOne(0x20, 4095, 7), Done),
+    (ByteAt(0x20, 4095), Byte(Some(7))),
+    (Present(0x12), Among(true, 4)),
+    (ReplaceByZeros(0x11), Done),
+    (ByteAt(0x11, 0), Byte(Some(0))),
+];
+
+#[test]
+fn a_store_gives_a_page_of_zeros_bytes(rt: HostRuntime) {
+    play(&rt, rt.alloc(), &ZEROS);
 }
 
 const REPLACED: [(Call, Answer); 10] = [

@@ -1,5 +1,5 @@
 -- A table of 1024 pages: one page changed, a range made missing.
-use Rattle.std.proofs.Common.{◌≡◌, ◌≢◌, ℕ, ◌+◌, ◌<◌, ◌&&◌, ◌||◌, Bool, true, false, cond, not, eqb, refl, sym, ap, ◌∙◌, arith, List, length, get_or, set, get_or-set_same, get_or-set_other, Some, None, Option, ◌≤◌, length-append, length-take, length-drop, ◌*◌}
+use Rattle.std.proofs.Common.{◌≡◌, ◌≢◌, ℕ, ◌+◌, ◌<◌, ◌&&◌, ◌||◌, Bool, true, false, cond, not, eqb, refl, sym, ap, ◌∙◌, arith, List, length, get_or, set, get_or-set_same, get_or-set_other, Some, None, Option, Result, Ok, Err, ◌≤◌, length-append, length-take, length-drop, ◌*◌}
 use mathlib.Core.Logic.{dite}
 use native.Mathlib.Decide.{ℕ_discrete}
 use Rattle.std.specs.Ordering.{nat_cmp}
@@ -9,12 +9,12 @@ use Rattle.mig_base.specs.Ranges.{in_range}
 use Rattle.mig_base.specs.Sets.{without}
 use Rattle.mig_base.proofs.SetLemmas.{member_inserted, member_removed, member_without}
 use Rattle.mig_base.specs.declared.TheConstants.{PAGE_SIZE}
-use Rattle.std.specs.Option.{option_map}
 use Rattle.std.proofs.lemmas.Option.{same_Some}
 use Rattle.std.proofs.lemmas.Bool.{eq-eqb, ne_eqb}
-use Rattle.mig_base.specs.Bytes.{overwrite}
+use Rattle.mig_base.specs.Bytes.{overwrite, zero_page}
+use Rattle.mig_base.proofs.ByteLemmas.{length-zero_page}
 use Rattle.mig_base.proofs.TestLemmas.{and_true, and_false, cond_true, cond_false}
-use Rattle.page_table.specs.Bytes.{Page, IsWhole, AreWhole}
+use Rattle.page_table.specs.Bytes.{Page, IsWhole, AreWhole, stored_page}
 use Rattle.page_table.specs.Leaves.{Cell, no_cell}
 
 pub member_set : (s : FinSet nat_cmp) (i j : ℕ) → contains (insert s i) j ≡ cond (eqb j i) true (contains s j)
@@ -68,15 +68,16 @@ overwritten : (held bytes : List ℕ) (offset : ℕ) → length held ≡ PAGE_SI
 unfolding overwrite
 overwritten held bytes offset size inside = simp (length-append, length-take, length-drop) (omega arith)
 
-pub whole_written : (old new : List Page) (at offset : ℕ) (bytes : List ℕ) → offset + length bytes ≤ PAGE_SIZE → AreWhole old → (get_or new at None) ≡ option_map (λ held. overwrite held offset bytes) ((get_or old at None)) → ((j : ℕ) → j ≢ at → get_or new j None ≡ get_or old j None) → AreWhole new
-whole_written old new at offset bytes inside whole here others i written h =
+pub whole_stored : {A E : Type 0} (result : Result A E) (old new : List Page) (at offset : ℕ) (bytes : List ℕ) → offset + length bytes ≤ PAGE_SIZE → AreWhole old → get_or new at None ≡ stored_page result (get_or old at None) offset bytes → ((j : ℕ) → j ≢ at → get_or new j None ≡ get_or old j None) → AreWhole new
+whole_stored result old new at offset bytes inside whole here others i written h =
     dite (ℕ_discrete i at)
-    (λ e. held_written (get_or old at None) (whole at) (sym here ∙ ap (λ k. get_or new k None) (sym e) ∙ h))
+    (λ e. held_stored result (get_or old at None) (whole at) (sym here ∙ ap (λ k. get_or new k None) (sym e) ∙ h))
     (λ n. whole i written (sym (others i n) ∙ h))
   where
-    held_written : (o : Option (List ℕ)) → ((held : List ℕ) → o ≡ Some held → length held ≡ PAGE_SIZE) → option_map (λ held. overwrite held offset bytes) o ≡ Some written → length written ≡ PAGE_SIZE
-    held_written None size e = let absent : None ≡ Some written = e in cc
-    held_written (Some held) size e = sym (ap length (same_Some (overwrite held offset bytes) written e)) ∙ overwritten held bytes offset (size held refl) inside
+    held_stored : {A E : Type 0} (result : Result A E) (o : Option (List ℕ)) → ((held : List ℕ) → o ≡ Some held → length held ≡ PAGE_SIZE) → stored_page result o offset bytes ≡ Some written → length written ≡ PAGE_SIZE
+    held_stored (Ok done) None size e = sym (ap length (same_Some (overwrite zero_page offset bytes) written e)) ∙ overwritten zero_page bytes offset length-zero_page inside
+    held_stored (Ok done) (Some held) size e = sym (ap length (same_Some (overwrite held offset bytes) written e)) ∙ overwritten held bytes offset (size held refl) inside
+    held_stored (Err fault) o size e = size written e
 
 -- a leaf copied cell by cell
 pub copied_cell : (copy old : ℕ → Cell) (new cell : Cell) (i j : ℕ) → ((k : ℕ) → k < i → copy k ≡ old k) → cell ≡ old i → new ≡ cond (eqb j i) cell (copy j) → j < i + 1 → new ≡ old j

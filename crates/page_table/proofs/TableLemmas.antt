@@ -3,13 +3,13 @@ use Rattle.std.proofs.Common.{◌≡◌, ◌≢◌, ℕ, ◌+◌, ◌-◌, ◌*�
 use mathlib.Core.Logic.{dite}
 use native.Mathlib.Decide.{ℕ_discrete}
 use Rattle.std.proofs.lemmas.Bool.Decides.{nat_tests}
-use Rattle.std.proofs.lemmas.Bool.{eq-eqb, ne_eqb, cases_lt}
+use Rattle.std.proofs.lemmas.Bool.{false≢true, eq-eqb, ne_eqb, cases_lt}
 use Rattle.std.proofs.lemmas.List.{get_or_append_left, get_or-append_right}
 use Rattle.mig_base.specs.declared.TheConstants.{PAGE_SIZE}
 use Rattle.mig_base.specs.Ranges.{in_range}
 use Rattle.mig_base.proofs.RangeLemmas.{in_range-none, in_range-out}
 use Rattle.mig_base.proofs.PlaceLemmas.{said_at, said_here, said_past, said-set, said_same, said-push, said-put, nothing_yet, all_now, in_this, before_this, not_this}
-use Rattle.page_table.specs.Leaves.{Cell, Place, cell_in, cell_at, no_cell, moved_cell}
+use Rattle.page_table.specs.Leaves.{Cell, Place, cell_in, cell_at, is_place, no_cell, moved_cell}
 
 abbrev pub Places : Type 0
 Places = List Place
@@ -26,6 +26,11 @@ at_own_place places place q inside h = said_here cell_in places place q inside h
 pub past_places : (places : Places) (q : ℕ) → length places ≤ q / 1024 → cell_at places q ≡ no_cell
 unfolding cell_at
 past_places places q h = said_past cell_in places q h
+
+-- no page of a place without a leaf is present
+pub nothing_in : (place : Place) (i : ℕ) → is_place place ≡ false → (cell_in place i).0 ≡ None
+nothing_in None i none = refl
+nothing_in (Some leaf) i none = absurd (false≢true (sym none))
 
 -- one table changed
 pub cell_at-set : (places : Places) (at : ℕ) (place : Place) (q : ℕ) → at < length places → cell_at (set places at place) q ≡ cond (eqb (q / 1024) at) (cell_in place (q % 1024)) (cell_at places q)

@@ -1,6 +1,5 @@
 -- What a table shows of its places.
-use Rattle.std.proofs.Common.{◌≡◌, ℕ, ◌+◌, ◌-◌, ◌/◌, ◌≤◌, ◌&&◌, ◌||◌, Bool, true, false, cond, not, eqb, ltb, refl, sym, ap, ◌∙◌, ⊎_elim, arith, List, length, [], Option, Some, None, is_some, unwrap_or}
-use Rattle.std.specs.Option.{option_map}
+use Rattle.std.proofs.Common.{◌≡◌, ℕ, ◌+◌, ◌-◌, ◌/◌, ◌≤◌, ◌&&◌, ◌||◌, Bool, true, false, cond, not, eqb, ltb, refl, sym, ap, ◌∙◌, ⊎_elim, arith, List, length, Option, Some, None, Result, Ok, Err, OnOk, OnErr, is_some, unwrap_or}
 use Rattle.std.specs.Ordering.{nat_cmp}
 use Rattle.std.specs.Cmp.{nat_cmp_total, unsigned_tied}
 use Rattle.std.specs.FinMap as map
@@ -16,8 +15,8 @@ use Rattle.mig_base.proofs.SetLemmas.{same_members, member_inserted, member_remo
 use mathlib.Core.Logic.{dite}
 use native.Mathlib.Decide.{ℕ_discrete}
 use Rattle.std.proofs.Common.{get_or, ◌%◌, ◌*◌}
-use Rattle.page_table.specs.Leaves.{Cell, Place, cell_at, cell_in, is_place, has_place, no_cell, written_cell, moved_cell}
-use Rattle.mig_base.specs.Bytes.{overwrite, page_at}
+use Rattle.page_table.specs.Leaves.{Cell, Place, cell_at, cell_in, is_place, has_place, no_cell, moved_cell, stored_cell}
+use Rattle.mig_base.specs.Bytes.{overwrite, contents, zero_page}
 use Rattle.mig_base.proofs.TestLemmas.{none_below_zero, all_below, cond_false, cond_true, and_not}
 use Rattle.page_table.specs.Views.{Pages, shown_pages, IsTable}
 use Rattle.page_table.proofs.TableLemmas.{past_places, at_place}
@@ -89,22 +88,45 @@ put_flags old new value page o few still view off h =
     flags_by new value.protected still
     (λ q. ap (λ x. x.1) (h q) ∙ cond_flag (eqb q page) (o, false) (cell_at old q) ∙ same_flag q page (λ p. (cell_at old p).1) false off ∙ flag_seen old value q few view)
 
--- bytes written into a present page
-some_written : (o : Option (List ℕ)) (offset : ℕ) (bytes : List ℕ) → is_some o ≡ true → option_map (λ held. overwrite held offset bytes) o ≡ Some (overwrite (unwrap_or o []) offset bytes)
-some_written None offset bytes h = absurd (false≢true h)
-some_written (Some held) offset bytes h = refl
+-- bytes that were to be written
+abbrev pub IsStored : {A E : Type 0} → Result A E → List Place → List Place → ℕ → ℕ → List ℕ → Type 0
+IsStored result old new page offset bytes = (q : ℕ) → cell_at new q ≡ cond (eqb q page) (stored_cell result (cell_at old page) offset bytes) (cell_at old q)
 
-pub written_bytes : (old new : List Place) (value : Pages) (page offset : ℕ) (bytes : List ℕ) → length old ≤ 1024 → length new ≤ 1024 → shown_pages old ≡ value → map.contains_key value.bytes page ≡ true → ((q : ℕ) → cell_at new q ≡ cond (eqb q page) (written_cell (cell_at old page) offset bytes) (cell_at old q)) → (shown_pages new).bytes ≡ map.insert value.bytes page (overwrite (page_at value.bytes page) offset bytes)
-written_bytes old new value page offset bytes few still view there h =
-    let here : option_map (λ held. overwrite held offset bytes) (cell_at old page).0 ≡ Some (overwrite (page_at value.bytes page) offset bytes) =
-    ap (option_map (λ held. overwrite held offset bytes)) (bytes_seen old value page few view) ∙ some_written (map.get value.bytes page) offset bytes there in
-    put_bytes old new value page (overwrite (page_at value.bytes page) offset bytes) (cell_at old page).1 few still view
-    (λ q. h q ∙ ap (λ o. cond (eqb q page) (o, (cell_at old page).1) (cell_at old q)) here)
+-- the same from places with equal cells
+pub stored_over : {A E : Type 0} (result : Result A E) (old equal new : List Place) (page offset : ℕ) (bytes : List ℕ) → ((q : ℕ) → cell_at equal q ≡ cell_at old q) → IsStored result equal new page offset bytes → IsStored result old new page offset bytes
+stored_over result old equal new page offset bytes same h q =
+    h q ∙ ap (λ (cells : ℕ → Cell). cond (eqb q page) (stored_cell result (cells page) offset bytes) (cells q)) (λ k p. same p k)
 
-pub written_flags : (old new : List Place) (value : Pages) (page offset : ℕ) (bytes : List ℕ) → length old ≤ 1024 → length new ≤ 1024 → shown_pages old ≡ value → ((q : ℕ) → cell_at new q ≡ cond (eqb q page) (written_cell (cell_at old page) offset bytes) (cell_at old q)) → (shown_pages new).protected ≡ value.protected
-written_flags old new value page offset bytes few still view h =
+pub stored_bytes : {A E : Type 0} (result : Result A E) (old new : List Place) (value : Pages) (page offset : ℕ) (bytes : List ℕ) → length old ≤ 1024 → length new ≤ 1024 → shown_pages old ≡ value → IsStored result old new page offset bytes → OnOk result ((shown_pages new).bytes ≡ map.insert value.bytes page (overwrite (contents value.bytes page) offset bytes))
+stored_bytes (Ok done) old new value page offset bytes few still view h =
+    put_bytes old new value page (overwrite (contents value.bytes page) offset bytes) (cell_at old page).1 few still view
+    (λ q. h q ∙ ap (λ o. cond (eqb q page) (Some (overwrite (unwrap_or o zero_page) offset bytes), (cell_at old page).1) (cell_at old q)) (bytes_seen old value page few view))
+stored_bytes (Err fault) old new value page offset bytes few still view h = tt
+
+pub stored_flags : {A E : Type 0} (result : Result A E) (old new : List Place) (value : Pages) (page offset : ℕ) (bytes : List ℕ) → length old ≤ 1024 → length new ≤ 1024 → shown_pages old ≡ value → IsStored result old new page offset bytes → (shown_pages new).protected ≡ value.protected
+stored_flags result old new value page offset bytes few still view h =
     flags_by new value.protected still
-    (λ q. ap (λ x. x.1) (h q) ∙ cond_flag (eqb q page) (written_cell (cell_at old page) offset bytes) (cell_at old q) ∙ same_flag q page (λ p. (cell_at old p).1) (cell_at old page).1 refl ∙ flag_seen old value q few view)
+    (λ q. ap (λ x. x.1) (h q) ∙ cond_flag (eqb q page) (stored_cell result (cell_at old page) offset bytes) (cell_at old q) ∙ same_flag q page (λ p. (cell_at old p).1) (cell_at old page).1 refl ∙ flag_seen old value q few view)
+
+same_cell : (q page : ℕ) (f : ℕ → Cell) → cond (eqb q page) (f page) (f q) ≡ f q
+same_cell q page f = dite (ℕ_discrete q page) (λ e. rw (eq-eqb q page e) (ap f (sym e))) (λ n. rw (ne_eqb q page n) refl)
+
+pub stored_err : {A E : Type 0} (result : Result A E) (old new : List Place) (value : Pages) (page offset : ℕ) (bytes : List ℕ) → length old ≤ 1024 → length new ≤ 1024 → pages_of old ≡ value → IsStored result old new page offset bytes → OnErr result (pages_of new ≡ value)
+stored_err (Ok done) old new value page offset bytes few still view h = tt
+stored_err (Err fault) old new value page offset bytes few still view h = same_cells_shown old new value few still view (λ q. h q ∙ same_cell q page (cell_at old))
+
+stored_inside : {A E : Type 0} (result : Result A E) (b : Bool) (here cell : Cell) (offset : ℕ) (bytes : List ℕ) → (here.1 ≡ true → is_some here.0 ≡ true) → (cell.1 ≡ true → is_some cell.0 ≡ true) → (cond b (stored_cell result here offset bytes) cell).1 ≡ true → is_some (cond b (stored_cell result here offset bytes) cell).0 ≡ true
+stored_inside (Ok done) true here cell offset bytes one other on = refl
+stored_inside (Err fault) true here cell offset bytes one other on = one on
+stored_inside result false here cell offset bytes one other on = other on
+
+pub stored_table : {A E : Type 0} (result : Result A E) (old new : List Place) (page offset : ℕ) (bytes : List ℕ) → IsTable old → length new ≤ 1024 → IsStored result old new page offset bytes → IsTable new
+stored_table result old new page offset bytes table still h = record {
+  few = still;
+  inside = λ q on.
+      ap (λ x. is_some x.0) (h q)
+      ∙ stored_inside result (eqb q page) (cell_at old page) (cell_at old q) offset bytes (table.inside page) (table.inside q) (sym (ap (λ x. x.1) (h q)) ∙ on);
+}
 
 -- a missing page is not protected
 pub not_protected : (places : List Place) (page : ℕ) → IsTable places → is_some (cell_at places page).0 ≡ false → (cell_at places page).1 ≡ false

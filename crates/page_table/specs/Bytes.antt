@@ -1,5 +1,6 @@
 -- The bytes of pages.
-use Rattle.std.specs.Prelude.{◌≡◌, ℕ, List, Option, Some, None, length, slice_index_or}
+use Rattle.std.specs.Prelude.{◌≡◌, ℕ, List, Option, Some, None, Result, Ok, Err, unwrap_or, length, slice_index_or}
+use Rattle.mig_base.specs.Bytes.{overwrite, zero_page}
 use Rattle.mig_base.specs.declared.TheConstants.{PAGE_SIZE}
 
 -- a page of a table: its bytes if it is present, else none
@@ -13,3 +14,9 @@ IsWhole page = (bytes : List ℕ) → page ≡ Some bytes → length bytes ≡ P
 -- each present page of a list has PAGE_SIZE bytes
 abbrev pub AreWhole : List Page → Type 0
 AreWhole pages = (i : ℕ) → IsWhole (slice_index_or pages i None)
+
+-- a page after bytes were to be written from byte offset on: a missing page is written as a page of zeros, and a refused write changes
+-- nothing
+abbrev pub stored_page : {A E : Type 0} → Result A E → Page → ℕ → List ℕ → Page
+stored_page (Ok done) page offset bytes = Some (overwrite (unwrap_or page zero_page) offset bytes)
+stored_page (Err fault) page offset bytes = page

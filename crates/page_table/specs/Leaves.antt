@@ -1,13 +1,12 @@
 -- Leaves of 1024 pages each, and what they show of a page.
-use Rattle.std.specs.Prelude.{ℕ, ◌+◌, ◌-◌, ◌/◌, ◌%◌, ◌&&◌, not, if◌then◌else◌, Bool, false, List, [], Option, Some, None, length, slice_index_or}
-use Rattle.std.specs.Option.{option_map}
+use Rattle.std.specs.Prelude.{ℕ, ◌+◌, ◌-◌, ◌/◌, ◌%◌, ◌&&◌, not, if◌then◌else◌, Bool, false, List, [], Option, Some, None, Result, length, slice_index_or}
 use Rattle.std.specs.FinSet.{contains}
 use Rattle.std.specs.declared.boxed.Box.{Box}
 use Rattle.std.specs.declared.alloc.Global.{Global}
 use Rattle.mig_base.specs.Ranges.{in_range}
 use Rattle.mig_base.specs.declared.chunk.TheConstants.{CHUNK}
 use Rattle.page_table.specs.declared.leaf.Leaf.{Leaf}
-use Rattle.mig_base.specs.Bytes.{overwrite}
+use Rattle.page_table.specs.Bytes.{stored_page}
 -- whether a place has a leaf
 pub use Rattle.mig_base.specs.Places.{is_place}
 -- whether the place of a page has a leaf
@@ -46,9 +45,10 @@ with_protection cell protected = (cell.0, protected)
 abbrev pub opened_cell : Cell → Bool → Cell
 opened_cell cell here = (cell.0, cell.1 && not here)
 
--- a cell after bytes were written from byte offset on: a missing page stays missing
-abbrev pub written_cell : Cell → ℕ → List ℕ → Cell
-written_cell cell offset bytes = (option_map (λ held. overwrite held offset bytes) cell.0, cell.1)
+-- a cell after bytes were to be written from byte offset on: a missing page is written as a page of zeros, and a refused write changes
+-- nothing
+abbrev pub stored_cell : {A E : Type 0} → Result A E → Cell → ℕ → List ℕ → Cell
+stored_cell result cell offset bytes = (stored_page result cell.0 offset bytes, cell.1)
 
 -- the cells after a range moved to another one
 abbrev pub moved_cell : (ℕ → Cell) → ℕ → ℕ → ℕ → ℕ → Cell

@@ -1,20 +1,17 @@
 //! Leaves: `CHUNK` pages each, present or missing, and the set of the protected ones.
 
-ghost use Rattle.std.specs.Prelude.{◌≡◌, ◌≢◌, ℕ, ◌+◌, ◌*◌, ◌%◌, ◌<◌, ◌&&◌, ◌||◌, is_some, ◌≤◌, true, false, nat_eq, if◌then◌else◌, None, OnOk, IfOk, length, slice_index_or, slice_set};
+ghost use Rattle.std.specs.Prelude.{◌≡◌, ◌≢◌, ℕ, ◌+◌, ◌<◌, ◌≤◌, nat_eq, if◌then◌else◌, None, OnErr, IfOk, unwrap_or, length, slice_index_or, slice_set};
 ghost use Rattle.std.specs.FinSet.{contains};
-ghost use Rattle.std.specs.Option.{option_map};
 ghost use Rattle.mig_base.specs.Ranges.{in_range};
-ghost use Rattle.mig_base.specs.Bytes.{overwrite};
+ghost use Rattle.mig_base.specs.Bytes.{zero_page};
 ghost use Rattle.mig_base.specs.declared.TheConstants.{PAGE_SIZE};
 ghost use Rattle.mig_base.specs.declared.chunk.TheConstants.{CHUNK};
-ghost use Rattle.page_table.specs.Bytes.{AreWhole};
+ghost use Rattle.page_table.specs.Bytes.{AreWhole, stored_page};
 
+use crate::page::Page;
+use mig_base::NoMemory;
 use mig_base::chunk::{CHUNK, Chunk};
-use mig_base::{NoMemory, PageBytes};
 use std::alloc::Global;
-
-/// A page: its bytes, or `None` if it is missing.
-pub type Page = Option<PageBytes>;
 
 /// A place for a leaf: empty until one of its pages is put.
 pub type Place = Option<Box<Leaf>>;
@@ -35,19 +32,9 @@ pub fn missing_pages(alloc: Global) -> Result<Vec<Page>, NoMemory>
 {
     let mut pages = Vec::with_capacity(alloc, CHUNK as usize)?;
     for _ in 0..CHUNK {
-        pages.push(None)?;
+        pages.push(Page::missing())?;
     }
     Ok(pages)
-}
-
-/// An equal page, in memory of its own. `NoMemory` if that cannot be allocated; a missing page needs none.
-pub fn copy_page(alloc: Global, page: &Page) -> Result<Page, NoMemory>
-    ensures { IfOk result (λ copy. copy ≡ page.now) }
-{
-    match page {
-        Some(bytes) => Ok(Some(PageBytes::copy_of(alloc, bytes.as_array())?)),
-        None => Ok(None),
-    }
 }
 
 /// Takes a page out of a list: it is missing there afterwards.
@@ -67,28 +54,23 @@ pub fn put_page(pages: &mut Vec<Page>, i: usize, page: Page)
     pages[i] = page;
 }
 
-/// Writes bytes into a page of a list, from byte `offset` on. A missing page stays missing.
-pub fn write_page(pages: &mut Vec<Page>, i: usize, offset: usize, bytes: &[u8])
+/// Writes bytes into a page of a list, from byte `offset` on; a missing page is written as a page of zeros. `NoMemory`, which comes for
+/// these alone, leaves all pages as they were.
+pub fn write_page(
+    alloc: Global,
+    pages: &mut Vec<Page>,
+    i: usize,
+    offset: usize,
+    bytes: &[u8],
+) -> Result<(), NoMemory>
     requires place { i < length pages.old.items }
     requires inside { offset + length bytes.now ≤ PAGE_SIZE }
-    ensures here { slice_index_or pages.new.items i None ≡
-        option_map (λ held.
-        overwrite held offset bytes.now) (slice_index_or pages.old.items i None) }
-    ensures others { (j : ℕ) → j ≢ i →
-        slice_index_or pages.new.items j None ≡ slice_index_or pages.old.items j None }
+    ensures here { slice_index_or pages.new.items i None ≡ stored_page result (slice_index_or pages.old.items i None) offset bytes.now }
+    ensures others { (j : ℕ) → j ≢ i → slice_index_or pages.new.items j None ≡ slice_index_or pages.old.items j None }
     ensures size { length pages.new.items ≡ length pages.old.items }
+    ensures zeros { OnErr result (unwrap_or (slice_index_or pages.old.items i None) zero_page ≡ zero_page) }
 {
-    write_bytes(&mut pages[i], offset, bytes);
-}
-
-/// Writes bytes into a page, from byte `offset` on. A missing page stays missing.
-fn write_bytes(page: &mut Page, offset: usize, bytes: &[u8])
-    requires { offset + length bytes.now ≤ PAGE_SIZE }
-    ensures { page.new ≡ option_map (λ held. overwrite held offset bytes.now) page.old }
-{
-    if let Some(held) = page {
-        held.write(offset, bytes);
-    }
+    pages[i].write(alloc, offset, bytes)
 }
 
 /// Inserts a number into a set, or removes it.
@@ -112,6 +94,6 @@ pub fn clear_list(pages: &mut Vec<Page>, first: u32, count: u32)
     ensures size { length pages.new.items ≡ length pages.old.items }
 {
     for i in first..first + count {
-        pages[i as usize] = None;
+        pages[i as usize] = Page::missing();
     }
 }

@@ -9,11 +9,12 @@ ghost use Rattle.mig_base.specs.Ranges.{in_range};
 ghost use Rattle.mig_base.specs.Pages.{remove_range};
 ghost use Rattle.mig_base.specs.Sets.{without};
 ghost use Rattle.mig_base.specs.declared.TheConstants.{HIGH_PAGE, PAGE_SIZE};
-ghost use Rattle.mig_base.specs.Bytes.{zero_page, page_at, overwrite};
+ghost use Rattle.mig_base.specs.Bytes.{zero_page, contents, overwrite};
 
 mod ranges;
 
 use crate::leaf::Place;
+use crate::page::Page;
 use crate::table::{
     bytes_at, clear_range, copy_places, is_present_at, is_protected_at, make_place, make_places,
     move_cells, present_of, protect_at, put_at, write_at,
@@ -37,7 +38,8 @@ pub enum PutFault {
 
 /// The present pages of a host below `HIGH_PAGE`, their bytes, and which of them are write-protected.
 ///
-/// `get`, `is_protected`, `write`, `protect` and `unprotect` take the same few steps whatever is present, and take no memory.
+/// `get`, `is_protected`, `write`, `protect` and `unprotect` take the same few steps whatever is present, and none but `write` takes
+/// memory.
 #[derive(Drop)]
 pub struct PageTable {
     alloc: Global,
@@ -127,14 +129,13 @@ impl PageTable {
             return Err((PutFault::NoMemory, bytes));
         };
         bytes.are_whole();
-        put_at(&mut self.places, page, Some(bytes), false);
+        put_at(&mut self.places, page, Page::holding(bytes), false);
         Ok(())
     }
 
-    /// Makes a missing page present, not protected, with 4096 zeros.
+    /// Makes a missing page present, not protected, with 4096 zeros, which take no memory until another byte is written.
     ///
-    /// An error leaves the table as it was: `Present` if the page is present, else `NoMemory` for the page or the room of its
-    /// leaf.
+    /// An error leaves the table as it was: `Present` if the page is present, else `NoMemory` for the room of its leaf.
     pub fn put_zero(&mut self, page: PageNo) -> Result<(), PutFault>
         requires { page < HIGH_PAGE }
         ensures ok { OnOk result (self.new.bytes ≡ map.insert self.old.bytes page zero_page) }
@@ -147,13 +148,10 @@ impl PageTable {
         if is_present_at(&self.places, page) {
             return Err(PutFault::Present);
         }
-        let Ok(zeros) = PageBytes::zeros(self.alloc) else {
-            return Err(PutFault::NoMemory);
-        };
         let Ok(()) = make_place(self.alloc, &mut self.places, page) else {
             return Err(PutFault::NoMemory);
         };
-        put_at(&mut self.places, page, Some(zeros), false);
+        put_at(&mut self.places, page, Page::zeros(), false);
         Ok(())
     }
 
@@ -166,22 +164,37 @@ impl PageTable {
         ensures protected { self.new.protected ≡ set.remove self.old.protected page }
     {
         bytes.are_whole();
-        let bytes = Some(bytes);
-        put_at(&mut self.places, page, bytes, false);
+        let held = Page::holding(bytes);
+        put_at(&mut self.places, page, held, false);
     }
 
-    /// Writes bytes into a present page, protected or not, from byte `offset` on.
+    /// Replaces the bytes of a present page by zeros. The page is not protected afterwards.
     ///
-    /// It takes no memory and touches only the bytes written.
-    pub fn write(&mut self, page: PageNo, offset: usize, bytes: &[u8])
+    /// It takes no memory, and frees that of the page.
+    pub fn replace_by_zeros(&mut self, page: PageNo)
         requires present { IsTrue (map.contains_key self.old.bytes page) }
-        requires inside { offset + length bytes.now ≤ PAGE_SIZE }
-        ensures bytes { self.new.bytes ≡
-            map.insert self.old.bytes page
-            (overwrite (page_at self.old.bytes page) offset bytes.now) }
-        ensures protected { self.new.protected ≡ self.old.protected }
+        ensures bytes { self.new.bytes ≡ map.insert self.old.bytes page zero_page }
+        ensures protected { self.new.protected ≡ set.remove self.old.protected page }
     {
-        write_at(&mut self.places, page, offset, bytes);
+        let zeros = Page::zeros();
+        put_at(&mut self.places, page, zeros, false);
+    }
+
+    /// Writes bytes into a page, protected or not, from byte `offset` on. A missing page becomes present, not protected, with zeros
+    /// elsewhere. The call touches only the bytes written.
+    ///
+    /// A page of zeros that has no memory of its own gets some, unless all these bytes are zero too; a missing page needs room of its
+    /// leaf as well. `NoMemory`, if that cannot be allocated, leaves the table as it was.
+    pub fn write(&mut self, page: PageNo, offset: usize, bytes: &[u8]) -> Result<(), NoMemory>
+        requires page { page < HIGH_PAGE }
+        requires inside { offset + length bytes.now ≤ PAGE_SIZE }
+        ensures bytes { OnOk result (self.new.bytes ≡ map.insert self.old.bytes page (overwrite (contents self.old.bytes page) offset bytes.now)) }
+        ensures protected { self.new.protected ≡ self.old.protected }
+        ensures err { OnErr result (self.new ≡ self.old) }
+        ensures zeros { OnErr result (contents self.old.bytes page ≡ zero_page) }
+    {
+        make_place(self.alloc, &mut self.places, page)?;
+        write_at(self.alloc, &mut self.places, page, offset, bytes)
     }
 
     /// Makes the `count` pages from `first` on missing: drops their bytes and their protection.

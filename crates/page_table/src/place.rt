@@ -1,19 +1,20 @@
 //! Leaves, and one place for a leaf: reading, putting, writing, taking out and clearing pages there. A page is named by its number in
 //! the leaf.
 
-ghost use Rattle.std.specs.Prelude.{◌≡◌, ℕ, ◌+◌, ◌*◌, ◌%◌, ◌<◌, ◌≤◌, ◌&&◌, ◌||◌, Bool, true, false, nat_eq, if◌then◌else◌, Some, None, IfOk, OnOk, is_some, length};
+ghost use Rattle.std.specs.Prelude.{◌≡◌, ℕ, ◌+◌, ◌*◌, ◌%◌, ◌<◌, ◌≤◌, ◌&&◌, ◌||◌, Bool, true, false, nat_eq, if◌then◌else◌, None, IfOk, OnOk, OnErr, is_some, unwrap_or, length};
 ghost use Rattle.std.specs.Option.{option_copied};
 ghost use Rattle.std.specs.FinSet.{contains};
+ghost use Rattle.mig_base.specs.Bytes.{zero_page};
 ghost use Rattle.mig_base.specs.Ranges.{in_range};
 ghost use Rattle.mig_base.specs.declared.TheConstants.{PAGE_SIZE};
 ghost use Rattle.mig_base.specs.declared.chunk.TheConstants.{CHUNK};
 ghost use Rattle.page_table.specs.Bytes.{IsWhole};
-ghost use Rattle.page_table.specs.Leaves.{Cell, cell_in, leaf_cell, is_place, no_cell, with_protection, written_cell};
+ghost use Rattle.page_table.specs.Leaves.{Cell, cell_in, leaf_cell, is_place, no_cell, with_protection, stored_cell};
 
 use crate::leaf::{
-    Leaf, Page, Place, clear_list, copy_page, missing_pages, put_page, set_member, take_page,
-    write_page,
+    Leaf, Place, clear_list, missing_pages, put_page, set_member, take_page, write_page,
 };
+use crate::page::Page;
 use mig_base::chunk::{CHUNK, Chunk};
 use mig_base::page_set::PageSet;
 use mig_base::{NoMemory, PAGE_BYTES};
@@ -37,7 +38,7 @@ impl Leaf {
     {
         let mut copy = Leaf::new(alloc)?;
         for i in 0..CHUNK {
-            let page = copy_page(alloc, &self.pages[i as usize])?;
+            let page = self.pages[i as usize].copy(alloc)?;
             copy.put(i, page, self.protected.contains(i));
         }
         Ok(copy)
@@ -48,7 +49,7 @@ impl Leaf {
         requires { i < CHUNK }
         ensures { result ≡ is_some (leaf_cell self.now i).0 }
     {
-        self.pages[i as usize].is_some()
+        self.pages[i as usize].is_present()
     }
 
     /// Puts the present pages into a set. The leaf is number `at` of its table. `NoMemory` may leave some of them in the set.
@@ -92,15 +93,21 @@ impl Leaf {
         set_member(&mut self.protected, i, protected);
     }
 
-    /// Writes bytes into a page, from byte `offset` on. A missing page stays missing.
-    pub fn write(&mut self, i: u32, offset: usize, bytes: &[u8])
+    /// Writes bytes into a page, from byte `offset` on; a missing page is written as a page of zeros. `NoMemory`, which comes for
+    /// these alone, leaves all pages as they were.
+    pub fn write(
+        &mut self,
+        alloc: Global,
+        i: u32,
+        offset: usize,
+        bytes: &[u8],
+    ) -> Result<(), NoMemory>
         requires place { i < CHUNK }
         requires inside { offset + length bytes.now ≤ PAGE_SIZE }
-        ensures { (j : ℕ) → leaf_cell self.new j ≡
-            (if nat_eq j i then written_cell (leaf_cell self.old i) offset bytes.now else leaf_cell
-            self.old j) }
+        ensures stored { (j : ℕ) → leaf_cell self.new j ≡ (if nat_eq j i then stored_cell result (leaf_cell self.old i) offset bytes.now else leaf_cell self.old j) }
+        ensures zeros { OnErr result (unwrap_or (leaf_cell self.old i).0 zero_page ≡ zero_page) }
     {
-        write_page(&mut self.pages, i as usize, offset, bytes);
+        write_page(alloc, &mut self.pages, i as usize, offset, bytes)
     }
 
     /// Protects a page, or ends its protection.
@@ -130,10 +137,7 @@ pub fn place_get(place: &Place, i: u32) -> Option<&[u8; PAGE_BYTES]>
     ensures { option_copied result ≡ (cell_in place.now i).0 }
 {
     match place {
-        Some(leaf) => match &leaf.pages[i as usize] {
-            Some(bytes) => Some(bytes.as_array()),
-            None => None,
-        },
+        Some(leaf) => leaf.pages[i as usize].bytes(),
         None => None,
     }
 }
@@ -153,6 +157,7 @@ pub fn place_is_protected(place: &Place, i: u32) -> bool
 pub fn place_make(alloc: Global, place: &mut Place) -> Result<(), NoMemory>
     ensures same { (i : ℕ) → cell_in place.new i ≡ cell_in place.old i }
     ensures there { OnOk result (is_place place.new ≡ true) }
+    ensures missing { OnErr result (is_place place.old ≡ false) }
     ensures stays { is_place place.old ≡ true → is_place place.new ≡ true }
 {
     match place {
@@ -199,7 +204,7 @@ pub fn place_take(place: &mut Place, i: u32) -> (Page, bool)
 {
     match place {
         Some(leaf) => leaf.take(i),
-        None => (None, false),
+        None => (Page::missing(), false),
     }
 }
 
@@ -217,16 +222,24 @@ pub fn place_put(place: &mut Place, i: u32, page: Page, protected: bool)
     }
 }
 
-/// Writes bytes into a page, from byte `offset` on. A missing page stays missing.
-pub fn place_write(place: &mut Place, i: u32, offset: usize, bytes: &[u8])
+/// Writes bytes into a page, from byte `offset` on; a missing page is written as a page of zeros. `NoMemory`, which comes for these
+/// alone, leaves all pages as they were.
+pub fn place_write(
+    alloc: Global,
+    place: &mut Place,
+    i: u32,
+    offset: usize,
+    bytes: &[u8],
+) -> Result<(), NoMemory>
     requires place { i < CHUNK }
     requires inside { offset + length bytes.now ≤ PAGE_SIZE }
-    ensures { (j : ℕ) → cell_in place.new j ≡
-        (if nat_eq j i then written_cell (cell_in place.old i) offset bytes.now else cell_in
-        place.old j) }
+    requires there { is_place place.old ≡ true }
+    ensures stored { (j : ℕ) → cell_in place.new j ≡ (if nat_eq j i then stored_cell result (cell_in place.old i) offset bytes.now else cell_in place.old j) }
+    ensures zeros { OnErr result (unwrap_or (cell_in place.old i).0 zero_page ≡ zero_page) }
 {
-    if let Some(leaf) = place {
-        leaf.write(i, offset, bytes);
+    match place {
+        Some(leaf) => leaf.write(alloc, i, offset, bytes),
+        None => unreachable!(),
     }
 }
 

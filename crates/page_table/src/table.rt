@@ -1,15 +1,17 @@
 //! The places of all pages. The leaf of a place is made when it is first needed.
 
-ghost use Rattle.std.specs.Prelude.{◌≡◌, ℕ, ◌+◌, ◌-◌, ◌/◌, ◌%◌, ◌<◌, ◌≤◌, ◌⊎◌, Bool, true, false, nat_eq, if◌then◌else◌, None, OnOk, IfOk, is_some, length, slice_index_or};
+ghost use Rattle.std.specs.Prelude.{◌≡◌, ℕ, ◌+◌, ◌-◌, ◌/◌, ◌%◌, ◌<◌, ◌≤◌, ◌⊎◌, Bool, true, false, nat_eq, if◌then◌else◌, None, OnOk, OnErr, IfOk, is_some, unwrap_or, length, slice_index_or};
 ghost use Rattle.std.specs.FinSet.{contains};
 ghost use Rattle.std.specs.Option.{option_copied};
+ghost use Rattle.mig_base.specs.Bytes.{zero_page};
 ghost use Rattle.mig_base.specs.Ranges.{in_range};
 ghost use Rattle.mig_base.specs.declared.TheConstants.{HIGH_PAGE, PAGE_SIZE};
 ghost use Rattle.mig_base.specs.declared.chunk.TheConstants.{CHUNKS};
 ghost use Rattle.page_table.specs.Bytes.{IsWhole};
-ghost use Rattle.page_table.specs.Leaves.{Cell, cell_at, has_place, no_cell, with_protection, written_cell, moved_cell, put_cell};
+ghost use Rattle.page_table.specs.Leaves.{Cell, cell_at, has_place, no_cell, with_protection, stored_cell, moved_cell, put_cell};
 
-use crate::leaf::{Page, Place};
+use crate::leaf::Place;
+use crate::page::Page;
 use crate::place::{
     place_clear, place_copy, place_gather, place_get, place_is_protected, place_make,
     place_protect, place_put, place_take, place_write,
@@ -59,8 +61,8 @@ pub fn make_place(alloc: Global, places: &mut Vec<Place>, page: PageNo) -> Resul
     ensures same { (q : ℕ) → cell_at places.new.items q ≡ cell_at places.old.items q }
     ensures few { length places.new.items ≤ CHUNKS }
     ensures there { OnOk result (has_place places.new.items page ≡ true) }
-    ensures stay { (q : ℕ) → has_place places.old.items q ≡ true →
-        has_place places.new.items q ≡ true }
+    ensures missing { OnErr result ((cell_at places.old.items page).0 ≡ None) }
+    ensures stay { (q : ℕ) → has_place places.old.items q ≡ true → has_place places.new.items q ≡ true }
 {
     let at = (page / CHUNK) as usize;
     while places.len() <= at {
@@ -83,7 +85,7 @@ pub fn take_at(places: &mut Vec<Place>, page: PageNo) -> (Page, bool)
     if at < places.len() {
         place_take(&mut places[at], page % CHUNK)
     } else {
-        (None, false)
+        (Page::missing(), false)
     }
 }
 
@@ -105,19 +107,23 @@ pub fn put_at(places: &mut Vec<Place>, page: PageNo, bytes: Page, protected: boo
     );
 }
 
-/// Writes bytes into a page, from byte `offset` on. A missing page stays missing.
-pub fn write_at(places: &mut Vec<Place>, page: PageNo, offset: usize, bytes: &[u8])
-    requires { offset + length bytes.now ≤ PAGE_SIZE }
-    ensures written { (q : ℕ) →
-        cell_at places.new.items q ≡
-        (if nat_eq q page then written_cell (cell_at places.old.items page) offset bytes.now else
-        cell_at places.old.items q) }
+/// Writes bytes into a page, from byte `offset` on; a missing page is written as a page of zeros. `NoMemory`, which comes for these
+/// alone, leaves all pages as they were.
+pub fn write_at(
+    alloc: Global,
+    places: &mut Vec<Place>,
+    page: PageNo,
+    offset: usize,
+    bytes: &[u8],
+) -> Result<(), NoMemory>
+    requires inside { offset + length bytes.now ≤ PAGE_SIZE }
+    requires there { has_place places.old.items page ≡ true }
+    ensures stored { (q : ℕ) → cell_at places.new.items q ≡ (if nat_eq q page then stored_cell result (cell_at places.old.items page) offset bytes.now else cell_at places.old.items q) }
     ensures size { length places.new.items ≡ length places.old.items }
+    ensures zeros { OnErr result (unwrap_or (cell_at places.old.items page).0 zero_page ≡ zero_page) }
 {
-    let at = (page / CHUNK) as usize;
-    if at < places.len() {
-        place_write(&mut places[at], page % CHUNK, offset, bytes);
-    }
+    let place = &mut places[(page / CHUNK) as usize];
+    place_write(alloc, place, page % CHUNK, offset, bytes)
 }
 
 /// Protects a page, or ends its protection.
@@ -203,7 +209,7 @@ pub fn put_cells(places: &mut Vec<Place>, first: PageNo, mut run: Vec<PageBytes>
     while let Some(bytes) = run.pop() {
         bytes.are_whole();
         let page = first + run.len() as u32;
-        put_at(places, page, Some(bytes), false);
+        put_at(places, page, Page::holding(bytes), false);
     }
 }
 

@@ -1,30 +1,33 @@
 -- What loads and stores answer, and how a store changes a space.
-use Rattle.std.proofs.Common.{◌≡◌, ℕ, ◌/◌, ◌%◌, ◌^◌, ◌<◌, ◌&&◌, Bool, true, false, cond, eqb, ltb, Option, Some, None, List, Result, Ok, Err, OnOk, refl, sym, ap, ◌∙◌, subst, arith, is_some}
+use Rattle.std.proofs.Common.{◌≡◌, ℕ, zero, suc, ◌/◌, ◌%◌, ◌^◌, ◌<◌, ◌&&◌, Bool, true, false, cond, eqb, ltb, Option, Some, None, List, Result, Ok, Err, OnOk, refl, sym, ap, ◌∙◌, subst, arith, is_some}
 use Rattle.std.proofs.lemmas.Bool.{false≢true}
 use Rattle.std.proofs.lemmas.Bool.Decides.{nat_tests}
 use Rattle.std.specs.Ordering.{nat_cmp}
 use Rattle.std.specs.FinMap.{FinMap, get, insert, contains_key}
 use Rattle.std.specs.FinSet.{FinSet, contains}
+use Rattle.std.specs.List.{list_all}
+use Rattle.std.specs.Prelude.{replicate}
 use Rattle.mig_base.specs.declared.TheConstants.{HIGH_PAGE}
 use Rattle.mig_base.specs.declared.Prot.{Prot}
 use Rattle.mig_base.specs.declared.command.Command.{Command}
 use Rattle.mig_base.specs.declared.command.Reply.{Reply}
 use Rattle.mig_base.specs.declared.command.Command.TheVariants.{Load, Store, Mmap, Munmap, Mremap, DontNeed}
 use Rattle.mig_base.specs.declared.command.Reply.TheVariants.{Value, Done, Segv, BadAccess}
-use Rattle.mig_base.specs.Bytes.{page_at, contents, overwrite, low_bytes}
+use Rattle.mig_base.specs.Bytes.{contents, overwrite, low_bytes, zero_page}
 use Rattle.mig_base.specs.Flat.{Cell, is_aligned, allows_load, allows_store, access_reply, number_at, reply_of, after, Memory}
 use Rattle.mig_model.specs.Host.{Host, memory, host_changed, IsSound}
 use Rattle.mig_base.specs.Commands.{is_access, page_of}
 use Rattle.mig_base.specs.Userfault.{Object}
 use Rattle.mig_model.specs.Space.{Space, IsSoundSpace, is_made, called}
+use Rattle.mig_model.specs.Wire.{is_zeros}
 use Rattle.mig_model.proofs.memory.CommandLemmas.{memory-changed}
 use Rattle.mig_model.proofs.memory.HostLemmas.{is_mapped-memory, get-put}
 use Rattle.mig_model.proofs.memory.Facts.{some_either}
 use Rattle.page_table.specs.Views.{Pages}
 use Rattle.uffd_ioctl.specs.Spaces.{machine_space}
-use Rattle.uffd_ioctl.proofs.AnswerLemmas.{sound_put, put_is, sound_write, write_is}
+use Rattle.uffd_ioctl.proofs.AnswerLemmas.{sound_write, write_is}
 
--- A page made present, and written
+-- A page written
 
 pub stays_present : (bytes : FinMap nat_cmp (List ℕ)) (page q : ℕ) (held : List ℕ) → contains_key bytes q ≡ true → contains_key (insert bytes page held) q ≡ true
 stays_present bytes page q held h = ap is_some (get-put bytes page q held) ∙ some_either (eqb q page) held (get bytes q) h
@@ -41,47 +44,35 @@ sound_pages areas old new object page held sound host is same =
       watched = λ q h. sound.watched q (was q h);
     }
 
-pub sound_present : (areas : FinMap nat_cmp Prot) (old new : Pages) (object : Object) (page : ℕ) → IsSoundSpace (machine_space areas old object) → contains_key areas page ≡ true →
-    new.bytes ≡ insert old.bytes page (contents old.bytes page) → new.protected ≡ old.protected → IsSoundSpace (machine_space areas new object)
-sound_present areas old new object page sound mapped is same =
-    sound_pages areas old new object page (contents old.bytes page) sound (sound_put (record { areas = areas; bytes = old.bytes }) page new.bytes sound.host mapped is) is same
-
 pub sound_written : (areas : FinMap nat_cmp Prot) (old new : Pages) (object : Object) (addr width number : ℕ) (digits : List ℕ) → IsSoundSpace (machine_space areas old object) →
-    contains_key areas (addr / 4096) ≡ true → contains_key old.bytes (addr / 4096) ≡ true → is_aligned addr width ≡ true → digits ≡ low_bytes number width →
-    new.bytes ≡ insert old.bytes (addr / 4096) (overwrite (page_at old.bytes (addr / 4096)) (addr % 4096) digits) → new.protected ≡ old.protected → IsSoundSpace (machine_space areas new object)
-sound_written areas old new object addr width number digits sound mapped present form number_is is same =
-    sound_pages areas old new object (addr / 4096) (overwrite (page_at old.bytes (addr / 4096)) (addr % 4096) digits) sound
-    (sound_write (record { areas = areas; bytes = old.bytes }) new.bytes addr width number digits sound.host mapped present form number_is is) is same
-
--- the same pages make the same space
-kept_space : (areas : FinMap nat_cmp Prot) (old new : Pages) (object : Object) → new.bytes ≡ old.bytes → new.protected ≡ old.protected → machine_space areas old object ≡ machine_space areas new object
-kept_space areas old new object is same =
-    ap (λ b. record { host = record { areas = areas; bytes = b }; protected = old.protected; object = object }) (sym is)
-    ∙ ap (λ s. record { host = record { areas = areas; bytes = new.bytes }; protected = s; object = object }) (sym same)
-
-pub sound_kept : (areas : FinMap nat_cmp Prot) (old new : Pages) (object : Object) → IsSoundSpace (machine_space areas old object) → new.bytes ≡ old.bytes → new.protected ≡ old.protected → IsSoundSpace (machine_space areas new object)
-sound_kept areas old new object sound is same = subst IsSoundSpace (kept_space areas old new object is same) sound
+    contains_key areas (addr / 4096) ≡ true → is_aligned addr width ≡ true → digits ≡ low_bytes number width →
+    new.bytes ≡ insert old.bytes (addr / 4096) (overwrite (contents old.bytes (addr / 4096)) (addr % 4096) digits) → new.protected ≡ old.protected → IsSoundSpace (machine_space areas new object)
+sound_written areas old new object addr width number digits sound mapped form number_is is same =
+    sound_pages areas old new object (addr / 4096) (overwrite (contents old.bytes (addr / 4096)) (addr % 4096) digits) sound
+    (sound_write (record { areas = areas; bytes = old.bytes }) new.bytes addr width number digits sound.host mapped form number_is is) is same
 
 -- a space whose host is another, and whose protected pages and object are the same
 with_host : (host other : Host) (object : Object) (value : Space) (protected : FinSet nat_cmp) → host ≡ other → protected ≡ value.protected → object ≡ value.object →
     record { host = host; protected = protected; object = object } ≡ record value { host = other }
 with_host host other object value protected is same object_is = cc
 
-pub present_space : (areas : FinMap nat_cmp Prot) (old new : Pages) (object : Object) (value : Space) (page : ℕ) → machine_space areas old object ≡ value →
-    new.bytes ≡ insert old.bytes page (contents old.bytes page) → new.protected ≡ old.protected →
-    machine_space areas new object ≡ record value { host = record value.host { bytes = insert value.host.bytes page (contents value.host.bytes page) } }
-present_space areas old new object value page view is same =
-    with_host (record { areas = areas; bytes = new.bytes }) (record value.host { bytes = insert value.host.bytes page (contents value.host.bytes page) }) object value new.protected
-    (put_is (record { areas = areas; bytes = old.bytes }) value.host page new.bytes (ap (λ s. s.host) view) is) (same ∙ ap (λ s. s.protected) view) (ap (λ s. s.object) view)
-
-pub written_space : (areas : FinMap nat_cmp Prot) (old new : Pages) (object : Object) (middle value : Space) (addr width number : ℕ) (digits : List ℕ) → machine_space areas old object ≡ middle →
-    middle ≡ record value { host = record value.host { bytes = insert value.host.bytes (addr / 4096) (contents value.host.bytes (addr / 4096)) } } → digits ≡ low_bytes number width →
-    new.bytes ≡ insert old.bytes (addr / 4096) (overwrite (page_at old.bytes (addr / 4096)) (addr % 4096) digits) → new.protected ≡ old.protected →
+pub written_space : (areas : FinMap nat_cmp Prot) (old new : Pages) (object : Object) (value : Space) (addr width number : ℕ) (digits : List ℕ) → machine_space areas old object ≡ value → digits ≡ low_bytes number width →
+    new.bytes ≡ insert old.bytes (addr / 4096) (overwrite (contents old.bytes (addr / 4096)) (addr % 4096) digits) → new.protected ≡ old.protected →
     machine_space areas new object ≡ record value { host = host_changed value.host (Store addr width number) Done }
-written_space areas old new object middle value addr width number digits view made number_is is same =
+written_space areas old new object value addr width number digits view number_is is same =
     with_host (record { areas = areas; bytes = new.bytes }) (host_changed value.host (Store addr width number) Done) object value new.protected
-    (write_is (record { areas = areas; bytes = old.bytes }) middle.host value.host new.bytes addr width number digits (ap (λ s. s.host) view) (ap (λ s. s.host) made) number_is is)
-    (same ∙ ap (λ s. s.protected) (view ∙ made)) (ap (λ s. s.object) (view ∙ made))
+    (write_is (record { areas = areas; bytes = old.bytes }) value.host new.bytes addr width number digits (ap (λ s. s.host) view) number_is is)
+    (same ∙ ap (λ s. s.protected) view) (ap (λ s. s.object) view)
+
+-- A page of zeros
+
+zeros_pass : (n : ℕ) → list_all (λ byte. eqb byte 0) (replicate n 0) ≡ true
+zeros_pass zero = refl
+zeros_pass (suc n) = zeros_pass n
+
+pub all_zeros : is_zeros zero_page ≡ true
+unfolding zero_page
+all_zeros = zeros_pass 4096
 
 -- An access that the flat memory would make
 

@@ -3,7 +3,7 @@ use Rattle.std.proofs.Common.{◌≡◌, ℕ, ◌+◌, ◌/◌, ◌%◌, ◌^◌
 use Rattle.std.specs.Int.{bytes_low_first}
 use Rattle.std.specs.Ordering.{nat_cmp}
 use Rattle.std.specs.FinMap.{FinMap, get, insert, contains_key}
-use Rattle.std.proofs.lemmas.Bool.{false≢true, eq-eqb, eqb-true, le-ltb}
+use Rattle.std.proofs.lemmas.Bool.{false≢true, eq-eqb, le-ltb}
 use Rattle.std.proofs.lemmas.List.{get_or-take, get_or-drop, length-take, length-drop}
 use Rattle.mig_base.specs.declared.TheConstants.{HIGH}
 use Rattle.mig_base.specs.declared.Prot.{Prot}
@@ -12,16 +12,14 @@ use Rattle.mig_base.specs.declared.command.Command.TheVariants.{Load, Store}
 use Rattle.mig_base.specs.declared.command.Reply.{Reply}
 use Rattle.mig_base.specs.declared.command.Reply.TheVariants.{Value, Done, Segv, BadAccess, Refused}
 use Rattle.mig_base.specs.Ranges.{rounded}
-use Rattle.mig_base.specs.Bytes.{zero_page, page_at, contents, overwrite, little_endian, low_bytes}
+use Rattle.mig_base.specs.Bytes.{contents, overwrite, little_endian, low_bytes}
 use Rattle.mig_base.specs.Flat.{Cell, byte_of, is_aligned, allows_load, allows_store, access_reply, number_at, munmap_reply, reply_of}
-use Rattle.mig_base.proofs.PageLemmas.{same_pages}
 use Rattle.mig_base.proofs.ByteLemmas.{length-overwrite}
 use Rattle.mig_base.proofs.TestLemmas.{eqb-self, eqb-above}
 use Rattle.mig_model.specs.Host.{Host, byte_in, memory, host_changed, IsSound}
 use Rattle.mig_model.proofs.memory.NumberLemmas.{aligned_inside, number_at-bytes, number_at-zeros}
 use Rattle.mig_model.proofs.memory.HostLemmas.{memory-none, memory-some, IsSound-put, get-put}
 use Rattle.mig_model.proofs.memory.CommandLemmas.{length-contents}
-use Rattle.mig_model.proofs.invariant.Stopping.{present_bytes}
 
 -- Accesses
 
@@ -105,52 +103,13 @@ pub munmap_done : (addr bytes : ℕ) → addr % 4096 ≡ 0 → 0 < bytes → add
 munmap_done addr bytes whole some high =
     sym (first_of_three (eqb (addr % 4096) 0) (eqb bytes 0) (ltb HIGH (addr + rounded bytes)) (eq-eqb (addr % 4096) 0 whole) (eqb-above bytes 0 some) (le-ltb HIGH (addr + rounded bytes) high))
 
--- A page made present, and written
+-- A page put
 
 pub get-put_same : (bytes : FinMap nat_cmp (List ℕ)) (page : ℕ) (held : List ℕ) → get (insert bytes page held) page ≡ Some held
 get-put_same bytes page held = get-put bytes page page held ∙ ap (λ b. cond b (Some held) (get bytes page)) (eqb-self page)
 
-twice : (b : Bool) (x y : List ℕ) (o : Option (List ℕ)) → cond b (Some y) (cond b (Some x) o) ≡ cond b (Some y) o
-twice true x y o = refl
-twice false x y o = refl
-
-pub put-put : (bytes : FinMap nat_cmp (List ℕ)) (page : ℕ) (x y : List ℕ) → insert (insert bytes page x) page y ≡ insert bytes page y
-put-put bytes page x y =
-    same_pages (insert (insert bytes page x) page y) (insert bytes page y) (λ q.
-    get-put (insert bytes page x) page q y
-    ∙ ap (cond (eqb q page) (Some y)) (get-put bytes page q x)
-    ∙ twice (eqb q page) x y (get bytes q)
-    ∙ sym (get-put bytes page q y))
-
-held_again : (b : Bool) (held : List ℕ) (o : Option (List ℕ)) → (b ≡ true → o ≡ Some held) → cond b (Some held) o ≡ o
-held_again true held o h = sym (h refl)
-held_again false held o h = refl
-
-pub put-same : (bytes : FinMap nat_cmp (List ℕ)) (page : ℕ) (held : List ℕ) → get bytes page ≡ Some held → insert bytes page held ≡ bytes
-put-same bytes page held found =
-    same_pages (insert bytes page held) bytes (λ q.
-    get-put bytes page q held ∙ held_again (eqb q page) held (get bytes q) (λ e. ap (get bytes) (eqb-true q page e) ∙ found))
-
-none_contents : (o : Option (List ℕ)) → (is_some o ≡ true → ⊥) → zero_page ≡ unwrap_or o zero_page
-none_contents None h = refl
-none_contents (Some held) h = absurd (h refl)
-
--- a page that is present stays as it is
-pub kept_present : (bytes : FinMap nat_cmp (List ℕ)) (page : ℕ) → contains_key bytes page ≡ true → bytes ≡ insert bytes page (contents bytes page)
-kept_present bytes page has = sym (put-same bytes page (contents bytes page) (present_bytes (get bytes page) has))
-
--- a page that is missing is zeros from now on
-pub made_present : (bytes : FinMap nat_cmp (List ℕ)) (page : ℕ) → (contains_key bytes page ≡ true → ⊥) → insert bytes page zero_page ≡ insert bytes page (contents bytes page)
-made_present bytes page missing = ap (insert bytes page) (none_contents (get bytes page) missing)
-
 pub has_put : (bytes : FinMap nat_cmp (List ℕ)) (page : ℕ) (held : List ℕ) → contains_key (insert bytes page held) page ≡ true
 has_put bytes page held = ap is_some (get-put_same bytes page held)
-
-pub written_present : (bytes present : FinMap nat_cmp (List ℕ)) (page offset : ℕ) (digits : List ℕ) → present ≡ insert bytes page (contents bytes page) → insert present page (overwrite (page_at present page) offset digits) ≡ insert bytes page (overwrite (contents bytes page) offset digits)
-written_present bytes present page offset digits is =
-    ap (λ b. insert b page (overwrite (page_at b page) offset digits)) is
-    ∙ put-put bytes page (contents bytes page) (overwrite (page_at (insert bytes page (contents bytes page)) page) offset digits)
-    ∙ ap (λ o. insert bytes page (overwrite (unwrap_or o []) offset digits)) (get-put_same bytes page (contents bytes page))
 
 -- the bytes of a number, taken as a store does
 pub digits_of : (bytes : List ℕ) (taken width value : ℕ) → bytes ≡ bytes_low_first 0 8 value → taken ≡ width → take taken bytes ≡ low_bytes value width
@@ -174,46 +133,21 @@ digits_count held addr taken width whole same form =
     let inside = (aligned_inside addr width form).inside in
     simp (length-take, length-drop) (omega arith)
 
-pub held_page : (bytes : FinMap nat_cmp (List ℕ)) (page : ℕ) → contains_key bytes page ≡ true → get bytes page ≡ Some (page_at bytes page)
-held_page bytes page has =
-    elim (get bytes page) as (λ o. get bytes page ≡ o → o ≡ Some (unwrap_or o [])) [
-      | None ↦ λ e. absurd (false≢true (sym (ap is_some e) ∙ has))
-      | Some held ↦ λ e. refl
-    ] refl
-
--- Areas unmapped
-
--- A page of the host put or written
+-- A page of the host written
 
 with_bytes : (host : Host) (a b : FinMap nat_cmp (List ℕ)) → a ≡ b → record host { bytes = a } ≡ record host { bytes = b }
 with_bytes host a b h = ap (λ x. record { areas = host.areas; bytes = x }) h
 
-pub sound_put : (host : Host) (page : ℕ) (new : FinMap nat_cmp (List ℕ)) → IsSound host → contains_key host.areas page ≡ true → new ≡ insert host.bytes page (contents host.bytes page) → IsSound (record host { bytes = new })
-sound_put host page new sound mapped is =
-    subst IsSound (with_bytes host (insert host.bytes page (contents host.bytes page)) new (sym is))
-    (IsSound-put host page (contents host.bytes page) sound mapped (length-contents host page sound))
-
-pub put_is : (host value : Host) (page : ℕ) (new : FinMap nat_cmp (List ℕ)) → host ≡ value → new ≡ insert host.bytes page (contents host.bytes page) → record host { bytes = new } ≡ record value { bytes = insert value.bytes page (contents value.bytes page) }
-put_is host value page new view is =
-    with_bytes host new (insert host.bytes page (contents host.bytes page)) is
-    ∙ ap (λ h. record { areas = h.areas; bytes = insert h.bytes page (contents h.bytes page) }) view
-
-stored_is : (host value : Host) (new : FinMap nat_cmp (List ℕ)) (addr width number : ℕ) (digits : List ℕ) → host ≡ record value { bytes = insert value.bytes (addr / 4096) (contents value.bytes (addr / 4096)) } → digits ≡ low_bytes number width → new ≡ insert host.bytes (addr / 4096) (overwrite (page_at host.bytes (addr / 4096)) (addr % 4096) digits) → record host { bytes = new } ≡ host_changed value (Store addr width number) Done
-stored_is host value new addr width number digits view same is =
-    with_bytes host new (insert host.bytes (addr / 4096) (overwrite (page_at host.bytes (addr / 4096)) (addr % 4096) digits)) is
-    ∙ ap (λ h. record { areas = h.areas; bytes = insert h.bytes (addr / 4096) (overwrite (page_at h.bytes (addr / 4096)) (addr % 4096) digits) }) view
-    ∙ with_bytes value (insert (insert value.bytes (addr / 4096) (contents value.bytes (addr / 4096))) (addr / 4096) (overwrite (page_at (insert value.bytes (addr / 4096) (contents value.bytes (addr / 4096))) (addr / 4096)) (addr % 4096) digits)) (insert value.bytes (addr / 4096) (overwrite (contents value.bytes (addr / 4096)) (addr % 4096) digits))
-    (written_present value.bytes (insert value.bytes (addr / 4096) (contents value.bytes (addr / 4096))) (addr / 4096) (addr % 4096) digits refl)
+pub write_is : (host value : Host) (new : FinMap nat_cmp (List ℕ)) (addr width number : ℕ) (digits : List ℕ) → host ≡ value → digits ≡ low_bytes number width → new ≡ insert host.bytes (addr / 4096) (overwrite (contents host.bytes (addr / 4096)) (addr % 4096) digits) → record host { bytes = new } ≡ host_changed value (Store addr width number) Done
+write_is host value new addr width number digits view same is =
+    with_bytes host new (insert host.bytes (addr / 4096) (overwrite (contents host.bytes (addr / 4096)) (addr % 4096) digits)) is
+    ∙ ap (λ h. record { areas = h.areas; bytes = insert h.bytes (addr / 4096) (overwrite (contents h.bytes (addr / 4096)) (addr % 4096) digits) }) view
     ∙ ap (λ ds. record { areas = value.areas; bytes = insert value.bytes (addr / 4096) (overwrite (contents value.bytes (addr / 4096)) (addr % 4096) ds) }) same
 
-pub write_is : (host middle value : Host) (new : FinMap nat_cmp (List ℕ)) (addr width number : ℕ) (digits : List ℕ) → host ≡ middle → middle ≡ record value { bytes = insert value.bytes (addr / 4096) (contents value.bytes (addr / 4096)) } → digits ≡ low_bytes number width → new ≡ insert host.bytes (addr / 4096) (overwrite (page_at host.bytes (addr / 4096)) (addr % 4096) digits) → record host { bytes = new } ≡ host_changed value (Store addr width number) Done
-write_is host middle value new addr width number digits view made same is = stored_is host value new addr width number digits (view ∙ made) same is
-
-pub sound_write : (host : Host) (new : FinMap nat_cmp (List ℕ)) (addr width number : ℕ) (digits : List ℕ) → IsSound host → contains_key host.areas (addr / 4096) ≡ true → contains_key host.bytes (addr / 4096) ≡ true → is_aligned addr width ≡ true → digits ≡ low_bytes number width → new ≡ insert host.bytes (addr / 4096) (overwrite (page_at host.bytes (addr / 4096)) (addr % 4096) digits) → IsSound (record host { bytes = new })
-sound_write host new addr width number digits sound mapped present form same is =
-    let held = held_page host.bytes (addr / 4096) present in
-    let whole = sound.whole (addr / 4096) (page_at host.bytes (addr / 4096)) held in
+pub sound_write : (host : Host) (new : FinMap nat_cmp (List ℕ)) (addr width number : ℕ) (digits : List ℕ) → IsSound host → contains_key host.areas (addr / 4096) ≡ true → is_aligned addr width ≡ true → digits ≡ low_bytes number width → new ≡ insert host.bytes (addr / 4096) (overwrite (contents host.bytes (addr / 4096)) (addr % 4096) digits) → IsSound (record host { bytes = new })
+sound_write host new addr width number digits sound mapped form same is =
+    let whole = length-contents host (addr / 4096) sound in
     let fits = digits_fit addr width digits number form same in
-    subst IsSound (with_bytes host (insert host.bytes (addr / 4096) (overwrite (page_at host.bytes (addr / 4096)) (addr % 4096) digits)) new (sym is))
-    (IsSound-put host (addr / 4096) (overwrite (page_at host.bytes (addr / 4096)) (addr % 4096) digits) sound mapped
-    (length-overwrite (page_at host.bytes (addr / 4096)) digits (addr % 4096) (omega arith) ∙ whole))
+    subst IsSound (with_bytes host (insert host.bytes (addr / 4096) (overwrite (contents host.bytes (addr / 4096)) (addr % 4096) digits)) new (sym is))
+    (IsSound-put host (addr / 4096) (overwrite (contents host.bytes (addr / 4096)) (addr % 4096) digits) sound mapped
+    (length-overwrite (contents host.bytes (addr / 4096)) digits (addr % 4096) (omega arith) ∙ whole))

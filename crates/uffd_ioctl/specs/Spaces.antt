@@ -14,12 +14,14 @@ use Rattle.mig_base.specs.declared.command.Reply.{Reply}
 use Rattle.mig_base.specs.declared.command.Reply.TheVariants.{Refused}
 use Rattle.mig_base.specs.declared.command.Access.{Access}
 use Rattle.mig_base.specs.declared.command.Access.TheVariants.{Answered, Missing, Protected}
+use Rattle.mig_base.specs.Bytes.{contents}
 use Rattle.mig_base.specs.Commands.{is_access, is_store, page_of}
 use Rattle.mig_base.specs.Flat.{Memory, after, reply_of}
 use Rattle.mig_model.specs.Host.{Host, coded_host, memory}
 use Rattle.mig_base.specs.Userfault.{Object, fresh_object, enabled_with, registered_where, waits_fault}
 use Rattle.mig_model.specs.Space.{Space, access_of, is_made, queued_by}
 use Rattle.mig_model.specs.Ioctls.{event_features, mode_of}
+use Rattle.mig_model.specs.Wire.{is_zeros}
 use Rattle.page_table.specs.Views.{Pages}
 use Rattle.userfault.specs.Codes.{coded_object}
 use Rattle.uffd_ioctl.specs.declared.fault.IoctlFault.{IoctlFault}
@@ -48,13 +50,14 @@ abbrev pub assembled_object : FinMap nat_cmp Prot → ℕ → Object
 assembled_object areas bits =
     if bits == 0 then fresh_object else registered_where (enabled_with fresh_object event_features) (λ page. contains_key areas page) (mode_of bits)
 
--- whether an access with this outcome needs memory: to queue a page fault that is not unread yet, or to make the page of a store present
+-- whether an access with this outcome may need memory: to queue a page fault that is not unread yet, or to give bytes of their own to a
+-- page that reads as zeros before the store
 abbrev pub needs_room_by : Access → Space → Command → Bool
-needs_room_by (Answered reply) space command = is_made reply && is_store command && not (contains_key space.host.bytes (page_of command))
+needs_room_by (Answered reply) space command = is_made reply && is_store command && is_zeros (contents space.host.bytes (page_of command))
 needs_room_by Missing space command = not (waits_fault space.object.faults (PAGE_SIZE * page_of command) false)
 needs_room_by Protected space command = not (waits_fault space.object.faults (PAGE_SIZE * page_of command) true)
 
--- whether an access needs memory
+-- whether an access may need memory
 abbrev pub needs_room : Space → Command → Bool
 needs_room space command = needs_room_by (access_of space command) space command
 
@@ -69,7 +72,7 @@ abbrev pub call_needs_room : Space → Command → Bool
 call_needs_room space (DontNeed addr len) = nat_lt 0 (queued_by space (DontNeed addr len))
 call_needs_room space command = not (is_refused (reply_of (memory space.host) command))
 
--- whether a command needs memory
+-- whether a command may need memory
 abbrev pub command_needs_room : Space → Command → Bool
 command_needs_room space command = if is_access command then needs_room space command else call_needs_room space command
 

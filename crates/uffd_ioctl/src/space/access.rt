@@ -4,10 +4,11 @@ ghost use Rattle.std.specs.Prelude.{◌≡◌, ◌/◌, ◌<◌, IfOk, IfSome, O
 ghost use Rattle.std.specs.FinMap as map;
 ghost use Rattle.mig_base.specs.Bytes.{contents};
 ghost use Rattle.mig_base.specs.Flat.{reply_of, number_at, is_aligned as is_form};
-ghost use Rattle.mig_base.specs.declared.TheConstants.{HIGH, HIGH_PAGE};
+ghost use Rattle.mig_base.specs.declared.TheConstants.{HIGH};
 ghost use Rattle.mig_model.specs.Host.{memory, host_changed};
 ghost use Rattle.mig_base.specs.Commands.{is_access};
 ghost use Rattle.mig_model.specs.Space as machine;
+ghost use Rattle.mig_model.specs.Wire.{is_zeros};
 ghost use Rattle.uffd_ioctl.specs.Spaces.{memory_after, needs_room};
 
 use super::Space;
@@ -17,7 +18,6 @@ use mig_base::command::{fits, is_aligned};
 use mig_base::{
     Access, Addr, Command, HIGH, NoMemory, PAGE_SIZE, PageNo, Prot, Reply, page_address,
 };
-use page_table::PutFault;
 
 impl Space {
     /// Makes a load or store of a processor; no other command is allowed. An access that is malformed or not permitted is answered as
@@ -25,7 +25,10 @@ impl Space {
     /// protected page registered for write-protect faults: the processor sleeps, and a message is queued, unless one of the same kind
     /// for the page is unread. Any other access is answered as one flat memory answers it. A load leaves a missing page missing.
     ///
-    /// `NoMemory` only if the access needs memory, to queue a page fault or to make a page present; it changes nothing.
+    /// A store to a page of zeros needs memory unless it stores zeros, and a store to a missing page in any case.
+    ///
+    /// `NoMemory` only if the access needs memory, to queue a page fault or for the bytes of a page that read as zeros before the store;
+    /// it changes nothing.
     pub fn access(&mut self, cpu: u8, command: Command) -> Result<Access, NoMemory>
         requires { is_access command ≡ true }
         ensures access { IfOk result (λ access. access ≡ machine.access_of self.old command) }
@@ -123,49 +126,22 @@ impl Space {
         }
     }
 
-    /// Makes a mapped page present, with zeros unless it is present already. `NoMemory` only if it is missing; it changes nothing.
-    fn make_present(&mut self, page: PageNo) -> Result<(), NoMemory>
-        requires below { page < HIGH_PAGE }
-        requires mapped { IsTrue (map.contains_key self.old.host.areas page) }
-        ensures present { OnOk result (IsTrue (map.contains_key self.new.host.bytes page)) }
-        ensures ok { OnOk result (self.new ≡
-            record self.old {
-              host = record self.old.host {
-                bytes = map.insert self.old.host.bytes page
-                    (contents self.old.host.bytes page);
-              };
-            }) }
-        ensures missing { OnErr result (map.contains_key self.old.host.bytes page ≡ false) }
-        ensures err { OnErr result (self.new ≡ self.old) }
-    {
-        match self.pages.put_zero(page) {
-            Ok(()) => Ok(()),
-            Err(PutFault::Present) => Ok(()),
-            Err(PutFault::NoMemory) => Err(NoMemory),
-        }
-    }
-
-    /// Writes the `width` bytes of a number at an address, and makes their page present. `NoMemory` only if the page is missing; it
-    /// changes nothing.
+    /// Writes the `width` bytes of a number at an address, and makes their page present. `NoMemory`, which comes only if the page reads
+    /// as zeros, changes nothing.
     fn write(&mut self, addr: Addr, width: u8, value: u64) -> Result<(), NoMemory>
         requires high { addr < HIGH }
         requires aligned { is_form addr width ≡ true }
         requires mapped { IsTrue (map.contains_key self.old.host.areas (addr / 4096)) }
-        ensures ok { OnOk result (self.new ≡
-            record self.old {
-              host = host_changed self.old.host (Command.Store addr width value)
-                  Reply.Done;
-            }) }
-        ensures missing { OnErr result (map.contains_key self.old.host.bytes (addr / 4096) ≡
-            false) }
+        ensures ok { OnOk result (self.new ≡ record self.old { host = host_changed self.old.host (Command.Store addr width value) Reply.Done }) }
+        ensures zeros { OnErr result (is_zeros (contents self.old.host.bytes (addr / 4096)) ≡ true) }
         ensures err { OnErr result (self.new ≡ self.old) }
     {
         let page = (addr / PAGE_SIZE) as PageNo;
-        self.make_present(page)?;
         let offset = (addr % PAGE_SIZE) as usize;
         let mut bytes = [0; 8];
         LittleEndian::write_u64(&mut bytes, value);
-        self.pages.write(page, offset, &bytes[..usize::from(width)]);
+        self.pages
+            .write(page, offset, &bytes[..usize::from(width)])?;
         Ok(())
     }
 }

@@ -1,7 +1,8 @@
-use Rattle.std.proofs.Common.{◌∙◌, ap, arith, ◌/◌, length-append}
-use Rattle.std.proofs.lemmas.Result.{IfOk-weaker}
+use Rattle.std.proofs.Common.{◌∙◌, sym, ap, arith, ◌/◌, ◌%◌, length-append}
+use Rattle.std.proofs.lemmas.Result.{IfOk-weaker, on_err_weaker}
+use Rattle.mig_base.proofs.PageSetViews.{on_any_err}
 use Rattle.page_table.specs.Leaves.{cell_in, cell_at, has_place, is_place}
-use Rattle.page_table.proofs.TableLemmas.{cell_at-push, cells_stay}
+use Rattle.page_table.proofs.TableLemmas.{cell_at-push, cells_stay, past_places, at_own_place, nothing_in}
 use Rattle.page_table.proofs.table.make_place.Goals as goal
 use Rattle.mig_base.proofs.PlaceLemmas.{read_place, has_place-push, place_of_set, places_kept}
 
@@ -26,3 +27,11 @@ returns-clause-stay c = λ q h.
     places_kept c.loop-places.places.items (c.args.page / 1024) c.place_make.new.place (omega arith)
     (λ t. c.place_make.ensures.stays (ap is_place (read_place c.loop-places.places.items (c.args.page / 1024) c.index_mut.result.now (omega arith) c.index_mut.ensures.value) ∙ t))
     q (c.loop-places.invariant.kept q ∙ h)
+
+pub returns-in_err-push-clause-missing : goal.returns-in_err-push-clause-missing
+returns-in_err-push-clause-missing c = on_any_err c.from_residual.result (ap (λ x. x.0) (sym (c.loop-places.invariant.same c.args.page) ∙ past_places c.loop-places.places.items c.args.page (omega (arith, c.loop-places-test.true))))
+
+pub returns-clause-missing : goal.returns-clause-missing
+returns-clause-missing c = on_err_weaker c.place_make.result
+    (λ none. ap (λ x. x.0) (sym (c.loop-places.invariant.same c.args.page) ∙ sym (at_own_place c.loop-places.places.items c.index_mut.result.now c.args.page (omega arith) c.index_mut.ensures.value)) ∙ nothing_in c.index_mut.result.now (c.args.page % 1024) none)
+    c.place_make.ensures.missing

@@ -1,4 +1,4 @@
-use Rattle.std.proofs.Common.{◌∙◌, sym, ap, cond, eqb, arith, ◌/◌, ◌%◌}
+use Rattle.std.proofs.Common.{◌∙◌, sym, ap, cond, eqb, arith, ◌/◌, ◌%◌, false}
 use Rattle.page_table.specs.Leaves.{cell_in, is_place, no_cell}
 use Rattle.page_table.proofs.TableLemmas.{at_own_place, one_cell, past_places, gone_already}
 use Rattle.page_table.proofs.table.take_at.Goals as goal
@@ -18,7 +18,7 @@ returns-then-at-len-clause-stay c =
     (c.place_take.ensures.stays ∙ ap is_place (read_place c.args.places.now.items (c.args.page / 1024) c.index_mut.result.now (omega arith) c.index_mut.ensures.value))
 
 pub returns-else-at-len-clause-taken : goal.returns-else-at-len-clause-taken
-returns-else-at-len-clause-taken c = sym (past_places c.args.places.now.items c.args.page (omega arith))
+returns-else-at-len-clause-taken c = (λ k. (c.missing.ensures k, false)) ∙ sym (past_places c.args.places.now.items c.args.page (omega arith))
 
 pub returns-else-at-len-clause-left : goal.returns-else-at-len-clause-left
 returns-else-at-len-clause-left c = λ q. gone_already c.args.places.now.items c.args.page q (past_places c.args.places.now.items c.args.page (omega arith))

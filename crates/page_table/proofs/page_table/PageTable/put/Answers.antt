@@ -22,17 +22,17 @@ pub returns-clause-ok : goal.returns-clause-ok
 returns-clause-ok c =
     let still : length c.put_at.new.places.items ≤ 1024 = omega (arith, c.put_at.ensures.size, c.make_place.ensures.few) in
     put_bytes c.self.inside.places.items c.put_at.new.places.items c.args.self.now c.args.page c.args.bytes false c.self.invariant.few still c.self.view_is
-    (λ q. c.put_at.ensures.put q ∙ ap (λ x. cond (eqb q c.args.page) (Some c.args.bytes, false) x) (c.make_place.ensures.same q))
+    (λ q. c.put_at.ensures.put q ∙ ap (λ o. cond (eqb q c.args.page) (o, false) (cell_at c.make_place.new.places.items q)) c.holding.ensures ∙ ap (λ x. cond (eqb q c.args.page) (Some c.args.bytes, false) x) (c.make_place.ensures.same q))
 
 pub returns-clause-protected : goal.returns-clause-protected
 returns-clause-protected c =
     let still : length c.put_at.new.places.items ≤ 1024 = omega (arith, c.put_at.ensures.size, c.make_place.ensures.few) in
     let none : is_some (cell_at c.self.inside.places.items c.args.page).0 ≡ false = sym c.is_present_at.ensures ∙ c.if-is_present_at.false in
     put_flags c.self.inside.places.items c.put_at.new.places.items c.args.self.now c.args.page (Some c.args.bytes) c.self.invariant.few still c.self.view_is (not_protected c.self.inside.places.items c.args.page c.self.invariant none)
-    (λ q. c.put_at.ensures.put q ∙ ap (λ x. cond (eqb q c.args.page) (Some c.args.bytes, false) x) (c.make_place.ensures.same q))
+    (λ q. c.put_at.ensures.put q ∙ ap (λ o. cond (eqb q c.args.page) (o, false) (cell_at c.make_place.new.places.items q)) c.holding.ensures ∙ ap (λ x. cond (eqb q c.args.page) (Some c.args.bytes, false) x) (c.make_place.ensures.same q))
 
 pub returns-clause-missing : goal.returns-clause-missing
 returns-clause-missing c = let absent : map.contains_key c.args.self.now.bytes c.args.page ≡ false = sym (present_seen c.self.inside.places.items c.args.self.now c.args.page c.self.invariant.few c.self.view_is) ∙ sym c.is_present_at.ensures ∙ c.if-is_present_at.false in absent
 
 pub put_at-requires-clause-whole : goal.put_at-requires-clause-whole
-put_at-requires-clause-whole c = λ bytes e. sym (ap length (same_Some c.args.bytes bytes e)) ∙ c.are_whole.ensures.size
+put_at-requires-clause-whole c = λ bytes e. sym (ap length (same_Some c.args.bytes bytes (sym c.holding.ensures ∙ e))) ∙ c.are_whole.ensures.size

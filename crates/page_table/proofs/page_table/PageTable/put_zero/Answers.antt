@@ -1,7 +1,9 @@
 use Rattle.std.proofs.Common.{◌≡◌, ◌≤◌, ◌∙◌, sym, refl, ap, Some, false, is_some, cond, eqb, length, arith}
 use Rattle.std.specs.FinMap as map
 use Rattle.std.proofs.lemmas.Bool.{false≢true}
+use Rattle.std.proofs.lemmas.Option.{same_Some}
 use Rattle.mig_base.specs.Bytes.{zero_page}
+use Rattle.mig_base.proofs.ByteLemmas.{length-zero_page}
 use Rattle.page_table.specs.Leaves.{cell_at}
 use Rattle.page_table.proofs.ViewLemmas.{present_seen, put_bytes, put_flags, same_cells_shown, not_protected}
 use Rattle.page_table.proofs.page_table.PageTable.put_zero.Goals as goal
@@ -9,34 +11,30 @@ use Rattle.page_table.proofs.page_table.PageTable.put_zero.Goals as goal
 pub returns-then-is_present_at-clause-fault : goal.returns-then-is_present_at-clause-fault
 returns-then-is_present_at-clause-fault c = (refl, (λ _. sym (present_seen c.self.inside.places.items c.args.self.now c.args.page c.self.invariant.few c.self.view_is) ∙ sym c.is_present_at.ensures ∙ c.if-is_present_at.true, λ _. refl))
 
+pub returns-in_default-clause-protected : goal.returns-in_default-clause-protected
+returns-in_default-clause-protected c = let same = same_cells_shown c.self.inside.places.items c.make_place.new.places.items c.args.self.now c.self.invariant.few c.make_place.ensures.few c.self.view_is c.make_place.ensures.same in ap (λ v. v.protected) same
+
 pub returns-in_default-clause-fault : goal.returns-in_default-clause-fault
 returns-in_default-clause-fault c =
-    let absent : map.contains_key c.args.self.now.bytes c.args.page ≡ false = sym (present_seen c.self.inside.places.items c.args.self.now c.args.page c.self.invariant.few c.self.view_is) ∙ sym c.is_present_at.ensures ∙ c.if-is_present_at.false in
-    (refl, (λ e. cc, λ e. absurd (false≢true (sym absent ∙ e))))
-
-pub returns-in_default-make_place-clause-protected : goal.returns-in_default-make_place-clause-protected
-returns-in_default-make_place-clause-protected c = let same = same_cells_shown c.self.inside.places.items c.make_place.new.places.items c.args.self.now c.self.invariant.few c.make_place.ensures.few c.self.view_is c.make_place.ensures.same in ap (λ v. v.protected) same
-
-pub returns-in_default-make_place-clause-fault : goal.returns-in_default-make_place-clause-fault
-returns-in_default-make_place-clause-fault c =
     let absent : map.contains_key c.args.self.now.bytes c.args.page ≡ false = sym (present_seen c.self.inside.places.items c.args.self.now c.args.page c.self.invariant.few c.self.view_is) ∙ sym c.is_present_at.ensures ∙ c.if-is_present_at.false in
     let same = same_cells_shown c.self.inside.places.items c.make_place.new.places.items c.args.self.now c.self.invariant.few c.make_place.ensures.few c.self.view_is c.make_place.ensures.same in
     (ap (λ v. v.bytes) same, (λ e. cc, λ e. absurd (false≢true (sym absent ∙ e))))
 
 pub returns-clause-ok : goal.returns-clause-ok
-unfolding zero_page
 returns-clause-ok c =
     let still : length c.put_at.new.places.items ≤ 1024 = omega (arith, c.put_at.ensures.size, c.make_place.ensures.few) in
-    put_bytes c.self.inside.places.items c.put_at.new.places.items c.args.self.now c.args.page c.in-Ok.zeros false c.self.invariant.few still c.self.view_is
-    (λ q. c.put_at.ensures.put q ∙ ap (λ x. cond (eqb q c.args.page) (Some c.in-Ok.zeros, false) x) (c.make_place.ensures.same q))
-    ∙ ap (λ xs. map.insert c.args.self.now.bytes c.args.page xs) c.in-Ok.ensures
+    put_bytes c.self.inside.places.items c.put_at.new.places.items c.args.self.now c.args.page zero_page false c.self.invariant.few still c.self.view_is
+    (λ q. c.put_at.ensures.put q ∙ ap (λ o. cond (eqb q c.args.page) (o, false) (cell_at c.make_place.new.places.items q)) c.zeros.ensures ∙ ap (λ x. cond (eqb q c.args.page) (Some zero_page, false) x) (c.make_place.ensures.same q))
 
 pub returns-clause-protected : goal.returns-clause-protected
 returns-clause-protected c =
     let still : length c.put_at.new.places.items ≤ 1024 = omega (arith, c.put_at.ensures.size, c.make_place.ensures.few) in
     let none : is_some (cell_at c.self.inside.places.items c.args.page).0 ≡ false = sym c.is_present_at.ensures ∙ c.if-is_present_at.false in
-    put_flags c.self.inside.places.items c.put_at.new.places.items c.args.self.now c.args.page (Some c.in-Ok.zeros) c.self.invariant.few still c.self.view_is (not_protected c.self.inside.places.items c.args.page c.self.invariant none)
-    (λ q. c.put_at.ensures.put q ∙ ap (λ x. cond (eqb q c.args.page) (Some c.in-Ok.zeros, false) x) (c.make_place.ensures.same q))
+    put_flags c.self.inside.places.items c.put_at.new.places.items c.args.self.now c.args.page (Some zero_page) c.self.invariant.few still c.self.view_is (not_protected c.self.inside.places.items c.args.page c.self.invariant none)
+    (λ q. c.put_at.ensures.put q ∙ ap (λ o. cond (eqb q c.args.page) (o, false) (cell_at c.make_place.new.places.items q)) c.zeros.ensures ∙ ap (λ x. cond (eqb q c.args.page) (Some zero_page, false) x) (c.make_place.ensures.same q))
 
 pub returns-clause-missing : goal.returns-clause-missing
 returns-clause-missing c = let absent : map.contains_key c.args.self.now.bytes c.args.page ≡ false = sym (present_seen c.self.inside.places.items c.args.self.now c.args.page c.self.invariant.few c.self.view_is) ∙ sym c.is_present_at.ensures ∙ c.if-is_present_at.false in absent
+
+pub put_at-requires-clause-whole : goal.put_at-requires-clause-whole
+put_at-requires-clause-whole c = λ bytes e. sym (ap length (same_Some zero_page bytes (sym c.zeros.ensures ∙ e))) ∙ length-zero_page

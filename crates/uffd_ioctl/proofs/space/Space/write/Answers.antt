@@ -1,7 +1,12 @@
-use Rattle.std.proofs.Common.{ap, ◌∙◌, ◌/◌, ◌≡◌, true}
+use Rattle.std.proofs.Common.{ap, sym, subst, ◌∙◌, ◌/◌, ◌≡◌, true}
 use Rattle.std.specs.FinMap.{contains_key}
+use Rattle.mig_base.specs.Bytes.{contents}
+use Rattle.mig_base.proofs.PageSetViews.{on_any_err}
+use Rattle.mig_model.specs.Space.{IsSoundSpace}
+use Rattle.mig_model.specs.Wire.{is_zeros}
+use Rattle.uffd_ioctl.specs.Spaces.{space_of}
 use Rattle.uffd_ioctl.proofs.AnswerLemmas.{digits_of, digits_fit}
-use Rattle.uffd_ioctl.proofs.AccessLemmas.{sound_written, written_space}
+use Rattle.uffd_ioctl.proofs.AccessLemmas.{all_zeros, sound_written, written_space}
 use Rattle.uffd_ioctl.proofs.space.Space.write.Goals as goal
 
 pub write-requires-clause-inside : goal.write-requires-clause-inside
@@ -9,15 +14,22 @@ write-requires-clause-inside c =
     digits_fit c.args.addr c.args.width _ c.args.value c.requires.aligned (digits_of c.write_u64.new.buf c.from.result c.args.width c.args.value c.write_u64.ensures c.from.ensures)
 
 pub invariant_of-self : goal.invariant_of-self
-invariant_of-self c =
+invariant_of-self c = subst (λ pages. IsSoundSpace (space_of c.self.inside.areas pages c.self.inside.object)) (sym c.in_err-write.ensures.err) c.self.invariant
+
+pub returns-in_err-write-clause-zeros : goal.returns-in_err-write-clause-zeros
+returns-in_err-write-clause-zeros c =
+    on_any_err c.from_residual.result
+    (ap (λ s. is_zeros (contents s.host.bytes (c.args.addr / 4096))) (sym c.self.view_is) ∙ ap is_zeros c.in_err-write.ensures.zeros ∙ all_zeros)
+
+pub invariant_of-self-2 : goal.invariant_of-self-2
+invariant_of-self-2 c =
     let own = c.self.inside in
-    let mapped : contains_key own.areas (c.args.addr / 4096) ≡ true = ap (λ s. contains_key s.host.areas (c.args.addr / 4096)) (c.self.view_is ∙ c.in_ok-make_present.ensures.ok) ∙ c.requires.mapped in
-    let present : contains_key own.pages.bytes (c.args.addr / 4096) ≡ true = ap (λ s. contains_key s.host.bytes (c.args.addr / 4096)) c.self.view_is ∙ c.in_ok-make_present.ensures.present in
-    sound_written own.areas own.pages c.write.new.self own.object c.args.addr c.args.width c.args.value _ c.self.invariant mapped present c.requires.aligned
-    (digits_of c.write_u64.new.buf c.from.result c.args.width c.args.value c.write_u64.ensures c.from.ensures) c.write.ensures.bytes c.write.ensures.protected
+    let mapped : contains_key own.areas (c.args.addr / 4096) ≡ true = ap (λ s. contains_key s.host.areas (c.args.addr / 4096)) c.self.view_is ∙ c.requires.mapped in
+    sound_written own.areas own.pages c.write.new.self own.object c.args.addr c.args.width c.args.value _ c.self.invariant mapped c.requires.aligned
+    (digits_of c.write_u64.new.buf c.from.result c.args.width c.args.value c.write_u64.ensures c.from.ensures) c.in_ok-write.ensures.bytes c.write.ensures.protected
 
 pub returns-clause-ok : goal.returns-clause-ok
 returns-clause-ok c =
     let own = c.self.inside in
-    written_space own.areas own.pages c.write.new.self own.object c.make_present.new.self c.args.self.now c.args.addr c.args.width c.args.value _ c.self.view_is c.in_ok-make_present.ensures.ok
-    (digits_of c.write_u64.new.buf c.from.result c.args.width c.args.value c.write_u64.ensures c.from.ensures) c.write.ensures.bytes c.write.ensures.protected
+    written_space own.areas own.pages c.write.new.self own.object c.args.self.now c.args.addr c.args.width c.args.value _ c.self.view_is
+    (digits_of c.write_u64.new.buf c.from.result c.args.width c.args.value c.write_u64.ensures c.from.ensures) c.in_ok-write.ensures.bytes c.write.ensures.protected
