@@ -65,10 +65,13 @@ pub fn write_page(
 ) -> Result<(), NoMemory>
     requires place { i < length pages.old.items }
     requires inside { offset + length bytes.now ≤ PAGE_SIZE }
-    ensures here { slice_index_or pages.new.items i None ≡ stored_page result (slice_index_or pages.old.items i None) offset bytes.now }
-    ensures others { (j : ℕ) → j ≢ i → slice_index_or pages.new.items j None ≡ slice_index_or pages.old.items j None }
+    ensures here { slice_index_or pages.new.items i None ≡
+        stored_page result (slice_index_or pages.old.items i None) offset bytes.now }
+    ensures others { (j : ℕ) → j ≢ i →
+        slice_index_or pages.new.items j None ≡ slice_index_or pages.old.items j None }
     ensures size { length pages.new.items ≡ length pages.old.items }
-    ensures zeros { OnErr result (unwrap_or (slice_index_or pages.old.items i None) zero_page ≡ zero_page) }
+    ensures zeros { OnErr result (unwrap_or (slice_index_or pages.old.items i None) zero_page ≡
+        zero_page) }
 {
     pages[i].write(alloc, offset, bytes)
 }

@@ -134,7 +134,8 @@ impl Page {
 /// memory.
 fn written(alloc: Global, offset: usize, bytes: &[u8]) -> Result<Content, NoMemory>
     requires { offset + length bytes.now ≤ PAGE_SIZE }
-    ensures { IfOk result (λ content. bytes_in content ≡ Some (overwrite zero_page offset bytes.now)) }
+    ensures { IfOk result (λ content.
+        bytes_in content ≡ Some (overwrite zero_page offset bytes.now)) }
 {
     if are_zeros(bytes) {
         return Ok(Content::Zeros);

@@ -188,7 +188,9 @@ impl PageTable {
     pub fn write(&mut self, page: PageNo, offset: usize, bytes: &[u8]) -> Result<(), NoMemory>
         requires page { page < HIGH_PAGE }
         requires inside { offset + length bytes.now ≤ PAGE_SIZE }
-        ensures bytes { OnOk result (self.new.bytes ≡ map.insert self.old.bytes page (overwrite (contents self.old.bytes page) offset bytes.now)) }
+        ensures bytes { OnOk result (self.new.bytes ≡
+            map.insert self.old.bytes page
+            (overwrite (contents self.old.bytes page) offset bytes.now)) }
         ensures protected { self.new.protected ≡ self.old.protected }
         ensures err { OnErr result (self.new ≡ self.old) }
         ensures zeros { OnErr result (contents self.old.bytes page ≡ zero_page) }

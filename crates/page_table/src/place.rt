@@ -104,7 +104,10 @@ impl Leaf {
     ) -> Result<(), NoMemory>
         requires place { i < CHUNK }
         requires inside { offset + length bytes.now ≤ PAGE_SIZE }
-        ensures stored { (j : ℕ) → leaf_cell self.new j ≡ (if nat_eq j i then stored_cell result (leaf_cell self.old i) offset bytes.now else leaf_cell self.old j) }
+        ensures stored { (j : ℕ) →
+            leaf_cell self.new j ≡
+            (if nat_eq j i then stored_cell result (leaf_cell self.old i) offset bytes.now else
+            leaf_cell self.old j) }
         ensures zeros { OnErr result (unwrap_or (leaf_cell self.old i).0 zero_page ≡ zero_page) }
     {
         write_page(alloc, &mut self.pages, i as usize, offset, bytes)
@@ -234,7 +237,10 @@ pub fn place_write(
     requires place { i < CHUNK }
     requires inside { offset + length bytes.now ≤ PAGE_SIZE }
     requires there { is_place place.old ≡ true }
-    ensures stored { (j : ℕ) → cell_in place.new j ≡ (if nat_eq j i then stored_cell result (cell_in place.old i) offset bytes.now else cell_in place.old j) }
+    ensures stored { (j : ℕ) →
+        cell_in place.new j ≡
+        (if nat_eq j i then stored_cell result (cell_in place.old i) offset bytes.now else cell_in
+        place.old j) }
     ensures zeros { OnErr result (unwrap_or (cell_in place.old i).0 zero_page ≡ zero_page) }
 {
     match place {

@@ -62,7 +62,8 @@ pub fn make_place(alloc: Global, places: &mut Vec<Place>, page: PageNo) -> Resul
     ensures few { length places.new.items ≤ CHUNKS }
     ensures there { OnOk result (has_place places.new.items page ≡ true) }
     ensures missing { OnErr result ((cell_at places.old.items page).0 ≡ None) }
-    ensures stay { (q : ℕ) → has_place places.old.items q ≡ true → has_place places.new.items q ≡ true }
+    ensures stay { (q : ℕ) → has_place places.old.items q ≡ true →
+        has_place places.new.items q ≡ true }
 {
     let at = (page / CHUNK) as usize;
     while places.len() <= at {
@@ -118,9 +119,13 @@ pub fn write_at(
 ) -> Result<(), NoMemory>
     requires inside { offset + length bytes.now ≤ PAGE_SIZE }
     requires there { has_place places.old.items page ≡ true }
-    ensures stored { (q : ℕ) → cell_at places.new.items q ≡ (if nat_eq q page then stored_cell result (cell_at places.old.items page) offset bytes.now else cell_at places.old.items q) }
+    ensures stored { (q : ℕ) →
+        cell_at places.new.items q ≡
+        (if nat_eq q page then stored_cell result (cell_at places.old.items page) offset bytes.now
+        else cell_at places.old.items q) }
     ensures size { length places.new.items ≡ length places.old.items }
-    ensures zeros { OnErr result (unwrap_or (cell_at places.old.items page).0 zero_page ≡ zero_page) }
+    ensures zeros { OnErr result (unwrap_or (cell_at places.old.items page).0 zero_page ≡
+        zero_page) }
 {
     let place = &mut places[(page / CHUNK) as usize];
     place_write(alloc, place, page % CHUNK, offset, bytes)

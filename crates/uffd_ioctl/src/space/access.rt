@@ -132,8 +132,13 @@ impl Space {
         requires high { addr < HIGH }
         requires aligned { is_form addr width ≡ true }
         requires mapped { IsTrue (map.contains_key self.old.host.areas (addr / 4096)) }
-        ensures ok { OnOk result (self.new ≡ record self.old { host = host_changed self.old.host (Command.Store addr width value) Reply.Done }) }
-        ensures zeros { OnErr result (is_zeros (contents self.old.host.bytes (addr / 4096)) ≡ true) }
+        ensures ok { OnOk result (self.new ≡
+            record self.old {
+              host = host_changed self.old.host (Command.Store addr width value)
+                  Reply.Done;
+            }) }
+        ensures zeros { OnErr result (is_zeros (contents self.old.host.bytes (addr / 4096)) ≡
+            true) }
         ensures err { OnErr result (self.new ≡ self.old) }
     {
         let page = (addr / PAGE_SIZE) as PageNo;
