@@ -111,7 +111,7 @@ stored_flags result old new value page offset bytes few still view h =
 same_cell : (q page : ℕ) (f : ℕ → Cell) → cond (eqb q page) (f page) (f q) ≡ f q
 same_cell q page f = dite (ℕ_discrete q page) (λ e. rw (eq-eqb q page e) (ap f (sym e))) (λ n. rw (ne_eqb q page n) refl)
 
-pub stored_err : {A E : Type 0} (result : Result A E) (old new : List Place) (value : Pages) (page offset : ℕ) (bytes : List ℕ) → length old ≤ 1024 → length new ≤ 1024 → pages_of old ≡ value → IsStored result old new page offset bytes → OnErr result (pages_of new ≡ value)
+pub stored_err : {A E : Type 0} (result : Result A E) (old new : List Place) (value : Pages) (page offset : ℕ) (bytes : List ℕ) → length old ≤ 1024 → length new ≤ 1024 → shown_pages old ≡ value → IsStored result old new page offset bytes → OnErr result (shown_pages new ≡ value)
 stored_err (Ok done) old new value page offset bytes few still view h = tt
 stored_err (Err fault) old new value page offset bytes few still view h = same_cells_shown old new value few still view (λ q. h q ∙ same_cell q page (cell_at old))
 
