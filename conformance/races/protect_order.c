@@ -84,7 +84,8 @@ int main(int count, char **words) {
     int lost = 0;
     for (int i = 0; i < sends; i++)
       lost += send(reads_first);
-    printf("%s: %d of %d copies lost a store\n", reads_first ? "read, then protected" : "protected, then read", lost, sends);
+    printf("%s: %d of %d copies lost a store%s\n", reads_first ? "read, then protected" : "protected, then read", lost, sends,
+           reads_first && !lost ? ": the race was not seen in this run" : "");
     if (!reads_first && lost)
       status = 3;
   }
