@@ -4,7 +4,7 @@ use Rattle.mig_base.specs.Bytes.{contents}
 use Rattle.mig_base.proofs.PageSetViews.{on_any_err}
 use Rattle.mig_model.specs.Space.{IsSoundSpace}
 use Rattle.mig_model.specs.Wire.{is_zeros}
-use Rattle.uffd_ioctl.specs.Spaces.{space_of}
+use Rattle.uffd_ioctl.specs.Spaces.{machine_space}
 use Rattle.uffd_ioctl.proofs.AnswerLemmas.{digits_of, digits_fit}
 use Rattle.uffd_ioctl.proofs.AccessLemmas.{all_zeros, sound_written, written_space}
 use Rattle.uffd_ioctl.proofs.space.Space.write.Goals as goal
@@ -14,7 +14,7 @@ write-requires-clause-inside c =
     digits_fit c.args.addr c.args.width _ c.args.value c.requires.aligned (digits_of c.write_u64.new.buf c.from.result c.args.width c.args.value c.write_u64.ensures c.from.ensures)
 
 pub invariant_of-self : goal.invariant_of-self
-invariant_of-self c = subst (λ pages. IsSoundSpace (space_of c.self.inside.areas pages c.self.inside.object)) (sym c.in_err-write.ensures.err) c.self.invariant
+invariant_of-self c = subst (λ pages. IsSoundSpace (machine_space c.self.inside.areas pages c.self.inside.object)) (sym c.in_err-write.ensures.err) c.self.invariant
 
 pub returns-in_err-write-clause-zeros : goal.returns-in_err-write-clause-zeros
 returns-in_err-write-clause-zeros c =
