@@ -1,4 +1,5 @@
-//! Reading the lines of a log: whether each is one, and says what it says of calls, descriptors, pages and times without contradicting itself.
+//! Reading the lines of a log: whether each is one, and says what it says of calls, descriptors, pages and times without contradicting
+//! itself.
 
 mod answers;
 
