@@ -27,6 +27,14 @@ fn part(rt: &impl Abort, alloc: Global, bytes: &[u8], lacks: usize) {
     assert_eq!(rt; lacking(None, bytes), lacks);
 }
 
+/// The same of the first `count` of these bytes.
+fn cut(rt: &impl Abort, alloc: Global, bytes: &[u8], count: usize, lacks: usize) {
+    match bytes.get(..count) {
+        Some(front) => part(rt, alloc, front, lacks),
+        None => assert!(rt; false),
+    }
+}
+
 /// Reads a frame without pages, and not with one byte too few.
 fn one_text(rt: &impl Abort, alloc: Global, bytes: &[u8]) -> Result<(), Fail> {
     if let [front @ .., _] = bytes {
@@ -36,15 +44,20 @@ fn one_text(rt: &impl Abort, alloc: Global, bytes: &[u8]) -> Result<(), Fail> {
         assert!(rt; false);
         return Ok(());
     };
-    assert_eq!(rt; found.len, bytes.len());
-    assert_eq!(rt; found.at, bytes.len());
-    match found.head {
-        Head::Other(frame) => {
-            let rest = look(rt, alloc, &[(found.epoch, frame)], bytes)?;
-            assert!(rt; rest.is_empty());
-        }
-        _ => assert!(rt; false),
-    }
+    let FrameHead {
+        epoch,
+        head,
+        at,
+        len,
+        ..
+    } = found;
+    assert_eq!(rt; (at, len), (bytes.len(), bytes.len()));
+    let Head::Other(frame) = head else {
+        assert!(rt; false);
+        return Ok(());
+    };
+    let rest = look(rt, alloc, &[(epoch, frame)], bytes)?;
+    assert!(rt; rest.is_empty());
     Ok(())
 }
 
@@ -64,9 +77,9 @@ fn frames_without_pages(rt: HostRuntime) -> Result<(), Fail> {
 fn a_page_is_left_where_it_lies(rt: HostRuntime) -> Result<(), Fail> {
     for (code, version) in [(1, Version::One), (2, Version::Two)] {
         let bytes = text_again(rt.alloc(), code, PAGE, PAGE_BYTES, 3)?;
-        part(&rt, rt.alloc(), &bytes[..11], 1);
-        part(&rt, rt.alloc(), &bytes[..12], 4100);
-        part(&rt, rt.alloc(), &bytes[..4111], 1);
+        cut(&rt, rt.alloc(), &bytes, 11, 1);
+        cut(&rt, rt.alloc(), &bytes, 12, 4100);
+        cut(&rt, rt.alloc(), &bytes, 4111, 1);
         for fixed in [None, Some(version)] {
             let Ok(Some(found)) = read_head(rt.alloc(), fixed, &bytes) else {
                 assert!(&rt; false);
@@ -84,7 +97,7 @@ fn a_page_is_left_where_it_lies(rt: HostRuntime) -> Result<(), Fail> {
 #[test]
 fn a_run_is_left_where_it_lies(rt: HostRuntime) -> Result<(), Fail> {
     let bytes = text_again(rt.alloc(), 2, RUN, PAGE_BYTES, PAGE_BYTES)?;
-    part(&rt, rt.alloc(), &bytes[..8211], 1);
+    cut(&rt, rt.alloc(), &bytes, 8211, 1);
     let Ok(Some(found)) = read_head(rt.alloc(), None, &bytes) else {
         assert!(&rt; false);
         return Ok(());
