@@ -186,8 +186,8 @@ impl Log {
         met.unwrap_or(call.space)
     }
 
-    /// Whether the rules speak of a call: not where the log has seen its object neither open nor make its handshake, and not where its
-    /// range is too long.
+    /// Whether the rules speak of a call: not where the log has seen its object neither open nor make its handshake, and not where its range
+    /// is too long.
     fn is_judged(&self, call: &LogCall, opened: &IndexSet<u64>, shaken: &IndexSet<u64>) -> bool {
         if let Some((start, len)) = call.bytes() {
             if self.size.range(start, len).count > MOST_PAGES {

@@ -1,5 +1,4 @@
-//! Reading the lines of a log: whether each is one, and says what it says of calls, descriptors, pages and times without contradicting
-//! itself.
+//! Reading the lines of a log: whether each is one, and says what it says of calls, descriptors, pages and times without contradicting itself.
 
 mod answers;
 

@@ -1,5 +1,5 @@
-//! Replaying a run: it has the log's lines in their order, each call takes effect once between its begin and its end, and the rules allow
-//! each step with exactly the log's answer.
+//! Replaying a run: it has the log's lines in their order, each call takes effect once between its begin and its end, and the rules allow each
+//! step with exactly the log's answer.
 
 use crate::kernel::Kernel;
 use crate::log::Log;
