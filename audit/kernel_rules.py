@@ -22,8 +22,6 @@ SEEN, UNREAD, ASLEEP = "seen", "unread", "asleep"
 MESSAGE_BYTES = 32
 INSTALLS = ("copy", "zeropage")
 MAP_CALLS = ("mmap", "munmap", "mremap", "madvise")
-# Calls that tell of themselves by events.
-TELLING = (*MAP_CALLS, "fork")
 # Calls that no rule here speaks of: a log with them is not judged.
 NOT_JUDGED = ("continue", "poison", "move")
 
@@ -86,8 +84,7 @@ class Kernel:
         self.objects = {it: Object(space, None) for it, space in (found or {}).items()}
         self.pages, self.faults, self.queue, self.calls = {}, {}, {}, {}
         self.owed, self.unanswered, self.twice, self.outside = [], [], [], []
-        self.waits = []  # for each fault that a call has resolved: the read that returned it, that call, and the fault's flags
-        self.differs, self.resolved, self.now = [], 0, None
+        self.differs, self.resolved = [], 0
 
     # What steps share
 
@@ -127,19 +124,16 @@ class Kernel:
 
     def wake(self, found, places, by_handler):
         places = places if places is None else set(places)
-        woken = [(thread, fault) for thread, fault in self.faults.items()
-                 if fault.object == found and fault.phase != SEEN and (places is None or fault.place in places)]
-        if any(fault.phase == UNREAD for _, fault in woken):
-            self.differs.append("fault-taken-away")
-        for thread, fault in woken:
-            self.end_fault(thread, fault, by_handler)
+        for thread, fault in list(self.faults.items()):
+            if fault.object == found and fault.phase != SEEN and (places is None or fault.place in places):
+                if fault.phase == UNREAD:
+                    self.differs.append("fault-taken-away")
+                self.end_fault(thread, fault, by_handler)
 
     def end_fault(self, thread, fault, by_handler):
         if fault.phase == UNREAD:
             self.queue[fault.object].remove(thread)
-        elif fault.phase == ASLEEP and fault.call and by_handler:
-            self.waits.append((fault.call, self.now, fault.flags))
-        elif fault.phase == ASLEEP and fault.call:
+        elif fault.phase == ASLEEP and fault.call and not by_handler:
             self.unanswered.append(fault.call)
         del self.faults[thread]
 
@@ -200,7 +194,7 @@ class Kernel:
 
     def takes(self, call):
         """The call takes effect with its answer. Returns None, or why no rule allows it."""
-        self.differs, self.resolved, self.now = [], 0, call
+        self.differs, self.resolved = [], 0
         try:
             getattr(self, "take_" + call.word)(call, call.arguments)
         except Refused as reason:
@@ -380,10 +374,7 @@ class Kernel:
         self.object_of(arguments)
 
     def take_fork(self, call, arguments):
-        """fork(2) copies the address space. Whoever asked for UFFD_FEATURE_EVENT_FORK gets a message with the child's object."""
-        told = {page.object for (space, _), page in self.pages.items() if space == call.space and self.objects[page.object].features & FORK}
-        if call.answer == "ok" and told:
-            self.calls[call.key] = MapCall(call.space, {it: [("fork", ())] for it in told}, told=told)
+        pass
 
     def take_close(self, call, arguments):
         of, me = self.object_of(arguments), arguments["O"][0]
@@ -450,7 +441,7 @@ class Kernel:
 
     def is_next(self, of, me, kind, values):
         if of.events.get(me):
-            return of.events[me][0] == (kind, () if kind == "fork" else tuple(values.values()))
+            return of.events[me][0] == (kind, tuple(values.values()))
         if kind != "remove" or not of.removes.get(me):
             return False
         cursor, end = of.removes[me]
