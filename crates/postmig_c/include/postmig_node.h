@@ -150,9 +150,9 @@ typedef struct {
 
 /* Frames that a node has sent wait in its handle, in their order, until they are taken: those of a source for the wire to the destination,
    those of a destination for the wire back. They are Advise, Discard, Package, End, Resume; and Request, Recv, Done. (Page, Zero and Run
-   have bytes: the caller writes them, by the heads below, on the wire or the urgent wire.) Takes the first and writes its text, in version
-   2 of the format. POSTMIG_NO_FRAME: none waits. POSTMIG_NO_ROOM: *written is the length that is needed, and the frame still waits.
-   POSTMIG_NO_MEMORY: it still waits. At a broken channel the caller takes what waits and drops it, as all that was not read. */
+   have bytes: the caller writes them, by the heads below, on the wire or the urgent wire.) Takes all that wait and writes their texts, one
+   after the other, in version 2 of the format. POSTMIG_NO_FRAME: none waits. POSTMIG_NO_ROOM: *written is the length that is needed, and
+   they still wait. At a broken channel the caller takes what waits and drops it, as all that was not read. */
 uint32_t postmig_node_frame(postmig_handle *node, uint8_t *out, size_t room, size_t *written);
 
 /* Begins a trace: from now on each step that is made or refused appends its line, as a line of `postmig test`: the line of a script,
@@ -359,7 +359,7 @@ uint32_t postmig_frame_lengths(const uint8_t *bytes, size_t length, size_t *head
                next_remaining, push }; end; back of Done.
    destination new; { take }; after POSTMIG_DID_TAKE_PACKAGE retry of each processor that waited; { take | take_urgent | next_install,
                (ioctl), install | for each real fault: issue or retry, read, next_act, (ioctl), act, retry if woken }; take of End.
-   after each call that says that a frame waits: node_frame until POSTMIG_NO_FRAME.
+   after each call that says that a frame waits: node_frame.
    a break     both: drop what is unread and what waits in node_frame; notice. source: resume, send the Resume. destination: take it, send
                the Recv and the Requests. source: back of the Recv. */
 

@@ -10,12 +10,18 @@
 //! Every export takes `&mut Handle`, so the raw pointer stays in the small functions of `handle` and `unboxed`, whose proofs are by hand.
 #![tactic(auto)]
 
+mod commands;
+mod destination_calls;
+mod effects;
 mod frames;
 mod handle;
+mod node_calls;
 mod numbers;
 mod queue;
+mod refusals;
 mod room;
 mod scripts;
+mod source_calls;
 mod status;
 mod unboxed;
 mod worlds;
