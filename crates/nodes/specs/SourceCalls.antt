@@ -7,8 +7,12 @@ use Rattle.mig_model.specs.GuestSteps.{Tried}
 use Rattle.mig_model.specs.NodeSteps.{Acted, IsRefusedFor, Sends, acted, is_used}
 use Rattle.mig_model.specs.Source.{Source}
 use Rattle.mig_model.specs.SourceSteps as source
-use Rattle.mig_model.specs.Wire.{Frame, wire_with}
+use Rattle.mig_model.specs.Wire.{Frame, Sent, wire_with}
+use Rattle.frame_decoder.specs.Streams.{IsTextOf}
+use Rattle.frame_decoder.specs.declared.version.Version.{Version}
+use Rattle.nodes.specs.Faults.{returning_fault}
 use Rattle.nodes.specs.Nodes.{PostingSource}
+use Rattle.nodes.specs.declared.fault.FrameFault.{FrameFault}
 use Rattle.nodes.specs.declared.steps.SourceStep.{SourceStep}
 
 -- what a call gives: its effect and the node after it, or its refusal
@@ -59,3 +63,26 @@ MayBeRefused (SourceStep.PushUrgent ticket) old refusal =
     IsRefusedFor (answer (SourceStep.PushUrgent ticket) old) refusal
     ⊎ ((refusal ≡ Refusal.CountUsed) × (is_used old.node.urgent_sent ≡ true) × IsOk (answer (SourceStep.PushUrgent ticket) old))
 MayBeRefused step old refusal = IsRefusedFor (answer step old) refusal
+
+-- Frames that come back
+
+-- the bytes are the text of a frame, which is taken: what it makes the source send waits
+pub record IsReturned (bytes : List ℕ) (old : PostingSource) (effect : Effect) (new : PostingSource) : Type 0 where
+  pub version : Version
+  pub sent : Sent
+  pub text : IsTextOf version bytes sent
+  pub accepted : returning_fault old.node sent.epoch sent.frame ≡ None
+  pub taken : posts old (source.take old.node sent.frame) ≡ acted effect new
+
+-- the bytes are the text of a frame, which is not taken for this reason
+pub record IsRefusedBack (bytes : List ℕ) (old : PostingSource) (fault : FrameFault) : Type 0 where
+  pub version : Version
+  pub sent : Sent
+  pub text : IsTextOf version bytes sent
+  pub refused : returning_fault old.node sent.epoch sent.frame ≡ Some fault
+
+-- why the bytes of a frame are not taken: they are not the text of a frame, memory ran out, or the source refuses the frame
+abbrev pub MayNotReturn : List ℕ → PostingSource → FrameFault → Type 0
+MayNotReturn bytes old FrameFault.NotAFrame = (version : Version) (sent : Sent) → IsTextOf version bytes sent → ⊥
+MayNotReturn bytes old FrameFault.NoMemory = Unit {0}
+MayNotReturn bytes old fault = IsRefusedBack bytes old fault

@@ -17,5 +17,6 @@ mod steps;
 
 pub use crate::destination::DestinationNode;
 pub use crate::fault::FrameFault;
+pub use crate::heads::{page_head, run_head};
 pub use crate::source::SourceNode;
 pub use crate::steps::{DestinationStep, SourceStep};

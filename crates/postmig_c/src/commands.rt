@@ -1,7 +1,7 @@
 //! Commands of processors, in numbers.
 
 ghost use Rattle.std.specs.Prelude.{◌≡◌};
-ghost use Rattle.postmig_c.specs.Commands.{command_of, place_of, prot_of};
+ghost use Rattle.postmig_c.specs.Commands.{command_of, fixed_of, place_of, prot_of, width_of};
 
 use mig_base::{Command, Place, Prot};
 
@@ -56,6 +56,7 @@ fn place_of(number: u32, target: u64) -> Option<Place>
 
 /// The target of an mremap, by the number of its place: none, or MREMAP_FIXED.
 fn fixed_of(number: u32, target: u64) -> Option<Option<u64>>
+    ensures { result ≡ fixed_of number target }
 {
     match number {
         0 => Some(None),
@@ -66,12 +67,14 @@ fn fixed_of(number: u32, target: u64) -> Option<Option<u64>>
 
 /// The width of an access, if a byte holds it.
 fn width_of(width: u32) -> Option<u8>
+    ensures { result ≡ width_of width }
 {
     if width < 256 { Some(width as u8) } else { None }
 }
 
 /// The command of these numbers, if they have one.
 pub fn command_of(numbers: &CommandNumbers) -> Option<Command>
+    ensures { result ≡ command_of numbers.now }
 {
     let addr = numbers.addr;
     let len = numbers.length;

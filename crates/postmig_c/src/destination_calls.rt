@@ -1,16 +1,19 @@
-//! The calls on a destination of its own.
+//! The calls on a destination of its own that are no steps, and the frames that come to it.
 
-use crate::commands::{CommandNumbers, command_of};
+ghost use Rattle.std.specs.Prelude.{◌≡◌, ◌≢◌, ◌⊎◌};
+ghost use Rattle.std.specs.declared.option.Option.TheVariants.{None as Nothing, Some as Just};
+ghost use Rattle.mig_model.specs.Owed.{home};
+ghost use Rattle.nodes.specs.declared.fault.FrameFault.{FrameFault};
+ghost use Rattle.postmig_c.specs.Refusals.{fault_status};
+ghost use Rattle.postmig_c.specs.NodeCalls.{DestinationTakes, DestinationTakesUrgently, HasDestinations, HasNoDestination, TellsDestination, destination_counts, destination_phase};
+
 use crate::effects::EffectNumbers;
 use crate::handle::{Content, Handle};
-use crate::source_calls::{told, told_of_frame};
-use crate::status::{DONE, NO_CPU, NO_MEMORY, NO_PAGE, NOT_A_COMMAND, NOT_OPEN};
-use crate::worlds::open;
-use mig_base::effect::Effect;
+use crate::status::{DONE, NO_PAGE, NOT_OPEN};
+use crate::told::told_of_frame;
+use mig_base::PageNo;
 use mig_base::phase::DestPhase;
-use mig_base::refusal::Refusal;
-use mig_base::{PageNo, page_address};
-use nodes::{DestinationNode, DestinationStep};
+use nodes::DestinationNode;
 use std::alloc::Global;
 
 /// How far a destination has come, in numbers.
@@ -32,109 +35,21 @@ pub struct DestinationCounts {
     pub arrivals: u64,
     /// Unread events.
     pub changing: u64,
-    /// Copies installed, and copies dropped.
+    /// Copies that were installed.
     pub installed: u64,
+    /// Copies that were dropped.
     pub dropped: u64,
     /// Faults read.
     pub faults: u64,
 }
 
-/// Puts a new destination of `cpus` processors into a handle. What it had is freed. It keeps that if the answer is not 0.
-#[unsafe(no_mangle)]
-pub extern "C" fn postmig_destination_new(alloc: Global, cpus: u8, handle: &mut Handle) -> u32 {
-    if cpus < 1 || cpus > 16 {
-        return NO_CPU;
-    }
-    let Ok(node) = DestinationNode::new(alloc, cpus) else {
-        return NO_MEMORY;
-    };
-    open(alloc, Content::Destination(node), handle)
-}
-
-/// Makes a step of the destination of a handle.
-fn step_destination(
-    alloc: Global,
-    handle: &mut Handle,
-    step: DestinationStep,
-    effect: &mut EffectNumbers,
-) -> u32 {
-    let Some(mut content) = handle.take(alloc) else {
-        return NOT_OPEN;
-    };
-    let status = match &mut *content {
-        Content::Destination(node) => told(node.step(step), effect),
-        _ => NOT_OPEN,
-    };
-    *handle = Handle::of(content);
-    status
-}
-
-/// Has a processor make a command.
-#[unsafe(no_mangle)]
-pub extern "C" fn postmig_destination_issue(
-    alloc: Global,
-    handle: &mut Handle,
-    cpu: u8,
-    command: &CommandNumbers,
-    effect: &mut EffectNumbers,
-) -> u32 {
-    match command_of(command) {
-        Some(command) => {
-            step_destination(alloc, handle, DestinationStep::Issue { cpu, command }, effect)
-        }
-        None => NOT_A_COMMAND,
-    }
-}
-
-/// Has a woken processor make its load or store again.
-#[unsafe(no_mangle)]
-pub extern "C" fn postmig_destination_retry(
-    alloc: Global,
-    handle: &mut Handle,
-    cpu: u8,
-    effect: &mut EffectNumbers,
-) -> u32 {
-    step_destination(alloc, handle, DestinationStep::Retry { cpu }, effect)
-}
-
-/// Reads the next message.
-#[unsafe(no_mangle)]
-pub extern "C" fn postmig_destination_read(
-    alloc: Global,
-    handle: &mut Handle,
-    effect: &mut EffectNumbers,
-) -> u32 {
-    step_destination(alloc, handle, DestinationStep::Read, effect)
-}
-
-/// Resolves the first fault that was read. A Request may wait.
-#[unsafe(no_mangle)]
-pub extern "C" fn postmig_destination_act(
-    alloc: Global,
-    handle: &mut Handle,
-    effect: &mut EffectNumbers,
-) -> u32 {
-    step_destination(alloc, handle, DestinationStep::Act, effect)
-}
-
-/// The first copy that arrived is installed or dropped.
-#[unsafe(no_mangle)]
-pub extern "C" fn postmig_destination_install(
-    alloc: Global,
-    handle: &mut Handle,
-    effect: &mut EffectNumbers,
-) -> u32 {
-    step_destination(alloc, handle, DestinationStep::Install, effect)
-}
-
-/// Notices that the channel is broken.
-#[unsafe(no_mangle)]
-pub extern "C" fn postmig_destination_notice(
-    alloc: Global,
-    handle: &mut Handle,
-    effect: &mut EffectNumbers,
-) -> u32 {
-    step_destination(alloc, handle, DestinationStep::Notice, effect)
+/// Hands a destination the bytes of a frame, and answers a status.
+fn take_forward(node: &mut DestinationNode, bytes: &[u8], effect: &mut EffectNumbers) -> u32
+    ensures made { result ≡ 0 → DestinationTakes bytes.now node.old effect.new node.new }
+    ensures kept { result ≢ 0 → result ≢ 4 → node.new ≡ node.old }
+    ensures open { result ≢ 2 }
+{
+    told_of_frame(node.take(bytes), effect)
 }
 
 /// Takes a frame of the wire from the source, by its text without the bytes of pages.
@@ -144,16 +59,31 @@ pub extern "C" fn postmig_destination_take(
     handle: &mut Handle,
     bytes: &[u8],
     effect: &mut EffectNumbers,
-) -> u32 {
+) -> u32
+    ensures made { result ≡ 0 →
+        HasDestinations handle.old.content handle.new.content (λ old new.
+        DestinationTakes bytes.now old effect.new new) }
+    ensures not_open { result ≡ 2 → HasNoDestination handle.old.content }
+    ensures kept { result ≢ 0 → result ≢ 4 → handle.new.content ≡ handle.old.content }
+{
     let Some(mut content) = handle.take(alloc) else {
         return NOT_OPEN;
     };
     let status = match &mut *content {
-        Content::Destination(node) => told_of_frame(node.take(bytes), effect),
+        Content::Destination(node) => take_forward(node, bytes, effect),
         _ => NOT_OPEN,
     };
     *handle = Handle::of(content);
     status
+}
+
+/// Hands a destination the bytes of a frame of the urgent wire, and answers a status.
+fn take_aside(node: &mut DestinationNode, bytes: &[u8], effect: &mut EffectNumbers) -> u32
+    ensures made { result ≡ 0 → DestinationTakesUrgently bytes.now node.old effect.new node.new }
+    ensures kept { result ≢ 0 → node.new ≡ node.old }
+    ensures open { result ≢ 2 }
+{
+    told_of_frame(node.take_urgent(bytes), effect)
 }
 
 /// Takes a frame of the urgent wire, by its text without the bytes of a page.
@@ -163,75 +93,30 @@ pub extern "C" fn postmig_destination_take_urgent(
     handle: &mut Handle,
     bytes: &[u8],
     effect: &mut EffectNumbers,
-) -> u32 {
+) -> u32
+    ensures made { result ≡ 0 →
+        HasDestinations handle.old.content handle.new.content (λ old new.
+        DestinationTakesUrgently bytes.now old effect.new new) }
+    ensures not_open { result ≡ 2 → HasNoDestination handle.old.content }
+    ensures kept { result ≢ 0 → handle.new.content ≡ handle.old.content }
+{
     let Some(mut content) = handle.take(alloc) else {
         return NOT_OPEN;
     };
     let status = match &mut *content {
-        Content::Destination(node) => told_of_frame(node.take_urgent(bytes), effect),
+        Content::Destination(node) => take_aside(node, bytes, effect),
         _ => NOT_OPEN,
     };
     *handle = Handle::of(content);
     status
 }
 
-/// The effect that the next act would have.
-fn next_act(node: &DestinationNode) -> Result<Effect, Refusal> {
-    let (act, addr) = node.node().next_act()?;
-    Ok(act.effect(addr))
-}
-
-/// Says what effect [`postmig_destination_act`] would have.
-#[unsafe(no_mangle)]
-pub extern "C" fn postmig_destination_next_act(
-    alloc: Global,
-    handle: &mut Handle,
-    effect: &mut EffectNumbers,
-) -> u32 {
-    let Some(content) = handle.take(alloc) else {
-        return NOT_OPEN;
-    };
-    let status = match &*content {
-        Content::Destination(node) => told(next_act(node), effect),
-        _ => NOT_OPEN,
-    };
-    *handle = Handle::of(content);
-    status
-}
-
-/// The effect that the next install would have.
-fn next_install(node: &DestinationNode) -> Result<Effect, Refusal> {
-    let (origin, home) = node.node().next_install()?;
-    let origin = page_address(origin);
-    Ok(match home {
-        Some(page) => Effect::Installed {
-            addr: page_address(page),
-            origin,
-        },
-        None => Effect::Dropped { origin },
-    })
-}
-
-/// Says what effect [`postmig_destination_install`] would have.
-#[unsafe(no_mangle)]
-pub extern "C" fn postmig_destination_next_install(
-    alloc: Global,
-    handle: &mut Handle,
-    effect: &mut EffectNumbers,
-) -> u32 {
-    let Some(content) = handle.take(alloc) else {
-        return NOT_OPEN;
-    };
-    let status = match &*content {
-        Content::Destination(node) => told(next_install(node), effect),
-        _ => NOT_OPEN,
-    };
-    *handle = Handle::of(content);
-    status
-}
-
-/// Where a page of the source is owed.
-fn show_home(node: &DestinationNode, origin: PageNo, page: &mut PageNo) -> u32 {
+/// Where a page of the source is owed, as a status.
+fn show_home(node: &DestinationNode, origin: PageNo, page: &mut PageNo) -> u32
+    ensures home { result ≡ 0 → home node.now.node.owed origin ≡ Just page.new }
+    ensures nowhere { result ≡ 13 → home node.now.node.owed origin ≡ Nothing }
+    ensures range { (result ≡ 0) ⊎ (result ≡ 13) }
+{
     match node.node().owed().home(origin) {
         Some(home) => {
             *page = home;
@@ -248,7 +133,15 @@ pub extern "C" fn postmig_destination_home(
     handle: &mut Handle,
     origin: PageNo,
     page: &mut PageNo,
-) -> u32 {
+) -> u32
+    ensures home { result ≡ 0 →
+        TellsDestination handle.old.content (λ old. home old.node.owed origin ≡ Just page.new) }
+    ensures nowhere { result ≡ 13 →
+        TellsDestination handle.old.content (λ old. home old.node.owed origin ≡ Nothing) }
+    ensures not_open { result ≡ 2 → HasNoDestination handle.old.content }
+    ensures same { handle.new.content ≡ handle.old.content }
+    ensures range { (result ≡ 0) ⊎ (result ≡ 2) ⊎ (result ≡ 13) }
+{
     let Some(content) = handle.take(alloc) else {
         return NOT_OPEN;
     };
@@ -261,7 +154,9 @@ pub extern "C" fn postmig_destination_home(
 }
 
 /// The number of a phase.
-fn phase_number(phase: DestPhase) -> u32 {
+fn phase_number(phase: DestPhase) -> u32
+    ensures { result ≡ destination_phase phase }
+{
     match phase {
         DestPhase::Idle => 0,
         DestPhase::Advised => 1,
@@ -273,7 +168,9 @@ fn phase_number(phase: DestPhase) -> u32 {
 }
 
 /// How far a destination has come.
-fn counts_of(node: &DestinationNode) -> DestinationCounts {
+fn counts_of(node: &DestinationNode) -> DestinationCounts
+    ensures { result ≡ destination_counts node.now }
+{
     let destination = node.node();
     DestinationCounts {
         phase: phase_number(destination.phase()),
@@ -296,7 +193,13 @@ pub extern "C" fn postmig_destination_counts(
     alloc: Global,
     handle: &mut Handle,
     counts: &mut DestinationCounts,
-) -> u32 {
+) -> u32
+    ensures same { handle.new.content ≡ handle.old.content }
+    ensures counts { result ≡ 0 →
+        TellsDestination handle.old.content (λ old. counts.new ≡ destination_counts old) }
+    ensures not_open { result ≡ 2 → HasNoDestination handle.old.content }
+    ensures range { (result ≡ 0) ⊎ (result ≡ 2) }
+{
     let Some(content) = handle.take(alloc) else {
         return NOT_OPEN;
     };

@@ -1,7 +1,7 @@
 //! The effect of a step, in numbers.
 
 ghost use Rattle.std.specs.Prelude.{◌≡◌};
-ghost use Rattle.postmig_c.specs.Effects as numbers;
+ghost use Rattle.postmig_c.specs.Effects.{addr_in, count_in, cpu_in, effect_numbers, errno_number, event_addr, event_length, event_number, event_other, kind_of, length_in, number_in, other_in, reply_in, reply_number, reply_value, side_number, state_number, value_in};
 
 use mig_base::effect::Effect;
 use mig_base::phase::Received;
@@ -16,7 +16,7 @@ pub struct EffectNumbers {
     pub kind: u32,
     /// The processor.
     pub cpu: u32,
-    /// An epoch, a round, a side, a state, the number of discarded pages, or the number of an event.
+    /// An epoch, a round, the number of discarded pages, a state, a side, or the number of an event.
     pub number: u32,
     /// How many pages or messages.
     pub count: u32,
@@ -32,47 +32,9 @@ pub struct EffectNumbers {
     pub reply: u32,
 }
 
-/// The numbers of a kind that sets no field.
-fn bare(kind: u32) -> EffectNumbers
-    ensures { result ≡ numbers.bare kind }
-{
-    EffectNumbers {
-        kind,
-        cpu: 0,
-        number: 0,
-        count: 0,
-        addr: 0,
-        other: 0,
-        length: 0,
-        value: 0,
-        reply: 0,
-    }
-}
-
-/// The numbers of an effect on a page.
-fn on_page(kind: u32, addr: u64) -> EffectNumbers
-    ensures { result ≡ record (numbers.bare kind) { addr = addr } }
-{
-    EffectNumbers { addr, ..bare(kind) }
-}
-
-/// The numbers of an effect that counts pages.
-fn counting(kind: u32, count: u32) -> EffectNumbers
-    ensures { result ≡ record (numbers.bare kind) { count = count } }
-{
-    EffectNumbers { count, ..bare(kind) }
-}
-
-/// The numbers of an effect that has a number.
-fn numbered(kind: u32, number: u32) -> EffectNumbers
-    ensures { result ≡ record (numbers.bare kind) { number = number } }
-{
-    EffectNumbers { number, ..bare(kind) }
-}
-
 /// The number of an errno: that of Linux.
 fn errno_number(errno: Errno) -> u64
-    ensures { result ≡ numbers.errno_number errno }
+    ensures { result ≡ errno_number errno }
 {
     match errno {
         Errno::Eperm => 1,
@@ -85,68 +47,80 @@ fn errno_number(errno: Errno) -> u64
     }
 }
 
-/// The number and the value of a reply.
-fn reply_numbers(reply: Reply) -> (u32, u64)
-    ensures { result ≡ numbers.reply_numbers reply }
+/// The kind of a reply.
+fn reply_number(reply: Reply) -> u32
+    ensures { result ≡ reply_number reply }
 {
     match reply {
-        Reply::Value(value) => (1, value),
-        Reply::Done => (2, 0),
-        Reply::At(addr) => (3, addr),
-        Reply::Segv { mapped } => (4, u64::from(mapped)),
-        Reply::BadAccess => (5, 0),
-        Reply::Refused(errno) => (6, errno_number(errno)),
+        Reply::Value(_) => 1,
+        Reply::Done => 2,
+        Reply::At(_) => 3,
+        Reply::Segv { .. } => 4,
+        Reply::BadAccess => 5,
+        Reply::Refused(_) => 6,
     }
 }
 
-/// The numbers with those of a processor's reply.
-fn with_reply(numbers: EffectNumbers, cpu: u8, reply: Reply) -> EffectNumbers
-    ensures { result ≡ numbers.with_reply numbers cpu reply }
+/// The value of a reply.
+fn reply_value(reply: Reply) -> u64
+    ensures { result ≡ reply_value reply }
 {
-    let (reply, value) = reply_numbers(reply);
-    EffectNumbers {
-        cpu: u32::from(cpu),
-        reply,
-        value,
-        ..numbers
+    match reply {
+        Reply::Value(value) => value,
+        Reply::At(addr) => addr,
+        Reply::Segv { mapped: true } => 1,
+        Reply::Refused(errno) => errno_number(errno),
+        Reply::Done | Reply::Segv { mapped: false } | Reply::BadAccess => 0,
     }
 }
 
-/// The numbers of an event.
-fn event_numbers(kind: u32, event: Message) -> EffectNumbers
-    ensures { result ≡ numbers.event_numbers kind event }
+/// The number of an event.
+fn event_number(event: Message) -> u32
+    ensures { result ≡ event_number event }
 {
     match event {
-        Message::PageFault { addr, .. } => EffectNumbers {
-            number: 0x12,
-            addr,
-            ..bare(kind)
-        },
-        Message::Remap { from, to, len } => EffectNumbers {
-            number: 0x14,
-            addr: from,
-            other: to,
-            length: len,
-            ..bare(kind)
-        },
-        Message::Remove { start, end } => EffectNumbers {
-            number: 0x15,
-            addr: start,
-            other: end,
-            ..bare(kind)
-        },
-        Message::Unmap { start, end } => EffectNumbers {
-            number: 0x16,
-            addr: start,
-            other: end,
-            ..bare(kind)
-        },
+        Message::PageFault { .. } => 0x12,
+        Message::Remap { .. } => 0x14,
+        Message::Remove { .. } => 0x15,
+        Message::Unmap { .. } => 0x16,
+    }
+}
+
+/// The first address of an event.
+fn event_addr(event: Message) -> u64
+    ensures { result ≡ event_addr event }
+{
+    match event {
+        Message::PageFault { addr, .. } => addr,
+        Message::Remap { from, .. } => from,
+        Message::Remove { start, .. } | Message::Unmap { start, .. } => start,
+    }
+}
+
+/// The other address of an event.
+fn event_other(event: Message) -> u64
+    ensures { result ≡ event_other event }
+{
+    match event {
+        Message::PageFault { .. } => 0,
+        Message::Remap { to, .. } => to,
+        Message::Remove { end, .. } | Message::Unmap { end, .. } => end,
+    }
+}
+
+/// The length of a range that was moved.
+fn event_length(event: Message) -> u64
+    ensures { result ≡ event_length event }
+{
+    match event {
+        Message::Remap { len, .. } => len,
+        Message::PageFault { .. } | Message::Remove { .. } | Message::Unmap { .. } => 0,
     }
 }
 
 /// The number of a state.
 fn state_number(state: Received) -> u32
-    ensures { result ≡ numbers.state_number state }
+    ensures { result ≡ state_number state }
 {
     match state {
         Received::NotRun => 0,
@@ -157,7 +131,7 @@ fn state_number(state: Received) -> u32
 
 /// The number of a side.
 fn side_number(side: Side) -> u32
-    ensures { result ≡ numbers.side_number side }
+    ensures { result ≡ side_number side }
 {
     match side {
         Side::Source => 0,
@@ -165,102 +139,177 @@ fn side_number(side: Side) -> u32
     }
 }
 
-/// The numbers of an effect of a processor or of a handler.
-fn guest_numbers(effect: Effect) -> Option<EffectNumbers>
+/// The kind of an effect.
+fn kind_of(effect: Effect) -> u32
+    ensures { result ≡ kind_of effect }
 {
-    Some(match effect {
-        Effect::Answered { cpu, reply } => with_reply(bare(1), cpu, reply),
-        Effect::Asleep { cpu } => EffectNumbers {
-            cpu: u32::from(cpu),
-            ..bare(2)
-        },
-        Effect::InCall { cpu, messages } => EffectNumbers {
-            cpu: u32::from(cpu),
-            count: u32::from(messages),
-            ..bare(3)
-        },
-        Effect::ReadFault { addr, wp } => EffectNumbers {
-            addr,
-            number: u32::from(wp),
-            ..bare(9)
-        },
-        Effect::ReadEvent { event } => event_numbers(10, event),
-        Effect::ReadLast { event, cpu, reply } => with_reply(event_numbers(11, event), cpu, reply),
-        Effect::Unprotected { addr } => on_page(12, addr),
-        Effect::Zeroed { addr } => on_page(13, addr),
-        Effect::Woke { addr } => on_page(14, addr),
-        Effect::Forgot { addr } => on_page(15, addr),
-        Effect::Requested { origin, addr } => EffectNumbers {
-            addr,
-            other: origin,
-            ..bare(16)
-        },
-        _ => return None,
-    })
+    match effect {
+        Effect::Answered { .. } => 1,
+        Effect::Asleep { .. } => 2,
+        Effect::InCall { .. } => 3,
+        Effect::Started { .. } => 4,
+        Effect::RoundMade { .. } => 5,
+        Effect::SentPage { .. } => 6,
+        Effect::SentZero { .. } => 7,
+        Effect::SentRun { .. } => 8,
+        Effect::ReadFault { .. } => 9,
+        Effect::ReadEvent { .. } => 10,
+        Effect::ReadLast { .. } => 11,
+        Effect::Unprotected { .. } => 12,
+        Effect::Zeroed { .. } => 13,
+        Effect::Woke { .. } => 14,
+        Effect::Forgot { .. } => 15,
+        Effect::Requested { .. } => 16,
+        Effect::Switched { .. } => 17,
+        Effect::Moved { .. } => 18,
+        Effect::TookAdvise => 19,
+        Effect::TookPage { .. } => 20,
+        Effect::TookZero { .. } => 21,
+        Effect::TookRun { .. } => 22,
+        Effect::TookDiscard { .. } => 23,
+        Effect::TookPackage { .. } => 24,
+        Effect::TookEnd => 25,
+        Effect::TookResume => 26,
+        Effect::TookRequest { .. } => 27,
+        Effect::TookRecv { .. } => 28,
+        Effect::TookDone => 29,
+        Effect::Installed { .. } => 30,
+        Effect::Dropped { .. } => 31,
+        Effect::Asked { .. } => 32,
+        Effect::EndSent => 33,
+        Effect::Broken => 34,
+        Effect::Noticed { .. } => 35,
+        Effect::Resumed { .. } => 36,
+    }
 }
 
-/// The numbers of an effect of a node.
-pub fn effect_numbers(effect: Effect) -> EffectNumbers
+/// The processor of an effect.
+fn cpu_in(effect: Effect) -> u32
+    ensures { result ≡ cpu_in effect }
 {
-    if let Some(numbers) = guest_numbers(effect) {
-        return numbers;
-    }
     match effect {
-        Effect::Started { epoch } => numbered(4, epoch),
-        Effect::RoundMade { round, todo } => EffectNumbers {
-            number: round,
-            count: todo,
-            ..bare(5)
-        },
-        Effect::SentPage { addr } => on_page(6, addr),
-        Effect::SentZero { addr } => on_page(7, addr),
-        Effect::SentRun { addr, pages } => EffectNumbers {
-            addr,
-            count: pages,
-            ..bare(8)
-        },
-        Effect::Switched { discard, owed } => EffectNumbers {
-            number: discard,
-            count: owed,
-            ..bare(17)
-        },
-        Effect::Moved { bytes } => EffectNumbers {
-            length: bytes,
-            ..bare(18)
-        },
-        Effect::TookAdvise => bare(19),
-        Effect::TookPage { addr } => on_page(20, addr),
-        Effect::TookZero { addr } => on_page(21, addr),
-        Effect::TookRun { addr, pages } => EffectNumbers {
-            addr,
-            count: pages,
-            ..bare(22)
-        },
-        Effect::TookDiscard { pages } => counting(23, pages),
-        Effect::TookPackage { owed } => counting(24, owed),
-        Effect::TookEnd => bare(25),
-        Effect::TookResume => bare(26),
-        Effect::TookRequest { addr } => on_page(27, addr),
-        Effect::TookRecv { state, pages } => EffectNumbers {
-            number: state_number(state),
-            count: pages,
-            ..bare(28)
-        },
-        Effect::TookDone => bare(29),
-        Effect::Installed { addr, origin } => EffectNumbers {
-            addr,
-            other: origin,
-            ..bare(30)
-        },
-        Effect::Dropped { origin } => EffectNumbers {
-            other: origin,
-            ..bare(31)
-        },
-        Effect::Asked { addr } => on_page(32, addr),
-        Effect::EndSent => bare(33),
-        Effect::Broken => bare(34),
-        Effect::Noticed { side } => numbered(35, side_number(side)),
-        Effect::Resumed { epoch } => numbered(36, epoch),
-        _ => bare(0),
+        Effect::Answered { cpu, .. }
+        | Effect::Asleep { cpu }
+        | Effect::InCall { cpu, .. }
+        | Effect::ReadLast { cpu, .. } => u32::from(cpu),
+        _ => 0,
+    }
+}
+
+/// The number of an effect: an epoch, a round, a state, a side, or that of an event.
+fn number_in(effect: Effect) -> u32
+    ensures { result ≡ number_in effect }
+{
+    match effect {
+        Effect::Started { epoch } | Effect::Resumed { epoch } => epoch,
+        Effect::RoundMade { round, .. } => round,
+        Effect::ReadFault { wp: true, .. } => 1,
+        Effect::ReadEvent { event } | Effect::ReadLast { event, .. } => event_number(event),
+        Effect::Switched { discard, .. } => discard,
+        Effect::TookRecv { state, .. } => state_number(state),
+        Effect::Noticed { side } => side_number(side),
+        _ => 0,
+    }
+}
+
+/// How many pages or messages.
+fn count_in(effect: Effect) -> u32
+    ensures { result ≡ count_in effect }
+{
+    match effect {
+        Effect::InCall { messages, .. } => u32::from(messages),
+        Effect::RoundMade { todo, .. } => todo,
+        Effect::SentRun { pages, .. }
+        | Effect::TookRun { pages, .. }
+        | Effect::TookDiscard { pages }
+        | Effect::TookRecv { pages, .. } => pages,
+        Effect::Switched { owed, .. } | Effect::TookPackage { owed } => owed,
+        _ => 0,
+    }
+}
+
+/// The address of the page, or the first of an event.
+fn addr_in(effect: Effect) -> u64
+    ensures { result ≡ addr_in effect }
+{
+    match effect {
+        Effect::SentPage { addr }
+        | Effect::SentZero { addr }
+        | Effect::SentRun { addr, .. }
+        | Effect::ReadFault { addr, .. }
+        | Effect::Unprotected { addr }
+        | Effect::Zeroed { addr }
+        | Effect::Woke { addr }
+        | Effect::Forgot { addr }
+        | Effect::Requested { addr, .. }
+        | Effect::TookPage { addr }
+        | Effect::TookZero { addr }
+        | Effect::TookRun { addr, .. }
+        | Effect::TookRequest { addr }
+        | Effect::Installed { addr, .. }
+        | Effect::Asked { addr } => addr,
+        Effect::ReadEvent { event } | Effect::ReadLast { event, .. } => event_addr(event),
+        _ => 0,
+    }
+}
+
+/// The address of the page at the source, or the other address of an event.
+fn other_in(effect: Effect) -> u64
+    ensures { result ≡ other_in effect }
+{
+    match effect {
+        Effect::Requested { origin, .. }
+        | Effect::Installed { origin, .. }
+        | Effect::Dropped { origin } => origin,
+        Effect::ReadEvent { event } | Effect::ReadLast { event, .. } => event_other(event),
+        _ => 0,
+    }
+}
+
+/// A length in bytes.
+fn length_in(effect: Effect) -> u64
+    ensures { result ≡ length_in effect }
+{
+    match effect {
+        Effect::ReadEvent { event } | Effect::ReadLast { event, .. } => event_length(event),
+        Effect::Moved { bytes } => bytes,
+        _ => 0,
+    }
+}
+
+/// The reply to the command.
+fn reply_in(effect: Effect) -> u32
+    ensures { result ≡ reply_in effect }
+{
+    match effect {
+        Effect::Answered { reply, .. } | Effect::ReadLast { reply, .. } => reply_number(reply),
+        _ => 0,
+    }
+}
+
+/// The value of the reply.
+fn value_in(effect: Effect) -> u64
+    ensures { result ≡ value_in effect }
+{
+    match effect {
+        Effect::Answered { reply, .. } | Effect::ReadLast { reply, .. } => reply_value(reply),
+        _ => 0,
+    }
+}
+
+/// The numbers of an effect.
+pub fn effect_numbers(effect: Effect) -> EffectNumbers
+    ensures { result ≡ effect_numbers effect }
+{
+    EffectNumbers {
+        kind: kind_of(effect),
+        cpu: cpu_in(effect),
+        number: number_in(effect),
+        count: count_in(effect),
+        addr: addr_in(effect),
+        other: other_in(effect),
+        length: length_in(effect),
+        value: value_in(effect),
+        reply: reply_in(effect),
     }
 }

@@ -12,9 +12,11 @@
 
 mod commands;
 mod destination_calls;
+mod destination_steps;
 mod effects;
 mod frames;
 mod handle;
+mod heads;
 mod node_calls;
 mod numbers;
 mod queue;
@@ -22,6 +24,8 @@ mod refusals;
 mod room;
 mod scripts;
 mod source_calls;
+mod source_steps;
 mod status;
+mod told;
 mod unboxed;
 mod worlds;

@@ -1,7 +1,8 @@
 //! Refusals as statuses, and their names.
 
-ghost use Rattle.std.specs.Prelude.{◌≡◌};
-ghost use Rattle.postmig_c.specs.Refusals as numbers;
+ghost use Rattle.std.specs.Prelude.{◌≡◌, ◌⊎◌, []};
+ghost use Rattle.postmig_c.specs.Refusals.{fault_status, refusal_status, status_name};
+ghost use Rattle.postmig_c.specs.Room.{Fills, IsTooLong};
 
 use crate::room::hand_over;
 use crate::status::{NO_MEMORY, NOT_A_FRAME, NOT_A_LINE};
@@ -10,7 +11,7 @@ use nodes::FrameFault;
 
 /// The status of a refusal: 64 and its number, but that of `NoMemory` is that of every lack of memory.
 pub fn refusal_status(refusal: Refusal) -> u32
-    ensures { result ≡ numbers.refusal_status refusal }
+    ensures { result ≡ refusal_status refusal }
 {
     match refusal {
         Refusal::NoCpu => 65,
@@ -35,7 +36,7 @@ pub fn refusal_status(refusal: Refusal) -> u32
 
 /// The status of a frame that is not taken.
 pub fn fault_status(fault: FrameFault) -> u32
-    ensures { result ≡ numbers.fault_status fault }
+    ensures { result ≡ fault_status fault }
 {
     match fault {
         FrameFault::NotAFrame => NOT_A_FRAME,
@@ -49,39 +50,45 @@ pub fn fault_status(fault: FrameFault) -> u32
     }
 }
 
-/// The name of the refusal with a status, as a script prints it.
-fn name_of(status: u32) -> Option<&'static str>
+/// The name of the refusal with a status, as a script prints it, or empty.
+fn name_of(status: u32) -> &'static str
+    ensures { result.now ≡ status_name status }
 {
     match status {
-        65 => Some("NoCpu"),
-        66 => Some("Busy"),
-        67 => Some("NotAsleep"),
-        68 => Some("NotWoken"),
-        69 => Some("Phase"),
-        70 => Some("Broken"),
-        71 => Some("NotBroken"),
-        72 => Some("StaleEpoch"),
-        73 => Some("NothingThere"),
-        74 => Some("Changing"),
-        75 => Some("InstallFirst"),
-        76 => Some("PageNotSendable"),
-        77 => Some("NotRemaining"),
-        78 => Some("PagesLeft"),
-        79 => Some("CountUsed"),
-        81 => Some("UrgentFirst"),
-        82 => Some("OutOfPlace"),
-        83 => Some("BadFrame"),
-        84 => Some("BadOwed"),
-        _ => None,
+        65 => "NoCpu",
+        66 => "Busy",
+        67 => "NotAsleep",
+        68 => "NotWoken",
+        69 => "Phase",
+        70 => "Broken",
+        71 => "NotBroken",
+        72 => "StaleEpoch",
+        73 => "NothingThere",
+        74 => "Changing",
+        75 => "InstallFirst",
+        76 => "PageNotSendable",
+        77 => "NotRemaining",
+        78 => "PagesLeft",
+        79 => "CountUsed",
+        81 => "UrgentFirst",
+        82 => "OutOfPlace",
+        83 => "BadFrame",
+        84 => "BadOwed",
+        _ => "",
     }
 }
 
 /// Writes the name of the refusal with a status.
 #[unsafe(no_mangle)]
 pub extern "C" fn postmig_refusal_name(status: u32, out: &mut [u8], written: &mut usize) -> u32
+    ensures name { result ≡ 0 → Fills (status_name status) written.new out.new }
+    ensures long { result ≡ 1 → IsTooLong (status_name status) written.new out.new }
+    ensures none { result ≡ 3 → status_name status ≡ [] }
+    ensures range { (result ≡ 0) ⊎ (result ≡ 1) ⊎ (result ≡ 3) }
 {
-    match name_of(status) {
-        Some(name) => hand_over(name.as_bytes(), out, written),
-        None => NOT_A_LINE,
+    let name = name_of(status);
+    if name.is_empty() {
+        return NOT_A_LINE;
     }
+    hand_over(name.as_bytes(), out, written)
 }

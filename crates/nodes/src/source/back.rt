@@ -1,14 +1,15 @@
 //! Frames that come back to a source.
 
-ghost use Rattle.std.specs.Prelude.{◌≡◌, ◌⊎◌, Some, None, Err, IfOk, IfErr, OnOk, OnErr};
-ghost use Rattle.std.specs.Option.{IfSome};
-ghost use Rattle.mig_model.specs.Faults.{back_fault};
+ghost use Rattle.std.specs.Prelude.{◌≡◌, ◌⊎◌, false, Some, None, Err, IfOk, IfErr, OnOk, OnErr};
+ghost use Rattle.std.specs.Option.{option_map};
+ghost use Rattle.mig_model.specs.Faults.{rebuild_fault};
 ghost use Rattle.mig_model.specs.NodeSteps.{acted};
-ghost use Rattle.mig_model.specs.Source.{is_released};
+ghost use Rattle.mig_model.specs.Source.{is_released, rebuild_frames, source_rebuilt};
 ghost use Rattle.mig_model.specs.SourceSteps.{take};
+ghost use Rattle.mig_model.specs.Wire as machine;
 ghost use Rattle.page_stream.specs.Frames.{frame_of};
-ghost use Rattle.nodes.specs.Faults.{recv_fault, returning_fault};
-ghost use Rattle.nodes.specs.SourceCalls.{IsReturned, posts};
+ghost use Rattle.nodes.specs.Faults.{of_rebuild, returning_fault};
+ghost use Rattle.nodes.specs.SourceCalls.{IsReturned, MayNotReturn, posts};
 ghost use Rattle.nodes.specs.declared.fault.FrameFault as faults;
 
 use crate::fault::{FrameFault, of_back, of_rebuild};
@@ -27,6 +28,7 @@ impl SourceNode {
     /// `OutOfPlace`, `StaleEpoch` and `BadOwed`. `NoMemory` may come at any time. A refusal changes nothing.
     pub fn back(&mut self, bytes: &[u8]) -> Result<Effect, FrameFault>
         ensures taken { IfOk result (λ effect. IsReturned bytes.now self.old effect self.new) }
+        ensures refused { IfErr result (λ fault. MayNotReturn bytes.now self.old fault) }
         ensures err { OnErr result (self.new ≡ self.old) }
     {
         let Ok(read) = read_text(self.alloc, bytes) else {
@@ -56,6 +58,11 @@ impl SourceNode {
 
     /// Resumes from a Recv that is in place. What is sent waits.
     fn resume_from(&mut self, state: Received, owed: &PageSet) -> Result<(), FrameFault>
+        requires { is_released self.old.node.phase ≡ false }
+        ensures accepted { OnOk result (rebuild_fault self.old.node state owed.now ≡ None) }
+        ensures rebuilt { OnOk result (self.new ≡ record self.old { node = source_rebuilt state owed.now self.old.node; wire = machine.wire_with self.old.wire (source_rebuilt state owed.now self.old.node).epoch (rebuild_frames state self.old.node) }) }
+        ensures refused { IfErr result (λ fault. (fault ≡ faults.FrameFault.NoMemory) ⊎ (option_map of_rebuild (rebuild_fault self.old.node state owed.now) ≡ Some fault)) }
+        ensures err { OnErr result (self.new ≡ self.old) }
     {
         if self.wire.reserve(2).is_err() {
             return Err(FrameFault::NoMemory);
