@@ -1,1 +1,3 @@
 pub mod HeadTexts
+pub mod Waiting
+pub mod Taking

@@ -15,6 +15,7 @@ use Rattle.frame_decoder.specs.declared.version.Version.{Version}
 use Rattle.nodes.specs.Faults.{taking_fault, urgent_taking_fault}
 use Rattle.nodes.specs.Heads.{IsPageHead, IsRunHead}
 use Rattle.nodes.specs.Nodes.{PostingDestination}
+use Rattle.nodes.specs.SourceCalls.{IsNoText}
 use Rattle.nodes.specs.declared.fault.FrameFault.{FrameFault}
 use Rattle.nodes.specs.declared.steps.DestinationStep.{DestinationStep}
 
@@ -121,8 +122,14 @@ IsTakenUrgently bytes old effect new = PageIsTakenUrgently bytes old effect new 
 
 -- Refusals
 
--- why the bytes of a frame are not taken, other than for lack of memory
-abbrev pub MayNotTake : PostingDestination → FrameFault → Type 0
-MayNotTake old FrameFault.NotAFrame = Unit {0}
-MayNotTake old FrameFault.NoMemory = Unit {0}
-MayNotTake old fault = (epoch : ℕ) × (frame : Frame) × (taking_fault old.node epoch frame ≡ Some fault)
+-- why bytes are not taken: memory ran out, they are not the text of a frame, or the destination refuses the frame
+abbrev pub MayNotTake : List ℕ → PostingDestination → FrameFault → Type 0
+MayNotTake bytes old fault =
+    (fault ≡ FrameFault.NoMemory)
+    ⊎ (((fault ≡ FrameFault.NotAFrame) × IsNoText bytes) ⊎ ((epoch : ℕ) × (frame : Frame) × (taking_fault old.node epoch frame ≡ Some fault)))
+
+-- the same on the urgent wire
+abbrev pub MayNotTakeUrgently : List ℕ → PostingDestination → FrameFault → Type 0
+MayNotTakeUrgently bytes old fault =
+    (fault ≡ FrameFault.NoMemory)
+    ⊎ (((fault ≡ FrameFault.NotAFrame) × IsNoText bytes) ⊎ ((epoch : ℕ) × (frame : Frame) × (urgent_taking_fault old.node epoch frame ≡ Some fault)))

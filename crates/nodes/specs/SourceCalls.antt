@@ -81,8 +81,10 @@ pub record IsRefusedBack (bytes : List ℕ) (old : PostingSource) (fault : Frame
   pub text : IsTextOf version bytes sent
   pub refused : returning_fault old.node sent.epoch sent.frame ≡ Some fault
 
--- why the bytes of a frame are not taken: they are not the text of a frame, memory ran out, or the source refuses the frame
+-- no frame has these bytes as its text
+abbrev pub IsNoText : List ℕ → Type 0
+IsNoText bytes = (version : Version) (sent : Sent) → IsTextOf version bytes sent → ⊥
+
+-- why bytes are not taken: memory ran out, they are not the text of a frame, or the source refuses the frame
 abbrev pub MayNotReturn : List ℕ → PostingSource → FrameFault → Type 0
-MayNotReturn bytes old FrameFault.NotAFrame = (version : Version) (sent : Sent) → IsTextOf version bytes sent → ⊥
-MayNotReturn bytes old FrameFault.NoMemory = Unit {0}
-MayNotReturn bytes old fault = IsRefusedBack bytes old fault
+MayNotReturn bytes old fault = (fault ≡ FrameFault.NoMemory) ⊎ (((fault ≡ FrameFault.NotAFrame) × IsNoText bytes) ⊎ IsRefusedBack bytes old fault)

@@ -8,7 +8,7 @@ ghost use Rattle.mig_model.specs.Effects.{frame_effect};
 ghost use Rattle.mig_model.specs.Wire as machine;
 ghost use Rattle.page_stream.specs.Frames.{frame_of};
 ghost use Rattle.nodes.specs.Faults.{taking_fault, urgent_taking_fault};
-ghost use Rattle.nodes.specs.DestinationCalls.{IsTaken, IsTakenUrgently, taken, urgently_taken, zeros_taken};
+ghost use Rattle.nodes.specs.DestinationCalls.{IsTaken, IsTakenUrgently, MayNotTake, MayNotTakeUrgently, taken, urgently_taken, zeros_taken};
 ghost use Rattle.nodes.specs.declared.fault.FrameFault as faults;
 
 use crate::destination::DestinationNode;
@@ -29,6 +29,7 @@ impl DestinationNode {
     /// of its pages kept: taking it again keeps all.
     pub fn take(&mut self, bytes: &[u8]) -> Result<Effect, FrameFault>
         ensures taken { IfOk result (λ effect. IsTaken bytes.now self.old effect self.new) }
+        ensures refused { IfErr result (λ fault. MayNotTake bytes.now self.old fault) }
         ensures err { IfErr result (λ fault. fault ≢ faults.FrameFault.NoMemory → self.new ≡ self.old) }
     {
         if let Some((epoch, page)) = page_of(bytes) {
@@ -50,6 +51,7 @@ impl DestinationNode {
     /// [`Destination::take_urgent`](fault_handler::Destination::take_urgent). A refusal changes nothing.
     pub fn take_urgent(&mut self, bytes: &[u8]) -> Result<Effect, FrameFault>
         ensures taken { IfOk result (λ effect. IsTakenUrgently bytes.now self.old effect self.new) }
+        ensures refused { IfErr result (λ fault. MayNotTakeUrgently bytes.now self.old fault) }
         ensures err { OnErr result (self.new ≡ self.old) }
     {
         if let Some((epoch, page)) = page_of(bytes) {

@@ -2,6 +2,7 @@
 
 ghost use Rattle.std.specs.Prelude.{◌≡◌, ◌⊎◌, false, Some, None, Err, IfOk, IfErr, OnOk, OnErr};
 ghost use Rattle.std.specs.Option.{option_map};
+ghost use Rattle.mig_model.specs.Bounds.{IsFrame};
 ghost use Rattle.mig_model.specs.Faults.{rebuild_fault};
 ghost use Rattle.mig_model.specs.NodeSteps.{acted};
 ghost use Rattle.mig_model.specs.Source.{is_released, rebuild_frames, source_rebuilt};
@@ -42,6 +43,7 @@ impl SourceNode {
 
     /// Takes a frame that came back.
     fn take_frame(&mut self, epoch: u32, frame: &Frame) -> Result<Effect, FrameFault>
+        requires { IsFrame (frame_of frame.now) }
         ensures accepted { OnOk result (returning_fault self.old.node epoch (frame_of frame.now) ≡ None) }
         ensures taken { IfOk result (λ effect. posts self.old (take self.old.node (frame_of frame.now)) ≡ acted effect self.new) }
         ensures refused { IfErr result (λ fault. (fault ≡ faults.FrameFault.NoMemory) ⊎ (returning_fault self.old.node epoch (frame_of frame.now) ≡ Some fault)) }
