@@ -1,5 +1,5 @@
 -- The calls of a destination of its own: each is the destination's step of its name, and the frames that it sends back wait.
-use Rattle.std.specs.Prelude.{◌≡◌, ◌⊎◌, ℕ, zero, suc, ◌+◌, ◌*◌, ◌≤◌, Result, Ok, Err, Some, None, List, []}
+use Rattle.std.specs.Prelude.{◌≡◌, ◌⊎◌, ℕ, zero, suc, ◌+◌, ◌*◌, Result, Ok, Err, Some, None, List, []}
 use Rattle.mig_base.specs.declared.TheConstants.{PAGE_SIZE}
 use Rattle.mig_base.specs.declared.effect.Effect.{Effect}
 use Rattle.mig_base.specs.declared.refusal.Refusal.{Refusal}
@@ -8,7 +8,7 @@ use Rattle.mig_model.specs.DestinationSteps as destination
 use Rattle.mig_model.specs.Effects.{frame_effect}
 use Rattle.mig_model.specs.GuestSteps as guest
 use Rattle.mig_model.specs.GuestSteps.{Tried}
-use Rattle.mig_model.specs.NodeSteps.{Acted, IsRefusedFor, Sends, acted}
+use Rattle.mig_model.specs.NodeSteps.{Acted, Sends, acted}
 use Rattle.mig_model.specs.Wire.{Frame, Sent, wire_with}
 use Rattle.frame_decoder.specs.Streams.{IsTextOf}
 use Rattle.frame_decoder.specs.declared.version.Version.{Version}
@@ -23,7 +23,7 @@ use Rattle.nodes.specs.declared.steps.DestinationStep.{DestinationStep}
 abbrev pub Answer : Type 0
 Answer = Result (Acted PostingDestination) Refusal
 
--- the frames of a step wait behind those that wait already
+-- the frames of a step wait after those that wait already
 abbrev pub posts : PostingDestination → Result (Sends Destination) Refusal → Answer
 posts old (Ok step) = acted step.effect (record { node = step.node; wire = wire_with old.wire step.node.epoch step.frames })
 posts old (Err refusal) = Err refusal

@@ -1,5 +1,5 @@
 -- The calls of a source of its own: each is the source's step of its name, and the frames without page bytes that it sends wait.
-use Rattle.std.specs.Prelude.{◌≡◌, ◌⊎◌, ℕ, not, true, Option, Some, None, Result, Ok, Err, IsOk, List, []}
+use Rattle.std.specs.Prelude.{◌≡◌, ◌⊎◌, ℕ, not, true, Some, None, Result, Ok, Err, IsOk, List}
 use Rattle.mig_base.specs.declared.effect.Effect.{Effect}
 use Rattle.mig_base.specs.declared.refusal.Refusal.{Refusal}
 use Rattle.mig_model.specs.GuestSteps as guest
@@ -7,7 +7,7 @@ use Rattle.mig_model.specs.GuestSteps.{Tried}
 use Rattle.mig_model.specs.NodeSteps.{Acted, IsRefusedFor, Sends, acted, is_used}
 use Rattle.mig_model.specs.Source.{Source}
 use Rattle.mig_model.specs.SourceSteps as source
-use Rattle.mig_model.specs.Wire.{Frame, Sent, wire_with}
+use Rattle.mig_model.specs.Wire.{Sent, wire_with}
 use Rattle.frame_decoder.specs.Streams.{IsTextOf}
 use Rattle.frame_decoder.specs.declared.version.Version.{Version}
 use Rattle.nodes.specs.Faults.{returning_fault}
@@ -19,7 +19,7 @@ use Rattle.nodes.specs.declared.steps.SourceStep.{SourceStep}
 abbrev pub Answer : Type 0
 Answer = Result (Acted PostingSource) Refusal
 
--- the frames of a step wait behind those that wait already
+-- the frames of a step wait after those that wait already
 abbrev pub posts : PostingSource → Result (Sends Source) Refusal → Answer
 posts old (Ok step) = acted step.effect (record { node = step.node; wire = wire_with old.wire step.node.epoch step.frames })
 posts old (Err refusal) = Err refusal

@@ -45,7 +45,8 @@ pub(crate) struct RunHead {
 
 /// The pages of the head of a Run, if the bytes are exactly one.
 pub(crate) fn run_of(bytes: &[u8]) -> Option<RunHead>
-    ensures head { IfSome result (λ found. IsRunHead bytes.now found.epoch found.first found.count) }
+    ensures head { IfSome result (λ found.
+        IsRunHead bytes.now found.epoch found.first found.count) }
     ensures first { IfSome result (λ found. IsPage found.first) }
     ensures last { IfSome result (λ found. found.first + found.count ≤ HIGH_PAGE) }
 {

@@ -29,7 +29,8 @@ pub(crate) fn answers_to(
         frames_of answers.items ++ answered_at_once destination.now (frame_of frame.now) ≡
         destination_answers destination.now (frame_of frame.now)) }
     ensures well_formed { IfOk result (λ answers. AreWellFormed (frames_of answers.items)) }
-    ensures room { OnOk result (length (destination_answers destination.now (frame_of frame.now)) ≤ back.new.room) }
+    ensures room { OnOk result
+        (length (destination_answers destination.now (frame_of frame.now)) ≤ back.new.room) }
     ensures stays { back.new.wire ≡ back.old.wire }
 {
     match frame {
@@ -46,7 +47,7 @@ pub(crate) fn answers_to(
     }
 }
 
-/// The Recv of the destination, and behind it, if it runs, its requests once more.
+/// The Recv of the destination, and after it, if it runs, its requests once more.
 fn report(alloc: Global, destination: &Destination) -> Result<Vec<Frame>, NoMemory>
     ensures answers { IfOk result (λ answers.
         frames_of answers.items ≡ destination_answers destination.now machine.Frame.Resume) }

@@ -7,7 +7,7 @@ use mig_base::{Command, Place, Prot};
 
 /// A command in numbers. Fields that its kind does not have are not read.
 #[repr(C)]
-#[derive(Clone, Copy, PartialEq, Eq, Drop)]
+#[derive(Clone, Copy)]
 pub struct CommandNumbers {
     /// 1 load, 2 store, 3 mmap, 4 munmap, 5 mremap, 6 madvise(MADV_DONTNEED).
     pub kind: u32,

@@ -1,4 +1,4 @@
-//! The calls on a destination of its own that are no steps, and the frames that come to it.
+//! The frames that a destination of its own takes, and what it says of itself.
 
 ghost use Rattle.std.specs.Prelude.{◌≡◌, ◌≢◌, ◌⊎◌};
 ghost use Rattle.std.specs.declared.option.Option.TheVariants.{None as Nothing, Some as Just};
@@ -18,7 +18,7 @@ use std::alloc::Global;
 
 /// How far a destination has come, in numbers.
 #[repr(C)]
-#[derive(Clone, Copy, PartialEq, Eq, Drop)]
+#[derive(Clone, Copy)]
 pub struct DestinationCounts {
     /// 0 idle, 1 advised, 2 discarding, 3 running, 4 paused, 5 ended.
     pub phase: u32,

@@ -23,7 +23,8 @@ use std::alloc::Global;
 #[unsafe(no_mangle)]
 pub extern "C" fn postmig_destination_new(alloc: Global, cpus: u8, handle: &mut Handle) -> u32
     ensures ok { result ≡ 0 →
-        handle.new.content ≡ Just (Destination (record { node = first_destination cpus; wire = empty_wire })) }
+        handle.new.content ≡
+        Just (Destination (record { node = first_destination cpus; wire = empty_wire })) }
     ensures refused { result ≢ 0 → handle.new.content ≡ handle.old.content }
 {
     if cpus < 1 || cpus > 16 {
@@ -54,7 +55,8 @@ fn step_destination(
     effect: &mut EffectNumbers,
 ) -> u32
     ensures made { result ≡ 0 →
-        HasDestinations handle.old.content handle.new.content (λ old new. DestinationMakes step old effect.new new) }
+        HasDestinations handle.old.content handle.new.content (λ old new.
+        DestinationMakes step old effect.new new) }
     ensures refused { 64 < result →
         TellsDestination handle.old.content (λ old. DestinationRefuses step old result) }
     ensures not_open { result ≡ 2 → HasNoDestination handle.old.content }
@@ -117,7 +119,8 @@ pub extern "C" fn postmig_destination_retry(
         HasDestinations handle.old.content handle.new.content (λ old new.
         DestinationMakes (steps.DestinationStep.Retry cpu) old effect.new new) }
     ensures refused { 64 < result →
-        TellsDestination handle.old.content (λ old. DestinationRefuses (steps.DestinationStep.Retry cpu) old result) }
+        TellsDestination handle.old.content (λ old.
+        DestinationRefuses (steps.DestinationStep.Retry cpu) old result) }
     ensures not_open { result ≡ 2 → HasNoDestination handle.old.content }
     ensures kept { result ≢ 0 → handle.new.content ≡ handle.old.content }
     ensures range { (result ≡ 0) ⊎ (result ≡ 2) ⊎ (result ≡ 4) ⊎ (64 < result) }
@@ -136,7 +139,8 @@ pub extern "C" fn postmig_destination_read(
         HasDestinations handle.old.content handle.new.content (λ old new.
         DestinationMakes steps.DestinationStep.Read old effect.new new) }
     ensures refused { 64 < result →
-        TellsDestination handle.old.content (λ old. DestinationRefuses steps.DestinationStep.Read old result) }
+        TellsDestination handle.old.content (λ old.
+        DestinationRefuses steps.DestinationStep.Read old result) }
     ensures not_open { result ≡ 2 → HasNoDestination handle.old.content }
     ensures kept { result ≢ 0 → handle.new.content ≡ handle.old.content }
     ensures range { (result ≡ 0) ⊎ (result ≡ 2) ⊎ (result ≡ 4) ⊎ (64 < result) }
@@ -155,7 +159,8 @@ pub extern "C" fn postmig_destination_act(
         HasDestinations handle.old.content handle.new.content (λ old new.
         DestinationMakes steps.DestinationStep.Act old effect.new new) }
     ensures refused { 64 < result →
-        TellsDestination handle.old.content (λ old. DestinationRefuses steps.DestinationStep.Act old result) }
+        TellsDestination handle.old.content (λ old.
+        DestinationRefuses steps.DestinationStep.Act old result) }
     ensures not_open { result ≡ 2 → HasNoDestination handle.old.content }
     ensures kept { result ≢ 0 → handle.new.content ≡ handle.old.content }
     ensures range { (result ≡ 0) ⊎ (result ≡ 2) ⊎ (result ≡ 4) ⊎ (64 < result) }
@@ -174,7 +179,8 @@ pub extern "C" fn postmig_destination_install(
         HasDestinations handle.old.content handle.new.content (λ old new.
         DestinationMakes steps.DestinationStep.Install old effect.new new) }
     ensures refused { 64 < result →
-        TellsDestination handle.old.content (λ old. DestinationRefuses steps.DestinationStep.Install old result) }
+        TellsDestination handle.old.content (λ old.
+        DestinationRefuses steps.DestinationStep.Install old result) }
     ensures not_open { result ≡ 2 → HasNoDestination handle.old.content }
     ensures kept { result ≢ 0 → handle.new.content ≡ handle.old.content }
     ensures range { (result ≡ 0) ⊎ (result ≡ 2) ⊎ (result ≡ 4) ⊎ (64 < result) }
@@ -193,7 +199,8 @@ pub extern "C" fn postmig_destination_notice(
         HasDestinations handle.old.content handle.new.content (λ old new.
         DestinationMakes steps.DestinationStep.Notice old effect.new new) }
     ensures refused { 64 < result →
-        TellsDestination handle.old.content (λ old. DestinationRefuses steps.DestinationStep.Notice old result) }
+        TellsDestination handle.old.content (λ old.
+        DestinationRefuses steps.DestinationStep.Notice old result) }
     ensures not_open { result ≡ 2 → HasNoDestination handle.old.content }
     ensures kept { result ≢ 0 → handle.new.content ≡ handle.old.content }
     ensures range { (result ≡ 0) ⊎ (result ≡ 2) ⊎ (result ≡ 4) ⊎ (64 < result) }

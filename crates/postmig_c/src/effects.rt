@@ -10,7 +10,7 @@ use mig_base::{Errno, Message, Reply};
 
 /// What a step did, in numbers. The header says which fields each kind sets; all others are 0.
 #[repr(C)]
-#[derive(Clone, Copy, PartialEq, Eq, Drop)]
+#[derive(Clone, Copy)]
 pub struct EffectNumbers {
     /// What was done: 1 to 36, in the order of `Effect`.
     pub kind: u32,

@@ -62,7 +62,8 @@ pub extern "C" fn postmig_zero_frame(
     out: &mut [u8],
     written: &mut usize,
 ) -> u32
-    ensures all { result ≡ 0 → Fills (text Two epoch (machine.Frame.Zero page)) written.new out.new }
+    ensures all { result ≡ 0 →
+        Fills (text Two epoch (machine.Frame.Zero page)) written.new out.new }
     ensures long { result ≡ 1 →
         IsTooLong (text Two epoch (machine.Frame.Zero page)) written.new out.new }
     ensures no_page { result ≡ 11 → (page < 16) ⊎ (1048575 < page) }

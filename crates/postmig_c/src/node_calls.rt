@@ -92,7 +92,8 @@ pub extern "C" fn postmig_node_frame(
         TellsWire handle.old.content (λ wire. Fills (texts Two wire.frames) written.new out.new) }
     ensures taken { result ≡ 0 → handle.new.content ≡ drained handle.old.content }
     ensures long { result ≡ 1 →
-        TellsWire handle.old.content (λ wire. IsTooLong (texts Two wire.frames) written.new out.new) }
+        TellsWire handle.old.content (λ wire.
+        IsTooLong (texts Two wire.frames) written.new out.new) }
     ensures none { result ≡ 6 → TellsWire handle.old.content (λ wire. wire.frames ≡ []) }
     ensures not_open { result ≡ 2 → HasNoNode handle.old.content }
     ensures kept { result ≢ 0 → handle.new.content ≡ handle.old.content }

@@ -1,4 +1,4 @@
-//! The calls on a source of its own that are no steps, and the frames that come back to it.
+//! The frames that a source of its own takes back, and what it says of itself.
 
 ghost use Rattle.std.specs.Prelude.{◌≡◌, ◌≢◌, ◌⊎◌};
 ghost use Rattle.mig_model.specs.NodeSteps.{checked};
@@ -18,7 +18,7 @@ use std::alloc::Global;
 
 /// How far a source has come, in numbers.
 #[repr(C)]
-#[derive(Clone, Copy, PartialEq, Eq, Drop)]
+#[derive(Clone, Copy)]
 pub struct SourceCounts {
     /// 0 idle, 1 pre-copy, 2 stopped, 3 paused, 4 released.
     pub phase: u32,
@@ -155,7 +155,8 @@ pub extern "C" fn postmig_source_counts(
     counts: &mut SourceCounts,
 ) -> u32
     ensures same { handle.new.content ≡ handle.old.content }
-    ensures counts { result ≡ 0 → TellsSource handle.old.content (λ old. counts.new ≡ source_counts old) }
+    ensures counts { result ≡ 0 →
+        TellsSource handle.old.content (λ old. counts.new ≡ source_counts old) }
     ensures not_open { result ≡ 2 → HasNoSource handle.old.content }
     ensures range { (result ≡ 0) ⊎ (result ≡ 2) }
 {

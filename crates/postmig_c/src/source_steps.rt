@@ -32,7 +32,8 @@ pub extern "C" fn postmig_source_new(
     handle: &mut Handle,
 ) -> u32
     ensures ok { result ≡ 0 →
-        handle.new.content ≡ Just (Source (record { node = first_source cpus epoch rounds; wire = empty_wire })) }
+        handle.new.content ≡
+        Just (Source (record { node = first_source cpus epoch rounds; wire = empty_wire })) }
     ensures refused { result ≢ 0 → handle.new.content ≡ handle.old.content }
 {
     if cpus < 1 || cpus > 16 {
@@ -63,7 +64,8 @@ fn step_source(
     effect: &mut EffectNumbers,
 ) -> u32
     ensures made { result ≡ 0 →
-        HasSources handle.old.content handle.new.content (λ old new. SourceMakes step old effect.new new) }
+        HasSources handle.old.content handle.new.content (λ old new.
+        SourceMakes step old effect.new new) }
     ensures refused { 64 < result →
         TellsSource handle.old.content (λ old. SourceRefuses step old result) }
     ensures not_open { result ≡ 2 → HasNoSource handle.old.content }
@@ -121,7 +123,8 @@ pub extern "C" fn postmig_source_retry(
         HasSources handle.old.content handle.new.content (λ old new.
         SourceMakes (steps.SourceStep.Retry cpu) old effect.new new) }
     ensures refused { 64 < result →
-        TellsSource handle.old.content (λ old. SourceRefuses (steps.SourceStep.Retry cpu) old result) }
+        TellsSource handle.old.content (λ old.
+        SourceRefuses (steps.SourceStep.Retry cpu) old result) }
     ensures not_open { result ≡ 2 → HasNoSource handle.old.content }
     ensures kept { result ≢ 0 → handle.new.content ≡ handle.old.content }
     ensures range { (result ≡ 0) ⊎ (result ≡ 2) ⊎ (result ≡ 4) ⊎ (64 < result) }
@@ -198,7 +201,8 @@ pub extern "C" fn postmig_source_run_sent(
         HasSources handle.old.content handle.new.content (λ old new.
         SourceMakes (steps.SourceStep.RunSent most) old effect.new new) }
     ensures refused { 64 < result →
-        TellsSource handle.old.content (λ old. SourceRefuses (steps.SourceStep.RunSent most) old result) }
+        TellsSource handle.old.content (λ old.
+        SourceRefuses (steps.SourceStep.RunSent most) old result) }
     ensures not_open { result ≡ 2 → HasNoSource handle.old.content }
     ensures kept { result ≢ 0 → handle.new.content ≡ handle.old.content }
     ensures range { (result ≡ 0) ⊎ (result ≡ 2) ⊎ (result ≡ 4) ⊎ (64 < result) }
@@ -274,9 +278,11 @@ pub extern "C" fn postmig_source_push(
 ) -> u32
     ensures made { result ≡ 0 →
         HasSources handle.old.content handle.new.content (λ old new.
-        SourceMakes (steps.SourceStep.Push (record { epoch = epoch; page = page })) old effect.new new) }
+        SourceMakes (steps.SourceStep.Push (record { epoch = epoch; page = page })) old effect.new
+        new) }
     ensures refused { 64 < result →
-        TellsSource handle.old.content (λ old. SourceRefuses (steps.SourceStep.Push (record { epoch = epoch; page = page })) old result) }
+        TellsSource handle.old.content (λ old.
+        SourceRefuses (steps.SourceStep.Push (record { epoch = epoch; page = page })) old result) }
     ensures not_open { result ≡ 2 → HasNoSource handle.old.content }
     ensures kept { result ≢ 0 → handle.new.content ≡ handle.old.content }
     ensures range { (result ≡ 0) ⊎ (result ≡ 2) ⊎ (result ≡ 4) ⊎ (64 < result) }
@@ -300,9 +306,12 @@ pub extern "C" fn postmig_source_push_urgent(
 ) -> u32
     ensures made { result ≡ 0 →
         HasSources handle.old.content handle.new.content (λ old new.
-        SourceMakes (steps.SourceStep.PushUrgent (record { epoch = epoch; page = page })) old effect.new new) }
+        SourceMakes (steps.SourceStep.PushUrgent (record { epoch = epoch; page = page })) old
+        effect.new new) }
     ensures refused { 64 < result →
-        TellsSource handle.old.content (λ old. SourceRefuses (steps.SourceStep.PushUrgent (record { epoch = epoch; page = page })) old result) }
+        TellsSource handle.old.content (λ old.
+        SourceRefuses (steps.SourceStep.PushUrgent (record { epoch = epoch; page = page })) old
+        result) }
     ensures not_open { result ≡ 2 → HasNoSource handle.old.content }
     ensures kept { result ≢ 0 → handle.new.content ≡ handle.old.content }
     ensures range { (result ≡ 0) ⊎ (result ≡ 2) ⊎ (result ≡ 4) ⊎ (64 < result) }

@@ -1,4 +1,4 @@
-//! Frames that come to a destination.
+//! Frames that a destination takes.
 
 ghost use Rattle.std.specs.Prelude.{◌≡◌, ◌≢◌, ◌⊎◌, ◌+◌, ◌*◌, ◌≤◌, ℕ, Some, None, Err, [], length, IfOk, IfErr, OnOk, OnErr};
 ghost use Rattle.mig_base.specs.declared.TheConstants.{HIGH_PAGE, PAGE_SIZE};
@@ -30,7 +30,8 @@ impl DestinationNode {
     pub fn take(&mut self, bytes: &[u8]) -> Result<Effect, FrameFault>
         ensures taken { IfOk result (λ effect. IsTaken bytes.now self.old effect self.new) }
         ensures refused { IfErr result (λ fault. MayNotTake bytes.now self.old fault) }
-        ensures err { IfErr result (λ fault. fault ≢ faults.FrameFault.NoMemory → self.new ≡ self.old) }
+        ensures err { IfErr result (λ fault. fault ≢ faults.FrameFault.NoMemory →
+            self.new ≡ self.old) }
     {
         if let Some((epoch, page)) = page_of(bytes) {
             return self.take_frame(epoch, Frame::Zero { page });
@@ -69,10 +70,13 @@ impl DestinationNode {
     /// Takes a frame of the urgent wire.
     fn take_urgent_frame(&mut self, epoch: u32, frame: Frame) -> Result<Effect, FrameFault>
         requires { IsFrame (frame_of frame) }
-        ensures accepted { OnOk result (urgent_taking_fault self.old.node epoch (frame_of frame) ≡ None) }
+        ensures accepted { OnOk result (urgent_taking_fault self.old.node epoch (frame_of frame) ≡
+            None) }
         ensures effect { IfOk result (λ effect. effect ≡ frame_effect (frame_of frame)) }
         ensures taken { OnOk result (self.new ≡ urgently_taken self.old (frame_of frame)) }
-        ensures refused { IfErr result (λ fault. (fault ≡ faults.FrameFault.NoMemory) ⊎ (urgent_taking_fault self.old.node epoch (frame_of frame) ≡ Some fault)) }
+        ensures refused { IfErr result (λ fault.
+            (fault ≡ faults.FrameFault.NoMemory) ⊎
+            (urgent_taking_fault self.old.node epoch (frame_of frame) ≡ Some fault)) }
         ensures err { OnErr result (self.new ≡ self.old) }
     {
         let effect = frame.effect();
@@ -88,7 +92,9 @@ impl DestinationNode {
         ensures accepted { OnOk result (taking_fault self.old.node epoch (frame_of frame) ≡ None) }
         ensures effect { IfOk result (λ effect. effect ≡ frame_effect (frame_of frame)) }
         ensures taken { OnOk result (self.new ≡ taken self.old epoch (frame_of frame)) }
-        ensures refused { IfErr result (λ fault. (fault ≡ faults.FrameFault.NoMemory) ⊎ (taking_fault self.old.node epoch (frame_of frame) ≡ Some fault)) }
+        ensures refused { IfErr result (λ fault.
+            (fault ≡ faults.FrameFault.NoMemory) ⊎
+            (taking_fault self.old.node epoch (frame_of frame) ≡ Some fault)) }
         ensures err { OnErr result (self.new ≡ self.old) }
     {
         let effect = frame.effect();
@@ -109,11 +115,15 @@ impl DestinationNode {
     fn take_run(&mut self, epoch: u32, first: PageNo, count: u32) -> Result<Effect, FrameFault>
         requires first { IsPage first }
         requires last { first + count ≤ HIGH_PAGE }
-        ensures accepted { OnOk result (taking_fault self.old.node epoch (machine.Frame.Run first []) ≡ None) }
+        ensures accepted { OnOk result
+            (taking_fault self.old.node epoch (machine.Frame.Run first []) ≡ None) }
         ensures effect { IfOk result (λ effect. effect ≡ Effect.TookRun (PAGE_SIZE * first) count) }
         ensures taken { OnOk result (self.new ≡ zeros_taken self.old epoch first count) }
-        ensures refused { IfErr result (λ fault. (fault ≡ faults.FrameFault.NoMemory) ⊎ (taking_fault self.old.node epoch (machine.Frame.Run first []) ≡ Some fault)) }
-        ensures err { IfErr result (λ fault. fault ≢ faults.FrameFault.NoMemory → self.new ≡ self.old) }
+        ensures refused { IfErr result (λ fault.
+            (fault ≡ faults.FrameFault.NoMemory) ⊎
+            (taking_fault self.old.node epoch (machine.Frame.Run first []) ≡ Some fault)) }
+        ensures err { IfErr result (λ fault. fault ≢ faults.FrameFault.NoMemory →
+            self.new ≡ self.old) }
     {
         let run = Frame::Run {
             first,

@@ -44,9 +44,13 @@ impl SourceNode {
     /// Takes a frame that came back.
     fn take_frame(&mut self, epoch: u32, frame: &Frame) -> Result<Effect, FrameFault>
         requires { IsFrame (frame_of frame.now) }
-        ensures accepted { OnOk result (returning_fault self.old.node epoch (frame_of frame.now) ≡ None) }
-        ensures taken { IfOk result (λ effect. posts self.old (take self.old.node (frame_of frame.now)) ≡ acted effect self.new) }
-        ensures refused { IfErr result (λ fault. (fault ≡ faults.FrameFault.NoMemory) ⊎ (returning_fault self.old.node epoch (frame_of frame.now) ≡ Some fault)) }
+        ensures accepted { OnOk result (returning_fault self.old.node epoch (frame_of frame.now) ≡
+            None) }
+        ensures taken { IfOk result (λ effect.
+            posts self.old (take self.old.node (frame_of frame.now)) ≡ acted effect self.new) }
+        ensures refused { IfErr result (λ fault.
+            (fault ≡ faults.FrameFault.NoMemory) ⊎
+            (returning_fault self.old.node epoch (frame_of frame.now) ≡ Some fault)) }
         ensures err { OnErr result (self.new ≡ self.old) }
     {
         if let Err(fault) = self.node.back(epoch, frame) {
@@ -62,8 +66,17 @@ impl SourceNode {
     fn resume_from(&mut self, state: Received, owed: &PageSet) -> Result<(), FrameFault>
         requires { is_released self.old.node.phase ≡ false }
         ensures accepted { OnOk result (rebuild_fault self.old.node state owed.now ≡ None) }
-        ensures rebuilt { OnOk result (self.new ≡ record self.old { node = source_rebuilt state owed.now self.old.node; wire = machine.wire_with self.old.wire (source_rebuilt state owed.now self.old.node).epoch (rebuild_frames state self.old.node) }) }
-        ensures refused { IfErr result (λ fault. (fault ≡ faults.FrameFault.NoMemory) ⊎ (option_map of_rebuild (rebuild_fault self.old.node state owed.now) ≡ Some fault)) }
+        ensures rebuilt { OnOk result (self.new ≡
+            record self.old {
+              node = source_rebuilt state owed.now self.old.node;
+              wire =
+                  machine.wire_with self.old.wire
+                  (source_rebuilt state owed.now self.old.node).epoch
+                  (rebuild_frames state self.old.node);
+            }) }
+        ensures refused { IfErr result (λ fault.
+            (fault ≡ faults.FrameFault.NoMemory) ⊎
+            (option_map of_rebuild (rebuild_fault self.old.node state owed.now) ≡ Some fault)) }
         ensures err { OnErr result (self.new ≡ self.old) }
     {
         if self.wire.reserve(2).is_err() {

@@ -15,8 +15,10 @@ use mig_base::schedule::Ticket;
 impl SourceNode {
     /// A processor makes a command.
     pub(super) fn issue(&mut self, cpu: u8, command: Command) -> Result<Effect, Refusal>
-        ensures made { IfOk result (λ effect. answer (steps.SourceStep.Issue cpu command) self.old ≡ acted effect self.new) }
-        ensures refused { IfErr result (λ refusal. MayBeRefused (steps.SourceStep.Issue cpu command) self.old refusal) }
+        ensures made { IfOk result (λ effect.
+            answer (steps.SourceStep.Issue cpu command) self.old ≡ acted effect self.new) }
+        ensures refused { IfErr result (λ refusal.
+            MayBeRefused (steps.SourceStep.Issue cpu command) self.old refusal) }
         ensures err { OnErr result (self.new ≡ self.old) }
     {
         let tried = self.node.issue(cpu, command)?;
@@ -25,8 +27,10 @@ impl SourceNode {
 
     /// A processor that was woken makes its load or store again.
     pub(super) fn retry(&mut self, cpu: u8) -> Result<Effect, Refusal>
-        ensures made { IfOk result (λ effect. answer (steps.SourceStep.Retry cpu) self.old ≡ acted effect self.new) }
-        ensures refused { IfErr result (λ refusal. MayBeRefused (steps.SourceStep.Retry cpu) self.old refusal) }
+        ensures made { IfOk result (λ effect.
+            answer (steps.SourceStep.Retry cpu) self.old ≡ acted effect self.new) }
+        ensures refused { IfErr result (λ refusal.
+            MayBeRefused (steps.SourceStep.Retry cpu) self.old refusal) }
         ensures err { OnErr result (self.new ≡ self.old) }
     {
         let tried = self.node.retry(cpu)?;
@@ -35,8 +39,10 @@ impl SourceNode {
 
     /// A round of pre-copy begins.
     pub(super) fn round(&mut self) -> Result<Effect, Refusal>
-        ensures made { IfOk result (λ effect. answer steps.SourceStep.Round self.old ≡ acted effect self.new) }
-        ensures refused { IfErr result (λ refusal. MayBeRefused steps.SourceStep.Round self.old refusal) }
+        ensures made { IfOk result (λ effect.
+            answer steps.SourceStep.Round self.old ≡ acted effect self.new) }
+        ensures refused { IfErr result (λ refusal.
+            MayBeRefused steps.SourceStep.Round self.old refusal) }
         ensures err { OnErr result (self.new ≡ self.old) }
     {
         self.node.round()
@@ -44,8 +50,10 @@ impl SourceNode {
 
     /// The least page of the round is sent: the caller has its bytes.
     pub(super) fn send(&mut self) -> Result<Effect, Refusal>
-        ensures made { IfOk result (λ effect. answer steps.SourceStep.Send self.old ≡ acted effect self.new) }
-        ensures refused { IfErr result (λ refusal. MayBeRefused steps.SourceStep.Send self.old refusal) }
+        ensures made { IfOk result (λ effect.
+            answer steps.SourceStep.Send self.old ≡ acted effect self.new) }
+        ensures refused { IfErr result (λ refusal.
+            MayBeRefused steps.SourceStep.Send self.old refusal) }
         ensures err { OnErr result (self.new ≡ self.old) }
     {
         let (effect, _page, _sent) = self.node.send_next()?;
@@ -54,8 +62,10 @@ impl SourceNode {
 
     /// A run of pages is sent: the caller has their bytes.
     pub(super) fn run_sent(&mut self, most: u8) -> Result<Effect, Refusal>
-        ensures made { IfOk result (λ effect. answer (steps.SourceStep.RunSent most) self.old ≡ acted effect self.new) }
-        ensures refused { IfErr result (λ refusal. MayBeRefused (steps.SourceStep.RunSent most) self.old refusal) }
+        ensures made { IfOk result (λ effect.
+            answer (steps.SourceStep.RunSent most) self.old ≡ acted effect self.new) }
+        ensures refused { IfErr result (λ refusal.
+            MayBeRefused (steps.SourceStep.RunSent most) self.old refusal) }
         ensures err { OnErr result (self.new ≡ self.old) }
     {
         let (effect, _first, _count) = self.node.run_sent(most)?;
@@ -64,8 +74,10 @@ impl SourceNode {
 
     /// The handler reads a message.
     pub(super) fn read(&mut self) -> Result<Effect, Refusal>
-        ensures made { IfOk result (λ effect. answer steps.SourceStep.Read self.old ≡ acted effect self.new) }
-        ensures refused { IfErr result (λ refusal. MayBeRefused steps.SourceStep.Read self.old refusal) }
+        ensures made { IfOk result (λ effect.
+            answer steps.SourceStep.Read self.old ≡ acted effect self.new) }
+        ensures refused { IfErr result (λ refusal.
+            MayBeRefused steps.SourceStep.Read self.old refusal) }
         ensures err { OnErr result (self.new ≡ self.old) }
     {
         self.node.read()
@@ -73,8 +85,10 @@ impl SourceNode {
 
     /// The handler resolves the first fault that it has read.
     pub(super) fn act(&mut self) -> Result<Effect, Refusal>
-        ensures made { IfOk result (λ effect. answer steps.SourceStep.Act self.old ≡ acted effect self.new) }
-        ensures refused { IfErr result (λ refusal. MayBeRefused steps.SourceStep.Act self.old refusal) }
+        ensures made { IfOk result (λ effect.
+            answer steps.SourceStep.Act self.old ≡ acted effect self.new) }
+        ensures refused { IfErr result (λ refusal.
+            MayBeRefused steps.SourceStep.Act self.old refusal) }
         ensures err { OnErr result (self.new ≡ self.old) }
     {
         self.node.act()
@@ -82,8 +96,10 @@ impl SourceNode {
 
     /// An owed page is sent: the caller has its bytes.
     pub(super) fn push(&mut self, ticket: Ticket) -> Result<Effect, Refusal>
-        ensures made { IfOk result (λ effect. answer (steps.SourceStep.Push ticket) self.old ≡ acted effect self.new) }
-        ensures refused { IfErr result (λ refusal. MayBeRefused (steps.SourceStep.Push ticket) self.old refusal) }
+        ensures made { IfOk result (λ effect.
+            answer (steps.SourceStep.Push ticket) self.old ≡ acted effect self.new) }
+        ensures refused { IfErr result (λ refusal.
+            MayBeRefused (steps.SourceStep.Push ticket) self.old refusal) }
         ensures err { OnErr result (self.new ≡ self.old) }
     {
         let (effect, _sent) = self.node.push(ticket)?;
@@ -92,8 +108,10 @@ impl SourceNode {
 
     /// An owed page is sent on the urgent wire: the caller has its bytes.
     pub(super) fn push_urgent(&mut self, ticket: Ticket) -> Result<Effect, Refusal>
-        ensures made { IfOk result (λ effect. answer (steps.SourceStep.PushUrgent ticket) self.old ≡ acted effect self.new) }
-        ensures refused { IfErr result (λ refusal. MayBeRefused (steps.SourceStep.PushUrgent ticket) self.old refusal) }
+        ensures made { IfOk result (λ effect.
+            answer (steps.SourceStep.PushUrgent ticket) self.old ≡ acted effect self.new) }
+        ensures refused { IfErr result (λ refusal.
+            MayBeRefused (steps.SourceStep.PushUrgent ticket) self.old refusal) }
         ensures err { OnErr result (self.new ≡ self.old) }
     {
         let (effect, _sent) = self.node.push_urgent(ticket)?;
@@ -102,8 +120,10 @@ impl SourceNode {
 
     /// The oldest request is dequeued.
     pub(super) fn serve(&mut self) -> Result<Effect, Refusal>
-        ensures made { IfOk result (λ effect. answer steps.SourceStep.Serve self.old ≡ acted effect self.new) }
-        ensures refused { IfErr result (λ refusal. MayBeRefused steps.SourceStep.Serve self.old refusal) }
+        ensures made { IfOk result (λ effect.
+            answer steps.SourceStep.Serve self.old ≡ acted effect self.new) }
+        ensures refused { IfErr result (λ refusal.
+            MayBeRefused steps.SourceStep.Serve self.old refusal) }
         ensures err { OnErr result (self.new ≡ self.old) }
     {
         self.node.serve()
@@ -111,8 +131,10 @@ impl SourceNode {
 
     /// The source notices that the channel is broken.
     pub(super) fn notice(&mut self) -> Result<Effect, Refusal>
-        ensures made { IfOk result (λ effect. answer steps.SourceStep.Notice self.old ≡ acted effect self.new) }
-        ensures refused { IfErr result (λ refusal. MayBeRefused steps.SourceStep.Notice self.old refusal) }
+        ensures made { IfOk result (λ effect.
+            answer steps.SourceStep.Notice self.old ≡ acted effect self.new) }
+        ensures refused { IfErr result (λ refusal.
+            MayBeRefused steps.SourceStep.Notice self.old refusal) }
         ensures err { OnErr result (self.new ≡ self.old) }
     {
         recovery::notice_source(&mut self.node)

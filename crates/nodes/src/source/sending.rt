@@ -15,8 +15,10 @@ use page_stream::Frame;
 impl SourceNode {
     /// A migration begins: Advise waits.
     pub(super) fn start(&mut self) -> Result<Effect, Refusal>
-        ensures made { IfOk result (λ effect. answer steps.SourceStep.Start self.old ≡ acted effect self.new) }
-        ensures refused { IfErr result (λ refusal. MayBeRefused steps.SourceStep.Start self.old refusal) }
+        ensures made { IfOk result (λ effect.
+            answer steps.SourceStep.Start self.old ≡ acted effect self.new) }
+        ensures refused { IfErr result (λ refusal.
+            MayBeRefused steps.SourceStep.Start self.old refusal) }
         ensures err { OnErr result (self.new ≡ self.old) }
     {
         if self.wire.reserve(1).is_err() {
@@ -30,8 +32,10 @@ impl SourceNode {
 
     /// The processors stop for good: Discard and Package wait.
     pub(super) fn switch(&mut self) -> Result<Effect, Refusal>
-        ensures made { IfOk result (λ effect. answer steps.SourceStep.Switch self.old ≡ acted effect self.new) }
-        ensures refused { IfErr result (λ refusal. MayBeRefused steps.SourceStep.Switch self.old refusal) }
+        ensures made { IfOk result (λ effect.
+            answer steps.SourceStep.Switch self.old ≡ acted effect self.new) }
+        ensures refused { IfErr result (λ refusal.
+            MayBeRefused steps.SourceStep.Switch self.old refusal) }
         ensures err { OnErr result (self.new ≡ self.old) }
     {
         if self.wire.reserve(2).is_err() {
@@ -47,8 +51,10 @@ impl SourceNode {
 
     /// Nothing more is sent: End waits.
     pub(super) fn end(&mut self) -> Result<Effect, Refusal>
-        ensures made { IfOk result (λ effect. answer steps.SourceStep.End self.old ≡ acted effect self.new) }
-        ensures refused { IfErr result (λ refusal. MayBeRefused steps.SourceStep.End self.old refusal) }
+        ensures made { IfOk result (λ effect.
+            answer steps.SourceStep.End self.old ≡ acted effect self.new) }
+        ensures refused { IfErr result (λ refusal.
+            MayBeRefused steps.SourceStep.End self.old refusal) }
         ensures err { OnErr result (self.new ≡ self.old) }
     {
         if self.wire.reserve(1).is_err() {
@@ -62,8 +68,10 @@ impl SourceNode {
 
     /// The next epoch begins, over a new channel: Resume waits.
     pub(super) fn resume(&mut self) -> Result<Effect, Refusal>
-        ensures made { IfOk result (λ effect. answer steps.SourceStep.Resume self.old ≡ acted effect self.new) }
-        ensures refused { IfErr result (λ refusal. MayBeRefused steps.SourceStep.Resume self.old refusal) }
+        ensures made { IfOk result (λ effect.
+            answer steps.SourceStep.Resume self.old ≡ acted effect self.new) }
+        ensures refused { IfErr result (λ refusal.
+            MayBeRefused steps.SourceStep.Resume self.old refusal) }
         ensures err { OnErr result (self.new ≡ self.old) }
     {
         self.check_resume()?;

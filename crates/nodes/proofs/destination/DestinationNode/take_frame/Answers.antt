@@ -1,5 +1,4 @@
 use Rattle.std.proofs.Common.{◌≡◌, ◌⊎◌, Some, ap, ◌∙◌, subst}
-use Rattle.mig_model.specs.Destination.{destination_answers}
 use Rattle.mig_model.specs.Faults.{take_fault}
 use Rattle.mig_model.specs.Wire.{wire_with}
 use Rattle.fault_handler.specs.Taking.{answered_at_once}
