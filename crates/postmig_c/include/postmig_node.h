@@ -152,16 +152,8 @@ typedef struct {
    those of a destination for the wire back. They are Advise, Discard, Package, End, Resume; and Request, Recv, Done. (Page, Zero and Run
    have bytes: the caller writes them, by the heads below, on the wire or the urgent wire.) Takes all that wait and writes their texts, one
    after the other, in version 2 of the format. POSTMIG_NO_FRAME: none waits. POSTMIG_NO_ROOM: *written is the length that is needed, and
-   they still wait. At a broken channel the caller takes what waits and drops it, as all that was not read. */
+   they still wait; so they do at POSTMIG_NO_MEMORY. At a broken channel the caller takes what waits and drops it, as all that was not read. */
 uint32_t postmig_node_frame(postmig_handle *node, uint8_t *out, size_t room, size_t *written);
-
-/* Begins a trace: from now on each step that is made or refused appends its line, as a line of `postmig test`: the line of a script,
-   " => " and its answer. Steps refused as POSTMIG_NO_MEMORY, and calls that are no step, append none. */
-uint32_t postmig_node_trace_on(postmig_handle *node);
-
-/* Takes the trace: writes all lines since the last call. POSTMIG_NO_ROOM: *written is the length that is needed, and the lines stay.
-   POSTMIG_NO_MEMORY: memory for a line was refused once, so the trace has a gap; there are no lines from then on. */
-uint32_t postmig_node_trace(postmig_handle *node, uint8_t *out, size_t room, size_t *written);
 
 /* THE SOURCE */
 
@@ -350,7 +342,7 @@ uint32_t postmig_frame_lengths(const uint8_t *bytes, size_t length, size_t *head
    source      start, round, send, run_sent (sendrun N), read (sread), act (sact), switch, push, push_urgent (upush), serve, end,
                back, notice (notice source), resume
    destination take (deliver), take_urgent (udeliver), read (dread), act (dact), install, notice (notice dest)
-   none        new, next_.., check_.., counts, home, node_frame, node_trace, heads of frames; break is the caller's
+   none        new, next_.., check_.., counts, home, node_frame, heads of frames; break is the caller's
 
    AN ORDER OF CALLS
 
