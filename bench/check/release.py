@@ -30,7 +30,7 @@ SOURCES = {"postmig": FOLDER / "sources", "postmig_c": FOLDER / "library-sources
 SUMS = FOLDER / "SHA256SUMS"
 BUILT = page.TOP / "crates" / "postmig" / "out" / "postmig"
 DIST = page.TOP / "dist"
-PARTS = ("libpostmig.a", "libpostmig.so", "postmig.h")
+PARTS = ("libpostmig.a", "libpostmig.so", "postmig.h", "postmig_node.h")
 RENEW = "./dev release makes it anew, after rt ci or ./postmig prove"
 
 

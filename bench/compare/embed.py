@@ -63,6 +63,8 @@ def in_c(work, loads):
     wraps = [f"-Wl,--wrap={name}" for name in ("malloc", "realloc", "free")]
     refuse = built(work / "refuse", "-g", "-fsanitize=address", *wraps, TOP / "bench/embed/refuse.c")
     print("C:", run(refuse, work / "stream", *(path for pair in REFUSED for path in pair)).decode().strip())
+    nodes = built(work / "nodes", "-g", "-fsanitize=address,undefined", *wraps, TOP / "bench/embed/nodes.c")
+    print("C:", run(nodes).decode().strip())
     fast = built(work / "fast", "-O2", TOP / "bench/embed/lines.c")
     print("C:", run(fast, loads).decode().strip().split("\n")[-1])
 

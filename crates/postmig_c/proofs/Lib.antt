@@ -3,3 +3,5 @@ pub mod HandleWords
 pub mod Runners
 pub mod Waiting
 pub mod Faults
+pub mod Statuses
+pub mod Pieces

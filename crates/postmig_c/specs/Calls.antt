@@ -14,7 +14,7 @@ use Rattle.engine.specs.Script.{ScriptStops}
 use Rattle.mig_model.specs.Migration.{World as Machine}
 use Rattle.engine.specs.Worlds.{epoch_in, progress_in}
 use Rattle.postmig_c.specs.declared.handle.Content.{Content}
-use Rattle.postmig_c.specs.declared.handle.Content.TheVariants.{World, Frames}
+use Rattle.postmig_c.specs.declared.handle.Content.TheVariants.{World}
 use Rattle.postmig_c.specs.declared.worlds.Counts.{Counts}
 
 -- a world, or the entries of a transcript, of which no line has printed anything
@@ -23,15 +23,13 @@ a_world work = World (record { work = work; output = [] })
 
 -- the handle has no world
 abbrev pub HasNoWorld : Option Content → Type 0
-HasNoWorld None = Unit {0}
-HasNoWorld (Some (Frames queue)) = Unit {0}
 HasNoWorld (Some (World runner)) = ⊥
+HasNoWorld content = Unit {0}
 
 -- the handle has a world, and this holds of it
 abbrev pub OfWorld : Option Content → (Gathered → Type 0) → Type 0
-OfWorld None P = ⊥
-OfWorld (Some (Frames queue)) P = ⊥
 OfWorld (Some (World runner)) P = P runner
+OfWorld content P = ⊥
 
 -- the handle had a world and has one, and this holds of the two
 abbrev pub Has : Option Content → Option Content → (Gathered → Gathered → Type 0) → Type 0

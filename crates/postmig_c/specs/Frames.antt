@@ -11,20 +11,18 @@ use Rattle.postmig_c.specs.declared.numbers.FrameNumbers.{FrameNumbers}
 use Rattle.postmig_c.specs.Numbers.{numbers_of}
 use Rattle.postmig_c.specs.Queues.{Queue, Refills, IsFedUp, QueueStops}
 use Rattle.postmig_c.specs.declared.handle.Content.{Content}
-use Rattle.postmig_c.specs.declared.handle.Content.TheVariants.{World, Frames}
+use Rattle.postmig_c.specs.declared.handle.Content.TheVariants.{Frames}
 use Rattle.postmig_c.specs.Room.{Fills, IsTooLong}
 
 -- the handle has no decoder
 abbrev pub HasNoDecoder : Option Content → Type 0
-HasNoDecoder None = Unit {0}
-HasNoDecoder (Some (World runner)) = Unit {0}
 HasNoDecoder (Some (Frames queue)) = ⊥
+HasNoDecoder content = Unit {0}
 
 -- the handle has a decoder, and this holds of it
 abbrev pub TellsQueue : Option Content → (Queue → Type 0) → Type 0
-TellsQueue None P = ⊥
-TellsQueue (Some (World runner)) P = ⊥
 TellsQueue (Some (Frames queue)) P = P queue
+TellsQueue content P = ⊥
 
 -- the handle had a decoder and has one, and this holds of the two
 abbrev pub HasQueues : Option Content → Option Content → (Queue → Queue → Type 0) → Type 0

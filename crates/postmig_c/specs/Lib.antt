@@ -4,3 +4,9 @@ pub mod Calls
 pub mod Numbers
 pub mod Queues
 pub mod Frames
+pub mod Effects
+pub mod Commands
+pub mod Refusals
+pub mod NodeCalls
+pub mod Heads
+pub mod Questions

@@ -52,7 +52,7 @@ pub extern "C" fn postmig_frames_feed(alloc: Global, handle: &mut Handle, bytes:
     };
     let status = match &mut *content {
         Content::Frames(queue) => feed_queue(queue, bytes),
-        Content::World(_) => NOT_OPEN,
+        _ => NOT_OPEN,
     };
     *handle = Handle::of(content);
     status
@@ -124,7 +124,7 @@ pub extern "C" fn postmig_frames_next(
     };
     let status = match &mut *content {
         Content::Frames(queue) => take_frame(queue, frame, out, written),
-        Content::World(_) => NOT_OPEN,
+        _ => NOT_OPEN,
     };
     *handle = Handle::of(content);
     status

@@ -10,12 +10,23 @@
 //! Every export takes `&mut Handle`, so the raw pointer stays in the small functions of `handle` and `unboxed`, whose proofs are by hand.
 #![tactic(auto)]
 
+mod commands;
+mod destination_calls;
+mod destination_steps;
+mod effects;
 mod frames;
 mod handle;
+mod heads;
+mod node_calls;
 mod numbers;
+mod questions;
 mod queue;
+mod refusals;
 mod room;
 mod scripts;
+mod source_calls;
+mod source_steps;
 mod status;
+mod told;
 mod unboxed;
 mod worlds;

@@ -32,3 +32,12 @@ pub const BAD_LENGTH: u32 = 9;
 
 /// Another field has a value that no frame has there.
 pub const BAD_FIELD: u32 = 10;
+
+/// The bytes are not those of one frame.
+pub const NOT_A_FRAME: u32 = 11;
+
+/// The numbers are not those of a command.
+pub const NOT_A_COMMAND: u32 = 12;
+
+/// There is no such page.
+pub const NO_PAGE: u32 = 13;

@@ -163,7 +163,7 @@ pub extern "C" fn postmig_world_line(
     };
     let status = match &mut *content {
         Content::World(runner) => do_line(runner, line, out, written),
-        Content::Frames(_) => NOT_OPEN,
+        _ => NOT_OPEN,
     };
     *handle = Handle::of(content);
     status
@@ -190,7 +190,7 @@ pub extern "C" fn postmig_world_answer(
     };
     let status = match &*content {
         Content::World(runner) => hand_over(runner.output(), out, written),
-        Content::Frames(_) => NOT_OPEN,
+        _ => NOT_OPEN,
     };
     *handle = Handle::of(content);
     status
@@ -243,7 +243,7 @@ pub extern "C" fn postmig_world_counts(
     };
     let status = match &*content {
         Content::World(runner) => count_into(runner, counts),
-        Content::Frames(_) => NOT_OPEN,
+        _ => NOT_OPEN,
     };
     *handle = Handle::of(content);
     status

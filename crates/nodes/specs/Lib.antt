@@ -1,0 +1,5 @@
+pub mod Nodes
+pub mod Faults
+pub mod Heads
+pub mod SourceCalls
+pub mod DestinationCalls

@@ -1,0 +1,62 @@
+//! Why a frame is not taken.
+
+ghost use Rattle.std.specs.Prelude.{◌≡◌};
+ghost use Rattle.nodes.specs.Faults as machine;
+
+use mig_base::fault::{BackFault, RebuildFault, TakeFault};
+
+/// Why a node does not take a frame. Nothing is changed.
+#[derive(Clone, Copy, Debug, PartialEq, Eq)]
+pub enum FrameFault {
+    /// The bytes are not those of one frame.
+    NotAFrame,
+    /// No such frame may come now.
+    OutOfPlace,
+    /// The frame is of another epoch.
+    StaleEpoch,
+    /// The contents of the frame do not fit what the destination has.
+    BadFrame,
+    /// A Recv contradicts the source.
+    BadOwed,
+    /// A copy that has arrived has to be installed first.
+    InstallFirst,
+    /// Frames of the urgent wire have to be taken first.
+    UrgentFirst,
+    /// Out of memory.
+    NoMemory,
+}
+
+/// The fault of a destination.
+pub(crate) fn of_take(fault: TakeFault) -> FrameFault
+    ensures { result ≡ machine.of_take fault }
+{
+    match fault {
+        TakeFault::OutOfPlace => FrameFault::OutOfPlace,
+        TakeFault::StaleEpoch => FrameFault::StaleEpoch,
+        TakeFault::BadFrame => FrameFault::BadFrame,
+        TakeFault::InstallFirst => FrameFault::InstallFirst,
+        TakeFault::UrgentFirst => FrameFault::UrgentFirst,
+        TakeFault::NoMemory => FrameFault::NoMemory,
+    }
+}
+
+/// The fault of a source.
+pub(crate) fn of_back(fault: BackFault) -> FrameFault
+    ensures { result ≡ machine.of_back fault }
+{
+    match fault {
+        BackFault::OutOfPlace => FrameFault::OutOfPlace,
+        BackFault::StaleEpoch => FrameFault::StaleEpoch,
+        BackFault::NoMemory => FrameFault::NoMemory,
+    }
+}
+
+/// The fault of a source that does not resume from a Recv.
+pub(crate) fn of_rebuild(fault: RebuildFault) -> FrameFault
+    ensures { result ≡ machine.of_rebuild fault }
+{
+    match fault {
+        RebuildFault::BadOwed => FrameFault::BadOwed,
+        RebuildFault::NoMemory => FrameFault::NoMemory,
+    }
+}

@@ -1,0 +1,361 @@
+/* postmig, one node at a time: the decisions of a source or of a destination, without a page's bytes.
+
+   A node is the proved node in the world whose stores all store 0. So each of its pages is zeros and takes no memory, and the bytes stay with
+   the caller, who moves them as the node says. No call takes or writes a byte of a page: only numbers, the heads of frames, and frames that
+   have no page bytes.
+
+   Each call that makes a step writes the step's effect. Where it answers anything but POSTMIG_OK nothing changed, unless it says otherwise.
+   A call named next or check changes nothing: it says what the step would answer.
+
+   A page is its number: its first address divided by 4096, 0x10 up to 0xfffff. An address is one of the guest. */
+#ifndef POSTMIG_NODE_H
+#define POSTMIG_NODE_H
+#include "postmig.h"
+#ifdef __cplusplus
+extern "C" {
+#endif
+
+/* More answers of a call. POSTMIG_NOT_OPEN: the handle has no node, or one of the other kind. */
+enum {
+    POSTMIG_NOT_A_FRAME = 11,   /* the bytes are not those of one frame */
+    POSTMIG_NOT_A_COMMAND = 12, /* the numbers are not those of a command */
+    POSTMIG_NO_PAGE = 13,       /* there is no such page */
+
+    POSTMIG_REFUSED = 64, /* an answer from here on is a refusal, and nothing changed. The first that applies is given, in this order: */
+    POSTMIG_REFUSED_NO_CPU = 65,            /* the guest has no such processor */
+    POSTMIG_REFUSED_BUSY = 66,              /* the processor has a command under way */
+    POSTMIG_REFUSED_NOT_ASLEEP = 67,        /* the processor has no load or store to retry */
+    POSTMIG_REFUSED_NOT_WOKEN = 68,         /* the processor still sleeps */
+    POSTMIG_REFUSED_PHASE = 69,             /* the node is not in a phase that allows the step */
+    POSTMIG_REFUSED_BROKEN = 70,            /* (a world's alone) */
+    POSTMIG_REFUSED_NOT_BROKEN = 71,        /* (a world's alone) */
+    POSTMIG_REFUSED_STALE_EPOCH = 72,       /* the ticket or the frame is of another epoch */
+    POSTMIG_REFUSED_NOTHING_THERE = 73,     /* no page, message, fault, copy or request is there */
+    POSTMIG_REFUSED_CHANGING = 74,          /* an event of the address space is unread */
+    POSTMIG_REFUSED_INSTALL_FIRST = 75,     /* an End came, and a copy has to be installed first: hand the same frame in again then */
+    POSTMIG_REFUSED_PAGE_NOT_SENDABLE = 76, /* the source does not have the page */
+    POSTMIG_REFUSED_NOT_REMAINING = 77,     /* the page is not owed, or was pushed in this epoch */
+    POSTMIG_REFUSED_PAGES_LEFT = 78,        /* owed pages are still to be pushed */
+    POSTMIG_REFUSED_COUNT_USED = 79,        /* a count is at its greatest value */
+    /* 80, out of memory, is answered as POSTMIG_NO_MEMORY */
+    POSTMIG_REFUSED_URGENT_FIRST = 81,      /* an End came, and frames of the urgent wire have to be taken first: hand it in again then */
+    POSTMIG_REFUSED_OUT_OF_PLACE = 82,      /* no such frame may come now */
+    POSTMIG_REFUSED_BAD_FRAME = 83,         /* what the frame says does not fit what the destination has */
+    POSTMIG_REFUSED_BAD_OWED = 84           /* a Recv contradicts the source */
+};
+
+/* Writes the name of a refusal, as a script's output has it ("Phase" of 69), for any status of these calls from POSTMIG_REFUSED on.
+   POSTMIG_NOT_A_LINE: there is no refusal of this number. */
+uint32_t postmig_refusal_name(uint32_t status, uint8_t *out, size_t room, size_t *written);
+
+/* EFFECTS */
+
+/* What a step did. The comment names the fields that are set beside kind; all others are 0. */
+enum {
+    POSTMIG_DID_ANSWER = 1,       /* a command was answered: cpu, reply, value */
+    POSTMIG_DID_SLEEP = 2,        /* a processor sleeps on the page of its load or store: cpu */
+    POSTMIG_DID_ENTER_CALL = 3,   /* a processor is in a map call until so many messages have been read: cpu, count */
+    POSTMIG_DID_START = 4,        /* number: the epoch */
+    POSTMIG_DID_ROUND = 5,        /* number: the round; count: its pages to be sent */
+    POSTMIG_DID_SEND_PAGE = 6,    /* addr */
+    POSTMIG_DID_SEND_ZERO = 7,    /* the same. In the world of zeros each page is one of zeros; the caller may send it as a Page */
+    POSTMIG_DID_SEND_RUN = 8,     /* addr: of the first page; count: of pages */
+    POSTMIG_DID_READ_FAULT = 9,   /* addr; number: 1 of a write-protect fault, 0 of a missing page */
+    POSTMIG_DID_READ_EVENT = 10,  /* number: POSTMIG_EVENT_..; addr, other, length. More events of the call are unread */
+    POSTMIG_DID_READ_LAST = 11,   /* the last event of a map call: the same, and cpu, reply, value of that call */
+    POSTMIG_DID_UNPROTECT = 12,   /* addr: its protection was cleared, its sleepers woken */
+    POSTMIG_DID_ZERO = 13,        /* addr: a missing page was made zeros, its sleepers woken */
+    POSTMIG_DID_WAKE = 14,        /* addr: it is present, its sleepers were woken */
+    POSTMIG_DID_FORGET = 15,      /* addr: it is no longer mapped or registered, its sleepers were woken */
+    POSTMIG_DID_REQUEST = 16,     /* addr: where it is owed; other: the address of its page at the source. Its sleepers sleep on */
+    POSTMIG_DID_SWITCH = 17,      /* count: pages owed; number: pages discarded */
+    POSTMIG_DID_MOVE = 18,        /* (a world's alone) length */
+    POSTMIG_DID_TAKE_ADVISE = 19,
+    POSTMIG_DID_TAKE_PAGE = 20,   /* (a world's alone) addr */
+    POSTMIG_DID_TAKE_ZERO = 21,   /* addr: its page at the source. Of a Zero and of the head of a Page */
+    POSTMIG_DID_TAKE_RUN = 22,    /* addr: of the first page; count: of pages */
+    POSTMIG_DID_TAKE_DISCARD = 23,/* count: of pages */
+    POSTMIG_DID_TAKE_PACKAGE = 24,/* count: of pages owed */
+    POSTMIG_DID_TAKE_END = 25,
+    POSTMIG_DID_TAKE_RESUME = 26,
+    POSTMIG_DID_TAKE_REQUEST = 27,/* addr: of the requested page at the source */
+    POSTMIG_DID_TAKE_RECV = 28,   /* number: 0 the destination has not run, 1 it runs, 2 it has taken End; count: of pages that it needs */
+    POSTMIG_DID_TAKE_DONE = 29,
+    POSTMIG_DID_INSTALL = 30,     /* addr: where the copy goes; other: the address of its page at the source */
+    POSTMIG_DID_DROP = 31,        /* other: the address of its page at the source: the copy is owed nowhere */
+    POSTMIG_DID_DEQUEUE = 32,     /* addr: of the requested page at the source */
+    POSTMIG_DID_END = 33,
+    POSTMIG_DID_BREAK = 34,       /* (a world's alone) */
+    POSTMIG_DID_NOTICE = 35,      /* number: 0 at the source, 1 at the destination */
+    POSTMIG_DID_RESUME = 36       /* number: the new epoch */
+};
+
+/* The events of an address space, by the numbers of struct uffd_msg. */
+enum {
+    POSTMIG_EVENT_REMAP = 0x14, /* addr: from; other: to; length: in bytes */
+    POSTMIG_EVENT_REMOVE = 0x15,/* addr: the first address; other: the address after the last byte */
+    POSTMIG_EVENT_UNMAP = 0x16  /* the same */
+};
+
+/* The replies to a command. */
+enum {
+    POSTMIG_REPLY_VALUE = 1,     /* value: what a load read */
+    POSTMIG_REPLY_DONE = 2,
+    POSTMIG_REPLY_AT = 3,        /* value: the address of the mapping */
+    POSTMIG_REPLY_SEGV = 4,      /* value: 1 if the page is mapped, else 0 */
+    POSTMIG_REPLY_BAD_ACCESS = 5,
+    POSTMIG_REPLY_REFUSED = 6    /* value: the errno of Linux */
+};
+
+typedef struct {
+    uint32_t kind;   /* POSTMIG_DID_.. */
+    uint32_t cpu;
+    uint32_t number;
+    uint32_t count;
+    uint64_t addr;
+    uint64_t other;
+    uint64_t length;
+    uint64_t value;
+    uint32_t reply;  /* POSTMIG_REPLY_.. */
+} postmig_effect;
+
+/* COMMANDS of the guest's processors */
+
+enum {
+    POSTMIG_LOAD = 1,    /* addr, width */
+    POSTMIG_STORE = 2,   /* addr, width, value: of these nodes always 0 */
+    POSTMIG_MMAP = 3,    /* length, prot, place, target */
+    POSTMIG_MUNMAP = 4,  /* addr, length */
+    POSTMIG_MREMAP = 5,  /* addr, length: the old one; new_length, may_move, place: ANYWHERE or FIXED, target */
+    POSTMIG_DONTNEED = 6 /* addr, length */
+};
+enum { POSTMIG_PROT_NONE = 0, POSTMIG_PROT_READ = 1, POSTMIG_PROT_READ_WRITE = 2 };
+enum { POSTMIG_ANYWHERE = 0, POSTMIG_FIXED = 1, POSTMIG_NO_REPLACE = 2 };
+
+/* A command. Fields that its kind does not name are not read. */
+typedef struct {
+    uint32_t kind;     /* POSTMIG_LOAD .. POSTMIG_DONTNEED */
+    uint32_t width;    /* of a load or store: 1, 2, 4 or 8; up to 255 is a command, with POSTMIG_REPLY_BAD_ACCESS as its reply */
+    uint32_t prot;     /* POSTMIG_PROT_.. */
+    uint32_t place;    /* POSTMIG_ANYWHERE, POSTMIG_FIXED, POSTMIG_NO_REPLACE */
+    uint32_t may_move; /* 0, else MREMAP_MAYMOVE */
+    uint64_t addr;
+    uint64_t length;
+    uint64_t new_length;
+    uint64_t target;   /* the address of a place other than POSTMIG_ANYWHERE */
+    uint64_t value;
+} postmig_command;
+
+/* BOTH KINDS OF NODE */
+
+/* Frames that a node has sent wait in its handle, in their order, until they are taken: those of a source for the wire to the destination,
+   those of a destination for the wire back. They are Advise, Discard, Package, End, Resume; and Request, Recv, Done. (Page, Zero and Run
+   have bytes: the caller writes them, by the heads below, on the wire or the urgent wire.) Takes all that wait and writes their texts, one
+   after the other, in version 2 of the format. POSTMIG_NO_FRAME: none waits. POSTMIG_NO_ROOM: *written is the length that is needed, and
+   they still wait; so they do at POSTMIG_NO_MEMORY. At a broken channel the caller takes what waits and drops it, as all that was not read. */
+uint32_t postmig_node_frame(postmig_handle *node, uint8_t *out, size_t room, size_t *written);
+
+/* THE SOURCE */
+
+/* Opens a source of so many processors, 1 to 16, in its world of zeros: nothing is mapped, no migration has begun. Its epoch and number of
+   rounds begin as given (0 and 0). What the handle had is freed; it keeps that if the answer is not POSTMIG_OK. */
+uint32_t postmig_source_new(uint8_t cpus, uint32_t epoch, uint32_t rounds, postmig_handle *source);
+
+/* Has a processor make a command: how the guest's memory at the start is entered (mmap, then a store of 0 to each present page), and how a
+   real fault is (a load, or a store of 0; the effect is POSTMIG_DID_SLEEP, and then postmig_source_read reads the fault) and a real
+   REMOVE, REMAP or UNMAP (dontneed, mremap, munmap or mmap; then a read for each message). A load or store that meets no fault needs no
+   call. POSTMIG_NOT_A_COMMAND; NO_CPU, BUSY, PHASE once the source has switched. */
+uint32_t postmig_source_issue(postmig_handle *source, uint8_t cpu, const postmig_command *command, postmig_effect *effect);
+
+/* Has a woken processor make its load or store again, so that it is idle. NO_CPU, NOT_ASLEEP, NOT_WOKEN, PHASE once switched. */
+uint32_t postmig_source_retry(postmig_handle *source, uint8_t cpu, postmig_effect *effect);
+
+/* Begins a migration, in the next epoch: registers all that is mapped. Advise waits. PHASE, COUNT_USED. */
+uint32_t postmig_source_start(postmig_handle *source, postmig_effect *effect);
+
+/* Begins a round of pre-copy. PHASE, CHANGING, COUNT_USED. */
+uint32_t postmig_source_round(postmig_handle *source, postmig_effect *effect);
+
+/* What postmig_source_run_sent would send: the first page and how many. PHASE, NOTHING_THERE once the round is done, CHANGING. */
+uint32_t postmig_source_next_run(postmig_handle *source, uint8_t most, uint32_t *first, uint32_t *count);
+
+/* The least page of the round, and those that follow it without a gap, at most `most` of them (1 to 64), are write-protected and clean:
+   the caller has write-protected and then copied them, and sends a Run. Refused as postmig_source_next_run. */
+uint32_t postmig_source_run_sent(postmig_handle *source, uint8_t most, postmig_effect *effect);
+
+/* The same for the least page alone: the caller sends a Page or a Zero. */
+uint32_t postmig_source_send(postmig_handle *source, postmig_effect *effect);
+
+/* Reads the next message of the node's own userfault object. PHASE before the start and once switched, NOTHING_THERE. */
+uint32_t postmig_source_read(postmig_handle *source, postmig_effect *effect);
+
+/* The effect that postmig_source_act would have, or its refusal. */
+uint32_t postmig_source_next_act(postmig_handle *source, postmig_effect *effect);
+
+/* Resolves the first fault that was read: POSTMIG_DID_UNPROTECT, _ZERO, _WAKE or _FORGET. PHASE, NOTHING_THERE, CHANGING. */
+uint32_t postmig_source_act(postmig_handle *source, postmig_effect *effect);
+
+/* Stops the processors for good. Discard and Package wait. PHASE, CHANGING. */
+uint32_t postmig_source_switch(postmig_handle *source, postmig_effect *effect);
+
+/* The least page from `from` on that is owed and was not sent in this epoch. POSTMIG_NO_PAGE if there is none. */
+uint32_t postmig_source_next_remaining(postmig_handle *source, uint32_t from, uint32_t *page);
+
+/* Whether postmig_source_push would send this page, or its refusal. */
+uint32_t postmig_source_check_push(postmig_handle *source, uint32_t epoch, uint32_t page);
+
+/* An owed page is sent, in the epoch in which that was decided: the caller sends a Page or a Zero, on the wire or on the urgent wire. It
+   no longer remains. PHASE, STALE_EPOCH, PAGE_NOT_SENDABLE, NOT_REMAINING; the urgent call also COUNT_USED. */
+uint32_t postmig_source_push(postmig_handle *source, uint32_t epoch, uint32_t page, postmig_effect *effect);
+uint32_t postmig_source_push_urgent(postmig_handle *source, uint32_t epoch, uint32_t page, postmig_effect *effect);
+
+/* Dequeues the oldest request: its page is to be pushed next, if it remains. PHASE, NOTHING_THERE. */
+uint32_t postmig_source_serve(postmig_handle *source, postmig_effect *effect);
+
+/* Nothing more is sent in this epoch. End waits. PHASE, PAGES_LEFT. */
+uint32_t postmig_source_end(postmig_handle *source, postmig_effect *effect);
+
+/* Takes a frame that came back: the bytes are its whole text. Request, Recv, Done. After a Recv of a source that has switched, to a
+   destination that has not run, Discard and Package wait. POSTMIG_NOT_A_FRAME, OUT_OF_PLACE, STALE_EPOCH, BAD_OWED. */
+uint32_t postmig_source_back(postmig_handle *source, const uint8_t *bytes, size_t length, postmig_effect *effect);
+
+/* Notices that the channel is broken: the source is paused. PHASE before the start, once released, and if it is paused already. */
+uint32_t postmig_source_notice(postmig_handle *source, postmig_effect *effect);
+
+/* Begins the next epoch, over a new channel. Resume waits. The source stays paused until it takes the Recv. PHASE unless it is paused,
+   COUNT_USED. The caller makes it only once the destination has noticed too, as a new connection with it shows. */
+uint32_t postmig_source_resume(postmig_handle *source, postmig_effect *effect);
+
+enum {
+    POSTMIG_SOURCE_IDLE = 0,     /* no migration has begun */
+    POSTMIG_SOURCE_PRECOPY = 1,  /* it runs the processors, in rounds */
+    POSTMIG_SOURCE_STOPPED = 2,  /* it has stopped them, and sends what is owed */
+    POSTMIG_SOURCE_PAUSED = 3,   /* it has noticed a break, and not taken a Recv since */
+    POSTMIG_SOURCE_RELEASED = 4  /* the migration is complete */
+};
+
+typedef struct {
+    uint32_t phase;      /* POSTMIG_SOURCE_.. */
+    uint32_t switched;   /* 1 once it has stopped the processors for good */
+    uint32_t epoch;
+    uint32_t rounds;     /* made */
+    uint32_t remaining;  /* owed pages not sent in this epoch */
+    uint32_t waiting;    /* frames that wait for postmig_node_frame */
+    uint64_t asked;      /* requests not dequeued */
+    uint64_t held;       /* faults read and not resolved */
+    uint64_t changing;   /* unread events */
+    uint64_t pages_sent;
+    uint64_t faults;     /* read */
+} postmig_source_state;
+
+uint32_t postmig_source_counts(postmig_handle *source, postmig_source_state *state);
+
+/* THE DESTINATION */
+
+/* Opens a destination of so many processors, 1 to 16: as many as the source has. What the handle had is freed, as above. */
+uint32_t postmig_destination_new(uint8_t cpus, postmig_handle *destination);
+
+/* Takes a frame of the wire from the source. The bytes are its text, without the bytes of pages: of a Page the first 16, of a Run the first
+   20 (postmig_frame_lengths says how many). The bytes of a page stay with the caller: before the destination runs the newest copy of each
+   page is kept (a Discard drops copies), and afterwards a copy waits for its install. To an End, Done waits; to a Resume, a Recv and then
+   the Requests once more. POSTMIG_NOT_A_FRAME, OUT_OF_PLACE, STALE_EPOCH, BAD_FRAME, INSTALL_FIRST, URGENT_FIRST. POSTMIG_NO_MEMORY of a
+   Run: the first of its pages may be kept then, and taking the frame again keeps them all. */
+uint32_t postmig_destination_take(postmig_handle *destination, const uint8_t *bytes, size_t length, postmig_effect *effect);
+
+/* Takes a frame of the urgent wire: a Zero, or the first 16 bytes of a Page. POSTMIG_NOT_A_FRAME, OUT_OF_PLACE, STALE_EPOCH. */
+uint32_t postmig_destination_take_urgent(postmig_handle *destination, const uint8_t *bytes, size_t length, postmig_effect *effect);
+
+/* As those of the source, for a destination that has run: PHASE before. After the Package each processor whose command waited is woken, and
+   has to be retried. */
+uint32_t postmig_destination_issue(postmig_handle *destination, uint8_t cpu, const postmig_command *command, postmig_effect *effect);
+uint32_t postmig_destination_retry(postmig_handle *destination, uint8_t cpu, postmig_effect *effect);
+
+/* Reads the next message of the node's own userfault object. PHASE before it has run, NOTHING_THERE. */
+uint32_t postmig_destination_read(postmig_handle *destination, postmig_effect *effect);
+
+/* The effect that postmig_destination_act would have, or its refusal. */
+uint32_t postmig_destination_next_act(postmig_handle *destination, postmig_effect *effect);
+
+/* Resolves the first fault that was read: POSTMIG_DID_REQUEST (a Request waits, if the page was not requested before and the destination
+   is neither paused nor ended), _ZERO, _WAKE or _FORGET. PHASE, NOTHING_THERE, CHANGING. */
+uint32_t postmig_destination_act(postmig_handle *destination, postmig_effect *effect);
+
+/* The effect that postmig_destination_install would have, or its refusal. */
+uint32_t postmig_destination_next_install(postmig_handle *destination, postmig_effect *effect);
+
+/* The first copy that arrived is installed, or dropped: POSTMIG_DID_INSTALL, the caller has put its bytes at addr, or POSTMIG_DID_DROP.
+   PHASE, NOTHING_THERE, CHANGING. Copies of both wires wait in one queue, in the order in which their frames were taken. */
+uint32_t postmig_destination_install(postmig_handle *destination, postmig_effect *effect);
+
+/* Notices that the channel is broken: the destination is paused. PHASE if it is paused already. The caller makes it only between a Start
+   and the end of the migration. */
+uint32_t postmig_destination_notice(postmig_handle *destination, postmig_effect *effect);
+
+enum {
+    POSTMIG_DESTINATION_IDLE = 0,       /* it knows of no migration */
+    POSTMIG_DESTINATION_ADVISED = 1,    /* it keeps copies */
+    POSTMIG_DESTINATION_DISCARDING = 2, /* it has taken Discard, and waits for the Package */
+    POSTMIG_DESTINATION_RUNNING = 3,    /* it runs the processors */
+    POSTMIG_DESTINATION_PAUSED = 4,     /* it has noticed a break, and not taken a Resume since; if it has run, the processors run */
+    POSTMIG_DESTINATION_ENDED = 5       /* it runs the processors, and nothing more comes */
+};
+
+typedef struct {
+    uint32_t phase;     /* POSTMIG_DESTINATION_.. */
+    uint32_t has_run;   /* 1 once it has taken a Package */
+    uint32_t epoch;
+    uint32_t owed;      /* pages that it still has to get */
+    uint32_t waiting;   /* frames that wait for postmig_node_frame */
+    uint64_t requests;  /* pages requested and not installed */
+    uint64_t arrivals;  /* copies that wait to be installed */
+    uint64_t changing;  /* unread events */
+    uint64_t installed; /* copies */
+    uint64_t dropped;   /* copies */
+    uint64_t faults;    /* read */
+} postmig_destination_state;
+
+uint32_t postmig_destination_counts(postmig_handle *destination, postmig_destination_state *state);
+
+/* Where a page of the source is owed at the destination now. POSTMIG_NO_PAGE if nowhere. */
+uint32_t postmig_destination_home(postmig_handle *destination, uint32_t origin, uint32_t *page);
+
+/* HEADS OF FRAMES, without a handle */
+
+/* Writes the 16 bytes in front of the 4096 of a Page. */
+uint32_t postmig_page_head(uint32_t epoch, uint32_t page, uint8_t *out, size_t room, size_t *written);
+
+/* Writes the 20 bytes in front of those of a Run of 1 to 64 pages. */
+uint32_t postmig_run_head(uint32_t epoch, uint32_t first, uint32_t count, uint8_t *out, size_t room, size_t *written);
+
+/* Writes a Zero, which has 16 bytes. */
+uint32_t postmig_zero_frame(uint32_t epoch, uint32_t page, uint8_t *out, size_t room, size_t *written);
+
+/* Of the frame at the front of these bytes, of which at least 12 are there: how many bytes it has without those of its pages, and how many
+   bytes of pages follow them. POSTMIG_NO_FRAME: fewer than 12 bytes. If the bytes begin no frame, the two numbers mean nothing: the call
+   that takes the frame finds that. A head is at most 5 MiB. */
+uint32_t postmig_frame_lengths(const uint8_t *bytes, size_t length, size_t *head, size_t *pages);
+
+/* WHICH CALL MAKES WHICH STEP (the line of a script)
+
+   issue       cpu K ..            source: until Switch; destination: once it has run
+   retry       retry K
+   source      start, round, send, run_sent (sendrun N), read (sread), act (sact), switch, push, push_urgent (upush), serve, end,
+               back, notice (notice source), resume
+   destination take (deliver), take_urgent (udeliver), read (dread), act (dact), install, notice (notice dest)
+   none        new, next_.., check_.., counts, home, node_frame, heads of frames; break is the caller's
+
+   AN ORDER OF CALLS
+
+   source      new; issue mmap, issue a store of 0 to each present page; start; { round; { next_run, (protect, copy), run_sent, (send) } }
+               with, for each real fault, issue, read, next_act, (ioctl), act, retry; switch; { back | serve, push_urgent |
+               next_remaining, push }; end; back of Done.
+   destination new; { take }; after POSTMIG_DID_TAKE_PACKAGE retry of each processor that waited; { take | take_urgent | next_install,
+               (ioctl), install | for each real fault: issue or retry, read, next_act, (ioctl), act, retry if woken }; take of End.
+   after each call that says that a frame waits: node_frame.
+   a break     both: drop what is unread and what waits in node_frame; notice. source: resume, send the Resume. destination: take it, send
+               the Recv and the Requests. source: back of the Recv. */
+
+#ifdef __cplusplus
+}
+#endif
+#endif
