@@ -31,12 +31,12 @@ void door_open(struct door *door, const struct address *address, uint32_t buffer
     for (uint32_t i = 0; i < MOST_NEWCOMERS; i++)
         door->newcomer[i].file = -1;
     door->address = address;
-    door->buffer = buffer;
     if (address_is_unix(address))
         remove_stale(address);
     door->file = socket(address->name.ss_family, SOCK_STREAM | SOCK_NONBLOCK | SOCK_CLOEXEC, 0);
     if (door->file < 0 || setsockopt(door->file, SOL_SOCKET, SO_REUSEADDR, &yes, sizeof yes))
         refuse_errno(errno, "a socket");
+    socket_set_up(door->file, buffer);
     if (bind(door->file, (const struct sockaddr *)&address->name, address->length))
         refuse_errno(errno, errno == EADDRINUSE ? "%s is in use by another program" : "%s", address->text);
     if (listen(door->file, MOST_NEWCOMERS))
@@ -87,7 +87,6 @@ static void accept_all(struct door *door)
 
         if (file < 0) /* nobody more, or one that has gone again */
             return;
-        socket_set_up(file, door->buffer);
         place = place_for_another(door);
         *place = (struct newcomer){ .file = file, .deadline = kernel_now() + (uint64_t)PATIENCE_MS * MILLION };
     }

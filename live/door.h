@@ -22,7 +22,6 @@ struct newcomer {
 struct door {
     int file;
     const struct address *address;
-    uint32_t buffer;
     struct newcomer newcomer[MOST_NEWCOMERS];
     uint64_t turned_away;
 };

@@ -19,6 +19,8 @@
 
 #define LEAST_ROOM (512u << 10)
 #define MOST_RECEIVED (128u << 10) /* by one call, so that faults are read in between */
+#define LEAST_SEGMENT 1024u
+#define MOST_SEGMENT 16384u
 #define DEAD_AFTER_MS 5000         /* a peer that acknowledges nothing for so long is gone */
 
 /* ADDRESSES */
@@ -112,6 +114,14 @@ static void set_option(int file, int level, int name, int value)
         refuse_errno(errno, "an option of a socket");
 }
 
+/* A window of less than a segment stalls, and a segment of loopback has 64 KiB: small buffers need small segments. */
+static int segment_of(uint32_t buffer)
+{
+    uint32_t part = buffer / 4;
+
+    return (int)(part < LEAST_SEGMENT ? LEAST_SEGMENT : part > MOST_SEGMENT ? MOST_SEGMENT : part);
+}
+
 static void set_tcp_options(int file)
 {
     set_option(file, IPPROTO_TCP, TCP_NODELAY, 1);
@@ -131,6 +141,8 @@ void socket_set_up(int file, uint32_t buffer)
         refuse_errno(errno, "an option of a socket");
     if (family != AF_UNIX)
         set_tcp_options(file);
+    if (buffer && family != AF_UNIX)
+        set_option(file, IPPROTO_TCP, TCP_MAXSEG, segment_of(buffer));
     if (buffer) {
         set_option(file, SOL_SOCKET, SO_SNDBUF, (int)buffer);
         set_option(file, SOL_SOCKET, SO_RCVBUF, (int)buffer);

@@ -50,7 +50,8 @@ struct stream {
 };
 #define NO_STREAM { .file = -1 }
 
-/* Options of a socket that carries frames; `buffer` is the size of its buffers in the kernel, 0 for the kernel's own choice. */
+/* Options of a socket that carries frames, or that listens for such: those it accepts have the same. `buffer` is the size of its buffers in
+   the kernel, 0 for the kernel's own choice. */
 void socket_set_up(int file, uint32_t buffer);
 
 /* Begins to connect. Returns -1 where nobody listens, with errno. */
