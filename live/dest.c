@@ -38,6 +38,7 @@ struct dest {
     struct samples waits;
     struct {
         uint64_t discard, package, run, end, breaks;
+        uint64_t busy; /* of the driver's thread, from the Package to the End, in processor time */
     } figures;
 };
 
@@ -114,13 +115,13 @@ static bool put_copy(struct dest *dest, const postmig_effect *effect, const stru
     int error = frame->page_bytes ? kernel_copy(dest->watch.userfault, at, frame->head + frame->head_bytes)
                                   : kernel_zero(dest->watch.userfault, at);
 
-    if (!error)
+    if (!error) {
+        dest->watch.again_in_a_row = 0;
         return true;
+    }
     if (error != EAGAIN)
         watch_unexpected(error, frame->page_bytes ? "UFFDIO_COPY" : "UFFDIO_ZEROPAGE", effect->addr);
-    dest->watch.again++;
-    watch_handle(&dest->watch);
-    kernel_yield();
+    watch_again(&dest->watch);
     return false;
 }
 
@@ -210,6 +211,7 @@ static void run_guest(struct dest *dest, const struct frame *frame)
     kernel_register(dest->watch.userfault, dest->guest.memory, (size_t)dest->guest.plan.pages * PAGE_BYTES, false);
     guest_start(&dest->guest);
     dest->figures.run = kernel_now();
+    dest->figures.busy = kernel_thread_time();
 }
 
 /* What the memory and the guest need once the node has taken a frame. */
@@ -231,6 +233,7 @@ static void carry_out(struct dest *dest, const postmig_effect *effect, const str
         break;
     case POSTMIG_DID_TAKE_END:
         dest->figures.end = kernel_now();
+        dest->figures.busy = kernel_thread_time() - dest->figures.busy;
         break;
     case POSTMIG_DID_TAKE_RESUME:
         if (!dest->state.has_run)
@@ -459,7 +462,8 @@ static void say_figures(struct dest *dest)
            watch->again, watch->needless, watch->cleared);
     printf(" waits=%zu p50=%.1f p99=%.1f most=%.1f", dest->waits.count, samples_part(&dest->waits, 500), samples_part(&dest->waits, 990),
            samples_part(&dest->waits, 1000));
-    printf(" breaks=%" PRIu64 " turned_away=%" PRIu64 " epoch=%u\n", dest->figures.breaks, dest->door.turned_away, dest->state.epoch);
+    printf(" breaks=%" PRIu64 " turned_away=%" PRIu64 " epoch=%u busy=%" PRIu64 "\n", dest->figures.breaks, dest->door.turned_away,
+           dest->state.epoch, dest->figures.busy);
 }
 
 /* Every word of the guest's memory. */

@@ -45,7 +45,7 @@ void door_open(struct door *door, const struct address *address, uint32_t buffer
 
 uint16_t door_port(const struct door *door)
 {
-    struct sockaddr_storage name;
+    struct sockaddr_storage name = { 0 };
     socklen_t length = sizeof name;
 
     if (getsockname(door->file, (struct sockaddr *)&name, &length))

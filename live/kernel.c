@@ -18,6 +18,8 @@
 #define FEATURES                                                                                                                   \
     (UFFD_FEATURE_PAGEFAULT_FLAG_WP | UFFD_FEATURE_EVENT_REMAP | UFFD_FEATURE_EVENT_REMOVE | UFFD_FEATURE_EVENT_UNMAP |             \
      UFFD_FEATURE_THREAD_ID)
+/* A thread that has no processor cannot finish its call: so many times it is given one without a sleep. */
+#define YIELDS 8u
 /* Ranges of one process_madvise(2), which takes as many as writev(2). */
 #define MOST_RANGES 1024u
 
@@ -29,9 +31,22 @@ uint64_t kernel_now(void)
     return (uint64_t)time.tv_sec * 1000000000u + (uint64_t)time.tv_nsec;
 }
 
-void kernel_yield(void)
+uint64_t kernel_thread_time(void)
 {
-    (void)sched_yield(); /* it always succeeds */
+    struct timespec time;
+
+    clock_gettime(CLOCK_THREAD_CPUTIME_ID, &time);
+    return (uint64_t)time.tv_sec * 1000000000u + (uint64_t)time.tv_nsec;
+}
+
+void kernel_yield(uint32_t times)
+{
+    const struct timespec moment = { .tv_nsec = 20000 };
+
+    if (times > YIELDS)
+        (void)nanosleep(&moment, NULL); /* a shorter sleep is as good */
+    else
+        (void)sched_yield(); /* it always succeeds */
 }
 
 /* What smaps says of the area that begins at `at`: whether the kernel would make huge pages there. */

@@ -10,8 +10,11 @@
 /* Nanoseconds of the monotonic clock. */
 uint64_t kernel_now(void);
 
-/* Gives the processor to somebody else. */
-void kernel_yield(void);
+/* Nanoseconds of processor time that this thread has used. */
+uint64_t kernel_thread_time(void);
+
+/* Gives the processor to somebody else, after the kernel has refused a call for the `times`th time in a row: for a moment at first. */
+void kernel_yield(uint32_t times);
 
 /* Anonymous memory of this many bytes, of which no part is ever a huge page. */
 char *kernel_map(size_t bytes);

@@ -39,6 +39,7 @@ struct source {
     struct {
         uint64_t start, stop, stopped, sent, released;
         uint64_t owed, pushed, served, breaks;
+        uint64_t busy; /* of the driver's thread, from the switch to the release, in processor time */
     } figures;
 };
 
@@ -297,13 +298,13 @@ static bool send_run(struct source *source)
     full = pages_before_zero(source, first, count);
     count = full ? full : 1;
     error = kernel_protect(source->watch.userfault, page_of(source, first), (size_t)count * PAGE_BYTES);
-    if (error == EAGAIN) { /* an event is unread */
-        source->watch.again++;
-        watch_handle(&source->watch);
+    if (error == EAGAIN) {
+        watch_again(&source->watch);
         return true;
     }
     if (error)
         watch_unexpected(error, "UFFDIO_WRITEPROTECT", (uint64_t)first * PAGE_BYTES);
+    source->watch.again_in_a_row = 0;
     check_run(source, first, count);
     send_protected(source, first, count);
     return true;
@@ -327,7 +328,7 @@ static void stop_guest(struct source *source)
     guest_ask_stop(&source->guest);
     while (!guest_has_stopped(&source->guest)) {
         watch_handle(&source->watch);
-        kernel_yield();
+        kernel_yield(0);
     }
     guest_join(&source->guest);
     watch_handle(&source->watch);
@@ -342,6 +343,7 @@ static void switch_over(struct source *source)
     source->figures.stop = kernel_now();
     stop_guest(source);
     source->figures.stopped = kernel_now();
+    source->figures.busy = kernel_thread_time();
     node_expect(postmig_source_switch(&source->node.handle, &effect), "postmig_source_switch");
     source->figures.owed = effect.count;
     source->package_is_sent = false;
@@ -538,7 +540,7 @@ static void say_figures(const struct source *source)
            source->figures.pushed, source->figures.served, source->state.pages_sent);
     printf(" faults=%" PRIu64 " events=%" PRIu64 " again=%" PRIu64 " needless=%" PRIu64 " cleared=%" PRIu64, watch->faults, watch->events,
            watch->again, watch->needless, watch->cleared);
-    printf(" breaks=%" PRIu64 " epoch=%u\n", source->figures.breaks, source->state.epoch);
+    printf(" breaks=%" PRIu64 " epoch=%u busy=%" PRIu64 "\n", source->figures.breaks, source->state.epoch, source->figures.busy);
 }
 
 /* Before the switch the guest runs on here. That is shown by a moment of it, and by a check of all its memory. */
@@ -574,6 +576,7 @@ int source_run(const struct options *options)
         turn(&source);
     }
     source.figures.released = kernel_now();
+    source.figures.busy = kernel_thread_time() - source.figures.busy;
     trace_close(&source.trace);
     say_figures(&source);
     postmig_free(&source.node.handle);

@@ -206,6 +206,12 @@ static int carry_out(struct watch *watch, const postmig_effect *effect)
     }
 }
 
+static void note_again(struct watch *watch)
+{
+    watch->again++;
+    kernel_yield(watch->again_in_a_row++);
+}
+
 /* The first fault. False if there is none, or the kernel has an event that has to be read first. */
 static bool act(struct watch *watch)
 {
@@ -218,12 +224,12 @@ static bool act(struct watch *watch)
     node_expect(status, "next_act");
     error = carry_out(watch, &next);
     if (error == EAGAIN) {
-        watch->again++;
-        kernel_yield();
+        note_again(watch);
         return false;
     }
     if (error)
         watch_unexpected(error, "a call for a fault", next.addr);
+    watch->again_in_a_row = 0;
     node_expect(node_act(watch->node, &effect), "act");
     if (!is_same_effect(&next, &effect))
         refuse("the node acts by an effect of kind %u, and has announced kind %u", effect.kind, next.kind);
@@ -248,4 +254,10 @@ void watch_handle(struct watch *watch)
         while (act(watch))
             continue;
     } while (count == MOST_MESSAGES || watch->again != again);
+}
+
+void watch_again(struct watch *watch)
+{
+    note_again(watch);
+    watch_handle(watch);
 }

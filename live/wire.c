@@ -39,7 +39,7 @@ static void read_unix(struct address *address, const char *path)
     if (!*path || strlen(path) >= sizeof name->sun_path)
         refuse("%s: a path of 1 to %zu bytes is needed", address->text, sizeof name->sun_path - 1);
     name->sun_family = AF_UNIX;
-    strcpy(name->sun_path, path);
+    memcpy(name->sun_path, path, strlen(path) + 1);
     address->length = sizeof *name;
 }
 
