@@ -31,7 +31,8 @@ struct dest {
     struct trace trace;
     postmig_destination_state state;
     uint32_t channels;   /* taken until now */
-    uint32_t main_epoch; /* the epoch that the last one has told */
+    uint64_t instance;   /* of this process, */
+    struct hello source; /* and what the source has told last */
     bool is_first_frame; /* of this channel */
     bool has_more;       /* whole frames may be there */
     bool is_at_door;     /* somebody may be */
@@ -68,6 +69,7 @@ static void begin(struct dest *dest, const struct options *options)
     watch_keep_times(&dest->watch);
     node_expect(postmig_destination_new((uint8_t)options->plan.threads, &dest->node.handle), "postmig_destination_new");
     trace_open(&dest->trace, options->trace, &dest->node);
+    dest->instance = hello_new_instance();
     door_open(&dest->door, &options->address, options->buffer);
     printf("listening port=%u\n", door_port(&dest->door));
     (void)fflush(stdout); /* who reads it may have gone */
@@ -253,6 +255,13 @@ static void notice_if_resumed(struct dest *dest, const struct frame *frame)
         node_expect(postmig_destination_notice(&dest->node.handle, &effect), "postmig_destination_notice");
 }
 
+/* Hostile bytes, or a source that is wrong. A guest that runs here goes no further. */
+static _Noreturn void refuse_frame(const struct dest *dest, const struct frame *frame, uint32_t status)
+{
+    refuse("%s%s", node_fault(status, frame->head, frame->head_bytes + frame->page_bytes),
+           dest->state.has_run ? ": the guest is lost" : "");
+}
+
 /* False for an End that has to wait until all urgent frames have come. */
 static bool take(struct dest *dest, const struct frame *frame)
 {
@@ -263,7 +272,8 @@ static bool take(struct dest *dest, const struct frame *frame)
     status = postmig_destination_take(&dest->node.handle, frame->head, frame->head_bytes, &effect);
     if (status == POSTMIG_REFUSED_URGENT_FIRST)
         return false;
-    node_expect(status, "a frame of the source");
+    if (status != POSTMIG_OK)
+        refuse_frame(dest, frame, status);
     carry_out(dest, &effect, frame);
     dest->is_first_frame = false;
     return true;
@@ -273,7 +283,10 @@ static bool take_urgent(struct dest *dest, const struct frame *frame)
 {
     postmig_effect effect;
 
-    node_expect(postmig_destination_take_urgent(&dest->node.handle, frame->head, frame->head_bytes, &effect), "an urgent frame");
+    uint32_t status = postmig_destination_take_urgent(&dest->node.handle, frame->head, frame->head_bytes, &effect);
+
+    if (status != POSTMIG_OK)
+        refuse_frame(dest, frame, status);
     install(dest, frame);
     return true;
 }
@@ -324,17 +337,19 @@ static void lose_channel(struct dest *dest)
     look(dest);
 }
 
-static void take_channel(struct dest *dest, int file, uint32_t epoch)
+static void take_channel(struct dest *dest, int file, const struct hello *source)
 {
     static const struct cuts never = { { NEVER, NEVER }, { NEVER, NEVER } };
     const struct options *options = dest->options;
-    const struct cuts *cuts = dest->channels < options->cuts ? &options->cut[dest->channels] : &never;
+    struct hello own = { .channel = MAIN, .epoch = source->epoch, .instance = dest->instance };
 
     if (stream_is_open(&dest->main))
         lose_channel(dest);
-    stream_open(&dest->main, file, &cuts->main);
+    stream_open(&dest->main, file, dest->channels < options->cuts ? &options->cut[dest->channels].main : &never.main);
+    hello_write(&own, stream_room(&dest->main, HELLO_BYTES));
+    dest->main.out.end += HELLO_BYTES;
     dest->channels++;
-    dest->main_epoch = epoch;
+    dest->source = *source;
     dest->is_first_frame = true;
 }
 
@@ -343,25 +358,28 @@ static void take_urgent_channel(struct dest *dest)
 {
     static const struct cut never = { NEVER, NEVER };
     const struct options *options = dest->options;
-    uint32_t epoch = dest->state.epoch, told;
+    uint32_t epoch = dest->state.epoch;
+    struct wanted wanted = { .channel = URGENT, .least = epoch, .most = epoch, .instance = dest->source.instance };
+    struct hello hello;
     int file;
 
-    if (stream_is_open(&dest->urgent) || dest->main_epoch != epoch || dest->is_first_frame)
+    if (stream_is_open(&dest->urgent) || dest->source.epoch != epoch || dest->is_first_frame)
         return;
-    file = door_take(&dest->door, URGENT, epoch, epoch, &told);
+    file = door_take(&dest->door, &wanted, &hello);
     if (file >= 0)
         stream_open(&dest->urgent, file, dest->channels <= options->cuts ? &options->cut[dest->channels - 1].urgent : &never);
 }
 
+/* A source that comes again has a later epoch. Another source is not let in. */
 static void look_at_door(struct dest *dest)
 {
-    uint32_t epoch;
+    struct wanted wanted = { .channel = MAIN, .least = dest->source.epoch + 1, .most = UINT32_MAX, .instance = dest->source.instance };
+    struct hello hello;
     int file;
 
     door_look(&dest->door);
-    file = door_take(&dest->door, MAIN, dest->main_epoch + 1, UINT32_MAX, &epoch);
-    if (file >= 0)
-        take_channel(dest, file, epoch);
+    if (dest->source.epoch < UINT32_MAX && (file = door_take(&dest->door, &wanted, &hello)) >= 0)
+        take_channel(dest, file, &hello);
     if (stream_is_open(&dest->main))
         take_urgent_channel(dest);
 }

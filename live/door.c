@@ -114,18 +114,18 @@ void door_look(struct door *door)
             turn_away(door, it);
 }
 
-int door_take(struct door *door, enum channel channel, uint32_t least, uint32_t most, uint32_t *epoch)
+int door_take(struct door *door, const struct wanted *wanted, struct hello *hello)
 {
     int file = -1;
 
     for (struct newcomer *it = door->newcomer; it < door->newcomer + MOST_NEWCOMERS; it++) {
-        if (it->file < 0 || it->length < HELLO_BYTES || it->hello.channel != channel)
+        if (it->file < 0 || it->length < HELLO_BYTES || it->hello.channel != wanted->channel)
             continue;
-        if (it->hello.epoch < least) {
+        if (it->hello.epoch < wanted->least || (wanted->instance && it->hello.instance != wanted->instance)) {
             turn_away(door, it);
-        } else if (file < 0 && it->hello.epoch <= most) {
+        } else if (file < 0 && it->hello.epoch <= wanted->most) {
             file = it->file;
-            *epoch = it->hello.epoch;
+            *hello = it->hello;
             it->file = -1;
         }
     }

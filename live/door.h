@@ -35,8 +35,15 @@ uint16_t door_port(const struct door *door);
 /* Accepts who is there, reads their hellos, and turns strangers and those away that have waited too long. */
 void door_look(struct door *door);
 
-/* Takes a newcomer of this channel with an epoch from `least` to `most`, and turns older ones away. Returns -1 if there is none. */
-int door_take(struct door *door, enum channel channel, uint32_t least, uint32_t most, uint32_t *epoch);
+/* Whom the destination waits for. */
+struct wanted {
+    enum channel channel;
+    uint32_t least, most; /* epochs */
+    uint64_t instance;    /* the source that came first; 0: any */
+};
+
+/* Takes a newcomer that is wanted, and turns those of an older epoch or another source away. Returns its file, or -1 if there is none. */
+int door_take(struct door *door, const struct wanted *wanted, struct hello *hello);
 
 /* Adds what the door waits for: at most MOST_NEWCOMERS + 1 files. Returns their number. */
 uint32_t door_files(const struct door *door, struct pollfd *files);

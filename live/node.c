@@ -1,20 +1,59 @@
 /* Calls of either node. */
 #include "node.h"
 
+#include <stdio.h>
+
 #include "live.h"
 
-#define NAME_BYTES 32
+#define TEXT_BYTES 64
+
+/* The words for an answer of a call. */
+static const char *answer_text(uint32_t status)
+{
+    static char text[TEXT_BYTES];
+    uint8_t name[TEXT_BYTES / 2];
+    size_t length = 0;
+
+    if (status >= POSTMIG_REFUSED && postmig_refusal_name(status, name, sizeof name, &length) == POSTMIG_OK)
+        (void)snprintf(text, sizeof text, "refused %.*s", (int)length, (const char *)name); /* it fits */
+    else
+        (void)snprintf(text, sizeof text, "status %u", status); /* it fits */
+    return text;
+}
 
 void node_expect(uint32_t status, const char *call)
 {
-    uint8_t name[NAME_BYTES] = "";
-    size_t length = 0;
+    if (status != POSTMIG_OK)
+        refuse("%s: %s", call, answer_text(status));
+}
+
+/* What the decoder of streams says of these bytes. */
+static uint32_t stream_fault(const uint8_t *bytes, size_t length)
+{
+    postmig_handle frames = POSTMIG_NONE;
+    postmig_frame frame;
+    size_t written = 0;
+    uint32_t status = postmig_frames_new(&frames);
 
     if (status == POSTMIG_OK)
-        return;
-    if (status < POSTMIG_REFUSED || postmig_refusal_name(status, name, sizeof name, &length) != POSTMIG_OK)
-        refuse("%s: status %u", call, status);
-    refuse("%s: refused %.*s", call, (int)length, (const char *)name);
+        status = postmig_frames_feed(&frames, bytes, length);
+    if (status == POSTMIG_OK)
+        status = postmig_frames_next(&frames, &frame, NULL, 0, &written);
+    postmig_free(&frames);
+    return status;
+}
+
+const char *node_fault(uint32_t status, const uint8_t *bytes, size_t length)
+{
+    static char text[2 * TEXT_BYTES];
+    uint32_t fault = status == POSTMIG_NOT_A_FRAME ? stream_fault(bytes, length) : POSTMIG_OK;
+    const char *name = fault == POSTMIG_BAD_TAG      ? "stream fault BadTag"
+                       : fault == POSTMIG_BAD_LENGTH ? "stream fault BadLength"
+                       : fault == POSTMIG_BAD_FIELD  ? "stream fault BadField"
+                                                     : answer_text(status);
+
+    (void)snprintf(text, sizeof text, "a frame of the other side, with the tag 0x%02x: %s", bytes[1], name); /* it fits */
+    return text;
 }
 
 uint32_t node_issue(struct node *node, uint32_t cpu, const postmig_command *command, postmig_effect *effect)

@@ -16,6 +16,9 @@ struct node {
 /* Where the answer is not POSTMIG_OK the program ends, and says which call and which answer. */
 void node_expect(uint32_t status, const char *call);
 
+/* Why a frame was not taken, for such an answer: the fault of its bytes by the decoder, or the node's refusal. */
+const char *node_fault(uint32_t status, const uint8_t *bytes, size_t length);
+
 uint32_t node_issue(struct node *node, uint32_t cpu, const postmig_command *command, postmig_effect *effect);
 uint32_t node_retry(struct node *node, uint32_t cpu, postmig_effect *effect);
 uint32_t node_read(struct node *node, postmig_effect *effect);

@@ -30,8 +30,12 @@ struct source {
     struct trace trace;
     postmig_source_state state;
     uint32_t channels;     /* opened until now */
+    uint64_t instance;     /* of this process */
+    uint64_t destination;  /* the instance that has answered first, or before the switch; 0: none has */
+    bool is_answered;      /* on this channel */
     bool has_to_resume;    /* the channel is lost, and the next epoch has not begun */
-    uint64_t lost_since, next_try;
+    bool is_over;          /* there is no destination that the guest could be moved to */
+    uint64_t last_progress, next_try;
     uint32_t round_pages;  /* of this round */
     uint32_t rounds;       /* made since pre-copy has begun, or begun again */
     bool package_is_sent;
@@ -141,7 +145,8 @@ static void begin(struct source *source, const struct options *options)
     source->figures.start = kernel_now();
     enter_memory(source);
     node_expect(postmig_source_start(&source->node.handle, &effect), "postmig_source_start");
-    source->lost_since = kernel_now();
+    source->last_progress = kernel_now();
+    source->instance = hello_new_instance();
     look(source);
 }
 
@@ -149,7 +154,7 @@ static void begin(struct source *source, const struct options *options)
 
 static bool open_stream(struct source *source, struct stream *stream, enum channel channel, const struct cut *cut)
 {
-    struct hello hello = { .channel = channel, .epoch = source->state.epoch };
+    struct hello hello = { .channel = channel, .epoch = source->state.epoch, .instance = source->instance };
     int file = wire_connect(&source->options->address, source->options->buffer);
 
     if (file < 0)
@@ -184,8 +189,7 @@ static void lose_channel(struct source *source)
     node_drop_frames(&source->node);
     source->figures.breaks++;
     source->has_to_resume = true;
-    if (!source->lost_since)
-        source->lost_since = kernel_now();
+    source->is_answered = false;
     look(source);
     if (source->state.phase == POSTMIG_SOURCE_PRECOPY || source->state.phase == POSTMIG_SOURCE_STOPPED)
         node_expect(postmig_source_notice(&source->node.handle, &effect), "postmig_source_notice");
@@ -209,15 +213,42 @@ static void connect_again(struct source *source)
 
 /* FRAMES THAT COME BACK */
 
+/* The migration cannot be completed. Whether the guest is lost with it depends on whether it has been switched. */
+static void give_up(struct source *source, const char *why)
+{
+    fprintf(stderr, "live: %s\n", why);
+    source->is_over = true;
+}
+
+/* A destination that was started anew knows nothing of a guest that may have run on the old one. */
+static void take_hello(struct source *source)
+{
+    struct hello hello;
+
+    if (source->is_answered || stream_length(&source->main) < HELLO_BYTES)
+        return;
+    if (!hello_read(&hello, stream_front(&source->main)) || hello.epoch != source->state.epoch)
+        give_up(source, "who listens there is no destination");
+    else if (source->state.switched && source->destination != hello.instance)
+        give_up(source, "another destination listens there than at the switch");
+    source->destination = hello.instance;
+    source->is_answered = true;
+    stream_take(&source->main, HELLO_BYTES);
+}
+
 static void take_back(struct source *source, size_t length)
 {
     postmig_effect effect;
+    uint32_t status = postmig_source_back(&source->node.handle, stream_front(&source->main), length, &effect);
 
-    node_expect(postmig_source_back(&source->node.handle, stream_front(&source->main), length, &effect), "a frame of the destination");
+    if (status != POSTMIG_OK) {
+        give_up(source, node_fault(status, stream_front(&source->main), length));
+        return;
+    }
     stream_take(&source->main, length);
     if (effect.kind != POSTMIG_DID_TAKE_RECV)
         return;
-    source->lost_since = 0;
+    source->last_progress = kernel_now();
     source->rounds = 0;
     source->round_pages = UINT32_MAX;
     source->package_is_sent = false;
@@ -230,7 +261,9 @@ static bool hear(struct source *source)
     bool is_whole = stream_receive(&source->main, 0);
     size_t length = 0, pages = 0;
 
-    while (postmig_frame_lengths(stream_front(&source->main), stream_length(&source->main), &length, &pages) == POSTMIG_OK &&
+    take_hello(source);
+    while (source->is_answered && !source->is_over &&
+           postmig_frame_lengths(stream_front(&source->main), stream_length(&source->main), &length, &pages) == POSTMIG_OK &&
            stream_length(&source->main) >= length)
         take_back(source, length);
     return is_whole;
@@ -462,7 +495,7 @@ static bool work_in_postcopy(struct source *source)
 static bool work(struct source *source)
 {
     look(source);
-    if (!stream_is_open(&source->main))
+    if (!stream_is_open(&source->main) || !source->is_answered)
         return false;
     if (source->state.phase == POSTMIG_SOURCE_PRECOPY)
         return work_in_precopy(source);
@@ -497,14 +530,22 @@ static void show_progress(const struct source *source)
     (void)fflush(stdout); /* who reads it may have gone */
 }
 
+/* A destination that answers, and takes what is sent to it. */
+static void note_progress(struct source *source, uint64_t sent)
+{
+    if (source->is_answered && source->state.phase != POSTMIG_SOURCE_PAUSED && source->main.sent != sent)
+        source->last_progress = kernel_now();
+}
+
 static bool has_lost_patience(const struct source *source)
 {
-    return source->lost_since && kernel_now() - source->lost_since > (uint64_t)source->options->patience * SECOND_NS;
+    return kernel_now() - source->last_progress > (uint64_t)source->options->patience * SECOND_NS;
 }
 
 /* One turn. */
 static void turn(struct source *source)
 {
+    uint64_t sent = source->main.sent;
     bool has_more;
 
     if (!source->state.switched)
@@ -515,8 +556,8 @@ static void turn(struct source *source)
         look(source);
         if (source->state.phase != POSTMIG_SOURCE_RELEASED)
             lose_channel(source);
-    } else if (source->main.sent && source->state.phase != POSTMIG_SOURCE_PAUSED) {
-        source->lost_since = 0;
+    } else {
+        note_progress(source, sent);
     }
     has_more = work(source);
     look(source);
@@ -558,8 +599,7 @@ static int keep_guest(struct source *source)
     wrong = guest_check(&source->guest, &page);
     printf("kept operations=%" PRIu64 " wrong_loads=%" PRIu64 " wrong_pages=%u\n", guest_operations(&source->guest),
            guest_wrong_loads(&source->guest), wrong);
-    fprintf(stderr, "live: no destination for %u s: the guest has run on here, and its memory is %s\n", source->options->patience,
-            wrong ? "wrong" : "right");
+    fprintf(stderr, "live: the guest has run on here, and its memory is %s\n", wrong ? "wrong" : "right");
     return wrong || guest_wrong_loads(&source->guest) ? STATUS_WRONG : STATUS_LOST;
 }
 
@@ -569,10 +609,12 @@ int source_run(const struct options *options)
 
     begin(&source, options);
     while (source.state.phase != POSTMIG_SOURCE_RELEASED) {
-        if (has_lost_patience(&source) && !source.state.switched)
-            return keep_guest(&source);
         if (has_lost_patience(&source))
-            lose("no destination for %u s after the switch: the guest is lost, and does not run here", options->patience);
+            give_up(&source, "no destination");
+        if (source.is_over && !source.state.switched)
+            return keep_guest(&source);
+        if (source.is_over)
+            lose("the guest was switched to a destination that is gone: it is lost, and does not run here");
         turn(&source);
     }
     source.figures.released = kernel_now();

@@ -12,6 +12,7 @@
 #include <stdlib.h>
 #include <string.h>
 #include <sys/ioctl.h>
+#include <sys/random.h>
 #include <sys/un.h>
 #include <unistd.h>
 
@@ -88,13 +89,37 @@ bool address_is_unix(const struct address *address)
 static const uint8_t GREETING[6] = { 'p', 'm', 'l', 'i', 'v', 'e' };
 #define HELLO_VERSION 1
 
+uint64_t hello_new_instance(void)
+{
+    uint64_t instance;
+
+    if (getrandom(&instance, sizeof instance, 0) != (ssize_t)sizeof instance)
+        refuse_errno(errno, "getrandom");
+    return instance;
+}
+
+static void write_number(uint8_t *bytes, uint64_t number, int length)
+{
+    for (int i = 0; i < length; i++)
+        bytes[i] = (uint8_t)(number >> 8 * (length - 1 - i));
+}
+
+static uint64_t read_number(const uint8_t *bytes, int length)
+{
+    uint64_t number = 0;
+
+    for (int i = 0; i < length; i++)
+        number = number << 8 | bytes[i];
+    return number;
+}
+
 void hello_write(const struct hello *hello, uint8_t *bytes)
 {
     memcpy(bytes, GREETING, sizeof GREETING);
     bytes[6] = HELLO_VERSION;
     bytes[7] = (uint8_t)hello->channel;
-    for (int i = 0; i < 4; i++)
-        bytes[8 + i] = (uint8_t)(hello->epoch >> (24 - 8 * i));
+    write_number(bytes + 8, hello->epoch, 4);
+    write_number(bytes + 12, hello->instance, 8);
 }
 
 bool hello_read(struct hello *hello, const uint8_t *bytes)
@@ -102,7 +127,8 @@ bool hello_read(struct hello *hello, const uint8_t *bytes)
     if (memcmp(bytes, GREETING, sizeof GREETING) || bytes[6] != HELLO_VERSION || bytes[7] > URGENT)
         return false;
     hello->channel = (enum channel)bytes[7];
-    hello->epoch = (uint32_t)bytes[8] << 24 | (uint32_t)bytes[9] << 16 | (uint32_t)bytes[10] << 8 | bytes[11];
+    hello->epoch = (uint32_t)read_number(bytes + 8, 4);
+    hello->instance = read_number(bytes + 12, 8);
     return true;
 }
 

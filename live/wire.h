@@ -1,5 +1,6 @@
 /* Connections between the two hosts: TCP on loopback, and Unix sockets. Each begins with a hello of the source, of HELLO_BYTES, that tells
-   its channel and epoch; frames follow it. */
+   its channel, its epoch, and which source it is; frames follow it. On the main connection the destination says first, in the same form,
+   which destination it is. */
 #ifndef WIRE_H
 #define WIRE_H
 
@@ -24,9 +25,11 @@ enum channel { MAIN, URGENT };
 struct hello {
     enum channel channel;
     uint32_t epoch;
+    uint64_t instance; /* a number of this process, made at random */
 };
 
-#define HELLO_BYTES 12u
+#define HELLO_BYTES 20u
+uint64_t hello_new_instance(void);
 void hello_write(const struct hello *hello, uint8_t *bytes);
 bool hello_read(struct hello *hello, const uint8_t *bytes); /* false where the bytes are a stranger's */
 
