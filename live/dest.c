@@ -39,6 +39,7 @@ struct dest {
     struct samples waits;
     struct {
         uint64_t discard, package, run, end, breaks;
+        uint64_t kept, discarded; /* copies before the guest ran */
         uint64_t busy; /* of the driver's thread, from the Package to the End, in processor time */
     } figures;
 };
@@ -88,12 +89,13 @@ static void keep_zero(char *at)
         memset(at, 0, PAGE_BYTES);
 }
 
-static void keep(const struct dest *dest, const postmig_effect *effect, const struct frame *frame)
+static void keep(struct dest *dest, const postmig_effect *effect, const struct frame *frame)
 {
     uint64_t last = effect->addr + (frame->page_bytes ? frame->page_bytes - PAGE_BYTES : 0);
     char *at = page_of(dest, effect->addr);
 
     (void)page_of(dest, last); /* it is the guest's */
+    dest->figures.kept += frame->page_bytes ? frame->page_bytes / PAGE_BYTES : 1;
     if (frame->page_bytes)
         memcpy(at, frame->head + frame->head_bytes, frame->page_bytes);
     else
@@ -228,6 +230,7 @@ static void carry_out(struct dest *dest, const postmig_effect *effect, const str
             keep(dest, effect, frame);
         break;
     case POSTMIG_DID_TAKE_DISCARD:
+        dest->figures.discarded += effect->count;
         discard(dest, frame);
         break;
     case POSTMIG_DID_TAKE_PACKAGE:
@@ -339,7 +342,7 @@ static void lose_channel(struct dest *dest)
 
 static void take_channel(struct dest *dest, int file, const struct hello *source)
 {
-    static const struct cuts never = { { NEVER, NEVER }, { NEVER, NEVER } };
+    static const struct cuts never = NO_CUTS;
     const struct options *options = dest->options;
     struct hello own = { .channel = MAIN, .epoch = source->epoch, .instance = dest->instance };
 
@@ -356,7 +359,7 @@ static void take_channel(struct dest *dest, int file, const struct hello *source
 /* An urgent connection is of this epoch alone. One of a later epoch waits at the door. */
 static void take_urgent_channel(struct dest *dest)
 {
-    static const struct cut never = { NEVER, NEVER };
+    static const struct cut never = NO_CUT;
     const struct options *options = dest->options;
     uint32_t epoch = dest->state.epoch;
     struct wanted wanted = { .channel = URGENT, .least = epoch, .most = epoch, .instance = dest->source.instance };
@@ -475,7 +478,8 @@ static void say_figures(struct dest *dest)
 
     printf("destination discard=%" PRIu64 " package=%" PRIu64 " run=%" PRIu64 " first=%" PRIu64 " end=%" PRIu64, dest->figures.discard,
            dest->figures.package, dest->figures.run, atomic_load(&dest->guest.first_done), dest->figures.end);
-    printf(" installed=%" PRIu64 " dropped=%" PRIu64 " requests=%" PRIu64, dest->state.installed, dest->state.dropped, watch->requests);
+    printf(" kept=%" PRIu64 " discarded=%" PRIu64 " installed=%" PRIu64 " dropped=%" PRIu64 " requests=%" PRIu64, dest->figures.kept,
+           dest->figures.discarded, dest->state.installed, dest->state.dropped, watch->requests);
     printf(" faults=%" PRIu64 " events=%" PRIu64 " again=%" PRIu64 " needless=%" PRIu64 " cleared=%" PRIu64, watch->faults, watch->events,
            watch->again, watch->needless, watch->cleared);
     printf(" waits=%zu p50=%.1f p99=%.1f most=%.1f", dest->waits.count, samples_part(&dest->waits, 500), samples_part(&dest->waits, 990),

@@ -29,8 +29,8 @@ static const char USAGE[] =
     "  --batch N         operations after which a thread sleeps (64)\n"
     "  --pause US        for this number of microseconds (200)\n"
     "  --buffer BYTES    of a socket in the kernel (65536; 0: the kernel's choice)\n"
-    "  --cut CHANNEL:DIRECTION:BYTES,..   of the next epoch, for tests: main or urgent is cut after these bytes, in or out;\n"
-    "                    `none` leaves an epoch whole\n"
+    "  --cut CHANNEL:DIRECTION:BYTES,..   of the next epoch, for tests: main or urgent is cut after these bytes, in, out, or out\n"
+    "                    since the switch (post); `none` leaves an epoch whole\n"
     "  --trace FILE      the node's steps, for `postmig test`\n"
     "  --progress        a line each tenth of a second\n"
     "of the source:\n"
@@ -115,15 +115,20 @@ static uint32_t pages_of(const char *text)
 
 static void read_cut(struct cuts *cuts, const char *text)
 {
-    char channel[8] = "", direction[4] = "", rest;
+    char channel[8] = "", direction[5] = "", rest;
     unsigned long long bytes = 0;
-    struct cut *cut;
+    bool is_read = sscanf(text, "%7[a-z]:%4[a-z]:%19llu%c", channel, direction, &bytes, &rest) == 3;
+    struct cut *cut = strcmp(channel, "main") ? &cuts->urgent : &cuts->main;
 
-    if (sscanf(text, "%7[a-z]:%3[a-z]:%19llu%c", channel, direction, &bytes, &rest) != 3 ||
-        (strcmp(channel, "main") && strcmp(channel, "urgent")) || (strcmp(direction, "in") && strcmp(direction, "out")))
-        refuse("--cut %s: it is main or urgent, in or out, and a number of bytes, as main:out:4096", text);
-    cut = strcmp(channel, "main") ? &cuts->urgent : &cuts->main;
-    *(strcmp(direction, "in") ? &cut->out : &cut->in) = bytes;
+    if (is_read && (!strcmp(channel, "main") || !strcmp(channel, "urgent"))) {
+        uint64_t *place = !strcmp(direction, "in") ? &cut->in : !strcmp(direction, "out") ? &cut->out : !strcmp(direction, "post") ? &cut->post : NULL;
+
+        if (place) {
+            *place = bytes;
+            return;
+        }
+    }
+    refuse("--cut %s: it is main or urgent; in, out, or post; and a number of bytes, as main:out:4096", text);
 }
 
 /* A list of those of one epoch. */
@@ -133,7 +138,7 @@ static void read_cuts(struct options *options, char *text)
 
     if (options->cuts++ == MOST_CUTS)
         refuse("--cut: at most %u epochs can be cut", MOST_CUTS);
-    *cuts = (struct cuts){ { NEVER, NEVER }, { NEVER, NEVER } };
+    *cuts = (struct cuts)NO_CUTS;
     for (char *word = strtok(text, ","); word; word = strtok(NULL, ","))
         if (strcmp(word, "none"))
             read_cut(cuts, word);

@@ -14,6 +14,7 @@
 struct cuts {
     struct cut main, urgent;
 };
+#define NO_CUTS { NO_CUT, NO_CUT }
 
 struct options {
     struct address address;

@@ -36,13 +36,14 @@ struct source {
     bool has_to_resume;    /* the channel is lost, and the next epoch has not begun */
     bool is_over;          /* there is no destination that the guest could be moved to */
     uint64_t last_progress, next_try;
-    uint32_t round_pages;  /* of this round */
+    uint32_t round_pages;  /* of this round, */
+    uint64_t sent_before;  /* and those sent before it */
     uint32_t rounds;       /* made since pre-copy has begun, or begun again */
     bool package_is_sent;
     uint32_t cursor;       /* background push continues from this page */
     struct {
         uint64_t start, stop, stopped, sent, released;
-        uint64_t owed, pushed, served, breaks;
+        uint64_t owed, discards, pushed, served, zeros, breaks;
         uint64_t busy; /* of the driver's thread, from the switch to the release, in processor time */
     } figures;
 };
@@ -73,6 +74,7 @@ static void put_page(struct source *source, struct stream *stream, uint32_t page
     if (is_zero(bytes)) {
         node_expect(postmig_zero_frame(source->state.epoch, page, out, room, &length), "postmig_zero_frame");
         stream->out.end += length;
+        source->figures.zeros++;
         return;
     }
     node_expect(postmig_page_head(source->state.epoch, page, out, room, &length), "postmig_page_head");
@@ -165,9 +167,18 @@ static bool open_stream(struct source *source, struct stream *stream, enum chann
     return true;
 }
 
+/* From now on the cuts count that are meant for after the switch. */
+static void count_since_switch(struct source *source)
+{
+    struct cut *main_cut = &source->main.cut, *urgent_cut = &source->urgent.cut;
+
+    main_cut->out = main_cut->post != NEVER ? main_cut->post : main_cut->out;
+    urgent_cut->out = urgent_cut->post != NEVER ? urgent_cut->post : urgent_cut->out;
+}
+
 static void open_channel(struct source *source)
 {
-    static const struct cuts never = { { NEVER, NEVER }, { NEVER, NEVER } };
+    static const struct cuts never = NO_CUTS;
     const struct options *options = source->options;
     const struct cuts *cuts = source->channels < options->cuts ? &options->cut[source->channels] : &never;
 
@@ -177,6 +188,8 @@ static void open_channel(struct source *source)
         stream_close(&source->main);
     else
         source->channels++;
+    if (source->state.switched)
+        count_since_switch(source);
 }
 
 /* Nothing that is under way arrives any more. */
@@ -250,7 +263,7 @@ static void take_back(struct source *source, size_t length)
         return;
     source->last_progress = kernel_now();
     source->rounds = 0;
-    source->round_pages = UINT32_MAX;
+    source->round_pages = 0;
     source->package_is_sent = false;
     source->cursor = LOW_PAGE;
 }
@@ -350,6 +363,7 @@ static void begin_round(struct source *source)
     watch_handle(&source->watch);
     node_expect(postmig_source_round(&source->node.handle, &effect), "postmig_source_round");
     source->round_pages = effect.count;
+    source->sent_before = source->state.pages_sent;
     source->rounds++;
 }
 
@@ -379,7 +393,9 @@ static void switch_over(struct source *source)
     source->figures.busy = kernel_thread_time();
     node_expect(postmig_source_switch(&source->node.handle, &effect), "postmig_source_switch");
     source->figures.owed = effect.count;
+    source->figures.discards = effect.number;
     source->package_is_sent = false;
+    count_since_switch(source);
 }
 
 /* Sends a run, begins a round, or switches. Returns whether there is more to do at once. */
@@ -518,15 +534,24 @@ static void wait_for_more(const struct source *source)
         refuse_errno(errno, "poll");
 }
 
+/* Pages of the round, or of what is owed, that are still to be sent. */
+static uint64_t pages_left(const struct source *source)
+{
+    uint64_t sent = source->state.pages_sent - source->sent_before;
+
+    if (source->state.switched)
+        return source->state.remaining;
+    return sent < source->round_pages ? source->round_pages - sent : 0;
+}
+
 static void show_progress(const struct source *source)
 {
     static const char *const names[] = { "idle", "precopy", "stopped", "paused", "released" };
 
     if (!source->options->shows_progress || !progress_is_due())
         return;
-    printf("progress source phase=%s left=%u sent=%" PRIu64 " faults=%" PRIu64 " waits=%u epoch=%u round=%u breaks=%" PRIu64 "\n",
-           names[source->state.phase], source->state.switched ? source->state.remaining : source->round_pages, source->state.pages_sent,
-           source->watch.faults, watch_sleepers(&source->watch), source->state.epoch, source->rounds, source->figures.breaks);
+    printf("progress source phase=%s left=%" PRIu64 " sent=%" PRIu64 " faults=%" PRIu64 " waits=%u epoch=%u round=%u breaks=%" PRIu64 "\n",
+           names[source->state.phase], pages_left(source), source->state.pages_sent, source->watch.faults, watch_sleepers(&source->watch), source->state.epoch, source->rounds, source->figures.breaks);
     (void)fflush(stdout); /* who reads it may have gone */
 }
 
@@ -577,6 +602,7 @@ static void say_figures(const struct source *source)
 
     printf("source start=%" PRIu64 " stop=%" PRIu64 " stopped=%" PRIu64 " sent=%" PRIu64 " released=%" PRIu64, source->figures.start,
            source->figures.stop, source->figures.stopped, source->figures.sent, source->figures.released);
+    printf(" zeros=%" PRIu64 " discards=%" PRIu64, source->figures.zeros, source->figures.discards);
     printf(" rounds=%u owed=%" PRIu64 " pushed=%" PRIu64 " served=%" PRIu64 " pages=%" PRIu64, source->state.rounds, source->figures.owed,
            source->figures.pushed, source->figures.served, source->state.pages_sent);
     printf(" faults=%" PRIu64 " events=%" PRIu64 " again=%" PRIu64 " needless=%" PRIu64 " cleared=%" PRIu64, watch->faults, watch->events,

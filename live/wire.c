@@ -232,7 +232,7 @@ void stream_close(struct stream *stream)
 {
     if (stream->file >= 0)
         (void)close(stream->file); /* what was not sent is lost, as meant */
-    stream_open(stream, -1, &(struct cut){ NEVER, NEVER });
+    stream_open(stream, -1, &(struct cut)NO_CUT);
 }
 
 void stream_free(struct stream *stream)

@@ -33,11 +33,13 @@ uint64_t hello_new_instance(void);
 void hello_write(const struct hello *hello, uint8_t *bytes);
 bool hello_read(struct hello *hello, const uint8_t *bytes); /* false where the bytes are a stranger's */
 
-/* After how many bytes, in or out, a connection is cut, for tests: what is under way is lost, and the other side gets a reset. */
+/* After how many bytes, in or out, a connection is cut, for tests: what is under way is lost, and the other side gets a reset. Those of
+   `post` are sent by the source after the switch. */
 #define NEVER UINT64_MAX
 struct cut {
-    uint64_t in, out;
+    uint64_t in, out, post;
 };
+#define NO_CUT { NEVER, NEVER, NEVER }
 
 struct bytes {
     uint8_t *at;
