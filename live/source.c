@@ -19,6 +19,7 @@
 #define MOST_UNSENT (128u << 10)   /* bytes: more pages are not put into a stream */
 #define RETRY_NS 2000000u          /* between two tries to connect */
 #define SECOND_NS 1000000000u
+#define MOST_HELD 64u              /* turns in which faults wait, so that pages can be protected */
 #define RUN_ON_MS 100u             /* of a guest whose migration was lost before the switch, for the check of its memory */
 
 struct source {
@@ -41,6 +42,7 @@ struct source {
     uint32_t rounds;       /* made since pre-copy has begun, or begun again */
     bool package_is_sent;
     uint32_t cursor;       /* background push continues from this page */
+    uint32_t held;         /* times in a row that pages could not be protected: a guest that gives memory back all the time */
     struct {
         uint64_t start, stop, stopped, sent, released;
         uint64_t owed, discards, pushed, served, zeros, breaks;
@@ -344,6 +346,7 @@ static bool send_run(struct source *source)
     full = pages_before_zero(source, first, count);
     count = full ? full : 1;
     error = kernel_protect(source->watch.userfault, page_of(source, first), (size_t)count * PAGE_BYTES);
+    source->held = error == EAGAIN ? source->held + 1 : 0;
     if (error == EAGAIN) {
         watch_again(&source->watch);
         return true;
@@ -555,10 +558,14 @@ static void show_progress(const struct source *source)
     (void)fflush(stdout); /* who reads it may have gone */
 }
 
-/* A destination that answers, and takes what is sent to it. */
+/* Whether there is a destination that takes what is sent to it. After the last page it has to say that it is done. */
 static void note_progress(struct source *source, uint64_t sent)
 {
-    if (source->is_answered && source->state.phase != POSTMIG_SOURCE_PAUSED && source->main.sent != sent)
+    bool is_last = source->state.phase == POSTMIG_SOURCE_STOPPED && !source->state.remaining;
+
+    if (!source->is_answered || source->state.phase == POSTMIG_SOURCE_PAUSED)
+        return;
+    if (source->main.sent != sent || (!stream_unsent(&source->main) && !is_last))
         source->last_progress = kernel_now();
 }
 
@@ -573,7 +580,9 @@ static void turn(struct source *source)
     uint64_t sent = source->main.sent;
     bool has_more;
 
-    if (!source->state.switched)
+    if (!source->state.switched && source->held % MOST_HELD)
+        watch_read(&source->watch);
+    else if (!source->state.switched)
         watch_handle(&source->watch);
     if (!stream_is_open(&source->main))
         connect_again(source);

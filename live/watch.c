@@ -240,24 +240,38 @@ static bool act(struct watch *watch)
     return true;
 }
 
-void watch_handle(struct watch *watch)
+/* Returns whether there may be more. */
+static bool read_some(struct watch *watch)
 {
     struct uffd_msg messages[MOST_MESSAGES];
+    size_t count = kernel_read(watch->userfault, messages, MOST_MESSAGES);
+
+    for (size_t i = 0; i < count; i++)
+        take_message(watch, &messages[i]);
+    return count == MOST_MESSAGES;
+}
+
+void watch_read(struct watch *watch)
+{
+    while (read_some(watch))
+        continue;
+}
+
+void watch_handle(struct watch *watch)
+{
     uint64_t again;
-    size_t count;
+    bool has_more;
 
     do {
         again = watch->again;
-        count = kernel_read(watch->userfault, messages, MOST_MESSAGES);
-        for (size_t i = 0; i < count; i++)
-            take_message(watch, &messages[i]);
+        has_more = read_some(watch);
         while (act(watch))
             continue;
-    } while (count == MOST_MESSAGES || watch->again != again);
+    } while (has_more || watch->again != again);
 }
 
 void watch_again(struct watch *watch)
 {
     note_again(watch);
-    watch_handle(watch);
+    watch_read(watch);
 }

@@ -32,10 +32,14 @@ char *watch_page(const struct watch *watch, uint64_t address);
 /* Reads all messages, and does what the node says of each. */
 void watch_handle(struct watch *watch);
 
+/* Reads them, and leaves faults for later: the threads that gave memory back finish their calls, and those that wait begin none. */
+void watch_read(struct watch *watch);
+
 /* A page has been put at this address of the node: the threads that wait for it continue. */
 void watch_wake(struct watch *watch, uint64_t address);
 
-/* The kernel has answered EAGAIN: an event is unread, or the thread that made it has not finished its call. All messages are read. */
+/* The kernel has answered EAGAIN: an event is unread, or the thread that made it has not finished its call. All messages are read, as by
+   watch_read. */
 void watch_again(struct watch *watch);
 
 /* Whether a thread waits for a page. */
