@@ -32,7 +32,7 @@ struct dest {
     postmig_destination_state state;
     uint32_t channels;   /* taken until now */
     uint64_t instance;   /* of this process, */
-    struct hello source; /* and what the source has told last */
+    struct hello source; /* and the last hello of the source */
     bool is_first_frame; /* of this channel */
     bool has_more;       /* whole frames may be there */
     bool is_at_door;     /* somebody may be */
@@ -112,7 +112,7 @@ static void note_wait(struct dest *dest, uint64_t origin)
         samples_add(&dest->waits, kernel_now() - asked);
 }
 
-/* Puts the copy where the node says. False where the kernel has an event that has to be read first. */
+/* Puts the copy where the node says. False where the kernel has an event that must be read first. */
 static bool put_copy(struct dest *dest, const postmig_effect *effect, const struct frame *frame)
 {
     char *at = page_of(dest, effect->addr);
@@ -249,7 +249,7 @@ static void carry_out(struct dest *dest, const postmig_effect *effect, const str
     }
 }
 
-/* A source that resumes has given the last channel up, whether or not that was seen here. */
+/* A source that resumes has dropped the last channel, whether or not that was seen here. */
 static void notice_if_resumed(struct dest *dest, const struct frame *frame)
 {
     postmig_effect effect;
@@ -265,7 +265,7 @@ static _Noreturn void refuse_frame(const struct dest *dest, const struct frame *
            dest->state.has_run ? ": the guest is lost" : "");
 }
 
-/* False for an End that has to wait until all urgent frames have come. */
+/* False for an End that must wait until all urgent frames have been taken. */
 static bool take(struct dest *dest, const struct frame *frame)
 {
     postmig_effect effect;
@@ -294,7 +294,7 @@ static bool take_urgent(struct dest *dest, const struct frame *frame)
     return true;
 }
 
-/* The frame at the front, once it is whole. Else `missing` bytes of it have to come. */
+/* The frame at the front, once it is whole. Else `missing` bytes of it are still to be received. */
 static bool front_frame(const struct stream *stream, struct frame *frame, size_t *missing)
 {
     size_t length = stream_length(stream), needed = HEADER_BYTES;

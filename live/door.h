@@ -1,5 +1,5 @@
-/* Where the destination listens. A connection that was accepted is a newcomer until it has told its channel and epoch. Only a few wait at a
-   time, and none for longer than a moment. */
+/* Where the destination listens. A connection that was accepted is a newcomer until its hello has been read. Only a few wait at a time, and
+   none for longer than a moment. */
 #ifndef DOOR_H
 #define DOOR_H
 
@@ -48,7 +48,7 @@ int door_take(struct door *door, const struct wanted *wanted, struct hello *hell
 /* Adds what the door waits for: at most MOST_NEWCOMERS + 1 files. Returns their number. */
 uint32_t door_files(const struct door *door, struct pollfd *files);
 
-/* Whether somebody waits, so that door_look has to be called within PATIENCE_MS. */
+/* Whether somebody waits: door_look is due within PATIENCE_MS. */
 bool door_has_newcomer(const struct door *door);
 
 void door_close(struct door *door);

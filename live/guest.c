@@ -346,7 +346,7 @@ static void make_operation(struct guest_thread *thread, uint64_t k)
     load_word(thread, k);
 }
 
-/* Until the pause is over, or the threads have to stop. */
+/* Until the pause is over, or the threads are asked to stop. */
 static void rest(const struct guest *guest)
 {
     struct pollfd event = { .fd = guest->stop_event, .events = POLLIN };

@@ -56,7 +56,7 @@ struct guest {
     struct guest_pace pace;
     char *memory;
     uint32_t balloon_page, balloon_pages; /* the last pages, which are given back; each belongs to one thread */
-    int stop_event;                       /* readable once the threads have to stop */
+    int stop_event;                       /* readable once the threads are asked to stop */
     _Atomic bool is_stopping;
     _Atomic uint32_t stopped;
     _Atomic uint64_t first_done; /* when the first operation was finished since the threads were started, or 0 */
@@ -72,7 +72,7 @@ void guest_fill(struct guest *guest);
 /* Starts the threads, each at the operation that page 0 has for it. */
 void guest_start(struct guest *guest);
 
-/* Asks the threads to stop, each between two operations. Their faults and events still have to be handled until all have. */
+/* Asks the threads to stop, each between two operations. Their faults and events are still to be handled until all have. */
 void guest_ask_stop(struct guest *guest);
 bool guest_has_stopped(struct guest *guest);
 void guest_join(struct guest *guest);

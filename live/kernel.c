@@ -18,7 +18,7 @@
 #define FEATURES                                                                                                                   \
     (UFFD_FEATURE_PAGEFAULT_FLAG_WP | UFFD_FEATURE_EVENT_REMAP | UFFD_FEATURE_EVENT_REMOVE | UFFD_FEATURE_EVENT_UNMAP |             \
      UFFD_FEATURE_THREAD_ID)
-/* A thread that has no processor cannot finish its call: so many times it is given one without a sleep. */
+/* A thread without a processor cannot finish its call. The driver yields this number of times before it sleeps. */
 #define YIELDS 8u
 /* Ranges of one process_madvise(2), which takes as many as writev(2). */
 #define MOST_RANGES 1024u
@@ -131,7 +131,8 @@ void kernel_register(int userfault, char *at, size_t bytes, bool with_protection
     if (ioctl(userfault, UFFDIO_REGISTER, &call))
         refuse_errno(errno, "UFFDIO_REGISTER of the guest's memory");
     if ((call.ioctls & needed) != needed)
-        refuse("UFFDIO_REGISTER allows the calls 0x%llx, and 0x%llx are needed", (unsigned long long)call.ioctls, (unsigned long long)needed);
+        refuse("UFFDIO_REGISTER allows the calls 0x%llx, and 0x%llx are needed", (unsigned long long)call.ioctls,
+               (unsigned long long)needed);
 }
 
 void kernel_unregister(int userfault, char *at, size_t bytes)

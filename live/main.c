@@ -113,22 +113,26 @@ static uint32_t pages_of(const char *text)
 
 /* CUTS */
 
+static uint64_t *direction_of(struct cut *cut, const char *name)
+{
+    if (!cut || !strcmp(name, "in"))
+        return cut ? &cut->in : NULL;
+    if (!strcmp(name, "out"))
+        return &cut->out;
+    return strcmp(name, "post") ? NULL : &cut->post;
+}
+
 static void read_cut(struct cuts *cuts, const char *text)
 {
     char channel[8] = "", direction[5] = "", rest;
     unsigned long long bytes = 0;
     bool is_read = sscanf(text, "%7[a-z]:%4[a-z]:%19llu%c", channel, direction, &bytes, &rest) == 3;
-    struct cut *cut = strcmp(channel, "main") ? &cuts->urgent : &cuts->main;
+    struct cut *cut = !strcmp(channel, "main") ? &cuts->main : !strcmp(channel, "urgent") ? &cuts->urgent : NULL;
+    uint64_t *place = direction_of(cut, direction);
 
-    if (is_read && (!strcmp(channel, "main") || !strcmp(channel, "urgent"))) {
-        uint64_t *place = !strcmp(direction, "in") ? &cut->in : !strcmp(direction, "out") ? &cut->out : !strcmp(direction, "post") ? &cut->post : NULL;
-
-        if (place) {
-            *place = bytes;
-            return;
-        }
-    }
-    refuse("--cut %s: it is main or urgent; in, out, or post; and a number of bytes, as main:out:4096", text);
+    if (!is_read || !place)
+        refuse("--cut %s: it is main or urgent; in, out, or post; and a number of bytes, as main:out:4096", text);
+    *place = bytes;
 }
 
 /* A list of those of one epoch. */
@@ -231,7 +235,8 @@ static void read_options(struct options *options, const struct option *known, in
     int option, index = 0;
 
     *options = (struct options){ .plan = { .pages = 65536, .threads = 4, .seed = 1, .cold = 4 }, .pace = { .batch = 64, .pause = 200 },
-                                 .buffer = 65536, .patience = 10, .rounds = 3, .target = 1000, .has_urgent = true, .before = 20, .after = 50 };
+                                 .buffer = 65536, .patience = 10, .rounds = 3, .target = 1000, .has_urgent = true, .before = 20,
+                                 .after = 50 };
     while ((option = getopt_long(count, words, "", known, &index)) != -1) {
         if (option == '?')
             exit(STATUS_REFUSED);

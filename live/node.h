@@ -1,4 +1,4 @@
-/* What both nodes share: the calls of libpostmig by the kind of the node, and how their answers are judged. */
+/* What both nodes share: the calls of libpostmig by the kind of the node, and how their results are judged. */
 #ifndef NODE_H
 #define NODE_H
 
@@ -13,10 +13,10 @@ struct node {
     bool is_source;
 };
 
-/* Where the answer is not POSTMIG_OK the program ends, and says which call and which answer. */
+/* Where a status is not POSTMIG_OK the program ends, and says which call returned which status. */
 void node_expect(uint32_t status, const char *call);
 
-/* Why a frame was not taken, for such an answer: the fault of its bytes by the decoder, or the node's refusal. */
+/* Why a frame was not taken, for such a status: the fault of its bytes by the decoder, or the node's refusal. */
 const char *node_fault(uint32_t status, const uint8_t *bytes, size_t length);
 
 uint32_t node_issue(struct node *node, uint32_t cpu, const postmig_command *command, postmig_effect *effect);
@@ -25,7 +25,7 @@ uint32_t node_read(struct node *node, postmig_effect *effect);
 uint32_t node_next_act(struct node *node, postmig_effect *effect);
 uint32_t node_act(struct node *node, postmig_effect *effect);
 
-/* Frames that the node has to send go into the stream. Returns their number. */
+/* Frames that wait in the node go into the stream. Returns their number. */
 uint32_t node_send_frames(struct node *node, struct stream *stream);
 /* They are lost with a channel. */
 void node_drop_frames(struct node *node);

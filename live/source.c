@@ -310,7 +310,7 @@ static void check_run(const struct source *source, uint32_t first, uint32_t coun
             refuse("page 0x%x is not present and protected, after UFFDIO_WRITEPROTECT", first + i);
 }
 
-/* How many pages there are before one of zeros. It may have changed by the time the page is protected: it is a choice of frames, no more. */
+/* How many pages there are before one of zeros. A page may change until it is protected: this only chooses the frames. */
 static uint32_t pages_before_zero(const struct source *source, uint32_t first, uint32_t count)
 {
     for (uint32_t i = 0; i < count; i++)
@@ -554,11 +554,12 @@ static void show_progress(const struct source *source)
     if (!source->options->shows_progress || !progress_is_due())
         return;
     printf("progress source phase=%s left=%" PRIu64 " sent=%" PRIu64 " faults=%" PRIu64 " waits=%u epoch=%u round=%u breaks=%" PRIu64 "\n",
-           names[source->state.phase], pages_left(source), source->state.pages_sent, source->watch.faults, watch_sleepers(&source->watch), source->state.epoch, source->rounds, source->figures.breaks);
+           names[source->state.phase], pages_left(source), source->state.pages_sent, source->watch.faults,
+           watch_sleepers(&source->watch), source->state.epoch, source->rounds, source->figures.breaks);
     (void)fflush(stdout); /* who reads it may have gone */
 }
 
-/* Whether there is a destination that takes what is sent to it. After the last page it has to say that it is done. */
+/* Whether there is a destination that takes what is sent to it. After the last page Done is due from it. */
 static void note_progress(struct source *source, uint64_t sent)
 {
     bool is_last = source->state.phase == POSTMIG_SOURCE_STOPPED && !source->state.remaining;

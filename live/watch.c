@@ -110,7 +110,7 @@ static void take_needless_fault(struct watch *watch, uint64_t address)
     int error = wake_present(watch, address);
 
     watch->needless++;
-    if (error == EAGAIN) /* the thread is woken, and faults again if it still has to */
+    if (error == EAGAIN) /* the thread is woken, and faults again if the page is still missing */
         error = kernel_wake(watch->userfault, watch_page(watch, address));
     if (error)
         watch_unexpected(error, "UFFDIO_WAKE", address);
@@ -212,7 +212,7 @@ static void note_again(struct watch *watch)
     kernel_yield(watch->again_in_a_row++);
 }
 
-/* The first fault. False if there is none, or the kernel has an event that has to be read first. */
+/* The first fault. False if there is none, or the kernel has an event that must be read first. */
 static bool act(struct watch *watch)
 {
     postmig_effect next, effect;

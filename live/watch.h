@@ -11,8 +11,8 @@ struct watch {
     int userfault;
     uint64_t asleep[MOST_THREADS]; /* the address of the page that a thread waits for, as the node has it; 0: none */
     uint64_t faults, events;       /* that were read */
-    uint64_t again;                /* answers EAGAIN, */
-    uint32_t again_in_a_row;       /* and those since another answer */
+    uint64_t again;                /* calls of the kernel that returned EAGAIN, */
+    uint32_t again_in_a_row;       /* and those since another result */
     uint64_t needless;             /* faults of pages that were there by the time they were read */
     uint64_t cleared;              /* pages that the node calls present, and the kernel did not have */
     uint64_t requests;
@@ -38,7 +38,7 @@ void watch_read(struct watch *watch);
 /* A page has been put at this address of the node: the threads that wait for it continue. */
 void watch_wake(struct watch *watch, uint64_t address);
 
-/* The kernel has answered EAGAIN: an event is unread, or the thread that made it has not finished its call. All messages are read, as by
+/* The kernel has returned EAGAIN: an event is unread, or the thread that made it has not finished its call. All messages are read, as by
    watch_read. */
 void watch_again(struct watch *watch);
 

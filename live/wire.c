@@ -73,7 +73,9 @@ void address_read(struct address *address, const char *text)
         read_unix(address, text + 5);
         return;
     }
-    if ((sscanf(text, "[%63[^]]]:%5u%1s", host, &port, rest) != 2 && sscanf(text, "%63[^:]:%5u%1s", host, &port, rest) != 2) || port > 65535)
+    if (sscanf(text, "[%63[^]]]:%5u%1s", host, &port, rest) != 2 && sscanf(text, "%63[^:]:%5u%1s", host, &port, rest) != 2)
+        port = UINT32_MAX;
+    if (port > UINT16_MAX)
         refuse("%s: an address is HOST:PORT, [HOST]:PORT or unix:PATH", text);
     if (!read_host(address, host, (uint16_t)port) || !is_loopback((const struct sockaddr *)&address->name))
         refuse("%s: TLS is not built in, and plain TCP is for loopback alone: 127.0.0.1, [::1], localhost, or unix:PATH", text);
@@ -192,7 +194,7 @@ int wire_connect(const struct address *address, uint32_t buffer)
 
 /* BYTES */
 
-/* Room for so many bytes at the end. */
+/* Room for `length` bytes at the end. */
 static uint8_t *bytes_room(struct bytes *bytes, size_t length)
 {
     size_t there = bytes->end - bytes->begin, room = bytes->room ? bytes->room : LEAST_ROOM;

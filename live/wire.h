@@ -70,7 +70,7 @@ void stream_close(struct stream *stream);
 void stream_free(struct stream *stream);
 bool stream_is_open(const struct stream *stream);
 
-/* Room for so many more bytes to be sent: the caller writes some of them, and adds their number to out.end. */
+/* Room for `length` more bytes to be sent: the caller writes some of them, and adds their number to out.end. */
 uint8_t *stream_room(struct stream *stream, size_t length);
 size_t stream_unsent(const struct stream *stream);
 /* Bytes that the kernel has taken and the other side has not. */
