@@ -190,7 +190,7 @@ static void check_areas(const struct dest *dest, const struct frame *frame)
         refuse("the source's guest has other memory: begin both with the same --memory");
 }
 
-/* The kernel has no page that is owed, and each other one that was kept. */
+/* The kernel has no page that is owed. */
 static void check_owed(struct dest *dest)
 {
     uint32_t pages = dest->guest.plan.pages, home;

@@ -6,7 +6,6 @@
 #include <stdio.h>
 #include <stdlib.h>
 #include <string.h>
-#include <sys/prctl.h>
 
 #include "dest.h"
 #include "live.h"
@@ -262,6 +261,7 @@ int main(int count, char **words)
         fputs(USAGE, stderr);
         return STATUS_REFUSED;
     }
+    (void)signal(SIGPIPE, SIG_IGN); /* a reader of the progress may leave; it always succeeds */
     words[1] = words[0];
     read_options(&options, is_source ? source_options : dest_options, count - 1, words + 1);
     return is_source ? source_run(&options) : dest_run(&options);

@@ -64,13 +64,14 @@ class Side:
         self.close_input()
         return status, text
 
-    def where(self):
-        """In which function of the kernel each thread sleeps."""
+    def state(self):
+        """Its last line of progress, and in which function of the kernel each thread sleeps."""
         tasks = pathlib.Path(f"/proc/{self.process.pid}/task")
         try:
-            return [(task / "wchan").read_text() for task in tasks.iterdir()]
+            where = [(task / "wchan").read_text() for task in tasks.iterdir()]
         except OSError:
-            return []
+            where = []
+        return f"{self.figures.get('progress')} in {where}"
 
 
 class Migration:
@@ -92,7 +93,7 @@ class Migration:
             time.sleep(0.002)
         hang = None
         if self.source.is_running() and self.dest.is_running():
-            hang = f"it hangs: source {self.source.where()}, destination {self.dest.where()}"
+            hang = f"no end after {patience} s: source {self.source.state()}; destination {self.dest.state()}"
         if self.source.is_running() and not hang:
             time.sleep(0.05)
         if self.source.is_running():
