@@ -12,6 +12,7 @@ PRECOPY = ["--rounds", "1000", "--target", "0"]
 MEMORY = ["--memory", "16M", "--cold", "16"]
 GREETING = b"pmlive\x01"
 ADVISE = bytes.fromhex("020100000000000100000000")
+HELLO_BYTES = 20
 
 
 def hello(channel=0, epoch=1, instance=7):
@@ -131,6 +132,38 @@ def strangers(program):
     return wrong or (None if turned_away >= 20 and both.source.number("source", "breaks") == 0 else f"{turned_away} were turned away")
 
 
+def is_open(connection):
+    """Whether the other side has left a connection open for a moment, on which it says nothing."""
+    connection.settimeout(0.3)
+    try:
+        return bool(connection.recv(1))
+    except TimeoutError:
+        return True
+    except ConnectionResetError:
+        return False
+
+
+def old_epoch(program):
+    """A connection of the same source, but of an epoch that is over, does not take the place of the one of today; one of the next does."""
+    dest = pair.Side([str(program), "dest", "--listen", "127.0.0.1:0", *MEMORY])
+    dest.listening.wait(20)
+    with contextlib.ExitStack() as stack:
+        def connect(epoch):
+            connection = stack.enter_context(socket.create_connection(("127.0.0.1", dest.number("listening", "port")), 5))
+            connection.sendall(hello(0, epoch) + ADVISE[:4] + epoch.to_bytes(4, "big") + bytes(4))
+            return connection
+
+        today = connect(5)
+        wrong = None if len(today.recv(HELLO_BYTES)) == HELLO_BYTES else "no hello of the destination"
+        old = connect(3)
+        wrong = wrong or ("an old epoch is let in" if is_open(old) else None) or (None if is_open(today) else "it takes the place of today's")
+        connect(6)
+        wrong = wrong or ("two connections serve one source" if is_open(today) else None)
+    dest.process.kill()
+    dest.end(5)
+    return wrong
+
+
 def hostile_source(program):
     """Bytes that are no frames, after a right hello."""
     for text, fault in ((b"\x02\x77" + bytes(10), "stream fault BadTag"), (ADVISE[:8] + b"\0\0\0\1\0", "stream fault BadLength"),
@@ -171,7 +204,7 @@ def hostile_destination(program):
 CASES = (
     destination_dies_before_the_switch, another_destination_before_the_switch, destination_dies_after_the_switch,
     another_destination_after_the_switch, source_dies_before_the_switch, source_dies_after_the_switch, frozen_destination, strangers,
-    hostile_source, hostile_destination,
+    old_epoch, hostile_source, hostile_destination,
 )
 
 
