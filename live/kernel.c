@@ -110,7 +110,7 @@ int kernel_open_userfault(void)
         refuse_errno(errno, "there is no userfaultfd(2) for this user. `sysctl -w vm.unprivileged_userfaultfd=1` opens it for all, "
                             "else root is needed");
     if (ioctl(made, UFFDIO_API, &api))
-        refuse_errno(errno, "this kernel has not all features of userfaultfd(2) that are needed, 0x%llx: Linux 5.7 or later does",
+        refuse_errno(errno, "this kernel lacks some of the features of userfaultfd(2) that are needed, 0x%llx; Linux 5.7 or later has them",
                      (unsigned long long)FEATURES);
     return made;
 }
