@@ -1,4 +1,4 @@
-/* live source, live dest: the command line. */
+/* live source, live dest, live bare: the command line. */
 #include <errno.h>
 #include <getopt.h>
 #include <signal.h>
@@ -7,6 +7,7 @@
 #include <stdlib.h>
 #include <string.h>
 
+#include "bare.h"
 #include "dest.h"
 #include "live.h"
 #include "options.h"
@@ -15,6 +16,7 @@
 static const char USAGE[] =
     "live source --connect ADDRESS [OPTION ..]    moves its guest to a destination\n"
     "live dest --listen ADDRESS [OPTION ..]       runs the guest on; its standard input ends once the source is gone\n"
+    "live bare [--memory SIZE] [--buffer BYTES]   what the connection and UFFDIO_COPY take without a node\n"
     "\n"
     "ADDRESS is HOST:PORT of loopback (port 0: one that is free), or unix:PATH.\n"
     "\n"
@@ -176,6 +178,10 @@ static const struct option dest_options[] = {
     { "check-owed", no_argument, NULL, CHECK_OWED }, { NULL, 0, NULL, 0 }
 };
 
+static const struct option bare_options[] = {
+    { "memory", required_argument, NULL, MEMORY }, { "buffer", required_argument, NULL, BUFFER }, { NULL, 0, NULL, 0 }
+};
+
 static void set_number(struct options *options, int option, const char *name, const char *text)
 {
     const struct {
@@ -243,26 +249,27 @@ static void read_options(struct options *options, const struct option *known, in
     }
     if (optind < count)
         refuse("%s: what is that? `live --help` says how to use it", words[optind]);
-    if (!options->address.text)
+    if (!options->address.text && known != bare_options)
         refuse("an address is needed: --%s ADDRESS", known == source_options ? "connect" : "listen");
 }
 
 int main(int count, char **words)
 {
     static struct options options;
-    const char *role = count > 1 ? words[1] : "";
-    bool is_source = !strcmp(role, "source");
+    static const struct {
+        const char *name;
+        const struct option *known;
+        int (*run)(const struct options *);
+    } roles[] = { { "source", source_options, source_run }, { "dest", dest_options, dest_run }, { "bare", bare_options, bare_run } };
+    const char *name = count > 1 ? words[1] : "";
 
-    if (!strcmp(role, "--help")) {
-        fputs(USAGE, stdout);
-        return STATUS_OK;
-    }
-    if (!is_source && strcmp(role, "dest")) {
-        fputs(USAGE, stderr);
-        return STATUS_REFUSED;
-    }
     (void)signal(SIGPIPE, SIG_IGN); /* a reader of the progress may leave; it always succeeds */
-    words[1] = words[0];
-    read_options(&options, is_source ? source_options : dest_options, count - 1, words + 1);
-    return is_source ? source_run(&options) : dest_run(&options);
+    for (size_t i = 0; i < sizeof roles / sizeof *roles; i++)
+        if (!strcmp(name, roles[i].name)) {
+            words[1] = words[0];
+            read_options(&options, roles[i].known, count - 1, words + 1);
+            return roles[i].run(&options);
+        }
+    fputs(USAGE, strcmp(name, "--help") ? stderr : stdout);
+    return strcmp(name, "--help") ? STATUS_REFUSED : STATUS_OK;
 }
