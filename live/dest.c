@@ -38,7 +38,8 @@ struct dest {
     bool is_at_door;     /* somebody may be */
     struct samples waits;
     struct {
-        uint64_t discard, package, run, end, breaks;
+        uint64_t discard, package, run, end;
+        uint64_t breaks, late_breaks; /* those of a guest that runs here */
         uint64_t kept, discarded; /* copies before the guest ran */
         uint64_t busy; /* of the driver's thread, from the Package to the End, in processor time */
     } figures;
@@ -335,6 +336,7 @@ static void lose_channel(struct dest *dest)
     stream_close(&dest->urgent);
     node_drop_frames(&dest->node);
     dest->figures.breaks += phase != POSTMIG_DESTINATION_ENDED;
+    dest->figures.late_breaks += phase == POSTMIG_DESTINATION_RUNNING;
     if (phase == POSTMIG_DESTINATION_ADVISED || phase == POSTMIG_DESTINATION_DISCARDING || phase == POSTMIG_DESTINATION_RUNNING)
         node_expect(postmig_destination_notice(&dest->node.handle, &effect), "postmig_destination_notice");
     look(dest);
@@ -484,8 +486,8 @@ static void say_figures(struct dest *dest)
            watch->again, watch->needless, watch->cleared);
     printf(" waits=%zu p50=%.1f p99=%.1f most=%.1f", dest->waits.count, samples_part(&dest->waits, 500), samples_part(&dest->waits, 990),
            samples_part(&dest->waits, 1000));
-    printf(" breaks=%" PRIu64 " turned_away=%" PRIu64 " epoch=%u busy=%" PRIu64 "\n", dest->figures.breaks, dest->door.turned_away,
-           dest->state.epoch, dest->figures.busy);
+    printf(" breaks=%" PRIu64 " late_breaks=%" PRIu64 " turned_away=%" PRIu64 " epoch=%u busy=%" PRIu64 "\n", dest->figures.breaks,
+           dest->figures.late_breaks, dest->door.turned_away, dest->state.epoch, dest->figures.busy);
 }
 
 /* Every word of the guest's memory. */
