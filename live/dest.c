@@ -240,6 +240,8 @@ static void carry_out(struct dest *dest, const postmig_effect *effect, const str
     case POSTMIG_DID_TAKE_END:
         dest->figures.end = kernel_now();
         dest->figures.busy = kernel_thread_time() - dest->figures.busy;
+        if (dest->main.cut.post != NEVER)
+            dest->main.cut.out = dest->main.cut.post;
         break;
     case POSTMIG_DID_TAKE_RESUME:
         if (!dest->state.has_run)

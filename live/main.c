@@ -31,7 +31,7 @@ static const char USAGE[] =
     "  --pause US        for this number of microseconds (200)\n"
     "  --buffer BYTES    of a socket in the kernel (65536; 0: the kernel's choice)\n"
     "  --cut CHANNEL:DIRECTION:BYTES,..   of the next epoch, for tests: main or urgent is cut after these bytes, in, out, or out\n"
-    "                    since the switch (post); `none` leaves an epoch whole\n"
+    "                    since the switch, or of a destination since the End (post); `none` leaves an epoch whole\n"
     "  --trace FILE      the node's steps, for `postmig test`\n"
     "  --progress        a line each tenth of a second\n"
     "of the source:\n"

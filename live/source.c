@@ -15,6 +15,7 @@
 #include "watch.h"
 
 #define MOST_OF_RUN 64u
+#define RECEIVED_ENDED 2u          /* of a Recv */
 #define PUSHES_AT_A_TIME 16u
 #define MOST_UNSENT (128u << 10)   /* bytes: more pages are not put into a stream */
 #define RETRY_NS 2000000u          /* between two tries to connect */
@@ -46,6 +47,7 @@ struct source {
     struct {
         uint64_t start, stop, stopped, sent, released;
         uint64_t owed, discards, pushed, served, zeros, breaks;
+        uint64_t lost_dones; /* a Recv has said that the destination had ended */
         uint64_t busy; /* of the driver's thread, from the switch to the release, in processor time */
     } figures;
 };
@@ -264,6 +266,7 @@ static void take_back(struct source *source, size_t length)
     if (effect.kind != POSTMIG_DID_TAKE_RECV)
         return;
     source->last_progress = kernel_now();
+    source->figures.lost_dones += effect.number == RECEIVED_ENDED;
     source->rounds = 0;
     source->round_pages = 0;
     source->package_is_sent = false;
@@ -617,7 +620,8 @@ static void say_figures(const struct source *source)
            source->figures.pushed, source->figures.served, source->state.pages_sent);
     printf(" faults=%" PRIu64 " events=%" PRIu64 " again=%" PRIu64 " needless=%" PRIu64 " cleared=%" PRIu64, watch->faults, watch->events,
            watch->again, watch->needless, watch->cleared);
-    printf(" breaks=%" PRIu64 " epoch=%u busy=%" PRIu64 "\n", source->figures.breaks, source->state.epoch, source->figures.busy);
+    printf(" breaks=%" PRIu64 " lost_dones=%" PRIu64 " epoch=%u busy=%" PRIu64 "\n", source->figures.breaks, source->figures.lost_dones,
+           source->state.epoch, source->figures.busy);
 }
 
 /* Before the switch the guest runs on here. That is shown by a moment of it, and by a check of all its memory. */

@@ -34,7 +34,7 @@ void hello_write(const struct hello *hello, uint8_t *bytes);
 bool hello_read(struct hello *hello, const uint8_t *bytes); /* false where the bytes are a stranger's */
 
 /* After how many bytes, in or out, a connection is cut, for tests: what is under way is lost, and the other side gets a reset. Those of
-   `post` are sent by the source after the switch. */
+   `post` go out after the switch, of a source, or after the End, of a destination. */
 #define NEVER UINT64_MAX
 struct cut {
     uint64_t in, out, post;
