@@ -20,7 +20,8 @@
 #define MOST_UNSENT (128u << 10)   /* bytes: more pages are not put into a stream */
 #define RETRY_NS 2000000u          /* between two tries to connect */
 #define SECOND_NS 1000000000u
-#define MOST_HELD 64u              /* turns in which faults wait, so that pages can be protected */
+#define MOST_HELD 256u             /* turns in which faults wait, so that pages can be protected; */
+#define MOST_CALM 32u              /* and runs that are sent before the faults are handled, once they could be */
 #define RUN_ON_MS 100u             /* of a guest whose migration was lost before the switch, for the check of its memory */
 
 struct source {
@@ -43,7 +44,7 @@ struct source {
     uint32_t rounds;       /* made since pre-copy has begun, or begun again */
     bool package_is_sent;
     uint32_t cursor;       /* background push continues from this page */
-    uint32_t held;         /* times in a row that pages could not be protected: a guest that gives memory back all the time */
+    uint32_t held, calm;   /* turns in which faults wait: pages could not be protected, and runs that are sent once they could */
     struct {
         uint64_t start, stop, stopped, sent, released;
         uint64_t owed, discards, pushed, served, zeros, breaks;
@@ -349,13 +350,15 @@ static bool send_run(struct source *source)
     full = pages_before_zero(source, first, count);
     count = full ? full : 1;
     error = kernel_protect(source->watch.userfault, page_of(source, first), (size_t)count * PAGE_BYTES);
-    source->held = error == EAGAIN ? source->held + 1 : 0;
     if (error == EAGAIN) {
+        source->held++;
         watch_again(&source->watch);
         return true;
     }
     if (error)
         watch_unexpected(error, "UFFDIO_WRITEPROTECT", (uint64_t)first * PAGE_BYTES);
+    source->calm = source->held ? MOST_CALM : source->calm;
+    source->held = 0;
     source->watch.again_in_a_row = 0;
     check_run(source, first, count);
     send_protected(source, first, count);
@@ -578,16 +581,25 @@ static bool has_lost_patience(const struct source *source)
     return kernel_now() - source->last_progress > (uint64_t)source->options->patience * SECOND_NS;
 }
 
+/* Pages can be protected only while no thread gives memory back. Where each try meets one, faults wait for a while: then the threads do. */
+static void handle_guest(struct source *source)
+{
+    if (source->calm)
+        source->calm--;
+    if (source->calm || source->held % MOST_HELD)
+        watch_read(&source->watch);
+    else
+        watch_handle(&source->watch);
+}
+
 /* One turn. */
 static void turn(struct source *source)
 {
     uint64_t sent = source->main.sent;
     bool has_more;
 
-    if (!source->state.switched && source->held % MOST_HELD)
-        watch_read(&source->watch);
-    else if (!source->state.switched)
-        watch_handle(&source->watch);
+    if (!source->state.switched)
+        handle_guest(source);
     if (!stream_is_open(&source->main))
         connect_again(source);
     if (stream_is_open(&source->main) && !exchange(source)) {
