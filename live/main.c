@@ -49,7 +49,7 @@ static const char USAGE[] =
 
 static _Noreturn void end(enum status status, int error, const char *format, va_list arguments)
 {
-    (void)fflush(stdout); /* the text is what counts now */
+    (void)fflush(NULL); /* the figures, and the trace; the text is what counts now */
     fprintf(stderr, "live: ");
     vfprintf(stderr, format, arguments);
     if (error)
