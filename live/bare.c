@@ -154,6 +154,7 @@ int bare_run(const struct options *options)
     if (error)
         refuse_errno(error, "a thread does not end");
     door_close(&door);
-    printf("bare pages=%u took=%" PRIu64 " sending=%" PRIu64 " putting=%" PRIu64 "\n", bare.pages, took, bare.busy_sending, bare.busy_putting);
+    printf("bare pages=%u took=%" PRIu64 " sending=%" PRIu64 " putting=%" PRIu64 "\n", bare.pages, took, bare.busy_sending,
+           bare.busy_putting);
     return memcmp(bare.from, bare.to, (size_t)bare.pages * PAGE_BYTES) ? STATUS_WRONG : STATUS_OK;
 }

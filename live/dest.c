@@ -29,7 +29,7 @@ struct dest {
     struct door door;
     struct stream main, urgent;
     struct trace trace;
-    postmig_destination_state state;
+    postmig_destination_state state; /* since the last step that changes the phase or the epoch; its counts may be older than the node's */
     uint32_t channels;   /* taken until now */
     uint64_t instance;   /* of this process, */
     struct hello source; /* and the last hello of the source */
@@ -282,6 +282,8 @@ static bool take(struct dest *dest, const struct frame *frame)
         refuse_frame(dest, frame, status);
     carry_out(dest, &effect, frame);
     dest->is_first_frame = false;
+    if (effect.kind != POSTMIG_DID_TAKE_ZERO && effect.kind != POSTMIG_DID_TAKE_RUN)
+        look(dest);
     return true;
 }
 
@@ -320,7 +322,6 @@ static bool take_frames(struct dest *dest, struct stream *stream, bool (*take_on
         if (!front_frame(stream, &frame, &missing) || !take_one(dest, &frame))
             return is_whole;
         stream_take(stream, frame.head_bytes + frame.page_bytes);
-        look(dest);
     }
     dest->has_more = true;
     return is_whole;
@@ -426,12 +427,13 @@ static bool wait_for_more(struct dest *dest)
     return files[0].revents != 0;
 }
 
-static void show_progress(const struct dest *dest)
+static void show_progress(struct dest *dest)
 {
     static const char *const names[] = { "idle", "advised", "discarding", "running", "paused", "ended" };
 
     if (!dest->options->shows_progress || !progress_is_due())
         return;
+    look(dest);
     printf("progress destination phase=%s left=%u installed=%" PRIu64 " faults=%" PRIu64 " waits=%u epoch=%u breaks=%" PRIu64 "\n",
            names[dest->state.phase], dest->state.owed, dest->state.installed, dest->watch.faults, watch_sleepers(&dest->watch),
            dest->state.epoch, dest->figures.breaks);
@@ -445,10 +447,8 @@ static bool turn(struct dest *dest)
         watch_handle(&dest->watch);
     if (dest->is_at_door)
         look_at_door(dest);
-    look(dest);
     if (stream_is_open(&dest->main) && !exchange(dest))
         lose_channel(dest);
-    look(dest);
     trace_write(&dest->trace);
     show_progress(dest);
     return wait_for_more(dest);
@@ -513,6 +513,7 @@ int dest_run(const struct options *options)
     while (!turn(&dest))
         continue;
     trace_close(&dest.trace);
+    look(&dest);
     if (dest.state.phase != POSTMIG_DESTINATION_ENDED && dest.figures.end == 0)
         lose(dest.state.has_run ? "the source is gone, and %u pages with it: the guest is lost" : "the source is gone before the switch",
              dest.state.owed);

@@ -1,4 +1,5 @@
-/* The calls of the kernel that move a guest's memory. A call that may be refused returns 0 or an errno; every other refusal ends the program. */
+/* The calls of the kernel that move a guest's memory. A call that may be refused returns 0 or an errno; every other refusal ends the
+   program. */
 #ifndef KERNEL_H
 #define KERNEL_H
 

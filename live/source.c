@@ -31,7 +31,7 @@ struct source {
     struct watch watch;
     struct stream main, urgent;
     struct trace trace;
-    postmig_source_state state;
+    postmig_source_state state; /* since the last step that changes the phase or the epoch; its counts may be older than the node's */
     uint32_t channels;     /* opened until now */
     uint64_t instance;     /* of this process */
     uint64_t destination;  /* the instance that has answered first, or before the switch; 0: none has */
@@ -42,7 +42,7 @@ struct source {
     uint32_t round_pages;  /* of this round, */
     uint64_t sent_before;  /* and those sent before it */
     uint32_t rounds;       /* made since pre-copy has begun, or begun again */
-    bool package_is_sent;
+    bool package_is_sent, end_is_sent;
     uint32_t cursor;       /* background push continues from this page */
     uint32_t held, calm;   /* turns in which faults wait: pages could not be protected, and runs that are sent once they could */
     struct {
@@ -208,9 +208,10 @@ static void lose_channel(struct source *source)
     source->figures.breaks++;
     source->has_to_resume = true;
     source->is_answered = false;
-    look(source);
+    source->end_is_sent = false;
     if (source->state.phase == POSTMIG_SOURCE_PRECOPY || source->state.phase == POSTMIG_SOURCE_STOPPED)
         node_expect(postmig_source_notice(&source->node.handle, &effect), "postmig_source_notice");
+    look(source);
 }
 
 /* From time to time, until somebody listens. */
@@ -264,6 +265,9 @@ static void take_back(struct source *source, size_t length)
         return;
     }
     stream_take(&source->main, length);
+    if (effect.kind == POSTMIG_DID_TAKE_REQUEST)
+        return;
+    look(source);
     if (effect.kind != POSTMIG_DID_TAKE_RECV)
         return;
     source->last_progress = kernel_now();
@@ -371,6 +375,7 @@ static void begin_round(struct source *source)
 
     watch_handle(&source->watch);
     node_expect(postmig_source_round(&source->node.handle, &effect), "postmig_source_round");
+    look(source);
     source->round_pages = effect.count;
     source->sent_before = source->state.pages_sent;
     source->rounds++;
@@ -405,6 +410,7 @@ static void switch_over(struct source *source)
     source->figures.discards = effect.number;
     source->package_is_sent = false;
     count_since_switch(source);
+    look(source);
 }
 
 /* Sends a run, begins a round, or switches. Returns whether there is more to do at once. */
@@ -495,11 +501,12 @@ static uint32_t push_in_background(struct source *source)
 static bool end_epoch(struct source *source)
 {
     postmig_effect effect;
-    uint32_t status = postmig_source_end(&source->node.handle, &effect);
+    uint32_t status = source->end_is_sent ? POSTMIG_REFUSED_PHASE : postmig_source_end(&source->node.handle, &effect);
 
     if (status == POSTMIG_REFUSED_PAGES_LEFT || status == POSTMIG_REFUSED_PHASE)
         return false; /* pages are left, or End was sent in this epoch */
     node_expect(status, "postmig_source_end");
+    source->end_is_sent = true;
     source->figures.sent = kernel_now();
     return true;
 }
@@ -519,7 +526,6 @@ static bool work_in_postcopy(struct source *source)
 
 static bool work(struct source *source)
 {
-    look(source);
     if (!stream_is_open(&source->main) || !source->is_answered)
         return false;
     if (source->state.phase == POSTMIG_SOURCE_PRECOPY)
@@ -553,12 +559,13 @@ static uint64_t pages_left(const struct source *source)
     return sent < source->round_pages ? source->round_pages - sent : 0;
 }
 
-static void show_progress(const struct source *source)
+static void show_progress(struct source *source)
 {
     static const char *const names[] = { "idle", "precopy", "stopped", "paused", "released" };
 
     if (!source->options->shows_progress || !progress_is_due())
         return;
+    look(source);
     printf("progress source phase=%s left=%" PRIu64 " sent=%" PRIu64 " faults=%" PRIu64 " waits=%u epoch=%u round=%u breaks=%" PRIu64 "\n",
            names[source->state.phase], pages_left(source), source->state.pages_sent, source->watch.faults,
            watch_sleepers(&source->watch), source->state.epoch, source->rounds, source->figures.breaks);
@@ -568,11 +575,9 @@ static void show_progress(const struct source *source)
 /* Whether there is a destination that takes what is sent to it. After the last page Done is due from it. */
 static void note_progress(struct source *source, uint64_t sent)
 {
-    bool is_last = source->state.phase == POSTMIG_SOURCE_STOPPED && !source->state.remaining;
-
     if (!source->is_answered || source->state.phase == POSTMIG_SOURCE_PAUSED)
         return;
-    if (source->main.sent != sent || (!stream_unsent(&source->main) && !is_last))
+    if (source->main.sent != sent || (!stream_unsent(&source->main) && !source->end_is_sent))
         source->last_progress = kernel_now();
 }
 
@@ -603,14 +608,12 @@ static void turn(struct source *source)
     if (!stream_is_open(&source->main))
         connect_again(source);
     if (stream_is_open(&source->main) && !exchange(source)) {
-        look(source);
         if (source->state.phase != POSTMIG_SOURCE_RELEASED)
             lose_channel(source);
     } else {
         note_progress(source, sent);
     }
     has_more = work(source);
-    look(source);
     if (stream_is_open(&source->urgent) && stream_unsent(&source->urgent) && !stream_send(&source->urgent))
         lose_channel(source);
     trace_write(&source->trace);
@@ -672,6 +675,7 @@ int source_run(const struct options *options)
     source.figures.released = kernel_now();
     source.figures.busy = kernel_thread_time() - source.figures.busy;
     trace_close(&source.trace);
+    look(&source);
     say_figures(&source);
     postmig_free(&source.node.handle);
     return STATUS_OK;
