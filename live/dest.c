@@ -1,0 +1,525 @@
+/* The destination: what arrives is kept, and then installed; the guest runs, and asks for what it is owed. */
+#include "dest.h"
+
+#include <errno.h>
+#include <inttypes.h>
+#include <poll.h>
+#include <stdio.h>
+#include <stdlib.h>
+#include <string.h>
+#include <unistd.h>
+
+#include "door.h"
+#include "figures.h"
+#include "kernel.h"
+#include "trace.h"
+#include "watch.h"
+
+#define HEADER_BYTES 12u
+#define TAG_RESUME 7u
+#define FRAMES_AT_A_TIME 16u
+#define MOST_FILES (MOST_NEWCOMERS + 5u)
+#define PATIENT_MS 10000u /* for the guest's threads to stop */
+
+struct dest {
+    const struct options *options;
+    struct node node;
+    struct guest guest;
+    struct watch watch;
+    struct door door;
+    struct stream main, urgent;
+    struct trace trace;
+    postmig_destination_state state; /* since the last step that changes the phase or the epoch; its counts may be older than the node's */
+    uint32_t channels;   /* taken until now */
+    uint64_t instance;   /* of this process, */
+    struct hello source; /* and the last hello of the source */
+    bool is_first_frame; /* of this channel */
+    bool has_more;       /* whole frames may be there */
+    bool is_at_door;     /* somebody may be */
+    struct samples waits;
+    struct {
+        uint64_t discard, package, run, end;
+        uint64_t breaks, late_breaks; /* those of a guest that runs here */
+        uint64_t kept, discarded; /* copies before the guest ran */
+        uint64_t busy; /* of the driver's thread, from the Package to the End, in processor time */
+    } figures;
+};
+
+/* A frame at the front of a connection. */
+struct frame {
+    const uint8_t *head;
+    size_t head_bytes, page_bytes; /* the pages' bytes follow the head */
+};
+
+static char *page_of(const struct dest *dest, uint64_t address)
+{
+    return watch_page(&dest->watch, address);
+}
+
+static void look(struct dest *dest)
+{
+    node_expect(postmig_destination_counts(&dest->node.handle, &dest->state), "postmig_destination_counts");
+}
+
+static void begin(struct dest *dest, const struct options *options)
+{
+    memset(dest, 0, sizeof *dest);
+    dest->options = options;
+    dest->main = dest->urgent = (struct stream)NO_STREAM;
+    guest_open(&dest->guest, &options->plan, &options->pace, kernel_map((size_t)options->plan.pages * PAGE_BYTES));
+    watch_open(&dest->watch, &dest->node, &dest->guest);
+    watch_keep_times(&dest->watch);
+    node_expect(postmig_destination_new((uint8_t)options->plan.threads, &dest->node.handle), "postmig_destination_new");
+    trace_open(&dest->trace, options->trace, &dest->node);
+    dest->instance = hello_new_instance();
+    door_open(&dest->door, &options->address, options->buffer);
+    printf("listening port=%u\n", door_port(&dest->door));
+    (void)fflush(stdout); /* who reads it may have gone */
+    look(dest);
+}
+
+/* COPIES THAT ARE KEPT: before the guest runs they go straight into its memory, which is not registered yet */
+
+static void keep_zero(char *at)
+{
+    uint64_t first;
+
+    /* (a load makes the page present, as the kernel's page of zeros) */
+    memcpy(&first, at, sizeof first);
+    if (first || memcmp(at, at + sizeof first, PAGE_BYTES - sizeof first))
+        memset(at, 0, PAGE_BYTES);
+}
+
+static void keep(struct dest *dest, const postmig_effect *effect, const struct frame *frame)
+{
+    uint64_t last = effect->addr + (frame->page_bytes ? frame->page_bytes - PAGE_BYTES : 0);
+    char *at = page_of(dest, effect->addr);
+
+    (void)page_of(dest, last); /* it is the guest's */
+    dest->figures.kept += frame->page_bytes ? frame->page_bytes / PAGE_BYTES : 1;
+    if (frame->page_bytes)
+        memcpy(at, frame->head + frame->head_bytes, frame->page_bytes);
+    else
+        keep_zero(at);
+}
+
+/* PAGES THAT THE GUEST IS OWED */
+
+static void note_wait(struct dest *dest, uint64_t origin)
+{
+    uint64_t asked = watch_asked_at(&dest->watch, origin);
+
+    if (asked)
+        samples_add(&dest->waits, kernel_now() - asked);
+}
+
+/* Puts the copy where the node says. False where the kernel has an event that must be read first. */
+static bool put_copy(struct dest *dest, const postmig_effect *effect, const struct frame *frame)
+{
+    char *at = page_of(dest, effect->addr);
+    int error = frame->page_bytes ? kernel_copy(dest->watch.userfault, at, frame->head + frame->head_bytes)
+                                  : kernel_zero(dest->watch.userfault, at);
+
+    if (!error) {
+        dest->watch.again_in_a_row = 0;
+        return true;
+    }
+    if (error != EAGAIN)
+        watch_unexpected(error, frame->page_bytes ? "UFFDIO_COPY" : "UFFDIO_ZEROPAGE", effect->addr);
+    watch_again(&dest->watch);
+    return false;
+}
+
+/* The frame that was taken last is the only copy that waits. */
+static void install(struct dest *dest, const struct frame *frame)
+{
+    postmig_effect next, effect;
+
+    do
+        node_expect(postmig_destination_next_install(&dest->node.handle, &next), "postmig_destination_next_install");
+    while (next.kind == POSTMIG_DID_INSTALL && !put_copy(dest, &next, frame));
+    node_expect(postmig_destination_install(&dest->node.handle, &effect), "postmig_destination_install");
+    if (!is_same_effect(&next, &effect))
+        refuse("the node has installed another page than it has announced");
+    if (effect.kind != POSTMIG_DID_INSTALL)
+        return;
+    note_wait(dest, effect.other);
+    watch_wake(&dest->watch, effect.addr);
+}
+
+/* FRAMES */
+
+static uint32_t number_at(const uint8_t *at)
+{
+    return (uint32_t)at[0] << 24 | (uint32_t)at[1] << 16 | (uint32_t)at[2] << 8 | at[3];
+}
+
+/* Of a Discard: a count, then the first page and the number of pages of each run. The node has judged it. */
+static void discard(struct dest *dest, const struct frame *frame)
+{
+    const uint8_t *body = frame->head + HEADER_BYTES;
+    uint32_t count = number_at(body);
+    struct kernel_range *ranges = calloc(count ? count : 1, sizeof *ranges);
+
+    if (!ranges)
+        refuse("no memory for %u runs of pages", count);
+    for (uint32_t i = 0; i < count; i++) {
+        uint64_t first = number_at(body + 4 + 8 * i), pages = number_at(body + 8 + 8 * i);
+
+        (void)page_of(dest, (first + pages - 1) * PAGE_BYTES); /* it is the guest's */
+        ranges[i] = (struct kernel_range){ page_of(dest, first * PAGE_BYTES), pages * PAGE_BYTES };
+    }
+    kernel_give_back(ranges, count);
+    free(ranges);
+    dest->figures.discard = kernel_now();
+}
+
+/* No copy is kept any more. */
+static void discard_all(struct dest *dest)
+{
+    struct kernel_range all = { dest->guest.memory, (size_t)dest->guest.plan.pages * PAGE_BYTES };
+
+    kernel_give_back(&all, 1);
+}
+
+/* Of a Package: a count, then the first page, the number of pages and the protection of each area. This guest has one. */
+static void check_areas(const struct dest *dest, const struct frame *frame)
+{
+    const uint8_t *body = frame->head + HEADER_BYTES;
+
+    if (number_at(body) != 1 || number_at(body + 4) != LOW_PAGE || number_at(body + 8) != dest->guest.plan.pages)
+        refuse("the source's guest has other memory: begin both with the same --memory");
+}
+
+/* The kernel has no page that is owed. */
+static void check_owed(struct dest *dest)
+{
+    uint32_t pages = dest->guest.plan.pages, home;
+    uint64_t *entries = calloc(pages, sizeof *entries);
+
+    if (!entries)
+        refuse("no memory for the pages' entries");
+    kernel_pagemap(dest->guest.memory, pages, entries);
+    for (uint32_t i = 0; i < pages; i++)
+        if (postmig_destination_home(&dest->node.handle, LOW_PAGE + i, &home) == POSTMIG_OK && entry_is_present(entries[i]))
+            refuse("page 0x%x is owed, and the kernel has it", LOW_PAGE + i);
+    free(entries);
+}
+
+/* The memory is registered before the first thread runs. */
+static void run_guest(struct dest *dest, const struct frame *frame)
+{
+    dest->figures.package = kernel_now();
+    check_areas(dest, frame);
+    if (dest->options->checks_owed)
+        check_owed(dest);
+    kernel_register(dest->watch.userfault, dest->guest.memory, (size_t)dest->guest.plan.pages * PAGE_BYTES, false);
+    guest_start(&dest->guest);
+    dest->figures.run = kernel_now();
+    dest->figures.busy = kernel_thread_time();
+}
+
+/* What the memory and the guest need once the node has taken a frame. */
+static void carry_out(struct dest *dest, const postmig_effect *effect, const struct frame *frame)
+{
+    switch (effect->kind) {
+    case POSTMIG_DID_TAKE_ZERO: /* of a Page too */
+    case POSTMIG_DID_TAKE_RUN:
+        if (dest->state.has_run)
+            install(dest, frame);
+        else
+            keep(dest, effect, frame);
+        break;
+    case POSTMIG_DID_TAKE_DISCARD:
+        dest->figures.discarded += effect->count;
+        discard(dest, frame);
+        break;
+    case POSTMIG_DID_TAKE_PACKAGE:
+        run_guest(dest, frame);
+        break;
+    case POSTMIG_DID_TAKE_END:
+        dest->figures.end = kernel_now();
+        dest->figures.busy = kernel_thread_time() - dest->figures.busy;
+        if (dest->main.cut.post != NEVER)
+            dest->main.cut.out = dest->main.cut.post;
+        break;
+    case POSTMIG_DID_TAKE_RESUME:
+        if (!dest->state.has_run)
+            discard_all(dest);
+        break;
+    default:
+        break; /* Advise */
+    }
+}
+
+/* A source that resumes has dropped the last channel, whether or not that was seen here. */
+static void notice_if_resumed(struct dest *dest, const struct frame *frame)
+{
+    postmig_effect effect;
+
+    if (dest->is_first_frame && frame->head[1] == TAG_RESUME && dest->state.phase != POSTMIG_DESTINATION_PAUSED)
+        node_expect(postmig_destination_notice(&dest->node.handle, &effect), "postmig_destination_notice");
+}
+
+/* Hostile bytes, or a source that is wrong. A guest that runs here goes no further. */
+static _Noreturn void refuse_frame(const struct dest *dest, const struct frame *frame, uint32_t status)
+{
+    refuse("%s%s", node_fault(status, frame->head, frame->head_bytes + frame->page_bytes),
+           dest->state.has_run ? ": the guest is lost" : "");
+}
+
+/* False for an End that must wait until all urgent frames have been taken. */
+static bool take(struct dest *dest, const struct frame *frame)
+{
+    postmig_effect effect;
+    uint32_t status;
+
+    notice_if_resumed(dest, frame);
+    status = postmig_destination_take(&dest->node.handle, frame->head, frame->head_bytes, &effect);
+    if (status == POSTMIG_REFUSED_URGENT_FIRST)
+        return false;
+    if (status != POSTMIG_OK)
+        refuse_frame(dest, frame, status);
+    carry_out(dest, &effect, frame);
+    dest->is_first_frame = false;
+    if (effect.kind != POSTMIG_DID_TAKE_ZERO && effect.kind != POSTMIG_DID_TAKE_RUN)
+        look(dest);
+    return true;
+}
+
+static bool take_urgent(struct dest *dest, const struct frame *frame)
+{
+    postmig_effect effect;
+
+    uint32_t status = postmig_destination_take_urgent(&dest->node.handle, frame->head, frame->head_bytes, &effect);
+
+    if (status != POSTMIG_OK)
+        refuse_frame(dest, frame, status);
+    install(dest, frame);
+    return true;
+}
+
+/* The frame at the front, once it is whole. Else `missing` bytes of it are still to be received. */
+static bool front_frame(const struct stream *stream, struct frame *frame, size_t *missing)
+{
+    size_t length = stream_length(stream), needed = HEADER_BYTES;
+
+    frame->head = stream_front(stream);
+    if (postmig_frame_lengths(frame->head, length, &frame->head_bytes, &frame->page_bytes) == POSTMIG_OK)
+        needed = frame->head_bytes + frame->page_bytes;
+    *missing = length < needed ? needed - length : 0;
+    return length >= needed;
+}
+
+/* Takes a few frames. False once the connection is broken. */
+static bool take_frames(struct dest *dest, struct stream *stream, bool (*take_one)(struct dest *, const struct frame *))
+{
+    struct frame frame;
+    size_t missing = 0;
+    bool is_whole = front_frame(stream, &frame, &missing) || stream_receive(stream, missing);
+
+    for (uint32_t i = 0; i < FRAMES_AT_A_TIME; i++) {
+        if (!front_frame(stream, &frame, &missing) || !take_one(dest, &frame))
+            return is_whole;
+        stream_take(stream, frame.head_bytes + frame.page_bytes);
+    }
+    dest->has_more = true;
+    return is_whole;
+}
+
+/* THE CHANNEL */
+
+/* Once the source may be gone for good the node does not notice that: a Resume says so, if it is not. */
+static void lose_channel(struct dest *dest)
+{
+    uint32_t phase = dest->state.phase;
+    postmig_effect effect;
+
+    stream_close(&dest->main);
+    stream_close(&dest->urgent);
+    node_drop_frames(&dest->node);
+    dest->figures.breaks += phase != POSTMIG_DESTINATION_ENDED;
+    dest->figures.late_breaks += phase == POSTMIG_DESTINATION_RUNNING;
+    if (phase == POSTMIG_DESTINATION_ADVISED || phase == POSTMIG_DESTINATION_DISCARDING || phase == POSTMIG_DESTINATION_RUNNING)
+        node_expect(postmig_destination_notice(&dest->node.handle, &effect), "postmig_destination_notice");
+    look(dest);
+}
+
+static void take_channel(struct dest *dest, int file, const struct hello *source)
+{
+    static const struct cuts never = NO_CUTS;
+    const struct options *options = dest->options;
+    struct hello own = { .channel = MAIN, .epoch = source->epoch, .instance = dest->instance };
+
+    if (stream_is_open(&dest->main))
+        lose_channel(dest);
+    stream_open(&dest->main, file, dest->channels < options->cuts ? &options->cut[dest->channels].main : &never.main);
+    hello_write(&own, stream_room(&dest->main, HELLO_BYTES));
+    dest->main.out.end += HELLO_BYTES;
+    dest->channels++;
+    dest->source = *source;
+    dest->is_first_frame = true;
+}
+
+/* An urgent connection is of this epoch alone. One of a later epoch waits at the door. */
+static void take_urgent_channel(struct dest *dest)
+{
+    static const struct cut never = NO_CUT;
+    const struct options *options = dest->options;
+    uint32_t epoch = dest->state.epoch;
+    struct wanted wanted = { .channel = URGENT, .least = epoch, .most = epoch, .instance = dest->source.instance };
+    struct hello hello;
+    int file;
+
+    if (stream_is_open(&dest->urgent) || dest->source.epoch != epoch || dest->is_first_frame)
+        return;
+    file = door_take(&dest->door, &wanted, &hello);
+    if (file >= 0)
+        stream_open(&dest->urgent, file, dest->channels <= options->cuts ? &options->cut[dest->channels - 1].urgent : &never);
+}
+
+/* A source that comes again has a later epoch. Another source is not let in. */
+static void look_at_door(struct dest *dest)
+{
+    struct wanted wanted = { .channel = MAIN, .least = dest->source.epoch + 1, .most = UINT32_MAX, .instance = dest->source.instance };
+    struct hello hello;
+    int file;
+
+    door_look(&dest->door);
+    if (dest->source.epoch < UINT32_MAX && (file = door_take(&dest->door, &wanted, &hello)) >= 0)
+        take_channel(dest, file, &hello);
+    if (stream_is_open(&dest->main))
+        take_urgent_channel(dest);
+}
+
+/* Sends and receives. False once either connection is broken. */
+static bool exchange(struct dest *dest)
+{
+    if (stream_is_open(&dest->urgent) && !take_frames(dest, &dest->urgent, take_urgent))
+        return false;
+    if (!take_frames(dest, &dest->main, take))
+        return false;
+    (void)node_send_frames(&dest->node, &dest->main); /* how many is of no interest */
+    return stream_send(&dest->main);
+}
+
+/* THE LOOP */
+
+static struct pollfd waits_for(const struct stream *stream)
+{
+    return (struct pollfd){ .fd = stream->file, .events = stream_events(stream) };
+}
+
+/* Returns whether the caller has said, by the end of the standard input, that the source is gone. */
+static bool wait_for_more(struct dest *dest)
+{
+    struct pollfd files[MOST_FILES] = { { .fd = STDIN_FILENO, .events = POLLIN },
+                                        { .fd = dest->state.has_run ? dest->watch.userfault : -1, .events = POLLIN },
+                                        waits_for(&dest->main), waits_for(&dest->urgent) };
+    uint32_t count = 4 + door_files(&dest->door, files + 4);
+
+    if (poll(files, count, dest->has_more ? 0 : 100) < 0 && errno != EINTR)
+        refuse_errno(errno, "poll");
+    dest->has_more = false;
+    dest->is_at_door = door_has_newcomer(&dest->door);
+    for (uint32_t i = 4; i < count; i++)
+        dest->is_at_door |= files[i].revents != 0;
+    return files[0].revents != 0;
+}
+
+static void show_progress(struct dest *dest)
+{
+    static const char *const names[] = { "idle", "advised", "discarding", "running", "paused", "ended" };
+
+    if (!dest->options->shows_progress || !progress_is_due())
+        return;
+    look(dest);
+    printf("progress destination phase=%s left=%u installed=%" PRIu64 " faults=%" PRIu64 " waits=%u epoch=%u breaks=%" PRIu64 "\n",
+           names[dest->state.phase], dest->state.owed, dest->state.installed, dest->watch.faults, watch_sleepers(&dest->watch),
+           dest->state.epoch, dest->figures.breaks);
+    (void)fflush(stdout); /* who reads it may have gone */
+}
+
+/* One turn. Returns whether the source is gone. */
+static bool turn(struct dest *dest)
+{
+    if (dest->state.has_run)
+        watch_handle(&dest->watch);
+    if (dest->is_at_door)
+        look_at_door(dest);
+    if (stream_is_open(&dest->main) && !exchange(dest))
+        lose_channel(dest);
+    trace_write(&dest->trace);
+    show_progress(dest);
+    return wait_for_more(dest);
+}
+
+/* HOW IT ENDS */
+
+/* The guest runs on for a moment, and its threads stop: their faults are handled until they have. */
+static void stop_guest(struct dest *dest)
+{
+    uint64_t now = kernel_now(), stop = now + dest->options->after * 1000000ull, late = stop + PATIENT_MS * 1000000ull;
+    bool is_asked = false;
+
+    while (!guest_has_stopped(&dest->guest)) {
+        watch_handle(&dest->watch);
+        now = kernel_now();
+        if (now > stop && !is_asked)
+            guest_ask_stop(&dest->guest);
+        is_asked = now > stop;
+        if (now > late)
+            refuse("a thread of the guest sleeps for ever");
+        (void)poll(&(struct pollfd){ .fd = dest->watch.userfault, .events = POLLIN }, 1, 1); /* a shorter wait is as good */
+    }
+    guest_join(&dest->guest);
+    watch_handle(&dest->watch);
+}
+
+static void say_figures(struct dest *dest)
+{
+    const struct watch *watch = &dest->watch;
+
+    printf("destination discard=%" PRIu64 " package=%" PRIu64 " run=%" PRIu64 " first=%" PRIu64 " end=%" PRIu64, dest->figures.discard,
+           dest->figures.package, dest->figures.run, atomic_load(&dest->guest.first_done), dest->figures.end);
+    printf(" kept=%" PRIu64 " discarded=%" PRIu64 " installed=%" PRIu64 " dropped=%" PRIu64 " requests=%" PRIu64, dest->figures.kept,
+           dest->figures.discarded, dest->state.installed, dest->state.dropped, watch->requests);
+    printf(" faults=%" PRIu64 " events=%" PRIu64 " again=%" PRIu64 " needless=%" PRIu64 " cleared=%" PRIu64, watch->faults, watch->events,
+           watch->again, watch->needless, watch->cleared);
+    printf(" waits=%zu p50=%.1f p99=%.1f most=%.1f", dest->waits.count, samples_part(&dest->waits, 500), samples_part(&dest->waits, 990),
+           samples_part(&dest->waits, 1000));
+    printf(" breaks=%" PRIu64 " late_breaks=%" PRIu64 " turned_away=%" PRIu64 " epoch=%u busy=%" PRIu64 "\n", dest->figures.breaks,
+           dest->figures.late_breaks, dest->door.turned_away, dest->state.epoch, dest->figures.busy);
+}
+
+/* Every word of the guest's memory. */
+static int verdict(struct dest *dest)
+{
+    uint64_t wrong_loads = guest_wrong_loads(&dest->guest);
+    uint32_t page = 0, wrong;
+
+    kernel_unregister(dest->watch.userfault, dest->guest.memory, (size_t)dest->guest.plan.pages * PAGE_BYTES);
+    wrong = guest_check(&dest->guest, &page);
+    printf("verdict words=%" PRIu64 " operations=%" PRIu64 " wrong_loads=%" PRIu64 " wrong_pages=%u first_wrong=0x%x\n",
+           (uint64_t)dest->guest.plan.pages * PAGE_BYTES / 8, guest_operations(&dest->guest), wrong_loads, wrong, LOW_PAGE + page);
+    return wrong || wrong_loads ? STATUS_WRONG : STATUS_OK;
+}
+
+int dest_run(const struct options *options)
+{
+    static struct dest dest;
+
+    begin(&dest, options);
+    while (!turn(&dest))
+        continue;
+    trace_close(&dest.trace);
+    look(&dest);
+    if (dest.state.phase != POSTMIG_DESTINATION_ENDED && dest.figures.end == 0)
+        lose(dest.state.has_run ? "the source is gone, and %u pages with it: the guest is lost" : "the source is gone before the switch",
+             dest.state.owed);
+    door_close(&dest.door);
+    stop_guest(&dest);
+    say_figures(&dest);
+    postmig_free(&dest.node.handle);
+    return verdict(&dest);
+}

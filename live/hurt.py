@@ -1,0 +1,222 @@
+"""Ways to hurt a migration: a side that is killed, strangers at the door, bytes that are no frames. Each case returns what is wrong, or None."""
+
+import contextlib
+import signal
+import socket
+import threading
+
+import pair
+
+SLOW = ["--push-rate", "2000", "--rounds", "0"]
+PRECOPY = ["--rounds", "1000", "--target", "0"]
+MEMORY = ["--memory", "16M", "--cold", "16"]
+GREETING = b"pmlive\x01"
+ADVISE = bytes.fromhex("020100000000000100000000")
+HELLO_BYTES = 20
+
+
+def hello(channel=0, epoch=1, instance=7):
+    return GREETING + bytes([channel]) + epoch.to_bytes(4, "big") + instance.to_bytes(8, "big")
+
+
+def expect(sides):
+    """sides: for each side its status, its text, and the status and text that it should have."""
+    wrong = [f"{name}: status {side[0]}, {side[1]!r}" for name, side, status, text in sides if side[0] != status or text not in side[1]]
+    return "; ".join(wrong) or None
+
+
+class Watched:
+    """Two sides, and events for the first lines of progress with the phases that the cases wait for."""
+
+    def __init__(self, program, source, dest=(), memory=()):
+        self.program, self.shared = program, [*(memory or MEMORY), "--progress"]
+        self.phases = {name: threading.Event() for name in ("source precopy", "source stopped", "destination running")}
+        self.migration = pair.Migration(self.shared, source, list(dest), program, on_progress=self.see)
+        self.source, self.dest = self.migration.source, self.migration.dest
+        self.address = f"127.0.0.1:{self.dest.number('listening', 'port')}"
+
+    def see(self, side, found):
+        event = self.phases.get(f"{side} {found['phase']}")
+        if event:
+            event.set()
+
+    def at(self, phase):
+        if not self.phases[phase].wait(20):
+            raise TimeoutError(f"the phase {phase} does not come")
+
+    def another_dest(self):
+        dest = pair.Side([str(self.program), "dest", "--listen", self.address, *self.shared])
+        dest.listening.wait(20)
+        return dest
+
+
+def destination_dies_before_the_switch(program):
+    both = Watched(program, [*PRECOPY, "--patience", "1"])
+    both.at("source precopy")
+    both.dest.process.send_signal(signal.SIGKILL)
+    both.dest.end(5)
+    return expect([("source", both.source.end(20), pair.LOST, "the guest has run on here, and its memory is right")])
+
+
+def another_destination_before_the_switch(program):
+    both = Watched(program, ["--rounds", "40", "--target", "0"])
+    both.at("source precopy")
+    both.dest.process.send_signal(signal.SIGKILL)
+    both.dest.end(5)
+    dest = both.another_dest()
+    source = both.source.end(40)
+    dest.close_input()
+    return expect([("source", source, pair.DONE, ""), ("destination", dest.end(20), pair.DONE, "")])
+
+
+def destination_dies_after_the_switch(program):
+    both = Watched(program, [*SLOW, "--patience", "1"])
+    both.at("destination running")
+    both.dest.process.send_signal(signal.SIGKILL)
+    both.dest.end(5)
+    return expect([("source", both.source.end(20), pair.LOST, "it is lost, and does not run here")])
+
+
+def another_destination_after_the_switch(program):
+    both = Watched(program, [*SLOW, "--patience", "5"])
+    both.at("destination running")
+    both.dest.process.send_signal(signal.SIGKILL)
+    both.dest.end(5)
+    dest = both.another_dest()
+    source = both.source.end(20)
+    dest.close_input()
+    return expect([("source", source, pair.LOST, "another destination listens there than at the switch"),
+                   ("destination", dest.end(20), pair.LOST, "the source is gone before the switch")])
+
+
+def source_dies_before_the_switch(program):
+    both = Watched(program, PRECOPY)
+    both.at("source precopy")
+    both.source.process.send_signal(signal.SIGKILL)
+    both.source.end(5)
+    both.dest.close_input()
+    return expect([("destination", both.dest.end(20), pair.LOST, "the source is gone before the switch")])
+
+
+def source_dies_after_the_switch(program):
+    both = Watched(program, SLOW)
+    both.at("destination running")
+    both.source.process.send_signal(signal.SIGKILL)
+    both.source.end(5)
+    both.dest.close_input()
+    return expect([("destination", both.dest.end(20), pair.LOST, "the guest is lost")])
+
+
+def frozen_destination(program):
+    both = Watched(program, [*PRECOPY, "--patience", "1"])
+    both.at("source precopy")
+    both.dest.process.send_signal(signal.SIGSTOP)
+    source = both.source.end(20)
+    both.dest.process.kill()
+    both.dest.end(5)
+    return expect([("source", source, pair.LOST, "the guest has run on here, and its memory is right")])
+
+
+def strangers(program):
+    """Those that say nothing, half a hello, something else, or an epoch that is over: none of them disturbs the migration."""
+    both = Watched(program, ["--push-rate", "8000", "--rounds", "0"])
+    both.at("destination running")
+    host, port = both.address.split(":")
+    texts = (b"", b"GET / HTTP/1.1\r\n\r\n", hello()[:9], hello(0, 9), hello(1, 0), hello(1, 5), hello(0, 0))
+    with contextlib.ExitStack() as stack:
+        for text in texts * 6:
+            stranger = stack.enter_context(socket.create_connection((host, int(port)), 5))
+            stranger.sendall(text)
+        wrong = both.migration.finish(20)
+    turned_away = both.dest.number("destination", "turned_away")
+    return wrong or (None if turned_away >= 20 and both.source.number("source", "breaks") == 0 else f"{turned_away} were turned away")
+
+
+def is_open(connection):
+    """Whether the other side has left a connection open for a moment, on which it says nothing."""
+    connection.settimeout(0.3)
+    try:
+        return bool(connection.recv(1))
+    except TimeoutError:
+        return True
+    except ConnectionResetError:
+        return False
+
+
+def old_epoch(program):
+    """A connection of the same source, but of an epoch that is over, does not take the place of the one of today; one of the next does."""
+    dest = pair.Side([str(program), "dest", "--listen", "127.0.0.1:0", *MEMORY])
+    dest.listening.wait(20)
+    with contextlib.ExitStack() as stack:
+        def connect(epoch):
+            connection = stack.enter_context(socket.create_connection(("127.0.0.1", dest.number("listening", "port")), 5))
+            connection.sendall(hello(0, epoch) + ADVISE[:4] + epoch.to_bytes(4, "big") + bytes(4))
+            return connection
+
+        today = connect(5)
+        wrong = None if len(today.recv(HELLO_BYTES)) == HELLO_BYTES else "no hello of the destination"
+        old = connect(3)
+        wrong = wrong or ("an old epoch is let in" if is_open(old) else None) or (None if is_open(today) else "it takes the place of today's")
+        connect(6)
+        wrong = wrong or ("two connections serve one source" if is_open(today) else None)
+    dest.process.kill()
+    dest.end(5)
+    return wrong
+
+
+def hostile_source(program):
+    """Bytes that are no frames, after a right hello."""
+    for text, fault in ((b"\x02\x77" + bytes(10), "stream fault BadTag"), (ADVISE[:8] + b"\0\0\0\1\0", "stream fault BadLength"),
+                        (ADVISE + bytes.fromhex("0203000000000001000000040000000f"), "stream fault BadField"),
+                        (bytes.fromhex("020600000000000100000004") + bytes(4), "refused OutOfPlace")):
+        dest = pair.Side([str(program), "dest", "--listen", "127.0.0.1:0", *MEMORY])
+        dest.listening.wait(20)
+        with socket.create_connection(("127.0.0.1", dest.number("listening", "port")), 5) as source:
+            source.sendall(hello() + text)
+            wrong = expect([("destination", dest.end(10), pair.REFUSED, fault)])
+        if wrong:
+            return wrong
+    return None
+
+
+def served(program, answer, patience="1"):
+    """What becomes of a source whose destination sends these bytes, and no more."""
+    with socket.create_server(("127.0.0.1", 0)) as server:
+        address = f"127.0.0.1:{server.getsockname()[1]}"
+        source = pair.Side([str(program), "source", "--connect", address, *MEMORY, *PRECOPY, "--patience", patience, "--no-urgent"])
+        with server.accept()[0] as connection:
+            connection.sendall(answer)
+            return source.end(20)
+
+
+def hostile_destination(program):
+    """The guest runs on at the source."""
+    for answer, text in ((b"HTTP/1.1 200 OK\r\n\r\nnot here", "who listens there is no destination"), (b"", "no destination"),
+                         (hello() + b"\x02\x83\0\0\0\0\0\1\0\0\0\0", "refused OutOfPlace"),
+                         (hello() + b"\x03\x83\0\0\0\0\0\1\0\0\0\0", "stream fault BadTag")):
+        status, said = served(program, answer)
+        wrong = expect([("source", (status, said), pair.LOST, text), ("source", (status, said), pair.LOST, "its memory is right")])
+        if wrong:
+            return wrong
+    return None
+
+
+CASES = (
+    destination_dies_before_the_switch, another_destination_before_the_switch, destination_dies_after_the_switch,
+    another_destination_after_the_switch, source_dies_before_the_switch, source_dies_after_the_switch, frozen_destination, strangers,
+    old_epoch, hostile_source, hostile_destination,
+)
+
+
+def all_cases(program):
+    """The number of wrong ones, each with a line."""
+    wrong = 0
+    for case in CASES:
+        try:
+            found = case(program)
+        except (OSError, TimeoutError) as error:
+            found = str(error)
+        if found:
+            print(f"WRONG {case.__name__.replace('_', ' ')}: {found}", flush=True)
+            wrong += 1
+    return wrong

@@ -1,0 +1,62 @@
+/* The calls of the kernel that move a guest's memory. A call that may be refused returns 0 or an errno; every other refusal ends the
+   program. */
+#ifndef KERNEL_H
+#define KERNEL_H
+
+#include <linux/userfaultfd.h>
+#include <stdbool.h>
+#include <stddef.h>
+#include <stdint.h>
+
+/* Nanoseconds of the monotonic clock. */
+uint64_t kernel_now(void);
+
+/* Nanoseconds of processor time that this thread has used. */
+uint64_t kernel_thread_time(void);
+
+/* Gives the processor to somebody else, after the kernel has refused a call for the `times`th time in a row: for a moment at first. */
+void kernel_yield(uint32_t times);
+
+/* Anonymous memory of this many bytes, of which no part is ever a huge page. */
+char *kernel_map(size_t bytes);
+
+/* A descriptor for faults of missing and of protected pages, with the three events and the thread of each fault. */
+int kernel_open_userfault(void);
+
+/* Registers a range for missing faults, and for those of protected pages too. */
+void kernel_register(int userfault, char *at, size_t bytes, bool with_protection);
+void kernel_unregister(int userfault, char *at, size_t bytes);
+
+/* Each returns 0, EAGAIN while an event is unread, or what else the kernel says. Where it is 0 the threads that sleep there were woken. */
+int kernel_copy(int userfault, char *to, const void *from);
+int kernel_zero(int userfault, char *to);
+int kernel_unprotect(int userfault, char *at);
+int kernel_wake(int userfault, char *at);
+
+/* Protects a range, which wakes nobody. */
+int kernel_protect(int userfault, char *at, size_t bytes);
+
+/* Reads messages that wait, at most `most` of them. Returns their number. */
+size_t kernel_read(int userfault, struct uffd_msg *messages, size_t most);
+
+/* The entry of each page in /proc/self/pagemap. */
+void kernel_pagemap(const char *at, size_t pages, uint64_t *entries);
+
+static inline bool entry_is_present(uint64_t entry)
+{
+    return entry >> 62 != 0; /* in memory, or swapped out */
+}
+
+static inline bool entry_is_protected(uint64_t entry)
+{
+    return entry >> 57 & 1;
+}
+
+/* Gives pages of memory back that is not registered: a later load reads zeros. */
+struct kernel_range {
+    char *at;
+    size_t bytes;
+};
+void kernel_give_back(const struct kernel_range *ranges, size_t count);
+
+#endif

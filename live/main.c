@@ -1,0 +1,275 @@
+/* live source, live dest, live bare: the command line. */
+#include <errno.h>
+#include <getopt.h>
+#include <signal.h>
+#include <stdarg.h>
+#include <stdio.h>
+#include <stdlib.h>
+#include <string.h>
+
+#include "bare.h"
+#include "dest.h"
+#include "live.h"
+#include "options.h"
+#include "source.h"
+
+static const char USAGE[] =
+    "live source --connect ADDRESS [OPTION ..]    moves its guest to a destination\n"
+    "live dest --listen ADDRESS [OPTION ..]       runs the guest on; its standard input ends once the source is gone\n"
+    "live bare [--memory SIZE] [--buffer BYTES]   what the connection and UFFDIO_COPY take without a node\n"
+    "\n"
+    "ADDRESS is HOST:PORT of loopback (port 0: one that is free), or unix:PATH.\n"
+    "\n"
+    "of both, and the same for both:\n"
+    "  --memory SIZE     of the guest, 1M to 1G (256M)\n"
+    "  --threads N       of the guest, 1 to 16 (4)\n"
+    "  --seed N          of what it does (1)\n"
+    "  --cold N          of 64 operations, stores outside of the hot eighth of memory (4)\n"
+    "  --given N         of 64 operations, pages that are given back (0)\n"
+    "of each:\n"
+    "  --batch N         operations after which a thread sleeps (64)\n"
+    "  --pause US        for this number of microseconds (200)\n"
+    "  --buffer BYTES    of a socket in the kernel (65536; 0: the kernel's choice)\n"
+    "  --cut CHANNEL:DIRECTION:BYTES,..   of the next epoch, for tests: main or urgent is cut after these bytes, in, out, or out\n"
+    "                    since the switch, or of a destination since the End (post); `none` leaves an epoch whole\n"
+    "  --trace FILE      the node's steps, for `postmig test`\n"
+    "  --progress        a line each tenth of a second\n"
+    "of the source:\n"
+    "  --rounds N        of pre-copy at most (3)\n"
+    "  --target PAGES    it switches after a round with no more (1000)\n"
+    "  --no-urgent       pages that were asked for go on the main connection\n"
+    "  --push-rate N     pages per second in the background (0: all that the connection takes)\n"
+    "  --before MS       of the guest before the migration begins (20)\n"
+    "  --patience S      without a destination, after which the migration is lost (10)\n"
+    "of the destination:\n"
+    "  --after MS        of the guest after the migration (50)\n"
+    "  --check-owed      asks the kernel whether each owed page is missing before the guest runs\n"
+    "\n"
+    "Status: 0 done, 1 the migration is lost, 2 bad use or an answer of the kernel that was not expected, 3 the guest's memory is wrong.\n";
+
+static _Noreturn void end(enum status status, int error, const char *format, va_list arguments)
+{
+    (void)fflush(NULL); /* the figures, and the trace; the text is what counts now */
+    fprintf(stderr, "live: ");
+    vfprintf(stderr, format, arguments);
+    if (error)
+        fprintf(stderr, ": %s (%s)", strerrorname_np(error), strerror(error));
+    fputc('\n', stderr);
+    _Exit((int)status);
+}
+
+void refuse(const char *format, ...)
+{
+    va_list arguments;
+
+    va_start(arguments, format);
+    end(STATUS_REFUSED, 0, format, arguments);
+}
+
+void refuse_errno(int error, const char *format, ...)
+{
+    va_list arguments;
+
+    va_start(arguments, format);
+    end(STATUS_REFUSED, error, format, arguments);
+}
+
+void lose(const char *format, ...)
+{
+    va_list arguments;
+
+    va_start(arguments, format);
+    end(STATUS_LOST, 0, format, arguments);
+}
+
+/* NUMBERS */
+
+static uint64_t number(const char *name, const char *text, uint64_t least, uint64_t most)
+{
+    char *rest;
+    unsigned long long value;
+
+    errno = 0;
+    value = strtoull(text, &rest, 10);
+    if (errno || rest == text || *rest || *text == '-' || value < least || value > most)
+        refuse("--%s %s: a number from %llu to %llu is needed", name, text, (unsigned long long)least, (unsigned long long)most);
+    return value;
+}
+
+/* Of a SIZE with M or G. */
+static uint32_t pages_of(const char *text)
+{
+    char unit = 0, rest;
+    unsigned long long value = 0, bytes;
+
+    if (sscanf(text, "%5llu%c%c", &value, &unit, &rest) != 2 || (unit != 'M' && unit != 'G'))
+        refuse("--memory %s: a size such as 64M or 1G is needed", text);
+    bytes = value << (unit == 'M' ? 20 : 30);
+    if (bytes / PAGE_BYTES > MOST_PAGES)
+        refuse("--memory %s: the guest is too large: it has at most 1G, %u pages", text, MOST_PAGES);
+    if (bytes / PAGE_BYTES < LEAST_PAGES)
+        refuse("--memory %s: the guest is too small: it has at least 1M", text);
+    return (uint32_t)(bytes / PAGE_BYTES);
+}
+
+/* CUTS */
+
+static uint64_t *direction_of(struct cut *cut, const char *name)
+{
+    if (!cut || !strcmp(name, "in"))
+        return cut ? &cut->in : NULL;
+    if (!strcmp(name, "out"))
+        return &cut->out;
+    return strcmp(name, "post") ? NULL : &cut->post;
+}
+
+static void read_cut(struct cuts *cuts, const char *text)
+{
+    char channel[8] = "", direction[5] = "", rest;
+    unsigned long long bytes = 0;
+    bool is_read = sscanf(text, "%7[a-z]:%4[a-z]:%19llu%c", channel, direction, &bytes, &rest) == 3;
+    struct cut *cut = !strcmp(channel, "main") ? &cuts->main : !strcmp(channel, "urgent") ? &cuts->urgent : NULL;
+    uint64_t *place = direction_of(cut, direction);
+
+    if (!is_read || !place)
+        refuse("--cut %s: it is main or urgent; in, out, or post; and a number of bytes, as main:out:4096", text);
+    *place = bytes;
+}
+
+/* A list of those of one epoch. */
+static void read_cuts(struct options *options, char *text)
+{
+    struct cuts *cuts = &options->cut[options->cuts];
+
+    if (options->cuts++ == MOST_CUTS)
+        refuse("--cut: at most %u epochs can be cut", MOST_CUTS);
+    *cuts = (struct cuts)NO_CUTS;
+    for (char *word = strtok(text, ","); word; word = strtok(NULL, ","))
+        if (strcmp(word, "none"))
+            read_cut(cuts, word);
+}
+
+/* OPTIONS */
+
+enum {
+    CONNECT = 256, LISTEN, MEMORY, THREADS, SEED, COLD_STORES, GIVEN_BACK, BATCH, PAUSE, BUFFER, CUT, TRACE, PROGRESS, ROUNDS, TARGET,
+    NO_URGENT, PUSH_RATE, BEFORE, PATIENCE, AFTER, CHECK_OWED, HELP
+};
+
+#define SHARED_OPTIONS                                                                                                              \
+    { "memory", required_argument, NULL, MEMORY }, { "threads", required_argument, NULL, THREADS },                                 \
+    { "seed", required_argument, NULL, SEED }, { "cold", required_argument, NULL, COLD_STORES },                                    \
+    { "given", required_argument, NULL, GIVEN_BACK }, { "batch", required_argument, NULL, BATCH },                                  \
+    { "pause", required_argument, NULL, PAUSE }, { "buffer", required_argument, NULL, BUFFER },                                     \
+    { "cut", required_argument, NULL, CUT }, { "trace", required_argument, NULL, TRACE },                                           \
+    { "progress", no_argument, NULL, PROGRESS }, { "help", no_argument, NULL, HELP }
+
+static const struct option source_options[] = {
+    SHARED_OPTIONS,
+    { "connect", required_argument, NULL, CONNECT }, { "rounds", required_argument, NULL, ROUNDS },
+    { "target", required_argument, NULL, TARGET }, { "no-urgent", no_argument, NULL, NO_URGENT },
+    { "push-rate", required_argument, NULL, PUSH_RATE }, { "before", required_argument, NULL, BEFORE },
+    { "patience", required_argument, NULL, PATIENCE }, { NULL, 0, NULL, 0 }
+};
+
+static const struct option dest_options[] = {
+    SHARED_OPTIONS,
+    { "listen", required_argument, NULL, LISTEN }, { "after", required_argument, NULL, AFTER },
+    { "check-owed", no_argument, NULL, CHECK_OWED }, { NULL, 0, NULL, 0 }
+};
+
+static const struct option bare_options[] = {
+    { "memory", required_argument, NULL, MEMORY }, { "buffer", required_argument, NULL, BUFFER }, { NULL, 0, NULL, 0 }
+};
+
+static void set_number(struct options *options, int option, const char *name, const char *text)
+{
+    const struct {
+        int option;
+        uint32_t *value, least, most;
+    } numbers[] = {
+        { THREADS, &options->plan.threads, 1, MOST_THREADS }, { SEED, &options->plan.seed, 0, UINT32_MAX },
+        { COLD_STORES, &options->plan.cold, 0, 48 },          { GIVEN_BACK, &options->plan.given, 0, 4 },
+        { BATCH, &options->pace.batch, 1, UINT32_MAX },       { PAUSE, &options->pace.pause, 0, 1000000 },
+        { BUFFER, &options->buffer, 0, 1u << 30 },            { ROUNDS, &options->rounds, 0, 1000 },
+        { TARGET, &options->target, 0, MOST_PAGES },          { PUSH_RATE, &options->push_rate, 0, 100000000 },
+        { BEFORE, &options->before, 0, 3600000 },             { PATIENCE, &options->patience, 1, 86400 },
+        { AFTER, &options->after, 0, 3600000 },
+    };
+
+    for (size_t i = 0; i < sizeof numbers / sizeof *numbers; i++)
+        if (numbers[i].option == option)
+            *numbers[i].value = (uint32_t)number(name, text, numbers[i].least, numbers[i].most);
+}
+
+static void set_option(struct options *options, int option, const char *name, char *text)
+{
+    switch (option) {
+    case CONNECT:
+    case LISTEN:
+        address_read(&options->address, text);
+        break;
+    case MEMORY:
+        options->plan.pages = pages_of(text);
+        break;
+    case CUT:
+        read_cuts(options, text);
+        break;
+    case TRACE:
+        options->trace = text;
+        break;
+    case PROGRESS:
+        options->shows_progress = true;
+        break;
+    case NO_URGENT:
+        options->has_urgent = false;
+        break;
+    case CHECK_OWED:
+        options->checks_owed = true;
+        break;
+    case HELP:
+        fputs(USAGE, stdout);
+        exit(STATUS_OK);
+    default:
+        set_number(options, option, name, text);
+    }
+}
+
+static void read_options(struct options *options, const struct option *known, int count, char **words)
+{
+    int option, index = 0;
+
+    *options = (struct options){ .plan = { .pages = 65536, .threads = 4, .seed = 1, .cold = 4 }, .pace = { .batch = 64, .pause = 200 },
+                                 .buffer = 65536, .patience = 10, .rounds = 3, .target = 1000, .has_urgent = true, .before = 20,
+                                 .after = 50 };
+    while ((option = getopt_long(count, words, "", known, &index)) != -1) {
+        if (option == '?')
+            exit(STATUS_REFUSED);
+        set_option(options, option, known[index].name, optarg);
+    }
+    if (optind < count)
+        refuse("%s: what is that? `live --help` says how to use it", words[optind]);
+    if (!options->address.text && known != bare_options)
+        refuse("an address is needed: --%s ADDRESS", known == source_options ? "connect" : "listen");
+}
+
+int main(int count, char **words)
+{
+    static struct options options;
+    static const struct {
+        const char *name;
+        const struct option *known;
+        int (*run)(const struct options *);
+    } roles[] = { { "source", source_options, source_run }, { "dest", dest_options, dest_run }, { "bare", bare_options, bare_run } };
+    const char *name = count > 1 ? words[1] : "";
+
+    (void)signal(SIGPIPE, SIG_IGN); /* a reader of the progress may leave; it always succeeds */
+    for (size_t i = 0; i < sizeof roles / sizeof *roles; i++)
+        if (!strcmp(name, roles[i].name)) {
+            words[1] = words[0];
+            read_options(&options, roles[i].known, count - 1, words + 1);
+            return roles[i].run(&options);
+        }
+    fputs(USAGE, strcmp(name, "--help") ? stderr : stdout);
+    return strcmp(name, "--help") ? STATUS_REFUSED : STATUS_OK;
+}

@@ -1,0 +1,119 @@
+"""A source and a destination of live: both are started here, and what they print is read."""
+
+import os
+import pathlib
+import subprocess
+import tempfile
+import threading
+import time
+
+FOLDER = pathlib.Path(__file__).resolve().parent
+PROGRAM = FOLDER / "out/live"
+# What a program ends with: live.h.
+DONE, LOST, REFUSED, WRONG = range(4)
+
+
+def figures_of(line):
+    """The words KEY=VALUE of a line."""
+    return dict(word.split("=", 1) for word in line.split() if "=" in word)
+
+
+class Side:
+    """One of the two programs. Its lines are read by a thread: `figures` has the last line of each kind, such as `verdict`."""
+
+    def __init__(self, words, on_progress=None):
+        self.words, self.figures, self.on_progress = words, {}, on_progress
+        self.process = subprocess.Popen(words, stdin=subprocess.PIPE, stdout=subprocess.PIPE, stderr=subprocess.PIPE, text=True)
+        self.listening = threading.Event()
+        self.reader = threading.Thread(target=self.read, daemon=True)
+        self.reader.start()
+
+    def read(self):
+        for line in self.process.stdout:
+            kind, found = line.split(" ", 1)[0], figures_of(line)
+            if kind == "progress" and self.on_progress:
+                self.on_progress(line.split()[1], found)
+            self.figures[kind] = found
+            if kind == "listening":
+                self.listening.set()
+        self.listening.set()
+
+    def number(self, kind, key):
+        return int(self.figures.get(kind, {}).get(key, 0))
+
+    def is_running(self):
+        return self.process.poll() is None
+
+    def close_input(self):
+        try:
+            self.process.stdin.close()
+        except OSError:
+            pass
+
+    def end(self, patience):
+        """The status, and the text of the standard error; a program that does not end is killed, and has status None."""
+        status = None
+        try:
+            status = self.process.wait(patience)
+        except subprocess.TimeoutExpired:
+            self.process.kill()
+            self.process.wait()
+        self.reader.join()
+        text = self.process.stderr.read().strip()
+        self.process.stderr.close()
+        self.close_input()
+        return status, text
+
+    def state(self):
+        """Its last line of progress, and in which function of the kernel each thread sleeps."""
+        tasks = pathlib.Path(f"/proc/{self.process.pid}/task")
+        try:
+            where = [(task / "wchan").read_text() for task in tasks.iterdir()]
+        except OSError:
+            where = []
+        return f"{self.figures.get('progress')} in {where}"
+
+
+class Migration:
+    """shared, source, dest: words of the command lines. With is_unix the two talk over a Unix socket."""
+
+    def __init__(self, shared, source, dest, program=PROGRAM, is_unix=False, on_progress=None):
+        self.folder = tempfile.TemporaryDirectory(prefix="live-")
+        address = f"unix:{self.folder.name}/socket" if is_unix else "127.0.0.1:0"
+        self.dest = Side([str(program), "dest", "--listen", address, *shared, *dest], on_progress)
+        self.dest.listening.wait(30)
+        if not is_unix:
+            address = f"127.0.0.1:{self.dest.number('listening', 'port')}"
+        self.source = Side([str(program), "source", "--connect", address, *shared, *source], on_progress)
+
+    def finish(self, patience=60):
+        """What is wrong, or None. The destination hears that the source is gone once it is; one that gives up ends both."""
+        limit = time.time() + patience
+        while self.source.is_running() and self.dest.is_running() and time.time() < limit:
+            time.sleep(0.002)
+        hang = None
+        if self.source.is_running() and self.dest.is_running():
+            hang = f"no end after {patience} s: source {self.source.state()}; destination {self.dest.state()}"
+        if self.source.is_running() and not hang:
+            time.sleep(0.05)
+        if self.source.is_running():
+            self.source.process.kill()
+        self.source_status, self.source_text = self.source.end(10)
+        self.dest.close_input()
+        self.dest_status, self.dest_text = self.dest.end(30)
+        self.folder.cleanup()
+        return hang or self.wrong()
+
+    def wrong(self):
+        if not self.source_status and self.dest_status == DONE:
+            return None if self.source_status == DONE else f"source: status {self.source_status}"
+        return "; ".join(f"{name}: status {status} {text}" for name, status, text in (
+            ("source", self.source_status, self.source_text), ("destination", self.dest_status, self.dest_text)) if status != DONE)
+
+
+def missing():
+    """Why this machine cannot run it, or None."""
+    if not PROGRAM.exists():
+        return "live/out/live is not built"
+    done = subprocess.run([PROGRAM, "dest", "--listen", "127.0.0.1:0", "--memory", "1M"], stdin=subprocess.DEVNULL, capture_output=True, text=True)
+    return done.stderr.strip() if done.returncode == REFUSED else None

@@ -1,0 +1,277 @@
+/* Messages of the kernel become commands of the node's processors, and its acts become calls of the kernel. */
+#include "watch.h"
+
+#include <errno.h>
+#include <stdlib.h>
+#include <string.h>
+
+#include "kernel.h"
+
+#define MOST_MESSAGES 16u
+
+void watch_open(struct watch *watch, struct node *node, struct guest *guest)
+{
+    memset(watch, 0, sizeof *watch);
+    watch->node = node;
+    watch->guest = guest;
+    watch->userfault = kernel_open_userfault();
+}
+
+void watch_keep_times(struct watch *watch)
+{
+    watch->asked_at = calloc(watch->guest->plan.pages, sizeof *watch->asked_at);
+    if (!watch->asked_at)
+        refuse("no memory for the times of requests");
+}
+
+uint64_t watch_asked_at(struct watch *watch, uint64_t origin)
+{
+    uint64_t *asked = &watch->asked_at[origin / PAGE_BYTES - LOW_PAGE], then = *asked;
+
+    *asked = 0;
+    return then;
+}
+
+static void note_request(struct watch *watch, uint64_t origin)
+{
+    uint64_t *asked = &watch->asked_at[origin / PAGE_BYTES - LOW_PAGE];
+
+    if (*asked)
+        return; /* another thread has asked for it */
+    *asked = kernel_now();
+    watch->requests++;
+}
+
+char *watch_page(const struct watch *watch, uint64_t address)
+{
+    uint64_t page = address / PAGE_BYTES - LOW_PAGE;
+
+    if (address / PAGE_BYTES < LOW_PAGE || page >= watch->guest->plan.pages)
+        refuse("page 0x%llx is not the guest's", (unsigned long long)(address / PAGE_BYTES));
+    return watch->guest->memory + page * PAGE_BYTES;
+}
+
+/* The node's address of the page at an address of this process. */
+static uint64_t address_of(const struct watch *watch, uint64_t at)
+{
+    return (at - (uintptr_t)watch->guest->memory) / PAGE_BYTES * PAGE_BYTES + (uint64_t)LOW_PAGE * PAGE_BYTES;
+}
+
+void watch_unexpected(int error, const char *call, uint64_t address)
+{
+    refuse_errno(error, "%s of page 0x%llx: the node expects another answer", call, (unsigned long long)(address / PAGE_BYTES));
+}
+
+bool watch_has_sleeper(const struct watch *watch)
+{
+    return watch_sleepers(watch) > 0;
+}
+
+uint32_t watch_sleepers(const struct watch *watch)
+{
+    uint32_t count = 0;
+
+    for (uint32_t i = 0; i < watch->guest->plan.threads; i++)
+        count += watch->asleep[i] != 0;
+    return count;
+}
+
+void watch_wake(struct watch *watch, uint64_t address)
+{
+    for (uint32_t i = 0; i < watch->guest->plan.threads; i++) {
+        postmig_effect effect;
+
+        if (watch->asleep[i] != address)
+            continue;
+        node_expect(node_retry(watch->node, i, &effect), "retry of a woken processor");
+        if (effect.kind != POSTMIG_DID_ANSWER)
+            refuse("a processor sleeps again on page 0x%llx", (unsigned long long)(address / PAGE_BYTES));
+        watch->asleep[i] = 0;
+    }
+}
+
+/* Wakes who waits for a page that the node calls present. The kernel is asked whether it is: a page of which the REMOVE was read may have
+   been cleared since. */
+static int wake_present(struct watch *watch, uint64_t address)
+{
+    char *at = watch_page(watch, address);
+    int error = kernel_zero(watch->userfault, at);
+
+    if (!error)
+        watch->cleared++;
+    return error == EEXIST ? kernel_wake(watch->userfault, at) : error;
+}
+
+/* FAULTS */
+
+/* A fault that the node does not have: by its table the page is there. */
+static void take_needless_fault(struct watch *watch, uint64_t address)
+{
+    int error = wake_present(watch, address);
+
+    watch->needless++;
+    if (error == EAGAIN) /* the thread is woken, and faults again if the page is still missing */
+        error = kernel_wake(watch->userfault, watch_page(watch, address));
+    if (error)
+        watch_unexpected(error, "UFFDIO_WAKE", address);
+}
+
+static void read_fault(struct watch *watch, uint32_t cpu, uint64_t address, bool is_protection)
+{
+    postmig_effect effect;
+
+    node_expect(node_read(watch->node, &effect), "read of a fault");
+    if (effect.kind != POSTMIG_DID_READ_FAULT || effect.addr != address || effect.number != is_protection)
+        refuse("page 0x%llx: the kernel reports a fault of a %s page, and the node does not", (unsigned long long)(address / PAGE_BYTES),
+               is_protection ? "protected" : "missing");
+    watch->asleep[cpu] = address;
+}
+
+static void take_fault(struct watch *watch, const struct uffd_msg *message)
+{
+    uint64_t address = address_of(watch, message->arg.pagefault.address), flags = message->arg.pagefault.flags;
+    uint32_t cpu = guest_thread_of(watch->guest, message->arg.pagefault.feat.ptid);
+    postmig_command command = { .kind = flags & UFFD_PAGEFAULT_FLAG_WRITE ? POSTMIG_STORE : POSTMIG_LOAD, .width = 8, .addr = address };
+    postmig_effect effect;
+
+    watch->faults++;
+    if (watch->asleep[cpu] == address) /* it was woken for another reason, and waits again */
+        return;
+    if (watch->asleep[cpu])
+        refuse("thread %u waits for page 0x%llx, and faults at page 0x%llx", cpu, (unsigned long long)(watch->asleep[cpu] / PAGE_BYTES),
+               (unsigned long long)(address / PAGE_BYTES));
+    node_expect(node_issue(watch->node, cpu, &command, &effect), "issue of an access");
+    if (effect.kind == POSTMIG_DID_SLEEP)
+        read_fault(watch, cpu, address, flags & UFFD_PAGEFAULT_FLAG_WP);
+    else
+        take_needless_fault(watch, address);
+}
+
+/* EVENTS */
+
+/* The kernel does not say which thread gives a page back. For the node it may be any that does not wait. */
+static uint32_t idle_processor(const struct watch *watch)
+{
+    for (uint32_t i = 0; i < watch->guest->plan.threads; i++)
+        if (!watch->asleep[i])
+            return i;
+    refuse("memory is given back while all threads of the guest wait");
+}
+
+static void take_remove(struct watch *watch, const struct uffd_msg *message)
+{
+    uint64_t start = address_of(watch, message->arg.remove.start), end = address_of(watch, message->arg.remove.end);
+    postmig_command command = { .kind = POSTMIG_DONTNEED, .addr = start, .length = end - start };
+    postmig_effect effect;
+
+    node_expect(node_issue(watch->node, idle_processor(watch), &command, &effect), "issue of a dontneed");
+    if (effect.kind != POSTMIG_DID_ENTER_CALL || effect.count != 1)
+        refuse("page 0x%llx: the kernel has an event, and the node has none", (unsigned long long)(start / PAGE_BYTES));
+    node_expect(node_read(watch->node, &effect), "read of an event");
+    if (effect.kind != POSTMIG_DID_READ_LAST || effect.number != UFFD_EVENT_REMOVE || effect.addr != start || effect.other != end)
+        refuse("page 0x%llx: the node has another event than the kernel", (unsigned long long)(start / PAGE_BYTES));
+    watch->events++;
+}
+
+static void take_message(struct watch *watch, const struct uffd_msg *message)
+{
+    if (message->event == UFFD_EVENT_PAGEFAULT)
+        take_fault(watch, message);
+    else if (message->event == UFFD_EVENT_REMOVE)
+        take_remove(watch, message);
+    else
+        refuse("event 0x%x: a guest that moves or unmaps its memory is not handled here", message->event);
+}
+
+/* ACTS */
+
+/* Does what the node says. Returns 0 or an errno. */
+static int carry_out(struct watch *watch, const postmig_effect *effect)
+{
+    char *at = watch_page(watch, effect->addr);
+
+    switch (effect->kind) {
+    case POSTMIG_DID_UNPROTECT:
+        return kernel_unprotect(watch->userfault, at);
+    case POSTMIG_DID_ZERO:
+        return kernel_zero(watch->userfault, at);
+    case POSTMIG_DID_WAKE:
+        return wake_present(watch, effect->addr);
+    case POSTMIG_DID_FORGET:
+        return kernel_wake(watch->userfault, at);
+    case POSTMIG_DID_REQUEST:
+        return 0; /* a frame waits in the node */
+    default:
+        refuse("the node acts by an effect of kind %u", effect->kind);
+    }
+}
+
+static void note_again(struct watch *watch)
+{
+    watch->again++;
+    kernel_yield(watch->again_in_a_row++);
+}
+
+/* The first fault. False if there is none, or the kernel has an event that must be read first. */
+static bool act(struct watch *watch)
+{
+    postmig_effect next, effect;
+    uint32_t status = node_next_act(watch->node, &next);
+    int error;
+
+    if (status == POSTMIG_REFUSED_NOTHING_THERE)
+        return false;
+    node_expect(status, "next_act");
+    error = carry_out(watch, &next);
+    if (error == EAGAIN) {
+        note_again(watch);
+        return false;
+    }
+    if (error)
+        watch_unexpected(error, "a call for a fault", next.addr);
+    watch->again_in_a_row = 0;
+    node_expect(node_act(watch->node, &effect), "act");
+    if (!is_same_effect(&next, &effect))
+        refuse("the node acts by an effect of kind %u, and has announced kind %u", effect.kind, next.kind);
+    if (next.kind == POSTMIG_DID_REQUEST)
+        note_request(watch, next.other);
+    else
+        watch_wake(watch, next.addr);
+    return true;
+}
+
+/* Returns whether there may be more. */
+static bool read_some(struct watch *watch)
+{
+    struct uffd_msg messages[MOST_MESSAGES];
+    size_t count = kernel_read(watch->userfault, messages, MOST_MESSAGES);
+
+    for (size_t i = 0; i < count; i++)
+        take_message(watch, &messages[i]);
+    return count == MOST_MESSAGES;
+}
+
+void watch_read(struct watch *watch)
+{
+    while (read_some(watch))
+        continue;
+}
+
+void watch_handle(struct watch *watch)
+{
+    uint64_t again;
+    bool has_more;
+
+    do {
+        again = watch->again;
+        has_more = read_some(watch);
+        while (act(watch))
+            continue;
+    } while (has_more || watch->again != again);
+}
+
+void watch_again(struct watch *watch)
+{
+    note_again(watch);
+    watch_read(watch);
+}

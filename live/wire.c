@@ -1,0 +1,344 @@
+/* Addresses, and the bytes of a connection. */
+#include "wire.h"
+
+#include <arpa/inet.h>
+#include <errno.h>
+#include <fcntl.h>
+#include <linux/sockios.h>
+#include <netinet/in.h>
+#include <netinet/tcp.h>
+#include <poll.h>
+#include <stdio.h>
+#include <stdlib.h>
+#include <string.h>
+#include <sys/ioctl.h>
+#include <sys/random.h>
+#include <sys/un.h>
+#include <unistd.h>
+
+#include "live.h"
+
+#define LEAST_ROOM (512u << 10)
+#define MOST_RECEIVED (128u << 10) /* by one call, so that faults are read in between */
+#define LEAST_SEGMENT 1024u
+#define MOST_SEGMENT 16384u
+#define DEAD_AFTER_MS 5000         /* a peer that acknowledges nothing for so long is gone */
+
+/* ADDRESSES */
+
+static bool is_loopback(const struct sockaddr *name)
+{
+    if (name->sa_family == AF_INET)
+        return ntohl(((const struct sockaddr_in *)(const void *)name)->sin_addr.s_addr) >> 24 == 127;
+    return IN6_IS_ADDR_LOOPBACK(&((const struct sockaddr_in6 *)(const void *)name)->sin6_addr);
+}
+
+static void read_unix(struct address *address, const char *path)
+{
+    struct sockaddr_un *name = (struct sockaddr_un *)&address->name;
+
+    if (!*path || strlen(path) >= sizeof name->sun_path)
+        refuse("%s: a path of 1 to %zu bytes is needed", address->text, sizeof name->sun_path - 1);
+    name->sun_family = AF_UNIX;
+    memcpy(name->sun_path, path, strlen(path) + 1);
+    address->length = sizeof *name;
+}
+
+/* HOST without brackets. */
+static bool read_host(struct address *address, const char *host, uint16_t port)
+{
+    struct sockaddr_in *four = (struct sockaddr_in *)&address->name;
+    struct sockaddr_in6 *six = (struct sockaddr_in6 *)&address->name;
+
+    if (inet_pton(AF_INET, strcmp(host, "localhost") ? host : "127.0.0.1", &four->sin_addr) == 1) {
+        four->sin_family = AF_INET;
+        four->sin_port = htons(port);
+        address->length = sizeof *four;
+        return true;
+    }
+    memset(&address->name, 0, sizeof address->name);
+    six->sin6_family = AF_INET6;
+    six->sin6_port = htons(port);
+    address->length = sizeof *six;
+    return inet_pton(AF_INET6, host, &six->sin6_addr) == 1;
+}
+
+void address_read(struct address *address, const char *text)
+{
+    char host[64] = "", rest[2] = "";
+    unsigned port = 0;
+
+    *address = (struct address){ .text = text };
+    if (!strncmp(text, "unix:", 5)) {
+        read_unix(address, text + 5);
+        return;
+    }
+    if (sscanf(text, "[%63[^]]]:%5u%1s", host, &port, rest) != 2 && sscanf(text, "%63[^:]:%5u%1s", host, &port, rest) != 2)
+        port = UINT32_MAX;
+    if (port > UINT16_MAX)
+        refuse("%s: an address is HOST:PORT, [HOST]:PORT or unix:PATH", text);
+    if (!read_host(address, host, (uint16_t)port) || !is_loopback((const struct sockaddr *)&address->name))
+        refuse("%s: TLS is not built in, and plain TCP is for loopback alone: 127.0.0.1, [::1], localhost, or unix:PATH", text);
+}
+
+bool address_is_unix(const struct address *address)
+{
+    return address->name.ss_family == AF_UNIX;
+}
+
+/* THE HELLO */
+
+static const uint8_t GREETING[6] = { 'p', 'm', 'l', 'i', 'v', 'e' };
+#define HELLO_VERSION 1
+
+uint64_t hello_new_instance(void)
+{
+    uint64_t instance;
+
+    if (getrandom(&instance, sizeof instance, 0) != (ssize_t)sizeof instance)
+        refuse_errno(errno, "getrandom");
+    return instance;
+}
+
+static void write_number(uint8_t *bytes, uint64_t number, int length)
+{
+    for (int i = 0; i < length; i++)
+        bytes[i] = (uint8_t)(number >> 8 * (length - 1 - i));
+}
+
+static uint64_t read_number(const uint8_t *bytes, int length)
+{
+    uint64_t number = 0;
+
+    for (int i = 0; i < length; i++)
+        number = number << 8 | bytes[i];
+    return number;
+}
+
+void hello_write(const struct hello *hello, uint8_t *bytes)
+{
+    memcpy(bytes, GREETING, sizeof GREETING);
+    bytes[6] = HELLO_VERSION;
+    bytes[7] = (uint8_t)hello->channel;
+    write_number(bytes + 8, hello->epoch, 4);
+    write_number(bytes + 12, hello->instance, 8);
+}
+
+bool hello_read(struct hello *hello, const uint8_t *bytes)
+{
+    if (memcmp(bytes, GREETING, sizeof GREETING) || bytes[6] != HELLO_VERSION || bytes[7] > URGENT)
+        return false;
+    hello->channel = (enum channel)bytes[7];
+    hello->epoch = (uint32_t)read_number(bytes + 8, 4);
+    hello->instance = read_number(bytes + 12, 8);
+    return true;
+}
+
+/* SOCKETS */
+
+static void set_option(int file, int level, int name, int value)
+{
+    if (setsockopt(file, level, name, &value, sizeof value))
+        refuse_errno(errno, "an option of a socket");
+}
+
+/* A window of less than a segment stalls, and a segment of loopback has 64 KiB: small buffers need small segments. */
+static int segment_of(uint32_t buffer)
+{
+    uint32_t part = buffer / 4;
+
+    return (int)(part < LEAST_SEGMENT ? LEAST_SEGMENT : part > MOST_SEGMENT ? MOST_SEGMENT : part);
+}
+
+static void set_tcp_options(int file)
+{
+    set_option(file, IPPROTO_TCP, TCP_NODELAY, 1);
+    set_option(file, IPPROTO_TCP, TCP_USER_TIMEOUT, DEAD_AFTER_MS);
+    set_option(file, SOL_SOCKET, SO_KEEPALIVE, 1);
+    set_option(file, IPPROTO_TCP, TCP_KEEPIDLE, 2);
+    set_option(file, IPPROTO_TCP, TCP_KEEPINTVL, 1);
+    set_option(file, IPPROTO_TCP, TCP_KEEPCNT, 3);
+}
+
+void socket_set_up(int file, uint32_t buffer)
+{
+    int family = 0;
+    socklen_t length = sizeof family;
+
+    if (getsockopt(file, SOL_SOCKET, SO_DOMAIN, &family, &length))
+        refuse_errno(errno, "an option of a socket");
+    if (family != AF_UNIX)
+        set_tcp_options(file);
+    if (buffer && family != AF_UNIX)
+        set_option(file, IPPROTO_TCP, TCP_MAXSEG, segment_of(buffer));
+    if (buffer) {
+        set_option(file, SOL_SOCKET, SO_SNDBUF, (int)buffer);
+        set_option(file, SOL_SOCKET, SO_RCVBUF, (int)buffer);
+    }
+}
+
+int wire_connect(const struct address *address, uint32_t buffer)
+{
+    int file = socket(address->name.ss_family, SOCK_STREAM | SOCK_NONBLOCK | SOCK_CLOEXEC, 0), error;
+
+    if (file < 0)
+        refuse_errno(errno, "a socket");
+    socket_set_up(file, buffer);
+    if (!connect(file, (const struct sockaddr *)&address->name, address->length) || errno == EINPROGRESS)
+        return file;
+    error = errno;
+    (void)close(file); /* nothing was written */
+    errno = error;
+    return -1;
+}
+
+/* BYTES */
+
+/* Room for `length` bytes at the end. */
+static uint8_t *bytes_room(struct bytes *bytes, size_t length)
+{
+    size_t there = bytes->end - bytes->begin, room = bytes->room ? bytes->room : LEAST_ROOM;
+
+    if (bytes->room - bytes->end >= length)
+        return bytes->at + bytes->end;
+    while (room - there < length)
+        room *= 2;
+    if (room > bytes->room && !(bytes->at = realloc(bytes->at, room)))
+        refuse("no memory for %zu bytes", room);
+    bytes->room = room;
+    memmove(bytes->at, bytes->at + bytes->begin, there);
+    bytes->begin = 0;
+    bytes->end = there;
+    return bytes->at + there;
+}
+
+static void bytes_drop(struct bytes *bytes, size_t length)
+{
+    bytes->begin += length;
+    if (bytes->begin == bytes->end)
+        bytes->begin = bytes->end = 0;
+}
+
+/* STREAMS */
+
+void stream_open(struct stream *stream, int file, const struct cut *cut)
+{
+    stream->file = file;
+    stream->cut = *cut;
+    stream->sent = 0;
+    stream->in.begin = stream->in.end = 0;
+    stream->out.begin = stream->out.end = 0;
+}
+
+void stream_close(struct stream *stream)
+{
+    if (stream->file >= 0)
+        (void)close(stream->file); /* what was not sent is lost, as meant */
+    stream_open(stream, -1, &(struct cut)NO_CUT);
+}
+
+void stream_free(struct stream *stream)
+{
+    stream_close(stream);
+    free(stream->in.at);
+    free(stream->out.at);
+    stream->in = stream->out = (struct bytes){ 0 };
+}
+
+bool stream_is_open(const struct stream *stream)
+{
+    return stream->file >= 0;
+}
+
+uint8_t *stream_room(struct stream *stream, size_t length)
+{
+    return bytes_room(&stream->out, length);
+}
+
+size_t stream_unsent(const struct stream *stream)
+{
+    return stream->out.end - stream->out.begin;
+}
+
+size_t stream_under_way(const struct stream *stream)
+{
+    int bytes = 0;
+
+    if (ioctl(stream->file, SIOCOUTQ, &bytes))
+        refuse_errno(errno, "SIOCOUTQ");
+    return stream_unsent(stream) + (size_t)bytes;
+}
+
+/* Has the kernel drop what is under way, and reset a TCP connection. */
+static bool cut_off(const struct stream *stream)
+{
+    struct sockaddr none = { .sa_family = AF_UNSPEC };
+
+    (void)connect(stream->file, &none, sizeof none); /* a Unix socket refuses it, and is closed */
+    return false;
+}
+
+static bool is_wait(int error)
+{
+    return error == EAGAIN || error == EINTR;
+}
+
+bool stream_send(struct stream *stream)
+{
+    while (stream_unsent(stream)) {
+        size_t length = stream_unsent(stream);
+        ssize_t sent;
+
+        if (length > stream->cut.out)
+            length = stream->cut.out;
+        if (!length)
+            return cut_off(stream);
+        sent = send(stream->file, stream->out.at + stream->out.begin, length, MSG_NOSIGNAL);
+        if (sent < 0)
+            return is_wait(errno);
+        bytes_drop(&stream->out, (size_t)sent);
+        stream->sent += (size_t)sent;
+        if (stream->cut.out != NEVER)
+            stream->cut.out -= (size_t)sent;
+    }
+    return true;
+}
+
+bool stream_receive(struct stream *stream, size_t least)
+{
+    size_t room = least > MOST_RECEIVED ? least : MOST_RECEIVED;
+    uint8_t *at = bytes_room(&stream->in, room);
+    ssize_t got;
+
+    if (room > stream->cut.in)
+        room = stream->cut.in;
+    if (!room)
+        return cut_off(stream);
+    got = recv(stream->file, at, room, MSG_DONTWAIT);
+    if (got < 0)
+        return is_wait(errno);
+    stream->in.end += (size_t)got;
+    if (stream->cut.in != NEVER)
+        stream->cut.in -= (size_t)got;
+    return got > 0;
+}
+
+size_t stream_length(const struct stream *stream)
+{
+    return stream->in.end - stream->in.begin;
+}
+
+const uint8_t *stream_front(const struct stream *stream)
+{
+    return stream->in.at + stream->in.begin;
+}
+
+void stream_take(struct stream *stream, size_t length)
+{
+    bytes_drop(&stream->in, length);
+}
+
+short stream_events(const struct stream *stream)
+{
+    return stream_unsent(stream) ? POLLIN | POLLOUT : POLLIN;
+}

@@ -1,0 +1,92 @@
+/* Connections between the two hosts: TCP on loopback, and Unix sockets. Each begins with a hello of the source, of HELLO_BYTES, that tells
+   its channel, its epoch, and which source it is; frames follow it. On the main connection the destination says first, in the same form,
+   which destination it is. */
+#ifndef WIRE_H
+#define WIRE_H
+
+#include <stdbool.h>
+#include <stddef.h>
+#include <stdint.h>
+#include <sys/socket.h>
+
+struct address {
+    const char *text;
+    struct sockaddr_storage name;
+    socklen_t length;
+};
+
+/* Reads `HOST:PORT`, `[HOST]:PORT` of loopback, or `unix:PATH`. Any other address is refused. */
+void address_read(struct address *address, const char *text);
+
+bool address_is_unix(const struct address *address);
+
+enum channel { MAIN, URGENT };
+
+struct hello {
+    enum channel channel;
+    uint32_t epoch;
+    uint64_t instance; /* a number of this process, made at random */
+};
+
+#define HELLO_BYTES 20u
+uint64_t hello_new_instance(void);
+void hello_write(const struct hello *hello, uint8_t *bytes);
+bool hello_read(struct hello *hello, const uint8_t *bytes); /* false where the bytes are a stranger's */
+
+/* After how many bytes, in or out, a connection is cut, for tests: what is under way is lost, and the other side gets a reset. Those of
+   `post` go out after the switch, of a source, or after the End, of a destination. */
+#define NEVER UINT64_MAX
+struct cut {
+    uint64_t in, out, post;
+};
+#define NO_CUT { NEVER, NEVER, NEVER }
+
+struct bytes {
+    uint8_t *at;
+    size_t room, begin, end; /* those from `begin` to `end` are there */
+};
+
+/* One connection. Without one `file` is -1. */
+struct stream {
+    int file;
+    struct bytes in, out;
+    struct cut cut;
+    uint64_t sent; /* bytes that the kernel has taken: the connection is made */
+};
+#define NO_STREAM { .file = -1 }
+
+/* Options of a socket that carries frames, or that listens for such: those it accepts have the same. `buffer` is the size of its buffers in
+   the kernel, 0 for the kernel's own choice. */
+void socket_set_up(int file, uint32_t buffer);
+
+/* Begins to connect. Returns -1 where nobody listens, with errno. */
+int wire_connect(const struct address *address, uint32_t buffer);
+
+/* Has the stream use a connection. Its cuts and buffers are empty. */
+void stream_open(struct stream *stream, int file, const struct cut *cut);
+/* Closes it, and drops all that was not read or sent. */
+void stream_close(struct stream *stream);
+/* The same, with the memory of its buffers. */
+void stream_free(struct stream *stream);
+bool stream_is_open(const struct stream *stream);
+
+/* Room for `length` more bytes to be sent: the caller writes some of them, and adds their number to out.end. */
+uint8_t *stream_room(struct stream *stream, size_t length);
+size_t stream_unsent(const struct stream *stream);
+/* Bytes that the kernel has taken and the other side has not. */
+size_t stream_under_way(const struct stream *stream);
+
+/* Each is false once the connection is broken. They send and receive what the kernel takes or has; at most `least` bytes, or a whole buffer
+   where that is more, are received. */
+bool stream_send(struct stream *stream);
+bool stream_receive(struct stream *stream, size_t least);
+
+/* What was received and not taken. */
+size_t stream_length(const struct stream *stream);
+const uint8_t *stream_front(const struct stream *stream);
+void stream_take(struct stream *stream, size_t length);
+
+/* For poll(2): what this stream waits for. */
+short stream_events(const struct stream *stream);
+
+#endif
