@@ -12,7 +12,6 @@
 #include "door.h"
 #include "figures.h"
 #include "kernel.h"
-#include "trace.h"
 #include "watch.h"
 
 #define HEADER_BYTES 12u
@@ -28,7 +27,6 @@ struct dest {
     struct watch watch;
     struct door door;
     struct stream main, urgent;
-    struct trace trace;
     postmig_destination_state state; /* since the last step that changes the phase or the epoch; its counts may be older than the node's */
     uint32_t channels;   /* taken until now */
     uint64_t instance;   /* of this process, */
@@ -70,7 +68,6 @@ static void begin(struct dest *dest, const struct options *options)
     watch_open(&dest->watch, &dest->node, &dest->guest);
     watch_keep_times(&dest->watch);
     node_expect(postmig_destination_new((uint8_t)options->plan.threads, &dest->node.handle), "postmig_destination_new");
-    trace_open(&dest->trace, options->trace, &dest->node);
     dest->instance = hello_new_instance();
     door_open(&dest->door, &options->address, options->buffer);
     printf("listening port=%u\n", door_port(&dest->door));
@@ -449,7 +446,6 @@ static bool turn(struct dest *dest)
         look_at_door(dest);
     if (stream_is_open(&dest->main) && !exchange(dest))
         lose_channel(dest);
-    trace_write(&dest->trace);
     show_progress(dest);
     return wait_for_more(dest);
 }
@@ -512,7 +508,6 @@ int dest_run(const struct options *options)
     begin(&dest, options);
     while (!turn(&dest))
         continue;
-    trace_close(&dest.trace);
     look(&dest);
     if (dest.state.phase != POSTMIG_DESTINATION_ENDED && dest.figures.end == 0)
         lose(dest.state.has_run ? "the source is gone, and %u pages with it: the guest is lost" : "the source is gone before the switch",

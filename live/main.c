@@ -32,7 +32,6 @@ static const char USAGE[] =
     "  --buffer BYTES    of a socket in the kernel (65536; 0: the kernel's choice)\n"
     "  --cut CHANNEL:DIRECTION:BYTES,..   of the next epoch, for tests: main or urgent is cut after these bytes, in, out, or out\n"
     "                    since the switch, or of a destination since the End (post); `none` leaves an epoch whole\n"
-    "  --trace FILE      the node's steps, for `postmig test`\n"
     "  --progress        a line each tenth of a second\n"
     "of the source:\n"
     "  --rounds N        of pre-copy at most (3)\n"
@@ -49,7 +48,7 @@ static const char USAGE[] =
 
 static _Noreturn void end(enum status status, int error, const char *format, va_list arguments)
 {
-    (void)fflush(NULL); /* the figures, and the trace; the text is what counts now */
+    (void)fflush(NULL); /* the figures; the text is what counts now */
     fprintf(stderr, "live: ");
     vfprintf(stderr, format, arguments);
     if (error)
@@ -152,7 +151,7 @@ static void read_cuts(struct options *options, char *text)
 /* OPTIONS */
 
 enum {
-    CONNECT = 256, LISTEN, MEMORY, THREADS, SEED, COLD_STORES, GIVEN_BACK, BATCH, PAUSE, BUFFER, CUT, TRACE, PROGRESS, ROUNDS, TARGET,
+    CONNECT = 256, LISTEN, MEMORY, THREADS, SEED, COLD_STORES, GIVEN_BACK, BATCH, PAUSE, BUFFER, CUT, PROGRESS, ROUNDS, TARGET,
     NO_URGENT, PUSH_RATE, BEFORE, PATIENCE, AFTER, CHECK_OWED, HELP
 };
 
@@ -161,8 +160,8 @@ enum {
     { "seed", required_argument, NULL, SEED }, { "cold", required_argument, NULL, COLD_STORES },                                    \
     { "given", required_argument, NULL, GIVEN_BACK }, { "batch", required_argument, NULL, BATCH },                                  \
     { "pause", required_argument, NULL, PAUSE }, { "buffer", required_argument, NULL, BUFFER },                                     \
-    { "cut", required_argument, NULL, CUT }, { "trace", required_argument, NULL, TRACE },                                           \
-    { "progress", no_argument, NULL, PROGRESS }, { "help", no_argument, NULL, HELP }
+    { "cut", required_argument, NULL, CUT }, { "progress", no_argument, NULL, PROGRESS },                                           \
+    { "help", no_argument, NULL, HELP }
 
 static const struct option source_options[] = {
     SHARED_OPTIONS,
@@ -214,9 +213,6 @@ static void set_option(struct options *options, int option, const char *name, ch
         break;
     case CUT:
         read_cuts(options, text);
-        break;
-    case TRACE:
-        options->trace = text;
         break;
     case PROGRESS:
         options->shows_progress = true;

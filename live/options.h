@@ -24,7 +24,6 @@ struct options {
     uint32_t patience; /* seconds without the other side, after which the migration is lost */
     uint32_t cuts;
     struct cuts cut[MOST_CUTS]; /* of the first epochs */
-    const char *trace;
     bool shows_progress;
     /* of the source */
     uint32_t rounds, target, push_rate, before;

@@ -11,7 +11,6 @@
 
 #include "figures.h"
 #include "kernel.h"
-#include "trace.h"
 #include "watch.h"
 
 #define MOST_OF_RUN 64u
@@ -30,7 +29,6 @@ struct source {
     struct guest guest;
     struct watch watch;
     struct stream main, urgent;
-    struct trace trace;
     postmig_source_state state; /* since the last step that changes the phase or the epoch; its counts may be older than the node's */
     uint32_t channels;     /* opened until now */
     uint64_t instance;     /* of this process */
@@ -148,7 +146,6 @@ static void begin(struct source *source, const struct options *options)
     guest_start(&source->guest);
     sleep_ms(options->before);
     node_expect(postmig_source_new((uint8_t)options->plan.threads, 0, 0, &source->node.handle), "postmig_source_new");
-    trace_open(&source->trace, options->trace, &source->node);
     source->figures.start = kernel_now();
     enter_memory(source);
     node_expect(postmig_source_start(&source->node.handle, &effect), "postmig_source_start");
@@ -616,7 +613,6 @@ static void turn(struct source *source)
     has_more = work(source);
     if (stream_is_open(&source->urgent) && stream_unsent(&source->urgent) && !stream_send(&source->urgent))
         lose_channel(source);
-    trace_write(&source->trace);
     show_progress(source);
     if (!has_more && source->state.phase != POSTMIG_SOURCE_RELEASED)
         wait_for_more(source);
@@ -674,7 +670,6 @@ int source_run(const struct options *options)
     }
     source.figures.released = kernel_now();
     source.figures.busy = kernel_thread_time() - source.figures.busy;
-    trace_close(&source.trace);
     look(&source);
     say_figures(&source);
     postmig_free(&source.node.handle);
