@@ -11,8 +11,12 @@ from dataclasses import dataclass, field
 from typing import Optional
 
 import uffdlog
-from kernel_rules import (ASLEEP, DONTWAKE, FAULT_PROTECTED, INSTALLS, Kernel, MAP_CALLS, MISSING, NOT_JUDGED, POLLIN, POLLNVAL, PRESENT, SEEN,
-                          THREAD_ID, UNKNOWN, UNREAD)
+from kernel_rules import (ASLEEP, DONTWAKE, FAULT_PROTECTED, INSTALLS, Kernel, MAP_CALLS, MISSING, NOT_JUDGED, POLLIN, POLLNVAL, PRESENT, PROTECTS,
+                          SEEN, TELLING, THREAD_ID, UNKNOWN, UNREAD)
+
+
+# How many calls after a poll are looked at.
+NEAR = 200
 
 
 @dataclass(eq=False)
@@ -34,6 +38,7 @@ class Call:
     judged: bool = True
     done: bool = False
     node: Optional[int] = None
+    until: int = 0  # the time of its end
 
     @property
     def object(self):
@@ -67,16 +72,23 @@ class Log:
             elif entry.kind == "end" and id(entry.call) in by_call:
                 self.end(entry, reader, by_call.pop(id(entry.call))[0])
         self.reader = reader
+        self.set_answers()
         self.set_spaces()
         self.set_unjudged()
 
     def end(self, entry, reader, call):
-        call.end, call.answer, call.values = entry.line, entry.word, entry.values
+        call.end, call.answer, call.values, call.until = entry.line, entry.word, entry.values, entry.time
         call.messages = [(message.word, message.values) for message in entry.call.messages]
         call.runs = [run.values for run in entry.call.runs if run.values] if hasattr(entry.call, "runs") else []
         if call.word == "close":
             call.last = not any(process.is_bound(call.object, fd) for process in reader.processes.values() for fd in process.bound)
         self.lines.append((entry.line, "end", call))
+
+    def set_answers(self):
+        """A munmap or madvise that never returned may have taken effect: its thread was killed while its events waited."""
+        for call in self.calls:
+            if call.answer is None and call.word in ("munmap", "madvise"):
+                call.answer = "ok"
 
     def set_spaces(self):
         """A process that the log has not seen begin may share an address space: that whose registered pages its map calls meet."""
@@ -110,8 +122,9 @@ class Search:
         self.faults = defaultdict(list)  # for each object and page, the reads that return its missing faults, by their ends
         self.reads = defaultdict(list)  # the reads of each object, by their ends
         self.put = defaultdict(list)  # for each object, the installs that took effect, in order
-        self.gone = sorted((call.end or 1 << 62, call.begin, call.space, *call.range()) for call in log.calls
-                           if call.word in MAP_CALLS + ("unregister",) and call.answer == "ok" and call.range())
+        self.gone = sorted((call.end, call.begin, call.space, *call.range()) for call in log.calls
+                           if call.word in MAP_CALLS + ("unregister",) and call.answer == "ok" and call.end and call.range())
+        self.begins = [call.begin for call in log.calls]
         self.impossible, self.kind, self.strangers, self.settling = [], {}, 0, set()
         for call in sorted((call for call in log.calls if call.word == "read" and call.end), key=lambda call: call.end):
             self.reads[call.object].append(call)
@@ -243,7 +256,7 @@ class Search:
             for place in places:
                 self.foresee(call, place)
         elif call.answer == "EAGAIN" and not self.kernel.changing(call.object):
-            self.settle_where(lambda it: it.word in MAP_CALLS)
+            self.settle_where(lambda it: it.word in TELLING)
         return False
 
     prepare_zeropage = prepare_copy
@@ -274,9 +287,21 @@ class Search:
                 self.settle(it)
 
     def prepare_writeprotect(self, call):
-        if call.answer == "ok" and call.arguments["MODE"] != 1:
+        if call.answer == "EAGAIN" and not self.kernel.changing(call.object):
+            self.settle_where(lambda it: it.word in TELLING)
+        elif call.answer == "ok" and call.arguments["MODE"] == PROTECTS:
+            self.settle_where(lambda it: self.is_put_before(it, call))
+        elif call.answer == "ok":
             self.read_first(call.object, self.places_of(call))
         return False
+
+    def is_put_before(self, install, call):
+        """Whether an install under way is of a page that the call protects: the next fault of it that is read says so."""
+        if install.word not in INSTALLS or install.object != call.object or install.answer != "ok":
+            return False
+        page, (start, length) = self.places_of(install)[0][1], call.range()
+        later = [values for read, values in self.faults.get((call.object, page), ()) if read.end > call.end][:1]
+        return start <= page * self.log.page < start + length and any(values["FLAGS"] & FAULT_PROTECTED for values in later)
 
     def prepare_wake(self, call):
         self.read_first(call.object, self.places_of(call))
@@ -312,17 +337,18 @@ class Search:
         if call.answer == "EAGAIN":
             self.drain(me)
         if call.answer == "ok":
+            shown = []
             for kind, values in call.messages:
                 if kind == "fault":
-                    self.show(me, values)
+                    shown.append(self.show(me, values, shown))
                 else:
-                    self.drain(me)
+                    self.drain(me, shown)
                     self.announce(me, kind, values)
         return False
 
-    def drain(self, me):
-        """The unread faults go with a wake that is under way, or for no reason that the log has."""
-        for thread in list(self.kernel.queue.get(me, ())):
+    def drain(self, me, shown=()):
+        """The unread faults go with a wake that is under way, or for no reason that the log has; not those of these threads."""
+        for thread in [it for it in self.kernel.queue.get(me, ()) if it not in shown]:
             fault = self.kernel.faults.get(thread)
             if fault and fault.phase == UNREAD:
                 self.settle_where(lambda it: self.wakes(it, fault))
@@ -337,27 +363,29 @@ class Search:
         start, length = call.range()
         return start <= fault.place[1] * self.log.page < start + length
 
-    def show(self, me, values):
-        """A fault is to be the first that is read."""
+    def show(self, me, values, shown):
+        """A fault is to be the first that is read, after those of the threads that are shown. Returns its thread."""
         thread, of = self.thread_of(me, values), self.kernel.objects.get(me)
         if not of:
-            return
+            return thread
         place = (of.space, values["ADDRESS"] // self.log.page)
-        queue = self.kernel.queue.get(me, [])
+        self.pass_by(me, thread, shown)
         held = self.kernel.faults.get(thread)
-        if held and held.phase == UNREAD and held.place == place and queue[:1] == [thread]:
-            return
-        for other in list(queue):
-            if other != thread:
-                fault = self.kernel.faults[other]
-                self.settle_where(lambda it: self.wakes(it, fault))
-                if self.kernel.faults.get(other) is fault and fault.phase == UNREAD:
-                    self.step("leaves", other)
         if held and (held.place != place or held.phase == ASLEEP):
             self.settle_where(lambda it: self.wakes(it, held))
             if self.kernel.faults.get(thread) is held:
                 self.step("leaves", thread)
         self.touch(thread, me, place, values["FLAGS"])
+        return thread
+
+    def pass_by(self, me, thread, shown):
+        """The unread faults of other threads go."""
+        for other in [it for it in self.kernel.queue.get(me, ()) if it != thread and it not in shown]:
+            fault = self.kernel.faults.get(other)
+            if fault and fault.phase == UNREAD:
+                self.settle_where(lambda it: self.wakes(it, fault))
+                if self.kernel.faults.get(other) is fault and fault.phase == UNREAD:
+                    self.step("leaves", other)
 
     def touch(self, thread, me, place, flags):
         """The thread sees the page, if it has not yet, and queues its fault. Whether that was possible."""
@@ -379,7 +407,7 @@ class Search:
 
     def announce(self, me, kind, values):
         if not any(self.kernel.is_next(of, me, kind, values) for of in self.kernel.calls.values()):
-            self.settle_where(lambda it: it.word in MAP_CALLS)
+            self.settle_where(lambda it: it.word in TELLING)
         for key, of in list(self.kernel.calls.items()):
             if self.kernel.is_next(of, me, kind, values):
                 if me not in of.queued:
@@ -435,24 +463,15 @@ class Search:
     def vanishing_now(self, call, read):
         """A page that is about to be put, while the poll or the read after it lasts: a thread had queued its fault, and was woken unread."""
         until = read.end if read else 1 << 62
-        at, lines = self.position(call.end), self.log.lines
-        waiting = [it for it in self.open.values()]
-        for line, what, it in lines[at:at + 400]:
-            if line > until:
+        at = bisect.bisect_right(self.begins, call.end)
+        for it in [*self.open.values(), *self.log.calls[at:at + NEAR]]:
+            if it.begin > until:
                 break
-            if what == "begin":
-                waiting.append(it)
-        for it in waiting:
             if it.word in INSTALLS and it.object == call.object and it.answer == "ok" and not it.arguments["MODE"] & DONTWAKE:
                 if self.touch(self.stranger(), call.object, self.places_of(it)[0], 0):
                     self.kind[call.key] = "differs"
                     return True
         return False
-
-    def position(self, line):
-        if not hasattr(self, "numbers"):
-            self.numbers = [number for number, _, _ in self.log.lines]
-        return bisect.bisect_right(self.numbers, line)
 
     def stranger(self):
         self.strangers += 1
@@ -524,5 +543,5 @@ def judge(name):
         try:
             kernel, used = replay(log, run)
         except Exception as reason:  # noqa: what does not replay is not certified
-            broken = f"{type(reason).__name__}: {reason}"
+            broken = str(reason)
     return log, search, run, kernel, used, broken

@@ -22,6 +22,8 @@ SEEN, UNREAD, ASLEEP = "seen", "unread", "asleep"
 MESSAGE_BYTES = 32
 INSTALLS = ("copy", "zeropage")
 MAP_CALLS = ("mmap", "munmap", "mremap", "madvise")
+# Calls that tell of themselves by events.
+TELLING = (*MAP_CALLS, "fork")
 # Calls that no rule here speaks of: a log with them is not judged.
 NOT_JUDGED = ("continue", "poison", "move")
 
@@ -84,7 +86,8 @@ class Kernel:
         self.objects = {it: Object(space, None) for it, space in (found or {}).items()}
         self.pages, self.faults, self.queue, self.calls = {}, {}, {}, {}
         self.owed, self.unanswered, self.twice, self.outside = [], [], [], []
-        self.differs, self.resolved = [], 0
+        self.waits = []  # for each fault that a call has resolved: the read that returned it, that call, and the fault's flags
+        self.differs, self.resolved, self.now = [], 0, None
 
     # What steps share
 
@@ -124,16 +127,19 @@ class Kernel:
 
     def wake(self, found, places, by_handler):
         places = places if places is None else set(places)
-        for thread, fault in list(self.faults.items()):
-            if fault.object == found and fault.phase != SEEN and (places is None or fault.place in places):
-                if fault.phase == UNREAD:
-                    self.differs.append("fault-taken-away")
-                self.end_fault(thread, fault, by_handler)
+        woken = [(thread, fault) for thread, fault in self.faults.items()
+                 if fault.object == found and fault.phase != SEEN and (places is None or fault.place in places)]
+        if any(fault.phase == UNREAD for _, fault in woken):
+            self.differs.append("fault-taken-away")
+        for thread, fault in woken:
+            self.end_fault(thread, fault, by_handler)
 
     def end_fault(self, thread, fault, by_handler):
         if fault.phase == UNREAD:
             self.queue[fault.object].remove(thread)
-        elif fault.phase == ASLEEP and fault.call and not by_handler:
+        elif fault.phase == ASLEEP and fault.call and by_handler:
+            self.waits.append((fault.call, self.now, fault.flags))
+        elif fault.phase == ASLEEP and fault.call:
             self.unanswered.append(fault.call)
         del self.faults[thread]
 
@@ -194,7 +200,7 @@ class Kernel:
 
     def takes(self, call):
         """The call takes effect with its answer. Returns None, or why no rule allows it."""
-        self.differs, self.resolved = [], 0
+        self.differs, self.resolved, self.now = [], 0, call
         try:
             getattr(self, "take_" + call.word)(call, call.arguments)
         except Refused as reason:
@@ -374,7 +380,10 @@ class Kernel:
         self.object_of(arguments)
 
     def take_fork(self, call, arguments):
-        pass
+        """fork(2) copies the address space. Whoever asked for UFFD_FEATURE_EVENT_FORK gets a message with the child's object."""
+        told = {page.object for (space, _), page in self.pages.items() if space == call.space and self.objects[page.object].features & FORK}
+        if call.answer == "ok" and told:
+            self.calls[call.key] = MapCall(call.space, {it: [("fork", ())] for it in told}, told=told)
 
     def take_close(self, call, arguments):
         of, me = self.object_of(arguments), arguments["O"][0]
@@ -441,7 +450,7 @@ class Kernel:
 
     def is_next(self, of, me, kind, values):
         if of.events.get(me):
-            return of.events[me][0] == (kind, tuple(values.values()))
+            return of.events[me][0] == (kind, () if kind == "fork" else tuple(values.values()))
         if kind != "remove" or not of.removes.get(me):
             return False
         cursor, end = of.removes[me]

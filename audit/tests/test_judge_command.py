@@ -33,14 +33,14 @@ class Command(unittest.TestCase):
     def test_a_copy_left_out(self):
         status, lines, _ = self.judged(without(gzip.decompress(PUSH.read_bytes()).decode(), "498"))
         self.assertEqual(status, 1)
-        self.assertEqual(lines[0], "log:1073: read: the page fault that this call has read was not resolved")
-        self.assertEqual(lines[1], "log:7676: unregister: 1 registered pages from 0x7fd5ae0ad000 on are still missing")
+        self.assertEqual(lines[0], "log:1073: monitor: read: the page fault that this call has read was not resolved [fault-not-resolved]")
+        self.assertEqual(lines[1], "log:7676: monitor: unregister: 1 registered pages from 0x7fd5ae0ad000 on are still missing [page-owed]")
 
     def test_an_impossible_answer(self):
         text = gzip.decompress(PUSH.read_bytes()).decode().replace(" end 498 ok 4096\n", " end 498 EEXIST -17\n")
         status, lines, _ = self.judged(text)
         self.assertEqual(status, 3)
-        self.assertTrue(any("copy: no run of the rules has this answer" in line for line in lines))
+        self.assertTrue(any("kernel: copy: no run of the rules has this answer" in line for line in lines))
 
     def test_unreadable(self):
         done = common.run("judge", "no-such-log")
