@@ -16,7 +16,7 @@ const ON: Descriptor = Descriptor {
     fd: 15,
 };
 
-static LINES: [(&'static [u8], Option<Line>); 40] = [
+static LINES: [(&'static [u8], Option<Line>); 46] = [
     (
         b"5493367269793 8608 8800 started 8581 /usr/bin/x %20 12",
         Some(Line::Started {
@@ -300,6 +300,22 @@ static LINES: [(&'static [u8], Option<Line>); 40] = [
         None,
     ),
     (b"5493367269793 8608 8800 end 4", None),
+    (b"5493367269793 08608 8800 exit", None),
+    (b"5493367269793 0x021a0 8800 exit", None),
+    (b"5493367269793 0x21A0 8800 exit", None),
+    (b"5493367269793 8608 8800 end 4 Eagain", None),
+    (b"5493367269793 8608 8800 end 4 E", None),
+    (
+        b"5493367269793 8608 8800 end 4 E133",
+        Some(Line::End {
+            stamp: AT,
+            number: 4,
+            answer: Answer::Failed {
+                errno: Errno::Other,
+                bytes: None,
+            },
+        }),
+    ),
     (b"18446744073709551616 8608 8800 exit", None),
 ];
 
