@@ -1,2 +1,4 @@
+pub mod Advances
 pub mod Layers
+pub mod Spaces
 pub mod Steps

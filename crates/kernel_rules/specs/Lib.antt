@@ -1,3 +1,4 @@
+pub mod Certified
 pub mod Changes
 pub mod Faults
 pub mod Held
@@ -8,3 +9,4 @@ pub mod Reads
 pub mod Runs
 pub mod State
 pub mod Tables
+pub mod Tests

@@ -3,7 +3,7 @@
 ghost use Rattle.std.specs.Prelude.{◌≡◌, ◌++◌, [], OnOk, filter, filter_map, if◌then◌else◌, not};
 ghost use Rattle.std.specs.List.{list_any};
 ghost use Rattle.kernel_rules.specs.Pages.{is_of_protection};
-ghost use Rattle.kernel_rules.specs.Faults.{is_seen, stops_at, fault_of, faults_without, is_twin, sleeps_in, is_unread_in, is_of_thread, left_unanswered};
+ghost use Rattle.kernel_rules.specs.Faults.{is_seen, stops_at, fault_of, faults_without, is_twin, sleeps, is_unread_in, is_of_thread, left_unanswered};
 ghost use Rattle.kernel_rules.specs.Reads.{first_unread};
 
 use crate::known::{Page, Phase, Presence};
@@ -22,6 +22,13 @@ pub struct Fault {
     pub phase: Phase,
     /// The call that read its message, if the page was not there then: it has to be answered.
     pub read_by: Option<u64>,
+}
+
+/// The pages of an object whose sleeping threads are meant.
+#[derive(Clone, Copy)]
+pub enum Reach {
+    Everywhere,
+    Within { first: u64, count: u64 },
 }
 
 /// Whether the flags are those of a write-protected page.
@@ -91,14 +98,17 @@ pub fn has_twin(faults: &[Fault], fault: Fault) -> bool
     false
 }
 
-/// Whether a fault sleeps in a range of the object's pages.
-pub fn is_asleep_in(object: u64, first: u64, count: u64, fault: Fault) -> bool
-    ensures { result ≡ sleeps_in object first count fault }
+/// Whether a fault sleeps in the object's pages.
+pub fn is_asleep(object: u64, reach: Reach, fault: Fault) -> bool
+    ensures { result ≡ sleeps object reach fault }
 {
-    fault.object == object
-        && first <= fault.page
-        && fault.page - first < count
-        && !matches!(fault.phase, Phase::Seen)
+    if fault.object != object || matches!(fault.phase, Phase::Seen) {
+        return false;
+    }
+    match reach {
+        Reach::Everywhere => true,
+        Reach::Within { first, count } => first <= fault.page && fault.page - first < count,
+    }
 }
 
 /// Whether a thread has queued no message yet.
@@ -115,32 +125,31 @@ pub fn remove(faults: &mut Vec<Fault>, thread: u64)
     faults.retain(|fault| fault.thread != thread);
 }
 
-/// Whether an unread fault sleeps in a range of the object's pages.
-pub fn has_unread_in(faults: &[Fault], object: u64, first: u64, count: u64) -> bool
-    ensures { result ≡ list_any (is_unread_in object first count) faults.now }
+/// Whether an unread fault sleeps in the object's pages.
+pub fn has_unread_in(faults: &[Fault], object: u64, reach: Reach) -> bool
+    ensures { result ≡ list_any (is_unread_in object reach) faults.now }
 {
     for fault in faults {
-        if is_asleep_in(object, first, count, *fault) && matches!(fault.phase, Phase::Unread) {
+        if is_asleep(object, reach, *fault) && matches!(fault.phase, Phase::Unread) {
             return true;
         }
     }
     false
 }
 
-/// Adds the reads of the faults that sleep in a range of the object's pages and are to be answered. After `NoMemory` some are added.
+/// Adds the reads of the faults that sleep in the object's pages and are to be answered. After `NoMemory` some are added.
 pub fn note_unanswered(
     unanswered: &mut Vec<u64>,
     faults: &[Fault],
     object: u64,
-    first: u64,
-    count: u64,
+    reach: Reach,
 ) -> Result<(), NoMemory>
     ensures { OnOk result (unanswered.new.items ≡
         unanswered.old.items ++
-        filter_map (left_unanswered (sleeps_in object first count)) faults.now) }
+        filter_map (left_unanswered (sleeps object reach)) faults.now) }
 {
     for fault in faults {
-        if is_asleep_in(object, first, count, *fault) {
+        if is_asleep(object, reach, *fault) {
             if let Some(read) = fault.read_by {
                 let Ok(()) = unanswered.push(read) else {
                     return Err(NoMemory);
@@ -168,30 +177,29 @@ pub fn note_thread(unanswered: &mut Vec<u64>, faults: &[Fault], thread: u64) -> 
     Ok(())
 }
 
-/// Adds the reads of a range as `note_unanswered` does, unless a call of the handler answers them.
+/// Adds the reads as `note_unanswered` does, unless a call of the handler answers them.
 pub fn note_left(
     unanswered: &mut Vec<u64>,
     faults: &[Fault],
     object: u64,
-    first: u64,
-    count: u64,
+    reach: Reach,
     answered: bool,
 ) -> Result<(), NoMemory>
     ensures { OnOk result (unanswered.new.items ≡
         unanswered.old.items ++
-        (if answered then [] else filter_map (left_unanswered (sleeps_in object first count))
+        (if answered then [] else filter_map (left_unanswered (sleeps object reach))
         faults.now)) }
 {
     if answered {
         return Ok(());
     }
-    note_unanswered(unanswered, faults, object, first, count)
+    note_unanswered(unanswered, faults, object, reach)
 }
 
-/// Takes the faults away that sleep in a range of the object's pages.
-pub fn wake_in(faults: &mut Vec<Fault>, object: u64, first: u64, count: u64)
+/// Takes the faults away that sleep in the object's pages.
+pub fn wake_in(faults: &mut Vec<Fault>, object: u64, reach: Reach)
     ensures { faults.new.items ≡
-        filter (λ fault. not (sleeps_in object first count fault)) faults.old.items }
+        filter (λ fault. not (sleeps object reach fault)) faults.old.items }
 {
-    faults.retain(|fault| !is_asleep_in(object, first, count, *fault));
+    faults.retain(|fault| !is_asleep(object, reach, *fault));
 }

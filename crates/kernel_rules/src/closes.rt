@@ -1,0 +1,220 @@
+//! close(2) of a userfault object, by the rule of `specs/Ioctls.antt`. After `NoMemory` a table is not to be used.
+
+ghost use Rattle.std.specs.Prelude.{◌≡◌, ◌==◌, filter, map, not, IfOk, OnOk};
+ghost use Rattle.kernel_rules.specs.State.{allowed};
+ghost use Rattle.kernel_rules.specs.Ioctls as ioctl;
+ghost use Rattle.kernel_rules.specs.Ioctls.{without_events};
+ghost use Rattle.kernel_rules.specs.Runs.{close_taken};
+ghost use Rattle.kernel_rules.specs.Held.{calling_of, kernel_of, AreTables};
+
+use crate::difference::Difference;
+use crate::fault::Reach;
+use crate::kernel_table::KernelTable;
+use crate::map_call::MapCall;
+use crate::object::{Object, Registration};
+use crate::page_test::PageTest;
+use mig_base::NoMemory;
+use std::alloc::Global;
+use uffd_log::{Answer, Message};
+
+/// One more than the greatest page that an address of 64 bits has.
+const PAGES: u64 = 1 << 52;
+
+/// Whether a range is the object's.
+fn is_own(name: u64, range: Registration) -> bool
+    ensures { result ≡ ioctl.is_own name range }
+{
+    range.object == name && range.first <= PAGES && range.count <= PAGES - range.first
+}
+
+/// The events that are not for the object.
+fn other_events(
+    events: &[(u64, Message)],
+    name: u64,
+    alloc: Global,
+) -> Result<Vec<(u64, Message)>, NoMemory>
+    ensures { IfOk result (λ left.
+        left.items ≡ filter (λ event. not (event.0 == name)) events.now) }
+{
+    let mut left = Vec::new(alloc);
+    for event in events {
+        if event.0 != name {
+            let Ok(()) = left.push(*event) else {
+                return Err(NoMemory);
+            };
+        }
+    }
+    Ok(left)
+}
+
+/// The names but this one.
+fn other_names(names: &[u64], name: u64, alloc: Global) -> Result<Vec<u64>, NoMemory>
+    ensures { IfOk result (λ left. left.items ≡ filter (λ other. not (other == name)) names.now) }
+{
+    let mut left = Vec::new(alloc);
+    for other in names {
+        if *other != name {
+            let Ok(()) = left.push(*other) else {
+                return Err(NoMemory);
+            };
+        }
+    }
+    Ok(left)
+}
+
+/// A map call that has nothing more to tell the object.
+fn without_events(call: &MapCall, name: u64, alloc: Global) -> Result<MapCall, NoMemory>
+    ensures { IfOk result (λ left. calling_of left ≡ without_events name (calling_of call.now)) }
+{
+    let queued = call.queued && !call.has_untold(name);
+    let events = other_events(call.unread(), name, alloc)?;
+    let tells = other_names(&call.tells, name, alloc)?;
+    Ok(MapCall {
+        key: call.key,
+        space: call.space,
+        events,
+        read: 0,
+        queued,
+        untold: call.untold,
+        clears: call.clears,
+        tells,
+    })
+}
+
+/// The map calls, which have nothing more to tell the object.
+fn without_object(calls: &[MapCall], name: u64, alloc: Global) -> Result<Vec<MapCall>, NoMemory>
+    ensures { IfOk result (λ left. map calling_of left.items ≡
+        map (without_events name) (map calling_of calls.now)) }
+{
+    let mut left = Vec::new(alloc);
+    for call in calls {
+        let Ok(()) = left.push(without_events(call, name, alloc)?) else {
+            return Err(NoMemory);
+        };
+    }
+    Ok(left)
+}
+
+impl KernelTable {
+    /// The ranges that were registered.
+    #[tactic(auto, unfolding(crate::specs::Held::kernel_of))]
+    fn ranges(&self) -> &[Registration]
+        ensures { result.now ≡ (kernel_of self.now).ranges }
+    {
+        &self.ranges
+    }
+
+    /// Whether a page of a range is registered with the object, if the range is one of its own.
+    fn is_watched_in(&self, name: u64, object: Object, range: Registration) -> bool
+        requires { AreTables self.now }
+        ensures { result ≡ ioctl.is_watched_in (kernel_of self.now) name object range }
+    {
+        is_own(name, range)
+            && self.some_page(object.space, range.first, range.count, PageTest::Of(name))
+    }
+
+    /// Whether a page is registered with the object.
+    fn is_watching(&self, name: u64, object: Object) -> bool
+        requires { AreTables self.now }
+        ensures { result ≡ ioctl.is_watching (kernel_of self.now) name object }
+    {
+        for range in self.ranges() {
+            if self.is_watched_in(name, object, *range) {
+                return true;
+            }
+        }
+        false
+    }
+
+    /// A range is no longer registered with the object, if it is one of its own.
+    fn end_range(
+        &mut self,
+        name: u64,
+        object: Object,
+        range: Registration,
+    ) -> Result<(), NoMemory>
+        requires { AreTables self.old }
+        ensures tables { AreTables self.new }
+        ensures ended { OnOk result (kernel_of self.new ≡
+            ioctl.end_range (kernel_of self.old) name object range) }
+    {
+        if !is_own(name, range) {
+            return Ok(());
+        }
+        self.unregister_in(name, object, range.first, range.count)
+    }
+
+    /// No range of these is registered with the object.
+    fn end_ranges(
+        &mut self,
+        name: u64,
+        object: Object,
+        ranges: &[Registration],
+    ) -> Result<(), NoMemory>
+        requires { AreTables self.old }
+        ensures tables { AreTables self.new }
+        ensures ended { OnOk result (kernel_of self.new ≡
+            ioctl.end_ranges (kernel_of self.old) name object ranges.now) }
+    {
+        for range in ranges {
+            self.end_range(name, object, *range)?;
+        }
+        Ok(())
+    }
+
+    /// An object is gone: a map call has nothing more to tell it.
+    #[tactic(auto, unfolding(crate::specs::Held::kernel_of))]
+    fn drop_object(&mut self, name: u64) -> Result<(), NoMemory>
+        requires { AreTables self.old }
+        ensures tables { AreTables self.new }
+        ensures gone { OnOk result (kernel_of self.new ≡
+            ioctl.without_object_of (kernel_of self.old) name) }
+    {
+        self.calls = without_object(&self.calls, name, *self.faults.allocator())?;
+        self.objects.swap_remove(&name);
+        Ok(())
+    }
+
+    /// The last descriptor of an object is closed.
+    fn close(&mut self, name: u64, object: Object) -> Result<(), NoMemory>
+        requires { AreTables self.old }
+        ensures tables { AreTables self.new }
+        ensures closed { OnOk result (kernel_of self.new ≡
+            ioctl.closed (kernel_of self.old) name object) }
+    {
+        let Ok(ranges) = Vec::from_slice(*self.faults.allocator(), self.ranges()) else {
+            return Err(NoMemory);
+        };
+        let watching = self.is_watching(name, object);
+        self.note_if(watching, Difference::Close)?;
+        self.end_ranges(name, object, &ranges)?;
+        self.drop_object(name)?;
+        self.wake(name, Reach::Everywhere, false)
+    }
+
+    /// close(2) of a descriptor: it ends the object if it was its `last`.
+    pub fn closes(
+        &mut self,
+        name: u64,
+        object: Object,
+        last: bool,
+        answer: Answer,
+    ) -> Result<bool, NoMemory>
+        requires { AreTables self.old }
+        ensures tables { AreTables self.new }
+        ensures step { IfOk result (λ made.
+            close_taken (kernel_of self.old) name object last answer ≡
+            allowed made (kernel_of self.new)) }
+    {
+        match answer {
+            Answer::Done => {
+                if last {
+                    self.close(name, object)?;
+                }
+                Ok(true)
+            }
+            Answer::Failed { .. } => Ok(true),
+            _ => Ok(false),
+        }
+    }
+}
