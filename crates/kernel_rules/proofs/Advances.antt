@@ -1,6 +1,6 @@
 -- Steps of a run, and the tables that they lead to.
-use Rattle.std.proofs.Common.{◌≡◌, ◌∙◌, ℕ, zero, suc, ◌+◌, ◌≤◌, Bool, true, false, List, [], ◌∷◌, ◌++◌, Option, Some, None, Result, Ok, Err, refl, sym, ap, subst, length, take}
-use Rattle.std.specs.Prelude.{◌==◌, if◌then◌else◌, not, filter, filter_map, map, option_map, option_to_list, slice_get, IfOk}
+use Rattle.std.proofs.Common.{◌≡◌, ◌∙◌, ℕ, zero, suc, ◌+◌, ◌≤◌, Bool, true, false, List, [], ◌∷◌, ◌++◌, Option, Some, None, Result, Ok, Err, refl, sym, ap, subst, length, take, get_or, arith, ◌<◌}
+use Rattle.std.specs.Prelude.{is_some, ◌==◌, if◌then◌else◌, not, filter, filter_map, map, option_map, option_to_list, slice_get, IfOk}
 use Rattle.std.specs.Bool.{OnTrue}
 use Rattle.std.proofs.lemmas.Bool.{eqb-true}
 use Rattle.std.proofs.lemmas.List.{append-nil, map-append}
@@ -73,7 +73,8 @@ found_in log (one ∷ calls) key =
 without_in : (log : List Entry) (calls : List BegunCall) (key : ℕ) → without_begun (map (begun_in log) calls) key ≡ map (begun_in log) (filter (λ (one : BegunCall). not (one.made.key == key)) calls)
 without_in log [] key = refl
 without_in log (one ∷ calls) key =
-    elim (one.made.key == key) as (λ b. filter (λ (x : Begun). not b) (begun_in log one ∷ []) ++ without_begun (map (begun_in log) calls) key ≡ map (begun_in log) (filter (λ (x : BegunCall). not b) (one ∷ []) ++ filter (λ (x : BegunCall). not (x.made.key == key)) calls)) [
+    elim (one.made.key == key) as (λ b. (if not b then begun_in log one ∷ without_begun (map (begun_in log) calls) key else without_begun (map (begun_in log) calls) key)
+      ≡ map (begun_in log) (if not b then one ∷ filter (λ (x : BegunCall). not (x.made.key == key)) calls else filter (λ (x : BegunCall). not (x.made.key == key)) calls)) [
       | true ↦ without_in log calls key
       | false ↦ ap (λ xs. begun_in log one ∷ xs) (without_in log calls key)
     ]
@@ -125,3 +126,13 @@ end_step log old new key one ending found here ended may kernel begun next = (
   ),
   rw (next, add-one) (taken_more log old.next (entry.Ends key ending) here),
 )
+
+-- the entry at a place of a log
+pub entry_at : (log : List Entry) (n : ℕ) (x : Entry) → n < length log → x ≡ get_or log n x → slice_get log n ≡ Some x
+entry_at [] n x within is = absurd (omega arith)
+entry_at (y ∷ log) zero x within is = ap (λ (e : Entry). Some e) (sym is)
+entry_at (y ∷ log) (suc n) x within is = entry_at log n x (omega arith) is
+
+-- a call that is not found has not begun
+pub not_found : (calls : List BegunCall) (key : ℕ) → is_some (find_of calls key) ≡ false → find_of calls key ≡ None
+not_found calls key h = elim (find_of calls key) as (λ o. is_some o ≡ false → o ≡ None) [ Some one ↦ λ e. cc | None ↦ λ e. refl ] h

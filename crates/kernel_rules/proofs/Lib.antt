@@ -1,4 +1,5 @@
 pub mod Advances
+pub mod Calls
 pub mod Layers
 pub mod Spaces
 pub mod Steps

@@ -9,6 +9,7 @@ use Rattle.uffd_log.specs.declared.line.Answer.{Answer}
 use Rattle.uffd_log.specs.declared.line.Answer.TheVariants.{Done, Failed, Interrupted}
 use Rattle.kernel_rules.specs.declared.difference.Difference.{Difference}
 use Rattle.kernel_rules.specs.declared.object.Object.{Object}
+use Rattle.kernel_rules.specs.declared.object.Registration.{Registration}
 use Rattle.kernel_rules.specs.declared.run.Ending.{Ending}
 use Rattle.kernel_rules.specs.declared.run.Entry.{Entry}
 use Rattle.kernel_rules.specs.declared.run.Entry.TheVariants as entry
@@ -16,7 +17,7 @@ use Rattle.kernel_rules.specs.declared.run.Made.{Made}
 use Rattle.kernel_rules.specs.declared.run.Run.{Run}
 use Rattle.kernel_rules.specs.State.{Kernel, fresh_kernel, with_object, of_object}
 use Rattle.kernel_rules.specs.Faults.{sees, queues, leaves, faults_over}
-use Rattle.kernel_rules.specs.Ioctls.{opened, shaken, registered, unregistered, waked, put_with, protected_with, scanned, closed}
+use Rattle.kernel_rules.specs.Ioctls.{end_range, opened, shaken, registered, unregistered, waked, put_with, protected_with, scanned, closed}
 use Rattle.kernel_rules.specs.MapCalls.{mmapped, munmapped, mremapped, madvised, tells, clears, may_return, returned}
 use Rattle.kernel_rules.specs.Reads.{read, polled}
 
@@ -173,10 +174,20 @@ IsClean log differs = (steps : List Step) × (last : World) × IsRun log steps l
 
 -- Findings of a run: what the last kernel has
 
+-- the kernel once a range of an object that is open is no longer registered
+abbrev pub end_of : Kernel → Option Object → Registration → Kernel
+end_of kernel None range = kernel
+end_of kernel (Some object) range = end_range kernel range.object object range
+
+-- the kernel once none of these ranges is registered
+abbrev pub end_all : Kernel → List Registration → Kernel
+end_all kernel [] = kernel
+end_all kernel (range ∷ ranges) = end_all (end_of kernel (kernel.objects range.object) range) ranges
+
+-- the kernel at the end of a log: what is registered then is judged as it is, and who sleeps then was not answered
+abbrev pub finished : Kernel → Kernel
+finished kernel = faults_over (end_all kernel kernel.ranges) (λ fault. true) false
+
 -- a page is owed: it was missing when its registration ended, or is at the end of the log
 abbrev pub IsOwed : Kernel → ℕ → ℕ → Type 0
-IsOwed kernel space page = Contains kernel.owed (space, page)
-
--- the reads whose fault nobody has answered, also those of threads that sleep at the end of the log
-abbrev pub unanswered_at_end : Kernel → List ℕ
-unanswered_at_end kernel = (faults_over kernel (λ fault. true) false).unanswered
+IsOwed kernel space page = Contains (finished kernel).owed (space, page)

@@ -1,11 +1,12 @@
 //! A run of a log: the lines of the log in their order, with steps put in between, each of which the rules of a kernel allow.
 
-ghost use Rattle.std.specs.Prelude.{◌≡◌, ◌==◌, List, map, filter, not, slice_get, Some, IfOk, IfSome};
+ghost use Rattle.std.specs.Prelude.{◌≡◌, ◌==◌, ◌<◌, ◌&&◌, ◌++◌, ◌∷◌, [], List, length, map, filter, not, is_some, slice_index_or, IfOk, IfSome, OnOk};
 ghost use Rattle.std.specs.Bool.{OnTrue};
 ghost use Rattle.kernel_rules.specs.Certified.{find_of, is_ended_by, IsAdvance, IsCertified, IsReached, world_of};
 ghost use Rattle.kernel_rules.specs.Runs.{event_of, fresh_world, IsClean};
 ghost use Rattle.kernel_rules.specs.declared.run.Entry.{Entry};
-ghost use Rattle.kernel_rules.specs.Held.{AreTables};
+ghost use Rattle.kernel_rules.specs.MapCalls as maps;
+ghost use Rattle.kernel_rules.specs.Held.{kernel_of, AreTables};
 
 use crate::kernel_table::KernelTable;
 use crate::run::{Ending, Entry, Made, Move};
@@ -73,28 +74,57 @@ impl WorldTable {
         }
     }
 
+    /// Whether a call has begun and not ended.
+    fn has_begun(&self, key: u64) -> bool
+        ensures { result ≡ is_some (find_of self.now.begun.items key) }
+    {
+        find_begun(&self.begun, key).is_some()
+    }
+
+    /// Adds a call that has begun, with the entry of its ending once it has taken effect.
+    fn add_begun(&mut self, made: Made, at: Option<usize>) -> Result<(), NoMemory>
+        ensures added { OnOk result (self.new.begun.items ≡
+            self.old.begun.items ++ record { made = made; at = at } ∷ []) }
+        ensures same { self.new ≡ record self.old { begun = self.new.begun } }
+    {
+        match self.begun.push(BegunCall { made, at }) {
+            Ok(()) => Ok(()),
+            Err(_) => Err(NoMemory),
+        }
+    }
+
     /// A call begins.
     fn begin(&mut self, log: &[Entry], made: Made) -> Result<bool, NoMemory>
         requires tables { AreTables self.old.kernel }
-        requires here { slice_get log.now self.old.next ≡ Some (Entry.Begins made) }
+        requires within { self.old.next < length log.now }
+        requires here { Entry.Begins made ≡
+            slice_index_or log.now self.old.next (Entry.Begins made) }
         ensures tables { AreTables self.new.kernel }
         ensures step { IfOk result (λ ok. OnTrue ok (IsAdvance log.now self.old self.new)) }
     {
         let _len = log.len();
-        if find_begun(&self.begun, made.key).is_some() || self.next == usize::MAX {
+        if self.has_begun(made.key) {
             return Ok(false);
         }
-        let Ok(()) = self.begun.push(BegunCall { made, at: None }) else {
-            return Err(NoMemory);
-        };
+        self.add_begun(made, None)?;
         self.next += 1;
         Ok(true)
+    }
+
+    /// Whether a call may end so.
+    fn may_end(&self, one: BegunCall, key: u64, answer: Answer) -> bool
+        ensures { result ≡ (maps.may_return (kernel_of self.now.kernel) key
+            && is_ended_by one.at answer self.now.next) }
+    {
+        self.kernel.may_return(key) && fits(one, answer, self.next)
     }
 
     /// A call ends.
     fn end(&mut self, log: &[Entry], key: u64, ending: &Ending) -> bool
         requires tables { AreTables self.old.kernel }
-        requires here { slice_get log.now self.old.next ≡ Some (Entry.Ends key ending.now) }
+        requires within { self.old.next < length log.now }
+        requires here { Entry.Ends key ending.now ≡
+            slice_index_or log.now self.old.next (Entry.Ends key ending.now) }
         ensures tables { AreTables self.new.kernel }
         ensures step { OnTrue result (IsAdvance log.now self.old self.new) }
     {
@@ -102,10 +132,7 @@ impl WorldTable {
         let Some(one) = find_begun(&self.begun, key) else {
             return false;
         };
-        if !self.kernel.may_return(key)
-            || !fits(one, ending.answer, self.next)
-            || self.next == usize::MAX
-        {
+        if !self.may_end(one, key, ending.answer) {
             return false;
         }
         self.kernel.returns(key);
@@ -120,11 +147,35 @@ impl WorldTable {
         ensures tables { AreTables self.new.kernel }
         ensures step { IfOk result (λ ok. OnTrue ok (IsAdvance log.now self.old self.new)) }
     {
-        match log.get(self.next) {
-            Some(Entry::Begins(made)) => self.begin(log, *made),
-            Some(Entry::Ends { key, ending }) => Ok(self.end(log, *key, ending)),
-            None => Ok(false),
+        if self.next >= log.len() {
+            return Ok(false);
         }
+        match &log[self.next] {
+            Entry::Begins(made) => self.begin(log, *made),
+            Entry::Ends { key, ending } => Ok(self.end(log, *key, ending)),
+        }
+    }
+
+    /// The call of this number, if it has begun and has not taken effect.
+    fn waiting(&self, key: u64) -> Option<BegunCall>
+        ensures { IfSome result (λ one.
+            (find_of self.now.begun.items key ≡ Some one) × (one.at ≡ None)) }
+    {
+        match find_begun(&self.begun, key) {
+            Some(one) if one.at.is_none() => Some(one),
+            _ => None,
+        }
+    }
+
+    /// A call has taken effect: it stays begun, with its entry.
+    fn note_effect(&mut self, key: u64, made: Made, at: usize) -> Result<(), NoMemory>
+        ensures noted { OnOk result (self.new.begun.items ≡
+            filter (λ one. not (one.made.key == key)) self.old.begun.items
+            ++ record { made = made; at = Some at } ∷ []) }
+        ensures same { self.new ≡ record self.old { begun = self.new.begun } }
+    {
+        remove_begun(&mut self.begun, key);
+        self.add_begun(made, Some(at))
     }
 
     /// A call takes effect with this ending.
@@ -137,22 +188,20 @@ impl WorldTable {
         ending: &Ending,
     ) -> Result<bool, NoMemory>
         requires tables { AreTables self.old.kernel }
-        requires here { slice_get log.now at ≡ Some (Entry.Ends of ending.now) }
+        requires within { at < length log.now }
+        requires here { Entry.Ends of ending.now ≡
+            slice_index_or log.now at (Entry.Ends of ending.now) }
         ensures tables { AreTables self.new.kernel }
         ensures step { IfOk result (λ ok. OnTrue ok (IsAdvance log.now self.old self.new)) }
     {
-        let Some(one) = find_begun(&self.begun, key) else {
+        let Some(one) = self.waiting(key) else {
             return Ok(false);
         };
-        if one.at.is_some() || !self.kernel.takes(one.made, ending)? {
+        if !self.kernel.takes(one.made, ending)? {
             return Ok(false);
         }
-        remove_begun(&mut self.begun, key);
-        let made = one.made;
-        match self.begun.push(BegunCall { made, at: Some(at) }) {
-            Ok(()) => Ok(true),
-            Err(_) => Err(NoMemory),
-        }
+        self.note_effect(key, one.made, at)?;
+        Ok(true)
     }
 
     /// A call takes effect, with the ending that the log has in an entry.
@@ -161,29 +210,47 @@ impl WorldTable {
         ensures tables { AreTables self.new.kernel }
         ensures step { IfOk result (λ ok. OnTrue ok (IsAdvance log.now self.old self.new)) }
     {
-        match log.get(at) {
-            Some(Entry::Ends { key: of, ending }) => self.effect_with(log, key, at, *of, ending),
-            _ => Ok(false),
+        if at >= log.len() {
+            return Ok(false);
+        }
+        match &log[at] {
+            Entry::Ends { key: of, ending } => self.effect_with(log, key, at, *of, ending),
+            Entry::Begins(_) => Ok(false),
         }
     }
 
-    /// What no line shows.
-    fn hidden(&mut self, log: &[Entry], step: Move) -> Result<bool, NoMemory>
+    /// A thread finds that it has to wait at a page.
+    fn thread_sees(
+        &mut self,
+        log: &[Entry],
+        thread: u64,
+        object: u64,
+        page: u64,
+        flags: u64,
+    ) -> Result<bool, NoMemory>
         requires { AreTables self.old.kernel }
         ensures tables { AreTables self.new.kernel }
         ensures step { IfOk result (λ ok. OnTrue ok (IsAdvance log.now self.old self.new)) }
     {
-        match step {
-            Move::Sees {
-                thread,
-                object,
-                page,
-                flags,
-            } => self.kernel.sees(thread, object, page, flags),
-            Move::Queues { thread } => self.kernel.queues(thread),
-            Move::Leaves { thread } => self.kernel.leaves(thread),
-            _ => Ok(false),
-        }
+        self.kernel.sees(thread, object, page, flags)
+    }
+
+    /// A thread queues its fault.
+    fn thread_queues(&mut self, log: &[Entry], thread: u64) -> Result<bool, NoMemory>
+        requires { AreTables self.old.kernel }
+        ensures tables { AreTables self.new.kernel }
+        ensures step { IfOk result (λ ok. OnTrue ok (IsAdvance log.now self.old self.new)) }
+    {
+        self.kernel.queues(thread)
+    }
+
+    /// A thread leaves its fault.
+    fn thread_leaves(&mut self, log: &[Entry], thread: u64) -> Result<bool, NoMemory>
+        requires { AreTables self.old.kernel }
+        ensures tables { AreTables self.new.kernel }
+        ensures step { IfOk result (λ ok. OnTrue ok (IsAdvance log.now self.old self.new)) }
+    {
+        self.kernel.leaves(thread)
     }
 
     /// A step of a run. False where no rule allows it. After `NoMemory`, or then, a table is not to be used.
@@ -195,7 +262,15 @@ impl WorldTable {
         match step {
             Move::Line => self.line(log),
             Move::Effect { key, at } => self.effect(log, key, at),
-            _ => self.hidden(log, step),
+            Move::Sees {
+                thread,
+                object,
+                page,
+                flags,
+            } => self.thread_sees(log, thread, object, page, flags),
+            Move::Queues { thread } => self.thread_queues(log, thread),
+            Move::Leaves { thread } => self.thread_leaves(log, thread),
+            Move::Tells { .. } | Move::Clears { .. } => Ok(false),
         }
     }
 

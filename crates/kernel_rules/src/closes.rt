@@ -1,14 +1,15 @@
 //! close(2) of a userfault object, by the rule of `specs/Ioctls.antt`. After `NoMemory` a table is not to be used.
 
-ghost use Rattle.std.specs.Prelude.{◌≡◌, ◌==◌, filter, map, not, IfOk, OnOk};
+ghost use Rattle.std.specs.Prelude.{◌≡◌, ◌==◌, filter, map, not, true, false, IfOk, OnOk};
 ghost use Rattle.kernel_rules.specs.State.{allowed};
+ghost use Rattle.kernel_rules.specs.Faults.{faults_over};
 ghost use Rattle.kernel_rules.specs.Ioctls as ioctl;
 ghost use Rattle.kernel_rules.specs.Ioctls.{without_events};
-ghost use Rattle.kernel_rules.specs.Runs.{close_taken};
+ghost use Rattle.kernel_rules.specs.Runs.{close_taken, end_all, finished};
 ghost use Rattle.kernel_rules.specs.Held.{calling_of, kernel_of, AreTables};
 
 use crate::difference::Difference;
-use crate::fault::Reach;
+use crate::fault::{Reach, note_all, remove_all};
 use crate::kernel_table::KernelTable;
 use crate::map_call::MapCall;
 use crate::object::{Object, Registration};
@@ -216,5 +217,47 @@ impl KernelTable {
             Answer::Failed { .. } => Ok(true),
             _ => Ok(false),
         }
+    }
+
+    /// No range of these is registered with an object that is open.
+    fn end_all(&mut self, ranges: &[Registration]) -> Result<(), NoMemory>
+        requires { AreTables self.old }
+        ensures tables { AreTables self.new }
+        ensures ended { OnOk result (kernel_of self.new ≡
+            end_all (kernel_of self.old) ranges.now) }
+    {
+        for range in ranges {
+            if let Some(object) = self.object(range.object) {
+                self.end_range(range.object, object, *range)?;
+            }
+        }
+        Ok(())
+    }
+
+    /// No thread waits any more, and nobody has answered those that did.
+    #[tactic(auto, unfolding(crate::specs::Held::kernel_of))]
+    fn end_all_faults(&mut self) -> Result<(), NoMemory>
+        requires { AreTables self.old }
+        ensures tables { AreTables self.new }
+        ensures over { OnOk result (kernel_of self.new ≡
+            faults_over (kernel_of self.old) (λ fault. true) false) }
+    {
+        note_all(&mut self.unanswered, &self.faults)?;
+        remove_all(&mut self.faults);
+        Ok(())
+    }
+
+    /// The log ends: the pages that are registered and missing then are owed, and the threads that sleep then were not answered. After
+    /// `NoMemory` the table is not to be used.
+    pub fn finish(&mut self) -> Result<(), NoMemory>
+        requires { AreTables self.old }
+        ensures tables { AreTables self.new }
+        ensures finished { OnOk result (kernel_of self.new ≡ finished (kernel_of self.old)) }
+    {
+        let Ok(ranges) = Vec::from_slice(*self.faults.allocator(), self.ranges()) else {
+            return Err(NoMemory);
+        };
+        self.end_all(&ranges)?;
+        self.end_all_faults()
     }
 }

@@ -1,6 +1,6 @@
 //! The threads that wait at a page, which no line of a log shows.
 
-ghost use Rattle.std.specs.Prelude.{◌≡◌, ◌++◌, [], OnOk, filter, filter_map, if◌then◌else◌, not};
+ghost use Rattle.std.specs.Prelude.{◌≡◌, ◌++◌, [], OnOk, filter, filter_map, if◌then◌else◌, not, true};
 ghost use Rattle.std.specs.List.{list_any};
 ghost use Rattle.kernel_rules.specs.Pages.{is_of_protection};
 ghost use Rattle.kernel_rules.specs.Faults.{is_seen, stops_at, fault_of, faults_without, is_twin, sleeps, is_unread_in, is_of_thread, left_unanswered};
@@ -202,4 +202,26 @@ pub fn wake_in(faults: &mut Vec<Fault>, object: u64, reach: Reach)
         filter (λ fault. not (sleeps object reach fault)) faults.old.items }
 {
     faults.retain(|fault| !is_asleep(object, reach, *fault));
+}
+
+/// Adds the reads of all faults that are to be answered. After `NoMemory` some are added.
+pub fn note_all(unanswered: &mut Vec<u64>, faults: &[Fault]) -> Result<(), NoMemory>
+    ensures { OnOk result (unanswered.new.items ≡
+        unanswered.old.items ++ filter_map (left_unanswered (λ fault. true)) faults.now) }
+{
+    for fault in faults {
+        if let Some(read) = fault.read_by {
+            let Ok(()) = unanswered.push(read) else {
+                return Err(NoMemory);
+            };
+        }
+    }
+    Ok(())
+}
+
+/// Takes all faults away.
+pub fn remove_all(faults: &mut Vec<Fault>)
+    ensures { faults.new.items ≡ filter (λ fault. not true) faults.old.items }
+{
+    faults.retain(|_fault| false);
 }

@@ -1,7 +1,7 @@
 //! The calls of a userfault object, by the rules of `specs/Ioctls.antt`. Each says whether a kernel may answer so, and then takes the step.
 //! After `NoMemory` a table is not to be used.
 
-ghost use Rattle.std.specs.Prelude.{◌≡◌, ◌==◌, ◌≤◌, ◌+◌, ◌/◌, ◌^◌, ◌&&◌, ◌++◌, ◌∷◌, [], not, Some, IfOk, OnOk};
+ghost use Rattle.std.specs.Prelude.{◌≡◌, ◌==◌, ◌≤◌, ◌+◌, ◌/◌, ◌^◌, ◌&&◌, ◌++◌, ◌∷◌, [], if◌then◌else◌, not, Some, IfOk, OnOk};
 ghost use Rattle.std.specs.Bool.{OnFalse};
 ghost use Rattle.mig_base.specs.declared.TheConstants.{PAGE_SIZE};
 ghost use Rattle.kernel_rules.specs.State.{allowed, some_page, with_object};
@@ -221,6 +221,21 @@ impl KernelTable {
         }
     }
 
+    /// Notes a page, if it is owed.
+    fn note_page(&mut self, name: u64, object: Object, page: u64) -> Result<(), NoMemory>
+        requires { AreTables self.old }
+        ensures tables { AreTables self.new }
+        ensures noted { OnOk result (kernel_of self.new ≡ record (kernel_of self.old) {
+            owed = (kernel_of self.old).owed ++
+            (if page_is (is_owed name object) ((kernel_of self.old).pages object.space page)
+            then (object.space, page) ∷ [] else []) }) }
+    {
+        if !self.owes(name, object, page) {
+            return Ok(());
+        }
+        self.add_owed(object.space, page)
+    }
+
     /// Notes the pages of a range that are owed.
     fn note_owed(
         &mut self,
@@ -236,10 +251,7 @@ impl KernelTable {
             with_owed (kernel_of self.old) name object first count) }
     {
         for i in 0..count {
-            let page = first + i;
-            if self.owes(name, object, page) {
-                self.add_owed(object.space, page)?;
-            }
+            self.note_page(name, object, first + i)?;
         }
         Ok(())
     }

@@ -6,13 +6,13 @@ ghost use Rattle.uffd_log.specs.declared.call.Message.{Message};
 ghost use Rattle.mig_base.specs.Ranges.{pages_of};
 ghost use Rattle.kernel_rules.specs.State.{allowed};
 ghost use Rattle.kernel_rules.specs.MapCalls as maps;
-ghost use Rattle.kernel_rules.specs.MapCalls.{objects_in, is_told, unmap_events, with_name};
+ghost use Rattle.kernel_rules.specs.MapCalls.{objects_in, is_told, unmap_events, with_name, with_watcher};
 ghost use Rattle.kernel_rules.specs.Held.{kernel_of, AreTables};
 
 use crate::arguments::asked_for;
 use crate::change::Change;
 use crate::kernel_table::KernelTable;
-use crate::known::Presence;
+use crate::known::{Page, Presence};
 use crate::map_call::{MapCall, is_among};
 use mig_base::{NoMemory, PAGE_SIZE};
 use std::alloc::Global;
@@ -43,6 +43,16 @@ fn add_name(names: &mut Vec<u64>, name: u64) -> Result<(), NoMemory>
     match names.push(name) {
         Ok(()) => Ok(()),
         Err(_) => Err(NoMemory),
+    }
+}
+
+/// Adds the object with which a page is registered, unless it is there.
+fn add_watcher(names: &mut Vec<u64>, page: Option<Page>) -> Result<(), NoMemory>
+    ensures { OnOk result (names.new.items ≡ with_watcher names.old.items page) }
+{
+    match page {
+        Some(page) => add_name(names, page.object),
+        None => Ok(()),
     }
 }
 
@@ -110,9 +120,7 @@ impl KernelTable {
     {
         let mut names = Vec::new(alloc);
         for i in 0..count {
-            if let Some(page) = self.page(space, first + i) {
-                add_name(&mut names, page.object)?;
-            }
+            add_watcher(&mut names, self.page(space, first + i))?;
         }
         Ok(names)
     }

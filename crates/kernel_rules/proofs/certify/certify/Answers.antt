@@ -1,0 +1,4 @@
+use Rattle.kernel_rules.proofs.certify.certify.Goals as goal
+
+pub returns-clause-run : goal.returns-clause-run
+returns-clause-run c = ?
