@@ -136,3 +136,8 @@ entry_at (y ∷ log) (suc n) x within is = entry_at log n x (omega arith) is
 -- a call that is not found has not begun
 pub not_found : (calls : List BegunCall) (key : ℕ) → is_some (find_of calls key) ≡ false → find_of calls key ≡ None
 not_found calls key h = elim (find_of calls key) as (λ o. is_some o ≡ false → o ≡ None) [ Some one ↦ λ e. cc | None ↦ λ e. refl ] h
+
+-- what holds where a test is true
+pub on_true : {P : Type 0} (b : Bool) → b ≡ true → OnTrue b P → P
+on_true true is holds = holds
+on_true false is holds = cc

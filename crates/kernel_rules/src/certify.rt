@@ -197,7 +197,8 @@ impl WorldTable {
         let Some(one) = self.waiting(key) else {
             return Ok(false);
         };
-        if !self.kernel.takes(one.made, ending)? {
+        let taken = self.kernel.takes(one.made, ending)?;
+        if !taken {
             return Ok(false);
         }
         self.note_effect(key, one.made, at)?;
