@@ -1,6 +1,6 @@
 use Rattle.std.proofs.Common.{◌≡◌, ◌∙◌, refl, sym, true}
 use Rattle.std.specs.Prelude.{◌&&◌}
-use Rattle.std.proofs.Math.Bool.{and_first, and_second}
+use Rattle.mig_base.proofs.TestLemmas.{and_first, and_second}
 use Rattle.kernel_rules.specs.Certified.{is_ended_by}
 use Rattle.kernel_rules.specs.Held.{kernel_of}
 use Rattle.kernel_rules.specs.MapCalls.{may_return}
