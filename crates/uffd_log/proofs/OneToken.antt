@@ -1,5 +1,5 @@
 -- A word has one token, and so the words of a line one list of tokens.
-use Rattle.std.proofs.Common.{◌≡◌, ◌≢◌, ℕ, ◌<◌, ◌≤◌, ◌^◌, true, List, [], ◌∷◌, ◌++◌, arith, refl, ap, ◌∙◌, sym, subst, inl, inr, lit≤, Some, None, Option, suc, ◌+◌, take, drop, IfNone}
+use Rattle.std.proofs.Common.{◌≡◌, ◌≢◌, ℕ, ◌<◌, ◌≤◌, ◌^◌, true, List, [], ◌∷◌, ◌++◌, arith, refl, ap, ◌∙◌, sym, subst, inl, inr, lit≤, Some, None, Option, suc, ◌+◌, take, drop, IfNone, IfSome}
 use Rattle.std.proofs.lemmas.Bool.Decides.{nat_tests}
 use Rattle.std.specs.Char.{digit_value}
 use Rattle.std.specs.Str.Parse.{AllDigits, digits_value}
@@ -12,7 +12,7 @@ use Rattle.uffd_log.specs.declared.line.Line.{Line}
 use Rattle.uffd_log.specs.Lines.{line_from, Spells}
 use Rattle.uffd_log.proofs.Bytes.{found_before}
 use Rattle.uffd_log.proofs.Words.{cut_at}
-use Rattle.uffd_log.specs.Words.{words_of, HasNone, Digits, IsNumber, IsMinus, IsDescriptor, keyword_text, IsToken, AreTokens}
+use Rattle.uffd_log.specs.Words.{words_of, HasNone, Digits, is_plain, IsNumber, IsSpelled, IsMinus, IsDescriptor, keyword_text, IsToken, AreTokens}
 use Rattle.uffd_log.proofs.Keywords.{is_fine, keyword_fine, one_keyword}
 
 behind_digits : (b : ℕ) → 58 ≤ b → digit_value b < 10 → ⊥
@@ -36,6 +36,15 @@ one_number w m n p q = elim p.1 [
     | inr b ↦ let e : a.0 ≡ b.0 = tail_is a.0 b.0 (sym a.1 ∙ b.1) in sym a.2.value ∙ ap (digits_value 16) e ∙ b.2.value
   ]
 ]
+
+-- a number that is spelled plainly, and one that is not spelled
+pub plain_found : (w : List ℕ) (r : Option ℕ) → is_plain w ≡ true → IfSome r (λ n. IsSpelled w n) → IfSome r (λ n. IsNumber w n)
+plain_found w None plain h = tt
+plain_found w (Some n) plain h = (h.0, h.1, plain)
+
+pub plain_none : (w : List ℕ) (r : Option ℕ) → IfNone r ((n : ℕ) → IsSpelled w n → ⊥) → IfNone r ((n : ℕ) → IsNumber w n → ⊥)
+plain_none w None h = λ n is. h n (is.0, is.1)
+plain_none w (Some n) h = tt
 
 -- the first byte of a number is a digit
 digit_first : (b : ℕ) → digit_value b < 10 → (48 ≤ b) × (b < 58)
@@ -196,6 +205,20 @@ parts_at w n object fd found front back on d =
     let whole : w ≡ object ++ 58 ∷ fd = rw (front, back, one) (cut_at 58 w n found) in
     let none : HasNone 58 object = rw front (found_before 58 w n found) in
     parts_of w on object fd none whole d
+
+-- a descriptor, by the place of the first colon
+pub descriptor_at : (w : List ℕ) (n : ℕ) (object fd : List ℕ) (name number as_int : ℕ) → IsFirstByte (is_byte 58) w (Some n) → object ≡ take n w → fd ≡ drop (n + 1) w
+    → IsNumber object name → IsNumber fd number → number < 2 ^ 31 → as_int ≡ number → IsDescriptor w (record { object = name; fd = as_int })
+descriptor_at w n object fd name number as_int found front back names is small same =
+    let one : n + 1 ≡ suc n = omega arith in
+    record {
+      object = object;
+      fd = fd;
+      whole = rw (front, back, one) (cut_at 58 w n found);
+      names = names;
+      is = rw same is;
+      small = rw same small;
+    }
 
 -- a fact that follows where there is no value
 pub if_none : {A : Type 0} {P Q : Type 0} → (o : Option A) → (P → Q) → IfNone o P → IfNone o Q

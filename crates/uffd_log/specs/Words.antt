@@ -1,6 +1,6 @@
 -- The words of a line, and the tokens for which they stand.
-use Rattle.std.specs.Prelude.{◌≡◌, ◌≢◌, ℕ, ◌<◌, ◌≤◌, ◌^◌, ◌⊎◌, List, [], ◌∷◌, ◌++◌, length, ◌==◌, codes}
-use Rattle.std.specs.List.{slice_split, AllByRecursion}
+use Rattle.std.specs.Prelude.{◌≡◌, ◌≢◌, ℕ, ◌<◌, ◌≤◌, ◌^◌, ◌⊎◌, Bool, true, ◌&&◌, ◌||◌, not, nat_le, nat_lt, if◌then◌else◌, List, [], ◌∷◌, ◌++◌, drop, length, slice_index, ◌==◌, codes}
+use Rattle.std.specs.List.{list_any, slice_split, AllByRecursion}
 use Rattle.std.specs.Str.Parse.{AllDigits, digits_value}
 use Rattle.uffd_log.specs.declared.call.Descriptor.{Descriptor}
 use Rattle.uffd_log.specs.declared.keyword.Keyword.{Keyword}
@@ -24,8 +24,33 @@ pub record Digits (radix most : ℕ) (text : List ℕ) (n : ℕ) : Type 0 where
   pub value : digits_value radix text ≡ n
 
 -- a number below 2^64: 1 to 20 decimal digits, or 0x and 1 to 16 hexadecimal digits
+abbrev pub IsSpelled : List ℕ → ℕ → Type 0
+IsSpelled word n = (n < 2 ^ 64) × (Digits 10 20 word n ⊎ ((text : List ℕ) × (word ≡ 48 ∷ 120 ∷ text) × Digits 16 16 text n))
+
+-- the word begins with 0x
+abbrev pub is_hexadecimal : List ℕ → Bool
+is_hexadecimal word = nat_lt 1 (length word) && slice_index word 0 == 48 && slice_index word 1 == 120
+
+-- the digits of a number, without 0x
+abbrev pub digits_of : List ℕ → List ℕ
+digits_of word = if is_hexadecimal word then drop 2 word else word
+
+-- the first of several digits is zero
+abbrev pub has_leading_zero : List ℕ → Bool
+has_leading_zero text = nat_lt 1 (length text) && slice_index text 0 == 48
+
+-- the byte is a capital letter
+abbrev pub is_capital : ℕ → Bool
+is_capital byte = nat_le 65 byte && nat_le byte 90
+
+-- a number is written without leading zeros, and in small letters
+abbrev pub is_plain : List ℕ → Bool
+is_plain word = not (has_leading_zero (digits_of word)) && not (list_any is_capital word)
+
+-- a number as a log has it
 abbrev pub IsNumber : List ℕ → ℕ → Type 0
-IsNumber word n = (n < 2 ^ 64) × (Digits 10 20 word n ⊎ ((text : List ℕ) × (word ≡ 48 ∷ 120 ∷ text) × Digits 16 16 text n))
+IsNumber word n =
+    (n < 2 ^ 64) × (Digits 10 20 word n ⊎ ((text : List ℕ) × (word ≡ 48 ∷ 120 ∷ text) × Digits 16 16 text n)) × (is_plain word ≡ true)
 
 -- a minus sign and a number
 abbrev pub IsMinus : List ℕ → ℕ → Type 0
@@ -102,18 +127,26 @@ pub record IsOther (word : List ℕ) : Type 0 where
   pub descriptor : (on : Descriptor) → IsDescriptor word on → ⊥
   pub keyword : (keyword : Keyword) → word ≡ keyword_text keyword → ⊥
 
--- the word begins with E
-abbrev pub BeginsWithE : List ℕ → Type 0
-BeginsWithE word = (rest : List ℕ) × (word ≡ 69 ∷ rest)
+-- the byte is neither a capital letter nor a decimal digit
+abbrev pub is_foreign : ℕ → Bool
+is_foreign byte = not (is_capital byte || nat_le 48 byte && nat_le byte 57)
 
--- the word is one for the token. The name of an error without a keyword begins with E
+-- whether a word is the name of an error: E, and then capital letters and digits
+abbrev pub is_error_name : List ℕ → Bool
+is_error_name word = nat_lt 1 (length word) && slice_index word 0 == 69 && not (list_any is_foreign word)
+
+-- the word is the name of an error
+abbrev pub IsErrorName : List ℕ → Type 0
+IsErrorName word = is_error_name word ≡ true
+
+-- the word is one for the token. An error without a keyword has the token of its name
 abbrev pub IsToken : Token → List ℕ → Type 0
 IsToken (Key keyword) word = word ≡ keyword_text keyword
 IsToken (Number n) word = IsNumber word n
 IsToken (Minus n) word = IsMinus word n
 IsToken (On on) word = IsDescriptor word on
-IsToken Error word = IsOther word × BeginsWithE word
-IsToken Text word = IsOther word × ¬ BeginsWithE word
+IsToken Error word = IsOther word × IsErrorName word
+IsToken Text word = IsOther word × ¬ IsErrorName word
 
 -- each word is one for the token in its place
 abbrev pub AreTokens : List Token → List (List ℕ) → Type 0

@@ -6,7 +6,8 @@ ghost use Rattle.std.specs.Option.{SomeIff};
 ghost use Rattle.std.specs.Str.Parse.{AllDigits, digits_value};
 ghost use Rattle.uffd_log.specs.declared.token.Token.{Token as TokenOf};
 ghost use Rattle.uffd_log.specs.declared.call.Descriptor.{Descriptor as DescriptorOf};
-ghost use Rattle.uffd_log.specs.Words.{words_of, IsNumber, IsMinus, IsDescriptor, IsToken, AreTokens};
+ghost use Rattle.std.specs.List.{list_any};
+ghost use Rattle.uffd_log.specs.Words.{digits_of, has_leading_zero, is_capital, is_error_name, is_foreign, is_plain, words_of, IsNumber, IsSpelled, IsMinus, IsDescriptor, IsToken, AreTokens};
 
 use crate::call::Descriptor;
 use crate::keyword::Keyword;
@@ -21,7 +22,7 @@ pub enum Token {
     /// A minus sign, and a number.
     Minus(u64),
     On(Descriptor),
-    /// The name of an error without a keyword: a word that begins with E.
+    /// The name of an error without a keyword: E, and then capital letters and digits.
     Error,
     /// Any other word.
     Text,
@@ -53,10 +54,10 @@ fn digits(text: &[u8], radix: u32) -> Option<u64>
     Some(value)
 }
 
-/// The number that a word spells.
-fn number(word: &[u8]) -> Option<u64>
-    ensures found { IfSome result (λ n. IsNumber word.now n) }
-    ensures none { IfNone result ((n : ℕ) → IsNumber word.now n → ⊥) }
+/// The number that a word spells, in any way.
+fn spelled(word: &[u8]) -> Option<u64>
+    ensures found { IfSome result (λ n. IsSpelled word.now n) }
+    ensures none { IfNone result ((n : ℕ) → IsSpelled word.now n → ⊥) }
 {
     match word {
         [b'0', b'x', text @ ..] if !text.is_empty() && text.len() <= 16 => digits(text, 16),
@@ -64,6 +65,87 @@ fn number(word: &[u8]) -> Option<u64>
         _ if word.is_empty() || word.len() > 20 => None,
         _ => digits(word, 10),
     }
+}
+
+/// The digits of a number, without 0x.
+fn digits_of(word: &[u8]) -> &[u8]
+    ensures { result.now ≡ digits_of word.now }
+{
+    if word.len() > 1 && word[0] == b'0' && word[1] == b'x' {
+        &word[2..]
+    } else {
+        word
+    }
+}
+
+/// Whether the first of several digits is zero.
+fn has_leading_zero(text: &[u8]) -> bool
+    ensures { result ≡ has_leading_zero text.now }
+{
+    text.len() > 1 && text[0] == b'0'
+}
+
+/// Whether a byte is a capital letter.
+fn is_capital(byte: u8) -> bool
+    ensures { result ≡ is_capital byte }
+{
+    b'A' <= byte && byte <= b'Z'
+}
+
+/// Whether a byte of a word is a capital letter.
+fn has_capital(word: &[u8]) -> bool
+    ensures { result ≡ list_any is_capital word.now }
+{
+    for byte in word {
+        if is_capital(*byte) {
+            return true;
+        }
+    }
+    false
+}
+
+/// Whether a number is written without leading zeros, and in small letters.
+fn is_plain(word: &[u8]) -> bool
+    ensures { result ≡ is_plain word.now }
+{
+    !has_leading_zero(digits_of(word)) && !has_capital(word)
+}
+
+/// The number that a word is.
+fn number(word: &[u8]) -> Option<u64>
+    ensures found { IfSome result (λ n. IsNumber word.now n) }
+    ensures none { IfNone result ((n : ℕ) → IsNumber word.now n → ⊥) }
+{
+    if !is_plain(word) {
+        return None;
+    }
+    spelled(word)
+}
+
+/// Whether a byte is neither a capital letter nor a decimal digit.
+fn is_foreign(byte: u8) -> bool
+    ensures { result ≡ is_foreign byte }
+{
+    !(is_capital(byte) || b'0' <= byte && byte <= b'9')
+}
+
+/// Whether a word has a byte that no name of an error has.
+fn has_foreign(word: &[u8]) -> bool
+    ensures { result ≡ list_any is_foreign word.now }
+{
+    for byte in word {
+        if is_foreign(*byte) {
+            return true;
+        }
+    }
+    false
+}
+
+/// Whether a word is the name of an error.
+fn is_error_name(word: &[u8]) -> bool
+    ensures { result ≡ is_error_name word.now }
+{
+    word.len() > 1 && word[0] == b'E' && !has_foreign(word)
 }
 
 /// The number after a minus sign.
@@ -115,10 +197,10 @@ fn token_of(word: &[u8]) -> Option<Token>
     if let Some(keyword) = Keyword::from_text(word) {
         return Some(Token::Key(keyword));
     }
-    match word {
-        [b'E', ..] => Some(Token::Error),
-        _ => Some(Token::Text),
+    if is_error_name(word) {
+        return Some(Token::Error);
     }
+    Some(Token::Text)
 }
 
 /// Replaces the tokens by those of the words of a text. Stops with false at an empty word, and with `NoMemory` if room is refused; the

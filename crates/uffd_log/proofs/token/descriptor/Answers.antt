@@ -1,6 +1,6 @@
 use Rattle.std.proofs.Common.{arith}
 use Rattle.uffd_log.proofs.Bytes.{none_found}
-use Rattle.uffd_log.proofs.OneToken.{no_descriptor, parts_at, one_number}
+use Rattle.uffd_log.proofs.OneToken.{no_descriptor, descriptor_at, parts_at, one_number}
 use Rattle.uffd_log.proofs.token.descriptor.Goals as goal
 
 pub returns-in_err-at-clause-none : goal.returns-in_err-at-clause-none
@@ -21,3 +21,8 @@ returns-clause-none c = λ on d.
     let parts = parts_at c.args.word.now c.in_ok-at.at c.around.result.0.now c.around.result.1.now c.in_ok-at.ensures c.around.ensures.front c.around.ensures.back on d in
     let same = one_number c.around.result.1.now c.in_ok-fd.fd on.fd c.in_ok-fd.ensures.found parts.0.1 in
     omega (arith, c.if-fd.false, same, parts.1)
+
+pub returns-then-fd-clause-found : goal.returns-then-fd-clause-found
+returns-then-fd-clause-found c =
+    descriptor_at c.args.word.now c.in_ok-at.at c.around.result.0.now c.around.result.1.now c.in_ok-object.object c.in_ok-fd.fd _ c.in_ok-at.ensures c.around.ensures.front c.around.ensures.back
+    c.in_ok-object.ensures.found c.in_ok-fd.ensures.found (omega (arith, c.if-fd.true)) (omega arith)
