@@ -31,6 +31,7 @@ struct options {
     bool has_urgent;
     /* of the destination */
     uint32_t after;
+    struct address monitor; /* where a monitor hands its memory over; no text: the guest runs here */
     bool checks_owed;
 };
 

@@ -143,7 +143,7 @@ static void begin(struct source *source, const struct options *options)
     source->node.is_source = true;
     source->cursor = LOW_PAGE;
     guest_open(&source->guest, &options->plan, &options->pace, kernel_map((size_t)options->plan.pages * PAGE_BYTES));
-    watch_open(&source->watch, &source->node, &source->guest);
+    watch_open(&source->watch, &source->node, &source->guest, NULL);
     guest_fill(&source->guest);
     guest_start(&source->guest);
     sleep_ms(options->before);
