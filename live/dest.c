@@ -10,6 +10,7 @@
 #include <unistd.h>
 
 #include "door.h"
+#include "feed.h"
 #include "figures.h"
 #include "handed.h"
 #include "kernel.h"
@@ -41,6 +42,7 @@ struct dest {
     bool is_first_frame; /* of this channel */
     bool has_more;       /* whole frames may be there */
     bool is_at_door;     /* somebody may be */
+    bool is_over;        /* the program that takes the part of the source has ended */
     struct samples waits;
     struct {
         uint64_t discard, package, run, end;
@@ -81,10 +83,20 @@ static void begin(struct dest *dest, const struct options *options)
     node_expect(postmig_destination_new((uint8_t)options->plan.threads, &dest->node.handle), "postmig_destination_new");
     trace_open(&dest->trace, options->trace, &dest->node);
     dest->instance = hello_new_instance();
+    look(dest);
+}
+
+/* Listens for the source, or starts the program that takes its part. */
+static void open_door(struct dest *dest, const struct options *options)
+{
+    if (options->feed) {
+        door_none(&dest->door);
+        stream_open(&dest->main, feed_start(options->feed), &(struct cut)NO_CUT);
+        return;
+    }
     door_open(&dest->door, &options->address, options->buffer);
     printf("listening port=%u\n", door_port(&dest->door));
     (void)fflush(stdout); /* who reads it may have gone */
-    look(dest);
 }
 
 /* COPIES THAT ARE KEPT: before the guest runs they go straight into its memory, which is not registered yet. Those of a monitor's memory
@@ -368,6 +380,7 @@ static void lose_channel(struct dest *dest)
     stream_close(&dest->main);
     stream_close(&dest->urgent);
     node_drop_frames(&dest->node);
+    dest->is_over = dest->options->feed;
     dest->figures.breaks += phase != POSTMIG_DESTINATION_ENDED;
     dest->figures.late_breaks += phase == POSTMIG_DESTINATION_RUNNING;
     if (phase == POSTMIG_DESTINATION_ADVISED || phase == POSTMIG_DESTINATION_DISCARDING || phase == POSTMIG_DESTINATION_RUNNING)
@@ -443,7 +456,7 @@ static struct pollfd waits_for(const struct stream *stream)
 /* Returns whether the caller has said, by the end of the standard input, that the source is gone. */
 static bool wait_for_more(struct dest *dest)
 {
-    struct pollfd files[MOST_FILES] = { { .fd = STDIN_FILENO, .events = POLLIN },
+    struct pollfd files[MOST_FILES] = { { .fd = dest->options->feed ? -1 : STDIN_FILENO, .events = POLLIN },
                                         { .fd = dest->state.has_run ? dest->watch.userfault : -1, .events = POLLIN },
                                         waits_for(&dest->main), waits_for(&dest->urgent),
                                         { .fd = dest->is_handed ? dest->handed.monitor : -1, .events = POLLIN } };
@@ -486,7 +499,7 @@ static bool turn(struct dest *dest)
         dest->has_more |= watch_put_kept(&dest->watch, KEPT_AT_A_TIME);
     trace_write(&dest->trace);
     show_progress(dest);
-    return wait_for_more(dest);
+    return dest->is_over || wait_for_more(dest);
 }
 
 /* HOW IT ENDS */
@@ -561,9 +574,12 @@ int dest_run(const struct options *options)
     static struct dest dest;
 
     begin(&dest, options);
+    open_door(&dest, options);
     while (!turn(&dest))
         continue;
     trace_close(&dest.trace);
+    if (options->feed)
+        printf("fed status=%d\n", feed_end());
     look(&dest);
     if (dest.state.phase != POSTMIG_DESTINATION_ENDED && dest.figures.end == 0)
         lose(dest.state.has_run ? "the source is gone, and %u pages with it: the guest is lost" : "the source is gone before the switch",

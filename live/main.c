@@ -36,6 +36,8 @@ static const char USAGE[] =
     "  --cut CHANNEL:DIRECTION:BYTES,..   of the next epoch, for tests: main or urgent is cut after these bytes, in, out, or out\n"
     "                    since the switch, or of a destination since the End (post); `none` leaves an epoch whole\n"
     "  --trace FILE      the node's steps, for `postmig test`\n"
+    "  --feed COMMAND    takes the part of the other side: frames go to its standard input and come from its standard output. There\n"
+    "                    is no --connect or --listen then, and no second epoch\n"
     "  --progress        a line each tenth of a second\n"
     "of the source:\n"
     "  --rounds N        of pre-copy at most (3)\n"
@@ -156,7 +158,7 @@ static void read_cuts(struct options *options, char *text)
 
 enum {
     CONNECT = 256, LISTEN, MEMORY, THREADS, SEED, COLD_STORES, GIVEN_BACK, BATCH, PAUSE, BUFFER, CUT, TRACE, PROGRESS, ROUNDS, TARGET,
-    NO_URGENT, PUSH_RATE, BEFORE, PATIENCE, AFTER, CHECK_OWED, MONITOR, HELP
+    NO_URGENT, PUSH_RATE, BEFORE, PATIENCE, AFTER, CHECK_OWED, MONITOR, FEED, HELP
 };
 
 #define SHARED_OPTIONS                                                                                                              \
@@ -172,13 +174,13 @@ static const struct option source_options[] = {
     { "connect", required_argument, NULL, CONNECT }, { "rounds", required_argument, NULL, ROUNDS },
     { "target", required_argument, NULL, TARGET }, { "no-urgent", no_argument, NULL, NO_URGENT },
     { "push-rate", required_argument, NULL, PUSH_RATE }, { "before", required_argument, NULL, BEFORE },
-    { "patience", required_argument, NULL, PATIENCE }, { NULL, 0, NULL, 0 }
+    { "patience", required_argument, NULL, PATIENCE }, { "feed", required_argument, NULL, FEED }, { NULL, 0, NULL, 0 }
 };
 
 static const struct option dest_options[] = {
     SHARED_OPTIONS,
     { "listen", required_argument, NULL, LISTEN }, { "after", required_argument, NULL, AFTER },
-    { "check-owed", no_argument, NULL, CHECK_OWED }, { NULL, 0, NULL, 0 }
+    { "check-owed", no_argument, NULL, CHECK_OWED }, { "feed", required_argument, NULL, FEED }, { NULL, 0, NULL, 0 }
 };
 
 static const struct option handler_options[] = {
@@ -230,6 +232,9 @@ static void set_option(struct options *options, int option, const char *name, ch
     case LISTEN:
         address_read(&options->address, text);
         break;
+    case FEED:
+        options->feed = text;
+        break;
     case MONITOR:
         read_unix_address(&options->monitor, text);
         break;
@@ -273,7 +278,9 @@ static void read_options(struct options *options, const struct option *known, in
     }
     if (optind < count)
         refuse("%s: what is that? `live --help` says how to use it", words[optind]);
-    if (!options->address.text && known != bare_options)
+    if (options->address.text && options->feed)
+        refuse("--feed takes no address: the command is the other side");
+    if (!options->address.text && !options->feed && known != bare_options)
         refuse("an address is needed: --%s ADDRESS", known == source_options || known == monitor_options ? "connect" : "listen");
     if (known == handler_options && !options->monitor.text)
         refuse("the place where a monitor hands over its memory is needed: --monitor unix:PATH");

@@ -26,6 +26,7 @@ struct options {
     struct cuts cut[MOST_CUTS]; /* of the first epochs */
     const char *trace;
     bool shows_progress;
+    const char *feed; /* a command that takes the part of the other side, or NULL */
     /* of the source */
     uint32_t rounds, target, push_rate, before;
     bool has_urgent;
