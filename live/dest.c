@@ -10,20 +10,26 @@
 #include <unistd.h>
 
 #include "door.h"
+#include "feed.h"
 #include "figures.h"
+#include "handed.h"
 #include "kernel.h"
 #include "watch.h"
 
 #define HEADER_BYTES 12u
 #define TAG_RESUME 7u
 #define FRAMES_AT_A_TIME 16u
-#define MOST_FILES (MOST_NEWCOMERS + 5u)
+#define KEPT_AT_A_TIME 16u
+#define MOST_FILES (MOST_NEWCOMERS + 6u)
+#define OWN_FILES 5u /* of those, what is not of the door */
 #define PATIENT_MS 10000u /* for the guest's threads to stop */
 
 struct dest {
     const struct options *options;
     struct node node;
     struct guest guest;
+    struct handed handed; /* its memory, where it is a monitor's */
+    bool is_handed;
     struct watch watch;
     struct door door;
     struct stream main, urgent;
@@ -34,6 +40,7 @@ struct dest {
     bool is_first_frame; /* of this channel */
     bool has_more;       /* whole frames may be there */
     bool is_at_door;     /* somebody may be */
+    bool is_over;        /* the program that takes the part of the source has ended */
     struct samples waits;
     struct {
         uint64_t discard, package, run, end;
@@ -64,18 +71,39 @@ static void begin(struct dest *dest, const struct options *options)
     memset(dest, 0, sizeof *dest);
     dest->options = options;
     dest->main = dest->urgent = (struct stream)NO_STREAM;
-    guest_open(&dest->guest, &options->plan, &options->pace, kernel_map((size_t)options->plan.pages * PAGE_BYTES));
-    watch_open(&dest->watch, &dest->node, &dest->guest);
+    dest->is_handed = options->monitor.text;
+    if (dest->is_handed)
+        handed_accept(&dest->handed, &options->monitor, options->plan.pages);
+    guest_open(&dest->guest, &options->plan, &options->pace,
+               dest->is_handed ? NULL : kernel_map((size_t)options->plan.pages * PAGE_BYTES));
+    watch_open(&dest->watch, &dest->node, &dest->guest, dest->is_handed ? &dest->handed : NULL);
     watch_keep_times(&dest->watch);
     node_expect(postmig_destination_new((uint8_t)options->plan.threads, &dest->node.handle), "postmig_destination_new");
     dest->instance = hello_new_instance();
-    door_open(&dest->door, &options->address, options->buffer);
-    printf("listening port=%u\n", door_port(&dest->door));
-    (void)fflush(stdout); /* who reads it may have gone */
     look(dest);
 }
 
-/* COPIES THAT ARE KEPT: before the guest runs they go straight into its memory, which is not registered yet */
+/* Listens for the source, or starts the program that takes its part. */
+static void open_door(struct dest *dest, const struct options *options)
+{
+    if (options->feed) {
+        door_none(&dest->door);
+        stream_open(&dest->main, feed_start(options->feed), &(struct cut)NO_CUT);
+        return;
+    }
+    door_open(&dest->door, &options->address, options->buffer);
+    printf("listening port=%u\n", door_port(&dest->door));
+    (void)fflush(stdout); /* who reads it may have gone */
+}
+
+/* COPIES THAT ARE KEPT: before the guest runs they go straight into its memory, which is not registered yet. Those of a monitor's memory
+   are kept apart. */
+
+static char *copy_of(const struct dest *dest, uint64_t address)
+{
+    (void)page_of(dest, address); /* it is the guest's */
+    return dest->is_handed ? dest->handed.copies + address - (uint64_t)LOW_PAGE * PAGE_BYTES : page_of(dest, address);
+}
 
 static void keep_zero(char *at)
 {
@@ -89,11 +117,13 @@ static void keep_zero(char *at)
 
 static void keep(struct dest *dest, const postmig_effect *effect, const struct frame *frame)
 {
-    uint64_t last = effect->addr + (frame->page_bytes ? frame->page_bytes - PAGE_BYTES : 0);
-    char *at = page_of(dest, effect->addr);
+    uint64_t pages = frame->page_bytes ? frame->page_bytes / PAGE_BYTES : 1, last = effect->addr + (pages - 1) * PAGE_BYTES;
+    char *at = copy_of(dest, effect->addr);
 
     (void)page_of(dest, last); /* it is the guest's */
-    dest->figures.kept += frame->page_bytes ? frame->page_bytes / PAGE_BYTES : 1;
+    dest->figures.kept += pages;
+    if (dest->is_handed)
+        handed_keep(&dest->handed, effect->addr / PAGE_BYTES - LOW_PAGE, pages);
     if (frame->page_bytes)
         memcpy(at, frame->head + frame->head_bytes, frame->page_bytes);
     else
@@ -164,7 +194,9 @@ static void discard(struct dest *dest, const struct frame *frame)
         uint64_t first = number_at(body + 4 + 8 * i), pages = number_at(body + 8 + 8 * i);
 
         (void)page_of(dest, (first + pages - 1) * PAGE_BYTES); /* it is the guest's */
-        ranges[i] = (struct kernel_range){ page_of(dest, first * PAGE_BYTES), pages * PAGE_BYTES };
+        ranges[i] = (struct kernel_range){ copy_of(dest, first * PAGE_BYTES), pages * PAGE_BYTES };
+        if (dest->is_handed)
+            handed_forget(&dest->handed, first - LOW_PAGE, pages);
     }
     kernel_give_back(ranges, count);
     free(ranges);
@@ -174,9 +206,11 @@ static void discard(struct dest *dest, const struct frame *frame)
 /* No copy is kept any more. */
 static void discard_all(struct dest *dest)
 {
-    struct kernel_range all = { dest->guest.memory, (size_t)dest->guest.plan.pages * PAGE_BYTES };
+    struct kernel_range all = { copy_of(dest, (uint64_t)LOW_PAGE * PAGE_BYTES), (size_t)dest->guest.plan.pages * PAGE_BYTES };
 
     kernel_give_back(&all, 1);
+    if (dest->is_handed)
+        handed_forget(&dest->handed, 0, dest->guest.plan.pages);
 }
 
 /* Of a Package: a count, then the first page, the number of pages and the protection of each area. This guest has one. */
@@ -188,7 +222,7 @@ static void check_areas(const struct dest *dest, const struct frame *frame)
         refuse("the source's guest has other memory: begin both with the same --memory");
 }
 
-/* The kernel has no page that is owed. */
+/* The kernel has no page that is owed, and no copy of one is kept. */
 static void check_owed(struct dest *dest)
 {
     uint32_t pages = dest->guest.plan.pages, home;
@@ -196,22 +230,30 @@ static void check_owed(struct dest *dest)
 
     if (!entries)
         refuse("no memory for the pages' entries");
-    kernel_pagemap(dest->guest.memory, pages, entries);
-    for (uint32_t i = 0; i < pages; i++)
-        if (postmig_destination_home(&dest->node.handle, LOW_PAGE + i, &home) == POSTMIG_OK && entry_is_present(entries[i]))
-            refuse("page 0x%x is owed, and the kernel has it", LOW_PAGE + i);
+    if (!dest->is_handed)
+        kernel_pagemap(dest->guest.memory, pages, entries);
+    for (uint32_t i = 0; i < pages; i++) {
+        bool is_there = dest->is_handed ? dest->handed.kept[i] != NOT_KEPT : entry_is_present(entries[i]);
+
+        if (is_there && postmig_destination_home(&dest->node.handle, LOW_PAGE + i, &home) == POSTMIG_OK)
+            refuse("page 0x%x is owed, and the destination has it", LOW_PAGE + i);
+    }
     free(entries);
 }
 
-/* The memory is registered before the first thread runs. */
+/* The memory is registered before the first thread runs: by a monitor, before it was handed over. */
 static void run_guest(struct dest *dest, const struct frame *frame)
 {
     dest->figures.package = kernel_now();
     check_areas(dest, frame);
     if (dest->options->checks_owed)
         check_owed(dest);
-    kernel_register(dest->watch.userfault, dest->guest.memory, (size_t)dest->guest.plan.pages * PAGE_BYTES, false);
-    guest_start(&dest->guest);
+    if (dest->is_handed) {
+        handed_say(&dest->handed, HANDED_RUN);
+    } else {
+        kernel_register(dest->watch.userfault, dest->guest.memory, (size_t)dest->guest.plan.pages * PAGE_BYTES, false);
+        guest_start(&dest->guest);
+    }
     dest->figures.run = kernel_now();
     dest->figures.busy = kernel_thread_time();
 }
@@ -335,6 +377,7 @@ static void lose_channel(struct dest *dest)
     stream_close(&dest->main);
     stream_close(&dest->urgent);
     node_drop_frames(&dest->node);
+    dest->is_over = dest->options->feed;
     dest->figures.breaks += phase != POSTMIG_DESTINATION_ENDED;
     dest->figures.late_breaks += phase == POSTMIG_DESTINATION_RUNNING;
     if (phase == POSTMIG_DESTINATION_ADVISED || phase == POSTMIG_DESTINATION_DISCARDING || phase == POSTMIG_DESTINATION_RUNNING)
@@ -410,16 +453,19 @@ static struct pollfd waits_for(const struct stream *stream)
 /* Returns whether the caller has said, by the end of the standard input, that the source is gone. */
 static bool wait_for_more(struct dest *dest)
 {
-    struct pollfd files[MOST_FILES] = { { .fd = STDIN_FILENO, .events = POLLIN },
+    struct pollfd files[MOST_FILES] = { { .fd = dest->options->feed ? -1 : STDIN_FILENO, .events = POLLIN },
                                         { .fd = dest->state.has_run ? dest->watch.userfault : -1, .events = POLLIN },
-                                        waits_for(&dest->main), waits_for(&dest->urgent) };
-    uint32_t count = 4 + door_files(&dest->door, files + 4);
+                                        waits_for(&dest->main), waits_for(&dest->urgent),
+                                        { .fd = dest->is_handed ? dest->handed.monitor : -1, .events = POLLIN } };
+    uint32_t count = OWN_FILES + door_files(&dest->door, files + OWN_FILES);
 
     if (poll(files, count, dest->has_more ? 0 : 100) < 0 && errno != EINTR)
         refuse_errno(errno, "poll");
     dest->has_more = false;
+    if (files[4].revents && handed_has_stopped(&dest->handed))
+        refuse("the guest has stopped, and was not asked to");
     dest->is_at_door = door_has_newcomer(&dest->door);
-    for (uint32_t i = 4; i < count; i++)
+    for (uint32_t i = OWN_FILES; i < count; i++)
         dest->is_at_door |= files[i].revents != 0;
     return files[0].revents != 0;
 }
@@ -446,11 +492,26 @@ static bool turn(struct dest *dest)
         look_at_door(dest);
     if (stream_is_open(&dest->main) && !exchange(dest))
         lose_channel(dest);
+    if (dest->state.has_run && dest->is_handed)
+        dest->has_more |= watch_put_kept(&dest->watch, KEPT_AT_A_TIME);
     show_progress(dest);
-    return wait_for_more(dest);
+    return dest->is_over || wait_for_more(dest);
 }
 
 /* HOW IT ENDS */
+
+static void ask_stop(struct dest *dest)
+{
+    if (dest->is_handed)
+        handed_say(&dest->handed, HANDED_STOP);
+    else
+        guest_ask_stop(&dest->guest);
+}
+
+static bool has_stopped(struct dest *dest)
+{
+    return dest->is_handed ? handed_has_stopped(&dest->handed) : guest_has_stopped(&dest->guest);
+}
 
 /* The guest runs on for a moment, and its threads stop: their faults are handled until they have. */
 static void stop_guest(struct dest *dest)
@@ -458,18 +519,23 @@ static void stop_guest(struct dest *dest)
     uint64_t now = kernel_now(), stop = now + dest->options->after * 1000000ull, late = stop + PATIENT_MS * 1000000ull;
     bool is_asked = false;
 
-    while (!guest_has_stopped(&dest->guest)) {
+    while (!has_stopped(dest)) {
         watch_handle(&dest->watch);
+        if (dest->is_handed)
+            (void)watch_put_kept(&dest->watch, KEPT_AT_A_TIME); /* the rest is put below */
         now = kernel_now();
         if (now > stop && !is_asked)
-            guest_ask_stop(&dest->guest);
+            ask_stop(dest);
         is_asked = now > stop;
         if (now > late)
             refuse("a thread of the guest sleeps for ever");
         (void)poll(&(struct pollfd){ .fd = dest->watch.userfault, .events = POLLIN }, 1, 1); /* a shorter wait is as good */
     }
-    guest_join(&dest->guest);
+    if (!dest->is_handed)
+        guest_join(&dest->guest);
     watch_handle(&dest->watch);
+    while (dest->is_handed && watch_put_kept(&dest->watch, KEPT_AT_A_TIME))
+        continue;
 }
 
 static void say_figures(struct dest *dest)
@@ -488,17 +554,15 @@ static void say_figures(struct dest *dest)
            dest->figures.late_breaks, dest->door.turned_away, dest->state.epoch, dest->figures.busy);
 }
 
-/* Every word of the guest's memory. */
+/* Every word of the guest's memory. A monitor checks its own, once the connection with it has ended. */
 static int verdict(struct dest *dest)
 {
-    uint64_t wrong_loads = guest_wrong_loads(&dest->guest);
-    uint32_t page = 0, wrong;
-
+    if (dest->is_handed) {
+        handed_close(&dest->handed);
+        return STATUS_OK;
+    }
     kernel_unregister(dest->watch.userfault, dest->guest.memory, (size_t)dest->guest.plan.pages * PAGE_BYTES);
-    wrong = guest_check(&dest->guest, &page);
-    printf("verdict words=%" PRIu64 " operations=%" PRIu64 " wrong_loads=%" PRIu64 " wrong_pages=%u first_wrong=0x%x\n",
-           (uint64_t)dest->guest.plan.pages * PAGE_BYTES / 8, guest_operations(&dest->guest), wrong_loads, wrong, LOW_PAGE + page);
-    return wrong || wrong_loads ? STATUS_WRONG : STATUS_OK;
+    return guest_verdict(&dest->guest);
 }
 
 int dest_run(const struct options *options)
@@ -506,8 +570,11 @@ int dest_run(const struct options *options)
     static struct dest dest;
 
     begin(&dest, options);
+    open_door(&dest, options);
     while (!turn(&dest))
         continue;
+    if (options->feed)
+        printf("fed status=%d\n", feed_end());
     look(&dest);
     if (dest.state.phase != POSTMIG_DESTINATION_ENDED && dest.figures.end == 0)
         lose(dest.state.has_run ? "the source is gone, and %u pages with it: the guest is lost" : "the source is gone before the switch",

@@ -23,13 +23,19 @@ static void remove_stale(const struct address *address)
         (void)unlink(((const struct sockaddr_un *)(const void *)&address->name)->sun_path); /* if it stays, bind(2) says so */
 }
 
+void door_none(struct door *door)
+{
+    memset(door, 0, sizeof *door);
+    door->file = -1;
+    for (uint32_t i = 0; i < MOST_NEWCOMERS; i++)
+        door->newcomer[i].file = -1;
+}
+
 void door_open(struct door *door, const struct address *address, uint32_t buffer)
 {
     int yes = 1;
 
-    memset(door, 0, sizeof *door);
-    for (uint32_t i = 0; i < MOST_NEWCOMERS; i++)
-        door->newcomer[i].file = -1;
+    door_none(door);
     door->address = address;
     if (address_is_unix(address))
         remove_stale(address);
@@ -156,6 +162,8 @@ void door_close(struct door *door)
     for (uint32_t i = 0; i < MOST_NEWCOMERS; i++)
         if (door->newcomer[i].file >= 0)
             turn_away(door, &door->newcomer[i]);
+    if (door->file < 0)
+        return;
     (void)close(door->file); /* it carried nothing */
     if (address_is_unix(door->address))
         (void)unlink(((const struct sockaddr_un *)(const void *)&door->address->name)->sun_path); /* it may be gone already */

@@ -29,6 +29,9 @@ struct door {
 /* Listens there. A busy address is refused. */
 void door_open(struct door *door, const struct address *address, uint32_t buffer);
 
+/* No door: nobody comes. */
+void door_none(struct door *door);
+
 /* The port, where the kernel has chosen it. */
 uint16_t door_port(const struct door *door);
 

@@ -2,7 +2,9 @@
 #include "guest.h"
 
 #include <errno.h>
+#include <inttypes.h>
 #include <poll.h>
+#include <stdio.h>
 #include <string.h>
 #include <sys/eventfd.h>
 #include <sys/mman.h>
@@ -459,4 +461,14 @@ uint32_t guest_thread_of(struct guest *guest, uint32_t id)
         if ((uint32_t)atomic_load(&guest->thread[i].id) == id)
             return i;
     refuse("a fault of thread %u, which is not the guest's", id);
+}
+
+int guest_verdict(struct guest *guest)
+{
+    uint64_t wrong_loads = guest_wrong_loads(guest);
+    uint32_t page = 0, wrong = guest_check(guest, &page);
+
+    printf("verdict words=%" PRIu64 " operations=%" PRIu64 " wrong_loads=%" PRIu64 " wrong_pages=%u first_wrong=0x%x\n",
+           (uint64_t)guest->plan.pages * WORDS, guest_operations(guest), wrong_loads, wrong, LOW_PAGE + page);
+    return wrong || wrong_loads ? STATUS_WRONG : STATUS_OK;
 }

@@ -88,4 +88,7 @@ uint32_t guest_thread_of(struct guest *guest, uint32_t id);
    wrong pages, and the first of them. */
 uint32_t guest_check(struct guest *guest, uint32_t *first_wrong);
 
+/* The same with the threads' loads, as a line of figures. Returns a status of live.h. */
+int guest_verdict(struct guest *guest);
+
 #endif

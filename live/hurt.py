@@ -3,7 +3,9 @@
 import contextlib
 import signal
 import socket
+import tempfile
 import threading
+import time
 
 import pair
 
@@ -201,10 +203,76 @@ def hostile_destination(program):
     return None
 
 
+def handed(program, words):
+    """A handler, and what it has printed once a monitor is to come; the monitor is the caller's."""
+    folder = tempfile.TemporaryDirectory(prefix="live-")
+    place = f"{folder.name}/monitor"
+    return folder, place, pair.Side([str(program), "handler", "--listen", "127.0.0.1:0", "--monitor", f"unix:{place}", *words])
+
+
+def connect(place):
+    for _ in range(1000):
+        connection = socket.socket(socket.AF_UNIX)
+        try:
+            connection.connect(place)
+            return connection
+        except OSError:
+            connection.close()
+            time.sleep(0.01)
+    raise TimeoutError("no handler")
+
+
+def hostile_monitor(program):
+    """Lists that cannot be read or do not fit, and no descriptor."""
+    one = '{"base_host_virt_addr":%d,"size":%d,"offset":%d,"page_size":%d}'
+    whole = one % (1 << 30, 1 << 20, 0, 4096)
+    half, other_half = one % (1 << 30, 1 << 19, 0, 4096), one % ((1 << 30) + (1 << 18), 1 << 19, 1 << 19, 4096)
+    texts = (("[%s]" % whole, False, "no userfaultfd"), ("[%s" % whole, True, "cannot be read"), ("[%s]x" % whole, True, "cannot be read"),
+             ("[]", True, "cannot be read"), ("[%s]" % ",".join([whole] * 17), True, "cannot be read"),
+             ("[%s]" % whole.replace('"offset"', '"size"'), True, "cannot be read"), ("[%s]" % half, True, "is not 256 pages"),
+             ("[%s,%s]" % (half, other_half), True, "is not 256 pages"), ("[%s]" % (one % (2**64 - 4096, 1 << 20, 0, 4096)), True, "is not 256 pages"),
+             ("[%s]" % (one % (1 << 30, 1 << 20, 0, 2 << 20)), True, "pages have 2097152 bytes"))
+    for text, has_file, said in texts:
+        folder, place, handler = handed(program, ["--memory", "1M"])
+        with folder, connect(place) as monitor, open("/dev/null") as file:
+            socket.send_fds(monitor, [text.encode()], [file.fileno()] if has_file else [])
+            wrong = expect([(f"handler of {text}", handler.end(10), pair.REFUSED, said)])
+        if wrong:
+            return wrong
+    return None
+
+
+def handed_after_the_switch(program):
+    migration = pair.Migration([*MEMORY, "--progress"], SLOW, [], program, is_handed=True)
+    while migration.dest.figures.get("progress", {}).get("phase") != "running" and migration.dest.is_running():
+        time.sleep(0.01)
+    return migration
+
+
+def monitor_dies_after_the_switch(program):
+    three = handed_after_the_switch(program)
+    three.monitor.process.send_signal(signal.SIGKILL)
+    three.monitor.end(5)
+    wrong = expect([("handler", three.dest.end(20), pair.LOST, "ended")])
+    three.source.process.kill()
+    three.source.end(5)
+    return wrong
+
+
+def handler_dies_after_the_switch(program):
+    three = handed_after_the_switch(program)
+    three.dest.process.send_signal(signal.SIGKILL)
+    three.dest.end(5)
+    wrong = expect([("monitor", three.monitor.end(20), pair.LOST, "the handler has ended: the guest is lost")])
+    three.source.process.kill()
+    three.source.end(5)
+    return wrong
+
+
 CASES = (
     destination_dies_before_the_switch, another_destination_before_the_switch, destination_dies_after_the_switch,
     another_destination_after_the_switch, source_dies_before_the_switch, source_dies_after_the_switch, frozen_destination, strangers,
-    old_epoch, hostile_source, hostile_destination,
+    old_epoch, hostile_source, hostile_destination, hostile_monitor, monitor_dies_after_the_switch, handler_dies_after_the_switch,
 )
 
 

@@ -1,4 +1,4 @@
-/* live source, live dest, live bare: the command line. */
+/* The command line. */
 #include <errno.h>
 #include <getopt.h>
 #include <signal.h>
@@ -10,12 +10,15 @@
 #include "bare.h"
 #include "dest.h"
 #include "live.h"
+#include "monitor.h"
 #include "options.h"
 #include "source.h"
 
 static const char USAGE[] =
     "live source --connect ADDRESS [OPTION ..]    moves its guest to a destination\n"
     "live dest --listen ADDRESS [OPTION ..]       runs the guest on; its standard input ends once the source is gone\n"
+    "live handler --listen ADDRESS --monitor unix:PATH [OPTION ..]   the same for memory of a monitor, which hands it over at PATH\n"
+    "live monitor --connect unix:PATH [OPTION ..] such a monitor: it runs the guest\n"
     "live bare [--memory SIZE] [--buffer BYTES]   what the connection and UFFDIO_COPY take without a node\n"
     "\n"
     "ADDRESS is HOST:PORT of loopback (port 0: one that is free), or unix:PATH.\n"
@@ -32,6 +35,8 @@ static const char USAGE[] =
     "  --buffer BYTES    of a socket in the kernel (65536; 0: the kernel's choice)\n"
     "  --cut CHANNEL:DIRECTION:BYTES,..   of the next epoch, for tests: main or urgent is cut after these bytes, in, out, or out\n"
     "                    since the switch, or of a destination since the End (post); `none` leaves an epoch whole\n"
+    "  --feed COMMAND    takes the part of the other side: frames go to its standard input and come from its standard output. There\n"
+    "                    is no --connect or --listen then, and no second epoch\n"
     "  --progress        a line each tenth of a second\n"
     "of the source:\n"
     "  --rounds N        of pre-copy at most (3)\n"
@@ -152,7 +157,7 @@ static void read_cuts(struct options *options, char *text)
 
 enum {
     CONNECT = 256, LISTEN, MEMORY, THREADS, SEED, COLD_STORES, GIVEN_BACK, BATCH, PAUSE, BUFFER, CUT, PROGRESS, ROUNDS, TARGET,
-    NO_URGENT, PUSH_RATE, BEFORE, PATIENCE, AFTER, CHECK_OWED, HELP
+    NO_URGENT, PUSH_RATE, BEFORE, PATIENCE, AFTER, CHECK_OWED, MONITOR, FEED, HELP
 };
 
 #define SHARED_OPTIONS                                                                                                              \
@@ -168,13 +173,24 @@ static const struct option source_options[] = {
     { "connect", required_argument, NULL, CONNECT }, { "rounds", required_argument, NULL, ROUNDS },
     { "target", required_argument, NULL, TARGET }, { "no-urgent", no_argument, NULL, NO_URGENT },
     { "push-rate", required_argument, NULL, PUSH_RATE }, { "before", required_argument, NULL, BEFORE },
-    { "patience", required_argument, NULL, PATIENCE }, { NULL, 0, NULL, 0 }
+    { "patience", required_argument, NULL, PATIENCE }, { "feed", required_argument, NULL, FEED }, { NULL, 0, NULL, 0 }
 };
 
 static const struct option dest_options[] = {
     SHARED_OPTIONS,
     { "listen", required_argument, NULL, LISTEN }, { "after", required_argument, NULL, AFTER },
-    { "check-owed", no_argument, NULL, CHECK_OWED }, { NULL, 0, NULL, 0 }
+    { "check-owed", no_argument, NULL, CHECK_OWED }, { "feed", required_argument, NULL, FEED }, { NULL, 0, NULL, 0 }
+};
+
+static const struct option handler_options[] = {
+    SHARED_OPTIONS,
+    { "listen", required_argument, NULL, LISTEN }, { "after", required_argument, NULL, AFTER },
+    { "check-owed", no_argument, NULL, CHECK_OWED }, { "monitor", required_argument, NULL, MONITOR }, { NULL, 0, NULL, 0 }
+};
+
+static const struct option monitor_options[] = {
+    SHARED_OPTIONS,
+    { "connect", required_argument, NULL, CONNECT }, { "patience", required_argument, NULL, PATIENCE }, { NULL, 0, NULL, 0 }
 };
 
 static const struct option bare_options[] = {
@@ -201,12 +217,25 @@ static void set_number(struct options *options, int option, const char *name, co
             *numbers[i].value = (uint32_t)number(name, text, numbers[i].least, numbers[i].most);
 }
 
+static void read_unix_address(struct address *address, const char *text)
+{
+    address_read(address, text);
+    if (!address_is_unix(address))
+        refuse("%s: a descriptor goes over a Unix socket: unix:PATH", text);
+}
+
 static void set_option(struct options *options, int option, const char *name, char *text)
 {
     switch (option) {
     case CONNECT:
     case LISTEN:
         address_read(&options->address, text);
+        break;
+    case FEED:
+        options->feed = text;
+        break;
+    case MONITOR:
+        read_unix_address(&options->monitor, text);
         break;
     case MEMORY:
         options->plan.pages = pages_of(text);
@@ -245,8 +274,14 @@ static void read_options(struct options *options, const struct option *known, in
     }
     if (optind < count)
         refuse("%s: what is that? `live --help` says how to use it", words[optind]);
-    if (!options->address.text && known != bare_options)
-        refuse("an address is needed: --%s ADDRESS", known == source_options ? "connect" : "listen");
+    if (options->address.text && options->feed)
+        refuse("--feed takes no address: the command is the other side");
+    if (!options->address.text && !options->feed && known != bare_options)
+        refuse("an address is needed: --%s ADDRESS", known == source_options || known == monitor_options ? "connect" : "listen");
+    if (known == handler_options && !options->monitor.text)
+        refuse("the place where a monitor hands over its memory is needed: --monitor unix:PATH");
+    if (known == monitor_options && !address_is_unix(&options->address))
+        refuse("%s: a descriptor goes over a Unix socket: unix:PATH", options->address.text);
 }
 
 int main(int count, char **words)
@@ -256,7 +291,9 @@ int main(int count, char **words)
         const char *name;
         const struct option *known;
         int (*run)(const struct options *);
-    } roles[] = { { "source", source_options, source_run }, { "dest", dest_options, dest_run }, { "bare", bare_options, bare_run } };
+    } roles[] = { { "source", source_options, source_run }, { "dest", dest_options, dest_run },
+                  { "handler", handler_options, dest_run }, { "monitor", monitor_options, monitor_run },
+                  { "bare", bare_options, bare_run } };
     const char *name = count > 1 ? words[1] : "";
 
     (void)signal(SIGPIPE, SIG_IGN); /* a reader of the progress may leave; it always succeeds */

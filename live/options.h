@@ -25,11 +25,13 @@ struct options {
     uint32_t cuts;
     struct cuts cut[MOST_CUTS]; /* of the first epochs */
     bool shows_progress;
+    const char *feed; /* a command that takes the part of the other side, or NULL */
     /* of the source */
     uint32_t rounds, target, push_rate, before;
     bool has_urgent;
     /* of the destination */
     uint32_t after;
+    struct address monitor; /* where a monitor hands its memory over; no text: the guest runs here */
     bool checks_owed;
 };
 

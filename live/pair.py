@@ -75,12 +75,16 @@ class Side:
 
 
 class Migration:
-    """shared, source, dest: words of the command lines. With is_unix the two talk over a Unix socket."""
+    """shared, source, dest: words of the command lines. With is_unix the two talk over a Unix socket; with is_handed the guest's memory at the
+    destination is that of a third process, the monitor."""
 
-    def __init__(self, shared, source, dest, program=PROGRAM, is_unix=False, on_progress=None):
+    def __init__(self, shared, source, dest, program=PROGRAM, is_unix=False, on_progress=None, is_handed=False):
         self.folder = tempfile.TemporaryDirectory(prefix="live-")
         address = f"unix:{self.folder.name}/socket" if is_unix else "127.0.0.1:0"
-        self.dest = Side([str(program), "dest", "--listen", address, *shared, *dest], on_progress)
+        place = f"unix:{self.folder.name}/monitor"
+        role = ["handler", "--monitor", place] if is_handed else ["dest"]
+        self.dest = Side([str(program), *role, "--listen", address, *shared, *dest], on_progress)
+        self.monitor = Side([str(program), "monitor", "--connect", place, *shared]) if is_handed else None
         self.dest.listening.wait(30)
         if not is_unix:
             address = f"127.0.0.1:{self.dest.number('listening', 'port')}"
@@ -101,8 +105,18 @@ class Migration:
         self.source_status, self.source_text = self.source.end(10)
         self.dest.close_input()
         self.dest_status, self.dest_text = self.dest.end(30)
+        if self.monitor:
+            self.end_monitor()
         self.folder.cleanup()
         return hang or self.wrong()
+
+    def end_monitor(self):
+        """Its verdict, and the first operation of the guest, are taken for those of the destination."""
+        status, text = self.monitor.end(30)
+        self.dest.figures["verdict"] = self.monitor.figures.get("verdict", {})
+        self.dest.figures.setdefault("destination", {})["first"] = self.monitor.number("monitor", "first")
+        if self.dest_status == DONE:
+            self.dest_status, self.dest_text = status, f"(the monitor) {text}"
 
     def wrong(self):
         if not self.source_status and self.dest_status == DONE:

@@ -9,6 +9,7 @@
 #include <string.h>
 #include <unistd.h>
 
+#include "feed.h"
 #include "figures.h"
 #include "kernel.h"
 #include "watch.h"
@@ -141,7 +142,7 @@ static void begin(struct source *source, const struct options *options)
     source->node.is_source = true;
     source->cursor = LOW_PAGE;
     guest_open(&source->guest, &options->plan, &options->pace, kernel_map((size_t)options->plan.pages * PAGE_BYTES));
-    watch_open(&source->watch, &source->node, &source->guest);
+    watch_open(&source->watch, &source->node, &source->guest, NULL);
     guest_fill(&source->guest);
     guest_start(&source->guest);
     sleep_ms(options->before);
@@ -155,6 +156,13 @@ static void begin(struct source *source, const struct options *options)
 }
 
 /* THE CHANNEL */
+
+/* The migration cannot be completed. Whether the guest is lost with it depends on whether it has been switched. */
+static void give_up(struct source *source, const char *why)
+{
+    fprintf(stderr, "live: %s\n", why);
+    source->is_over = true;
+}
 
 static bool open_stream(struct source *source, struct stream *stream, enum channel channel, const struct cut *cut)
 {
@@ -176,6 +184,16 @@ static void count_since_switch(struct source *source)
 
     main_cut->out = main_cut->post != NEVER ? main_cut->post : main_cut->out;
     urgent_cut->out = urgent_cut->post != NEVER ? urgent_cut->post : urgent_cut->out;
+}
+
+/* The program that takes the part of the destination. It says no hello. */
+static void open_feed(struct source *source)
+{
+    static const struct cut never = NO_CUT;
+
+    stream_open(&source->main, feed_start(source->options->feed), &never);
+    source->is_answered = true;
+    source->channels++;
 }
 
 static void open_channel(struct source *source)
@@ -209,6 +227,8 @@ static void lose_channel(struct source *source)
     if (source->state.phase == POSTMIG_SOURCE_PRECOPY || source->state.phase == POSTMIG_SOURCE_STOPPED)
         node_expect(postmig_source_notice(&source->node.handle, &effect), "postmig_source_notice");
     look(source);
+    if (source->options->feed)
+        give_up(source, "the program that takes the part of the destination has ended");
 }
 
 /* From time to time, until somebody listens. */
@@ -224,17 +244,13 @@ static void connect_again(struct source *source)
         node_expect(postmig_source_resume(&source->node.handle, &effect), "postmig_source_resume");
     source->has_to_resume = false;
     look(source);
-    open_channel(source);
+    if (source->options->feed)
+        open_feed(source);
+    else
+        open_channel(source);
 }
 
 /* FRAMES THAT COME BACK */
-
-/* The migration cannot be completed. Whether the guest is lost with it depends on whether it has been switched. */
-static void give_up(struct source *source, const char *why)
-{
-    fprintf(stderr, "live: %s\n", why);
-    source->is_over = true;
-}
 
 /* A destination that was started anew knows nothing of a guest that may have run on the old one. */
 static void take_hello(struct source *source)

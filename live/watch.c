@@ -9,12 +9,13 @@
 
 #define MOST_MESSAGES 16u
 
-void watch_open(struct watch *watch, struct node *node, struct guest *guest)
+void watch_open(struct watch *watch, struct node *node, struct guest *guest, struct handed *handed)
 {
     memset(watch, 0, sizeof *watch);
     watch->node = node;
     watch->guest = guest;
-    watch->userfault = kernel_open_userfault();
+    watch->handed = handed;
+    watch->userfault = handed ? handed->userfault : kernel_open_userfault();
 }
 
 void watch_keep_times(struct watch *watch)
@@ -48,17 +49,27 @@ char *watch_page(const struct watch *watch, uint64_t address)
 
     if (address / PAGE_BYTES < LOW_PAGE || page >= watch->guest->plan.pages)
         refuse("page 0x%llx is not the guest's", (unsigned long long)(address / PAGE_BYTES));
-    return watch->guest->memory + page * PAGE_BYTES;
+    return watch->handed ? handed_page(watch->handed, page) : watch->guest->memory + page * PAGE_BYTES;
 }
 
-/* The node's address of the page at an address of this process. */
+/* The node's address of the page at an address of the guest's process. */
 static uint64_t address_of(const struct watch *watch, uint64_t at)
 {
-    return (at - (uintptr_t)watch->guest->memory) / PAGE_BYTES * PAGE_BYTES + (uint64_t)LOW_PAGE * PAGE_BYTES;
+    uint64_t page = watch->handed ? handed_number(watch->handed, at) : (at - (uintptr_t)watch->guest->memory) / PAGE_BYTES;
+
+    return (page + LOW_PAGE) * PAGE_BYTES;
+}
+
+/* Of handed memory, what is known of the copy of the page at an address of the node. */
+static enum kept kept_at(const struct watch *watch, uint64_t address)
+{
+    return watch->handed ? (enum kept)watch->handed->kept[address / PAGE_BYTES - LOW_PAGE] : NOT_KEPT;
 }
 
 void watch_unexpected(int error, const char *call, uint64_t address)
 {
+    if (error == ESRCH)
+        lose("the process of the guest has ended");
     refuse_errno(error, "%s of page 0x%llx: the node expects another answer", call, (unsigned long long)(address / PAGE_BYTES));
 }
 
@@ -95,11 +106,23 @@ void watch_wake(struct watch *watch, uint64_t address)
 static int wake_present(struct watch *watch, uint64_t address)
 {
     char *at = watch_page(watch, address);
-    int error = kernel_zero(watch->userfault, at);
+    int error;
 
+    if (kept_at(watch, address) == KEPT)
+        return handed_put(watch->handed, address / PAGE_BYTES - LOW_PAGE);
+    error = kernel_zero(watch->userfault, at);
     if (!error)
         watch->cleared++;
     return error == EEXIST ? kernel_wake(watch->userfault, at) : error;
+}
+
+/* Where it is not known which thread it is, for the node it may be any that does not wait. */
+static uint32_t idle_processor(const struct watch *watch)
+{
+    for (uint32_t i = 0; i < watch->guest->plan.threads; i++)
+        if (!watch->asleep[i])
+            return i;
+    refuse("a message of one more thread, while all %u of the guest wait", watch->guest->plan.threads);
 }
 
 /* FAULTS */
@@ -107,9 +130,10 @@ static int wake_present(struct watch *watch, uint64_t address)
 /* A fault that the node does not have: by its table the page is there. */
 static void take_needless_fault(struct watch *watch, uint64_t address)
 {
-    int error = wake_present(watch, address);
+    int error;
 
-    watch->needless++;
+    watch->needless += kept_at(watch, address) == NOT_KEPT; /* (two threads may wait for one copy) */
+    error = wake_present(watch, address);
     if (error == EAGAIN) /* the thread is woken, and faults again if the page is still missing */
         error = kernel_wake(watch->userfault, watch_page(watch, address));
     if (error)
@@ -127,10 +151,21 @@ static void read_fault(struct watch *watch, uint32_t cpu, uint64_t address, bool
     watch->asleep[cpu] = address;
 }
 
+/* The thread of a fault. Those of another process are unknown: it may be who waits for this page, or any that does not wait. */
+static uint32_t thread_of(const struct watch *watch, const struct uffd_msg *message, uint64_t address)
+{
+    if (!watch->handed)
+        return guest_thread_of(watch->guest, message->arg.pagefault.feat.ptid);
+    for (uint32_t i = 0; i < watch->guest->plan.threads; i++)
+        if (watch->asleep[i] == address)
+            return i;
+    return idle_processor(watch);
+}
+
 static void take_fault(struct watch *watch, const struct uffd_msg *message)
 {
     uint64_t address = address_of(watch, message->arg.pagefault.address), flags = message->arg.pagefault.flags;
-    uint32_t cpu = guest_thread_of(watch->guest, message->arg.pagefault.feat.ptid);
+    uint32_t cpu = thread_of(watch, message, address);
     postmig_command command = { .kind = flags & UFFD_PAGEFAULT_FLAG_WRITE ? POSTMIG_STORE : POSTMIG_LOAD, .width = 8, .addr = address };
     postmig_effect effect;
 
@@ -149,18 +184,9 @@ static void take_fault(struct watch *watch, const struct uffd_msg *message)
 
 /* EVENTS */
 
-/* The kernel does not say which thread gives a page back. For the node it may be any that does not wait. */
-static uint32_t idle_processor(const struct watch *watch)
-{
-    for (uint32_t i = 0; i < watch->guest->plan.threads; i++)
-        if (!watch->asleep[i])
-            return i;
-    refuse("memory is given back while all threads of the guest wait");
-}
-
 static void take_remove(struct watch *watch, const struct uffd_msg *message)
 {
-    uint64_t start = address_of(watch, message->arg.remove.start), end = address_of(watch, message->arg.remove.end);
+    uint64_t start = address_of(watch, message->arg.remove.start), end = start + message->arg.remove.end - message->arg.remove.start;
     postmig_command command = { .kind = POSTMIG_DONTNEED, .addr = start, .length = end - start };
     postmig_effect effect;
 
@@ -170,6 +196,8 @@ static void take_remove(struct watch *watch, const struct uffd_msg *message)
     node_expect(node_read(watch->node, &effect), "read of an event");
     if (effect.kind != POSTMIG_DID_READ_LAST || effect.number != UFFD_EVENT_REMOVE || effect.addr != start || effect.other != end)
         refuse("page 0x%llx: the node has another event than the kernel", (unsigned long long)(start / PAGE_BYTES));
+    if (watch->handed)
+        handed_forget(watch->handed, start / PAGE_BYTES - LOW_PAGE, (end - start) / PAGE_BYTES);
     watch->events++;
 }
 
@@ -274,4 +302,22 @@ void watch_again(struct watch *watch)
 {
     note_again(watch);
     watch_read(watch);
+}
+
+bool watch_put_kept(struct watch *watch, uint32_t most)
+{
+    uint64_t page;
+
+    for (; most && handed_next(watch->handed, &page); most--) {
+        int error = handed_put(watch->handed, page);
+
+        if (error == EAGAIN) {
+            watch_again(watch);
+            return true;
+        }
+        if (error)
+            watch_unexpected(error, "UFFDIO_COPY of a copy that is kept", (page + LOW_PAGE) * PAGE_BYTES);
+        watch->again_in_a_row = 0;
+    }
+    return watch->handed->kept_pages > 0;
 }

@@ -3,11 +3,13 @@
 #define WATCH_H
 
 #include "guest.h"
+#include "handed.h"
 #include "node.h"
 
 struct watch {
     struct node *node;
     struct guest *guest;
+    struct handed *handed; /* whose memory it is, or NULL: this process's */
     int userfault;
     uint64_t asleep[MOST_THREADS]; /* the address of the page that a thread waits for, as the node has it; 0: none */
     uint64_t faults, events;       /* that were read */
@@ -19,7 +21,7 @@ struct watch {
     uint64_t *asked_at;            /* when each page of the source was asked for, or 0; NULL: that is not kept */
 };
 
-void watch_open(struct watch *watch, struct node *node, struct guest *guest);
+void watch_open(struct watch *watch, struct node *node, struct guest *guest, struct handed *handed);
 
 /* From now on the time of each request is kept; and when the page was asked for first that is at this address at the source, or 0. That is
    forgotten then. */
@@ -41,6 +43,9 @@ void watch_wake(struct watch *watch, uint64_t address);
 /* The kernel has returned EAGAIN: an event is unread, or the thread that made it has not finished its call. All messages are read, as by
    watch_read. */
 void watch_again(struct watch *watch);
+
+/* Puts copies that are kept of pages of handed memory, at most `most`. Returns whether there are more. */
+bool watch_put_kept(struct watch *watch, uint32_t most);
 
 /* Whether a thread waits for a page. */
 bool watch_has_sleeper(const struct watch *watch);

@@ -1,0 +1,63 @@
+/* Starts a program, and waits for it. */
+#include "feed.h"
+
+#include <errno.h>
+#include <fcntl.h>
+#include <signal.h>
+#include <spawn.h>
+#include <sys/socket.h>
+#include <sys/wait.h>
+#include <unistd.h>
+
+#include "live.h"
+
+static pid_t program;
+
+static void expect(int error)
+{
+    if (error)
+        refuse_errno(error, "the program that is fed cannot be started");
+}
+
+/* (SIGPIPE is ignored here, and would be there too) */
+static void spawn(const char *command, int file)
+{
+    char shell[] = "sh", option[] = "-c", *words[] = { shell, option, (char *)(uintptr_t)command, NULL };
+    posix_spawn_file_actions_t actions;
+    posix_spawnattr_t attributes;
+    sigset_t usual;
+
+    expect(sigemptyset(&usual) || sigaddset(&usual, SIGPIPE) ? errno : 0);
+    expect(posix_spawn_file_actions_init(&actions));
+    expect(posix_spawn_file_actions_adddup2(&actions, file, STDIN_FILENO));
+    expect(posix_spawn_file_actions_adddup2(&actions, file, STDOUT_FILENO));
+    expect(posix_spawnattr_init(&attributes));
+    expect(posix_spawnattr_setflags(&attributes, POSIX_SPAWN_SETSIGDEF));
+    expect(posix_spawnattr_setsigdefault(&attributes, &usual));
+    expect(posix_spawn(&program, "/bin/sh", &actions, &attributes, words, environ));
+    (void)posix_spawn_file_actions_destroy(&actions); /* it always succeeds */
+    (void)posix_spawnattr_destroy(&attributes);       /* and so does this */
+}
+
+int feed_start(const char *command)
+{
+    int files[2];
+
+    if (socketpair(AF_UNIX, SOCK_STREAM | SOCK_CLOEXEC, 0, files))
+        refuse_errno(errno, "a pair of sockets");
+    spawn(command, files[1]);
+    (void)close(files[1]); /* it is the program's now */
+    if (fcntl(files[0], F_SETFL, O_NONBLOCK))
+        refuse_errno(errno, "a pair of sockets");
+    return files[0];
+}
+
+int feed_end(void)
+{
+    int status = 0;
+
+    while (waitpid(program, &status, 0) < 0)
+        if (errno != EINTR)
+            refuse_errno(errno, "waitpid");
+    return WIFEXITED(status) ? WEXITSTATUS(status) : 128 + WTERMSIG(status);
+}
