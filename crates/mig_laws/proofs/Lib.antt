@@ -4,3 +4,9 @@ pub mod Replies
 pub mod Hosts
 pub mod SpaceCommands
 pub mod ObjectCalls
+pub mod StepForms
+pub mod GuestSteps
+pub mod Frames
+pub mod SourceNode
+pub mod DestinationNode
+pub mod WorldSteps
