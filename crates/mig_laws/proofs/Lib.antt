@@ -10,3 +10,5 @@ pub mod Frames
 pub mod SourceNode
 pub mod DestinationNode
 pub mod WorldSteps
+pub mod WholePages
+pub mod WholeWorlds
