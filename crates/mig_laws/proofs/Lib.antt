@@ -12,3 +12,4 @@ pub mod DestinationNode
 pub mod WorldSteps
 pub mod WholePages
 pub mod WholeWorlds
+pub mod ChangedRuns

@@ -253,7 +253,7 @@ whole-after : (world : World) (steps : List Step) → HasWholePages world → Ha
 whole-after world [] old = old
 whole-after world (step ∷ steps) old = whole-after (next world step) steps (whole-next world step old)
 
-whole-first : (cpus epoch rounds : ℕ) → HasWholePages (first_world_with cpus epoch rounds)
+pub whole-first : (cpus epoch rounds : ℕ) → HasWholePages (first_world_with cpus epoch rounds)
 whole-first cpus epoch rounds = record { source = none_whole; destination = none_whole; kept = none_whole; arrivals = tt; forward = tt; back = tt; urgent = tt }
 
 pub whole-reached : (world : World) → IsReached world → HasWholePages world

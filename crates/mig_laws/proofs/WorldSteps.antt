@@ -1,8 +1,10 @@
 -- Every step of a world once all contents are changed.
 use Rattle.std.proofs.lemmas.Bool.Decides.{nat_tests}
-use Rattle.std.proofs.Common.{◌≡◌, ℕ, ◌+◌, ◌-◌, ◌*◌, ◌/◌, ◌&&◌, Bool, true, false, cond, not, ltb, Option, Some, None, List, [], ◌∷◌, ◌++◌, map, length, refl, sym, ap, ◌∙◌, arith}
+use Rattle.std.proofs.Common.{◌≡◌, ℕ, suc, ◌+◌, ◌-◌, ◌*◌, ◌/◌, ◌<◌, ◌&&◌, Bool, true, false, cond, not, eqb, ltb, Option, Some, None, List, [], ◌∷◌, ◌++◌, map, length, refl, sym, ap, ◌∙◌, arith}
 use Rattle.std.specs.Prelude.{Result, Ok, Err}
+use Rattle.std.specs.List.{All}
 use Rattle.std.specs.Option.{option_map}
+use Rattle.std.proofs.lemmas.Bool.{and_parts, eqb-true, false≢true}
 use Rattle.std.proofs.lemmas.List.{map-append, length-map}
 use Rattle.mig_base.specs.declared.command.Command.{Command}
 use Rattle.mig_base.specs.declared.command.Command.TheVariants.{Load, Store}
@@ -23,7 +25,8 @@ use Rattle.mig_model.specs.SourceSteps as source
 use Rattle.mig_model.specs.Wire.{Frame, Sent, Wire, is_zeros, wire_behind, wire_if, wire_with}
 use Rattle.mig_model.specs.Wire.Frame.{Advise, Page, Zero, Run, Discard, Package, End, Resume, Request, Recv, Done}
 use Rattle.mig_laws.specs.Contents.{AreWholePages, IsByteMap, command_under, entry_under, guest_under}
-use Rattle.mig_laws.specs.Worlds.{AreWholeFrames, HasWholePages, answer_under, bytes_in, destination_under, effect_under, ends_inside, first_bytes, frame_under, is_page, is_partial, moved_bytes, sent_under, source_under, step_under, wire_under, world_under}
+use Rattle.mig_laws.specs.Runs.{KeepsOthers}
+use Rattle.mig_laws.specs.Worlds.{AreWholeFrames, HasWholePages, IsWholeFrame, answer_under, bytes_in, destination_under, effect_under, ends_inside, first_bytes, frame_under, is_page, is_partial, moved_bytes, sent_under, source_under, step_under, wire_under, world_under}
 use Rattle.mig_laws.proofs.DestinationNode as node
 use Rattle.mig_laws.proofs.Frames.{wire_if-under, wire_with-under}
 use Rattle.mig_laws.proofs.GuestSteps.{issue-under, retry-under, tried_under}
@@ -114,6 +117,66 @@ is_short-under f wire (Request page) n h = refl
 is_short-under f wire (Recv state owed) n h = refl
 is_short-under f wire Done n h = refl
 
+-- a delivery of `n` bytes ends inside the first frame in flight exactly if it did
+abbrev pub IsAlikeFirst : (ℕ → ℕ) → List Sent → ℕ → ℕ → Type 0
+IsAlikeFirst f [] held n = Unit {0}
+IsAlikeFirst f (sent ∷ rest) held n =
+    is_short (wire_under f (record { frames = sent ∷ rest; held = held })) (frame_under f sent.frame) n ≡ is_short (record { frames = sent ∷ rest; held = held }) sent.frame n
+
+-- the same of a step, if it is a delivery
+abbrev pub IsAlike : (ℕ → ℕ) → World → Step → Type 0
+IsAlike f world (Step.Deliver n) = IsAlikeFirst f world.forward.frames world.forward.held n
+IsAlike f world (Step.DeliverBack n) = IsAlikeFirst f world.back.frames world.back.held n
+IsAlike f world (Step.DeliverUrgent n) = IsAlikeFirst f world.urgent.frames world.urgent.held n
+IsAlike f world step = Unit {0}
+
+first_alike : (f : ℕ → ℕ) (frames : List Sent) (held n : ℕ) → ends_inside (record { frames = frames; held = held }) n ≡ false → IsAlikeFirst f frames held n
+first_alike f [] held n part = tt
+first_alike f (sent ∷ rest) held n part = is_short-under f (record { frames = sent ∷ rest; held = held }) sent.frame n part
+
+-- so it is where no delivery ends inside a Page
+pub alike_whole : (f : ℕ → ℕ) (world : World) (step : Step) → is_partial world step ≡ false → IsAlike f world step
+alike_whole f world (Step.Deliver n) part = first_alike f world.forward.frames world.forward.held n part
+alike_whole f world (Step.DeliverBack n) part = first_alike f world.back.frames world.back.held n part
+alike_whole f world (Step.DeliverUrgent n) part = first_alike f world.urgent.frames world.urgent.held n part
+alike_whole f world _ part = tt
+
+no_zeros : (f : ℕ → ℕ) → KeepsOthers f → (bytes : List ℕ) → All (λ byte. byte < 256) bytes → is_zeros (map f bytes) ≡ true → is_zeros bytes ≡ true
+no_zeros f keeps [] all h = refl
+no_zeros f keeps (byte ∷ bytes) all h =
+    let both = and_parts (eqb (f byte) 0) (is_zeros (map f bytes)) h in
+    let rest = no_zeros f keeps bytes (λ k d l. all (suc k) d (omega (arith, l))) both.1 in
+    ap (λ n. eqb n 0 && is_zeros bytes) (keeps byte (all 0 0 (omega arith)) (eqb-true (f byte) 0 both.0)) ∙ rest
+
+page_stays : (held n page : ℕ) (bytes : List ℕ) (zeros : Bool) → (zeros ≡ true → ⊥) → ltb n (text_len (cond zeros (Zero page) (Page page bytes)) - held) ≡ ltb n (4112 - held)
+page_stays held n page bytes true never = absurd (never refl)
+page_stays held n page bytes false never = refl
+
+frame_kept : (f : ℕ → ℕ) → KeepsOthers f → (wire : Wire) (frame : Frame) (n : ℕ) → IsWholeFrame frame → is_short (wire_under f wire) (frame_under f frame) n ≡ is_short wire frame n
+frame_kept f keeps wire (Page page bytes) n whole =
+    page_stays wire.held n page (map f bytes) (is_zeros (map f bytes)) (λ zeros. false≢true (sym whole.1 ∙ no_zeros f keeps bytes whole.0.1 zeros))
+frame_kept f keeps wire Advise n whole = refl
+frame_kept f keeps wire (Zero page) n whole = refl
+frame_kept f keeps wire (Run first pages) n whole = is_short-under f wire (Run first pages) n refl
+frame_kept f keeps wire (Discard pages) n whole = refl
+frame_kept f keeps wire (Package areas owed commands) n whole = is_short-under f wire (Package areas owed commands) n refl
+frame_kept f keeps wire (End urgent) n whole = refl
+frame_kept f keeps wire Resume n whole = refl
+frame_kept f keeps wire (Request page) n whole = refl
+frame_kept f keeps wire (Recv state owed) n whole = refl
+frame_kept f keeps wire Done n whole = refl
+
+first_kept : (f : ℕ → ℕ) → KeepsOthers f → (frames : List Sent) (held n : ℕ) → AreWholeFrames frames → IsAlikeFirst f frames held n
+first_kept f keeps [] held n whole = tt
+first_kept f keeps (sent ∷ rest) held n whole = frame_kept f keeps (record { frames = sent ∷ rest; held = held }) sent.frame n whole.0
+
+-- and where the map takes no other byte to 0, since a Page stays a Page
+pub alike_kept : (f : ℕ → ℕ) → KeepsOthers f → (world : World) → HasWholePages world → (step : Step) → IsAlike f world step
+alike_kept f keeps world whole (Step.Deliver n) = first_kept f keeps world.forward.frames world.forward.held n whole.forward
+alike_kept f keeps world whole (Step.DeliverBack n) = first_kept f keeps world.back.frames world.back.held n whole.back
+alike_kept f keeps world whole (Step.DeliverUrgent n) = first_kept f keeps world.urgent.frames world.urgent.held n whole.urgent
+alike_kept f keeps world whole _ = tt
+
 either_way : (f : ℕ → ℕ) (bytes : ℕ → List ℕ) (n : ℕ) (moved : World) (short : Bool) (taken new : Answer) → new ≡ map_ok (made_under f bytes) taken →
     cond short (made (Effect.Moved n) (world_under f moved)) new ≡ map_ok (made_under f bytes) (cond short (made (Effect.Moved n) moved) taken)
 either_way f bytes n moved true taken new h = refl
@@ -125,14 +188,14 @@ record Takes (f : ℕ → ℕ) (on other : Wire → World) (take new : World →
   takes : (rest : List Sent) (sent : Sent) → AreWholeFrames (sent ∷ rest) → new (world_under f (on (wire_behind rest))) (sent_under f sent) ≡ map_ok (made_under f (λ addr. bytes_in sent.frame)) (take (on (wire_behind rest)) sent)
 
 delivered-under : (f : ℕ → ℕ) (on other : Wire → World) (take new : World → Sent → Answer) → Takes f on other take new → (frames : List Sent) (held n : ℕ) → AreWholeFrames frames →
-    ends_inside (record { frames = frames; held = held }) n ≡ false →
+    IsAlikeFirst f frames held n →
     delivered other (wire_under f (record { frames = frames; held = held })) n new ≡ map_ok (made_under f (λ addr. first_bytes frames)) (delivered on (record { frames = frames; held = held }) n take)
 delivered-under f on other take new both [] held n whole part = refl
 delivered-under f on other take new both (sent ∷ rest) held n whole part =
     let wire : Wire = record { frames = sent ∷ rest; held = held } in
     let bytes = λ (addr : ℕ). bytes_in sent.frame in
     let moved : Wire = record { frames = sent ∷ rest; held = held + n } in
-    ap (λ (b : Bool). cond b (made (Effect.Moved n) (other (wire_under f moved))) (new (other (wire_under f (wire_behind rest))) (sent_under f sent))) (is_short-under f wire sent.frame n part)
+    ap (λ (b : Bool). cond b (made (Effect.Moved n) (other (wire_under f moved))) (new (other (wire_under f (wire_behind rest))) (sent_under f sent))) part
     ∙ ap (λ (w : World). cond (is_short wire sent.frame n) (made (Effect.Moved n) w) (new (other (wire_under f (wire_behind rest))) (sent_under f sent))) (both.puts moved)
     ∙ either_way f bytes n (on moved) (is_short wire sent.frame n) (take (on (wire_behind rest)) sent) _
     (ap (λ (w : World). new w (sent_under f sent)) (both.puts (wire_behind rest)) ∙ both.takes rest sent whole)
@@ -171,7 +234,7 @@ urgent_takes f h world =
 
 -- Every step
 
-pub answer-map : (f : ℕ → ℕ) → IsByteMap f → (world : World) → HasWholePages world → (step : Step) → is_partial world step ≡ false →
+pub answer-map : (f : ℕ → ℕ) → IsByteMap f → (world : World) → HasWholePages world → (step : Step) → IsAlike f world step →
     answer (world_under f world) (step_under f step) ≡ map_ok (made_under f (moved_bytes world step)) (answer world step)
 answer-map f is world whole (Step.Issue cpu command) part =
     let bytes = moved_bytes world (Step.Issue cpu command) in
@@ -267,6 +330,6 @@ same_answer : (f : ℕ → ℕ) (world : World) (step : Step) (answer : Answer) 
 same_answer f world step (Ok made) = refl
 same_answer f world step (Err refusal) = refl
 
-pub answer-under : (f : ℕ → ℕ) → IsByteMap f → (world : World) → HasWholePages world → (step : Step) → is_partial world step ≡ false →
+pub answer-under : (f : ℕ → ℕ) → IsByteMap f → (world : World) → HasWholePages world → (step : Step) → IsAlike f world step →
     answer (world_under f world) (step_under f step) ≡ answer_under f world step (answer world step)
 answer-under f is world whole step part = answer-map f is world whole step part ∙ same_answer f world step (answer world step)

@@ -1,0 +1,109 @@
+-- Runs of which only the contents differ: which steps they may have, what they answer, and what they decide alike.
+use Rattle.std.specs.Prelude.{◌≡◌, ℕ, ◌<◌, nat_le, Bool, true, false, List, [], ◌∷◌, map, Result}
+use Rattle.std.specs.List.{list_all}
+use Rattle.std.specs.Option.{option_map}
+use Rattle.mig_base.specs.declared.command.Command.{Command}
+use Rattle.mig_base.specs.declared.command.Command.TheVariants.{Store}
+use Rattle.mig_base.specs.declared.effect.Effect.{Effect}
+use Rattle.mig_base.specs.declared.refusal.Refusal.{Refusal}
+use Rattle.mig_base.specs.declared.schedule.Step.{Step}
+use Rattle.mig_model.specs.Lengths.{text_len}
+use Rattle.mig_model.specs.Guest.{is_present}
+use Rattle.mig_model.specs.Migration.{World, after_steps, first_world_with, next, outcome}
+use Rattle.mig_model.specs.Source.{space_of}
+use Rattle.mig_model.specs.Space.{Space}
+use Rattle.mig_model.specs.Views.{counts_of, owed_left, phase_of}
+use Rattle.mig_model.specs.Wire.{Frame, Sent, Wire}
+use Rattle.mig_model.specs.Wire.Frame.{Page, Zero, Run, Package}
+use Rattle.mig_laws.specs.Worlds.{is_partial, outcome_under}
+
+-- a map of bytes that takes no other byte to 0
+abbrev pub KeepsOthers : (ℕ → ℕ) → Type 0
+KeepsOthers f = (n : ℕ) → n < 256 → f n ≡ 0 → n ≡ 0
+
+-- Deliveries
+
+-- none of the steps, made in turn, is a delivery that ends inside a Page
+abbrev pub NonePartial : World → List Step → Type 0
+NonePartial world [] = Unit {0}
+NonePartial world (step ∷ steps) = (is_partial world step ≡ false) × NonePartial (next world step) steps
+
+-- how many bytes complete a Page
+abbrev pub page_len : ℕ
+page_len = text_len (Page 0 [])
+
+-- whether a step, if it is a delivery, is of at least as many bytes as complete a Page. It then ends inside no frame Page
+abbrev pub is_long : Step → Bool
+is_long (Step.Deliver n) = nat_le page_len n
+is_long (Step.DeliverBack n) = nat_le page_len n
+is_long (Step.DeliverUrgent n) = nat_le page_len n
+is_long step = true
+
+-- a world to which steps lead from a first world, of which none is a delivery that ends inside a Page
+pub record IsReachedWhole (world : World) : Type 0 where
+  pub cpus : ℕ
+  pub epoch : ℕ
+  pub rounds : ℕ
+  pub steps : List Step
+  pub whole : NonePartial (first_world_with cpus epoch rounds) steps
+  pub is : world ≡ after_steps (first_world_with cpus epoch rounds) steps
+
+-- What steps answer
+
+-- what steps made in turn answer, changed
+abbrev pub outcomes_under : (ℕ → ℕ) → World → List Step → List (Result Effect Refusal)
+outcomes_under f world [] = []
+outcomes_under f world (step ∷ steps) = outcome_under f world step (outcome world step) ∷ outcomes_under f (next world step) steps
+
+-- What they decide alike
+
+-- a command without the value of a store
+abbrev pub bare_command : Command → Command
+bare_command (Store addr width value) = Store addr width 0
+bare_command command = command
+
+-- a frame without its contents: a Page is as a Zero, a Run has as many pages, and a Package has no values of stores
+abbrev pub bare_frame : Frame → Frame
+bare_frame (Page page bytes) = Zero page
+bare_frame (Run first pages) = Run first (map (λ (bytes : List ℕ). []) pages)
+bare_frame (Package areas owed commands) = Package areas owed (map (option_map bare_command) commands)
+bare_frame frame = frame
+
+-- two wires with the same frames but for contents, of which as many bytes have come
+pub record AreAlikeWires (old new : Wire) : Type 0 where
+  pub frames : map (λ (sent : Sent). record sent { frame = bare_frame sent.frame }) new.frames ≡ map (λ (sent : Sent). record sent { frame = bare_frame sent.frame }) old.frames
+  pub held : new.held ≡ old.held
+
+-- two spaces with the same pages mapped, present, write-protected and registered, and the same unread messages
+pub record AreAlikeSpaces (old new : Space) : Type 0 where
+  pub areas : new.host.areas ≡ old.host.areas
+  pub present : (page : ℕ) → is_present new page ≡ is_present old page
+  pub protected : new.protected ≡ old.protected
+  pub object : new.object ≡ old.object
+
+-- two worlds that differ in contents alone: all that a node decides by is the same
+pub record DecideAlike (old new : World) : Type 0 where
+  pub phase : phase_of new ≡ phase_of old
+  pub source_phase : new.source.phase ≡ old.source.phase
+  pub destination_phase : new.destination.phase ≡ old.destination.phase
+  pub switched : new.source.switched ≡ old.source.switched
+  pub has_run : new.destination.has_run ≡ old.destination.has_run
+  pub ended : new.destination.ended ≡ old.destination.ended
+  pub epochs : (new.source.epoch ≡ old.source.epoch) × (new.destination.epoch ≡ old.destination.epoch) × (new.source.end_epoch ≡ old.source.end_epoch)
+  -- clean, todo, sent, and the faults that are held
+  pub log : new.source.log ≡ old.source.log
+  pub held : new.destination.held ≡ old.destination.held
+  -- what is still to be pushed, is asked for, owed and requested
+  pub remaining : new.source.remaining ≡ old.source.remaining
+  pub asked : new.source.asked ≡ old.source.asked
+  pub owed : new.destination.owed ≡ old.destination.owed
+  pub requests : new.destination.requests ≡ old.destination.requests
+  pub left : owed_left new ≡ owed_left old
+  pub counts : counts_of new ≡ counts_of old
+  pub source : AreAlikeSpaces (space_of old.source) (space_of new.source)
+  pub destination : AreAlikeSpaces old.destination.guest.space new.destination.guest.space
+  -- Discard, Package and Recv among the frames
+  pub forward : AreAlikeWires old.forward new.forward
+  pub back : AreAlikeWires old.back new.back
+  pub urgent : AreAlikeWires old.urgent new.urgent
+  pub up : new.up ≡ old.up
