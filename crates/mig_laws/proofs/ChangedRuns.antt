@@ -1,7 +1,7 @@
 -- Runs once all contents are changed.
 use Rattle.std.proofs.lemmas.Bool.Decides.{nat_tests}
-use Rattle.std.proofs.Common.{◌≡◌, ℕ, zero, suc, ◌+◌, ◌*◌, ◌-◌, ◌/◌, ◌%◌, ◌&&◌, Bool, true, false, cond, ltb, leb, Option, Some, None, List, [], ◌∷◌, map, replicate, refl, sym, ap, ◌∙◌, subst, arith}
-use Rattle.std.specs.Prelude.{Result, Ok, Err}
+use Rattle.std.proofs.Common.{◌≡◌, ℕ, zero, suc, ◌-◌, ◌/◌, ◌&&◌, Bool, true, false, cond, ltb, leb, Option, Some, None, List, [], ◌∷◌, map, replicate, refl, sym, ap, ◌∙◌, arith}
+use Rattle.std.specs.Prelude.{Ok, Err}
 use Rattle.std.specs.Option.{option_map, option_and_then}
 use Rattle.std.specs.List.{list_all}
 use Rattle.std.specs.Ordering.{nat_cmp}
@@ -11,13 +11,9 @@ use Rattle.mig_base.specs.declared.TheConstants.{HIGH_PAGE}
 use Rattle.mig_base.specs.declared.command.Command.{Command}
 use Rattle.mig_base.specs.declared.command.Command.TheVariants.{Store}
 use Rattle.mig_base.specs.declared.cpu_state.CpuState.{CpuState}
-use Rattle.mig_base.specs.declared.effect.Effect.{Effect}
-use Rattle.mig_base.specs.declared.refusal.Refusal.{Refusal}
 use Rattle.mig_base.specs.declared.schedule.Step.{Step}
-use Rattle.mig_base.specs.Flat.{Memory}
 use Rattle.mig_base.specs.Pages.{map_below}
 use Rattle.mig_base.proofs.PageLemmas.{get-map_below, same_pages}
-use Rattle.mig_model.specs.Guest.{is_present}
 use Rattle.mig_model.specs.Host.{Host, bare_host, memory}
 use Rattle.mig_model.specs.Lengths.{text_len}
 use Rattle.mig_model.specs.Migration.{Answer, World, after_steps, answer, first_world_with, next, next_by, outcome, outcome_by}
@@ -25,17 +21,16 @@ use Rattle.mig_model.specs.Promises.{IsReached}
 use Rattle.mig_model.specs.Runs.{outcomes}
 use Rattle.mig_model.specs.Source.{space_of}
 use Rattle.mig_model.specs.Space.{Space}
-use Rattle.mig_model.specs.Whereabouts.{current_by, current_host, seen_bytes, seen_host}
+use Rattle.mig_model.specs.Whereabouts.{current_by, current_host, seen_bytes}
 use Rattle.mig_model.specs.Destination.{settled}
 use Rattle.mig_model.specs.Wire.{Frame, Sent, Wire, is_zeros}
-use Rattle.mig_model.specs.Wire.Frame.{Advise, Page, Zero, Run, Discard, Package, End, Resume, Request, Recv, Done}
+use Rattle.mig_model.specs.Wire.Frame.{Page, Zero, Run, Package}
 use Rattle.mig_laws.specs.Contents.{IsByteMap, command_under, cpu_under, digits_under, host_under, memory_under, pages_under, space_under}
 use Rattle.mig_laws.specs.Runs.{AreAlikeSpaces, AreAlikeWires, DecideAlike, IsReachedWhole, KeepsOthers, NonePartial, bare_command, bare_frame, is_long, outcomes_under}
 use Rattle.mig_laws.specs.Worlds.{HasWholePages, answer_under, ends_inside, frame_under, is_page, is_partial, outcome_under, sent_under, step_under, wire_under, world_under}
 use Rattle.mig_laws.proofs.ObjectCalls.{present-under}
 use Rattle.mig_laws.proofs.PageMaps.{get-map_values, map_values-empty}
 use Rattle.mig_laws.proofs.Replies.{memory-under}
-use Rattle.mig_laws.proofs.StepForms.{map-twice}
 use Rattle.mig_laws.proofs.WholeWorlds.{whole-first, whole-next}
 use Rattle.mig_laws.proofs.WorldSteps.{IsAlike, alike_kept, alike_whole, answer-under}
 
@@ -149,8 +144,8 @@ kept-reached-under f is keeps world reached =
       rounds = reached.rounds;
       steps = map (step_under f) reached.steps;
       is =
-      ap (world_under f) reached.is
-      ∙ sym (reached-by f is reached.cpus reached.epoch reached.rounds reached.steps (kept_run f keeps first (whole-first reached.cpus reached.epoch reached.rounds) reached.steps));
+          ap (world_under f) reached.is
+          ∙ sym (reached-by f is reached.cpus reached.epoch reached.rounds reached.steps (kept_run f keeps first (whole-first reached.cpus reached.epoch reached.rounds) reached.steps));
     }
 
 -- The memory that the guest sees

@@ -1,16 +1,15 @@
 -- The steps of a destination once all contents are changed.
-use Rattle.std.proofs.Common.{◌≡◌, ℕ, ◌+◌, ◌*◌, ◌&&◌, Bool, true, false, cond, not, Option, Some, None, List, [], ◌∷◌, ◌++◌, map, length, refl, sym, ap, ◌∙◌}
-use Rattle.std.specs.Prelude.{Result, Ok, Err, ok_or}
+use Rattle.std.proofs.Common.{◌≡◌, ℕ, ◌+◌, ◌*◌, ◌&&◌, Bool, true, false, cond, not, Option, Some, None, List, [], ◌∷◌, ◌++◌, map, refl, sym, ap, ◌∙◌}
+use Rattle.std.specs.Prelude.{ok_or}
 use Rattle.std.specs.Option.{option_map}
 use Rattle.std.specs.Ordering.{nat_cmp}
 use Rattle.std.specs.FinMap as finmap
-use Rattle.std.specs.FinMap.{FinMap, get, retain_keys}
+use Rattle.std.specs.FinMap.{FinMap, get}
 use Rattle.std.specs.FinSet.{FinSet, contains}
 use Rattle.std.proofs.lemmas.List.{map-append}
 use Rattle.mig_base.specs.Bytes.{zero_page}
 use Rattle.mig_base.specs.Tests.{is_empty}
 use Rattle.mig_base.specs.declared.Prot.{Prot}
-use Rattle.mig_base.specs.declared.TheConstants.{HIGH_PAGE}
 use Rattle.mig_base.specs.declared.command.Command.{Command}
 use Rattle.mig_base.specs.declared.effect.Effect.{Effect}
 use Rattle.mig_base.specs.declared.phase.DestPhase.{DestPhase}
@@ -23,14 +22,15 @@ use Rattle.mig_model.specs.Destination.{Destination, act_frames, copy_came, dest
 use Rattle.mig_model.specs.DestinationSteps as destination
 use Rattle.mig_model.specs.Effects.{act_effect, frame_effect, install_effect, read_effect}
 use Rattle.mig_model.specs.Faults.{is_early, is_end}
-use Rattle.mig_model.specs.Guest.{Act, Fault, Guest, is_forgotten, is_present}
+use Rattle.mig_model.specs.Guest.{Act, Fault, Guest, is_forgotten}
 use Rattle.mig_model.specs.Guest.Act.{Unprotected, Zeroed, Woke, Forgot, Requested}
 use Rattle.mig_model.specs.GuestSteps.{when_quiet}
-use Rattle.mig_model.specs.NodeSteps.{Acted, Sends, acted, and_then, first_of, in_phase, rest_of, sent, unless}
+use Rattle.mig_model.specs.NodeSteps.{acted, and_then, first_of, rest_of, sent, unless}
 use Rattle.mig_model.specs.Owed.{home, origins}
 use Rattle.mig_model.specs.Wire.{Copy, Frame, is_zeros, kept_with, run_copies}
 use Rattle.mig_model.specs.Wire.Frame.{Advise, Page, Zero, Run, Discard, Package, End, Resume, Request, Recv, Done}
-use Rattle.mig_laws.specs.Contents.{command_under, cpu_under, guest_under, pages_under, space_under}
+use Rattle.mig_laws.specs.Contents.{command_under, cpu_under, guest_under, pages_under}
+use Rattle.mig_laws.specs.Nodes.{destination_acted_under, destination_sends_under, map_ok}
 use Rattle.mig_laws.specs.Worlds.{IsWholeFrame, bytes_in, copy_under, destination_under, effect_under, frame_under}
 use Rattle.mig_laws.proofs.Frames.{copy_of_page, frame_effect-under, kept_with-under, run_copies-under}
 use Rattle.mig_laws.proofs.GuestSteps.{read_effect-under, read_guest-under, resolved-under, when_quiet-under}
@@ -38,14 +38,7 @@ use Rattle.mig_laws.proofs.Hosts.{zeros-under}
 use Rattle.mig_laws.proofs.ObjectCalls.{installed-under, present-under, zero_installed-under}
 use Rattle.mig_laws.proofs.PageMaps.{map_values-empty, map_values-insert, map_values-retain_keys}
 use Rattle.mig_laws.proofs.SourceNode.{act_effect-under}
-use Rattle.mig_laws.proofs.StepForms.{and_then-map, and_then-same, first_of-map, in_phase-map, is_empty-map, map-twice, map_ok, rest_of-map, unless-map}
-
--- what a step of a destination gives, changed
-abbrev pub acted_under : (ℕ → ℕ) → (ℕ → List ℕ) → Acted Destination → Acted Destination
-acted_under f bytes acted = record { effect = effect_under f bytes acted.effect; node = destination_under f acted.node }
-
-abbrev pub sends_under : (ℕ → ℕ) → (ℕ → List ℕ) → Sends Destination → Sends Destination
-sends_under f bytes sends = record { effect = effect_under f bytes sends.effect; frames = map (frame_under f) sends.frames; node = destination_under f sends.node }
+use Rattle.mig_laws.proofs.StepForms.{and_then-map, and_then-same, first_of-map, in_phase-map, is_empty-map, map-twice, rest_of-map, unless-map}
 
 -- the node with another guest
 abbrev with_guest : Destination → Guest → Destination
@@ -56,11 +49,11 @@ with_guest node guest = record node { guest = guest }
 read-left : (f : ℕ → ℕ) (node : Destination) (noted : Noted) → destination_read (destination_under f node) noted ≡ destination_under f (destination_read node noted)
 read-left f node noted = ap (λ (g : Guest). with_guest (destination_under f (destination_read node noted)) g) (read_guest-under f node.guest noted.cpu noted.message)
 
-pub read-under : (f : ℕ → ℕ) (bytes : ℕ → List ℕ) (node : Destination) → destination.read (destination_under f node) ≡ map_ok (acted_under f bytes) (destination.read node)
+pub read-under : (f : ℕ → ℕ) (bytes : ℕ → List ℕ) (node : Destination) → destination.read (destination_under f node) ≡ map_ok (destination_acted_under f bytes) (destination.read node)
 read-under f bytes node =
     let step = λ (noted : Noted). acted (read_effect node.guest.cpus noted.cpu noted.message) (destination_read node noted) in
-    in_phase-map (acted_under f bytes) node.has_run (and_then (ok_or (next_message node.guest.space.object) Refusal.NothingThere) step) _
-    (and_then-same (acted_under f bytes) (ok_or (next_message node.guest.space.object) Refusal.NothingThere) step _
+    in_phase-map (destination_acted_under f bytes) node.has_run (and_then (ok_or (next_message node.guest.space.object) Refusal.NothingThere) step) _
+    (and_then-same (destination_acted_under f bytes) (ok_or (next_message node.guest.space.object) Refusal.NothingThere) step _
     (λ noted i. acted (read_effect-under f bytes node.guest.cpus noted.cpu noted.message i) (read-left f node noted i)))
 
 act-same : (f : ℕ → ℕ) (node : Destination) (fault : Fault) → destination_act (destination_under f node) fault ≡ destination_act node fault
@@ -91,7 +84,7 @@ act_frames-under f Unprotected node = refl
 
 acts : (f : ℕ → ℕ) → f 0 ≡ 0 → (bytes : ℕ → List ℕ) (node : Destination) (fault : Fault) →
     sent (act_effect (destination_act (destination_under f node) fault) (4096 * fault.page)) (act_frames (destination_act (destination_under f node) fault) (destination_under f node)) (destination_acted (destination_under f node) fault)
-    ≡ map_ok (sends_under f bytes) (sent (act_effect (destination_act node fault) (4096 * fault.page)) (act_frames (destination_act node fault) node) (destination_acted node fault))
+    ≡ map_ok (destination_sends_under f bytes) (sent (act_effect (destination_act node fault) (4096 * fault.page)) (act_frames (destination_act node fault) node) (destination_acted node fault))
 acts f h bytes node fault =
     let act = destination_act node fault in
     let new = destination_under f node in
@@ -100,11 +93,11 @@ acts f h bytes node fault =
     let left = acted_by-under f h act node fault.page in
     ap (λ (a : Act). sent (act_effect a (4096 * fault.page)) (act_frames a new) (destination_acted_by a new fault.page)) (act-same f node fault) ∙ (λ i. sent (effect i) (frames i) (left i))
 
-pub act-under : (f : ℕ → ℕ) → f 0 ≡ 0 → (bytes : ℕ → List ℕ) (node : Destination) → destination.act (destination_under f node) ≡ map_ok (sends_under f bytes) (destination.act node)
+pub act-under : (f : ℕ → ℕ) → f 0 ≡ 0 → (bytes : ℕ → List ℕ) (node : Destination) → destination.act (destination_under f node) ≡ map_ok (destination_sends_under f bytes) (destination.act node)
 act-under f h bytes node =
     let step = λ (fault : Fault). sent (act_effect (destination_act node fault) (4096 * fault.page)) (act_frames (destination_act node fault) node) (destination_acted node fault) in
-    in_phase-map (sends_under f bytes) node.has_run (and_then (when_quiet node.guest (first_of node.held)) step) _
-    (and_then-same (sends_under f bytes) (when_quiet node.guest (first_of node.held)) step _ (acts f h bytes node))
+    in_phase-map (destination_sends_under f bytes) node.has_run (and_then (when_quiet node.guest (first_of node.held)) step) _
+    (and_then-same (destination_sends_under f bytes) (when_quiet node.guest (first_of node.held)) step _ (acts f h bytes node))
 
 -- Install
 
@@ -120,19 +113,19 @@ install_effect-under f bytes (Some page) origin = refl
 
 installs : (f : ℕ → ℕ) (bytes : ℕ → List ℕ) (node : Destination) (copy : Copy) →
     acted (install_effect (home node.owed copy.page) copy.page) (install_by (home node.owed copy.page) (destination_under f node) (copy_under f copy) (rest_of (map (copy_under f) node.arrivals)))
-    ≡ map_ok (acted_under f bytes) (acted (install_effect (home node.owed copy.page) copy.page) (install_by (home node.owed copy.page) node copy (rest_of node.arrivals)))
+    ≡ map_ok (destination_acted_under f bytes) (acted (install_effect (home node.owed copy.page) copy.page) (install_by (home node.owed copy.page) node copy (rest_of node.arrivals)))
 installs f bytes node copy =
     let effect = install_effect-under f bytes (home node.owed copy.page) copy.page in
     let left = install_by-under f (home node.owed copy.page) node copy (rest_of node.arrivals) in
     ap (λ (rest : List Copy). acted (install_effect (home node.owed copy.page) copy.page) (install_by (home node.owed copy.page) (destination_under f node) (copy_under f copy) rest)) (rest_of-map (copy_under f) node.arrivals)
     ∙ (λ i. acted (effect i) (left i))
 
-pub install-under : (f : ℕ → ℕ) (bytes : ℕ → List ℕ) (node : Destination) → destination.install (destination_under f node) ≡ map_ok (acted_under f bytes) (destination.install node)
+pub install-under : (f : ℕ → ℕ) (bytes : ℕ → List ℕ) (node : Destination) → destination.install (destination_under f node) ≡ map_ok (destination_acted_under f bytes) (destination.install node)
 install-under f bytes node =
     let step = λ (copy : Copy). acted (install_effect (home node.owed copy.page) copy.page) (install_by (home node.owed copy.page) node copy (rest_of node.arrivals)) in
     let found = ap (λ (o : Option Copy). when_quiet (guest_under f node.guest) o) (first_of-map (copy_under f) node.arrivals) ∙ when_quiet-under f (copy_under f) node.guest (first_of node.arrivals) in
-    in_phase-map (acted_under f bytes) node.has_run (and_then (when_quiet node.guest (first_of node.arrivals)) step) _
-    (and_then-map (copy_under f) (acted_under f bytes) (when_quiet node.guest (first_of node.arrivals)) _ step _ found (installs f bytes node))
+    in_phase-map (destination_acted_under f bytes) node.has_run (and_then (when_quiet node.guest (first_of node.arrivals)) step) _
+    (and_then-map (copy_under f) (destination_acted_under f bytes) (when_quiet node.guest (first_of node.arrivals)) _ step _ found (installs f bytes node))
 
 -- Frames
 
@@ -232,7 +225,7 @@ is_early-under f node (Run first pages) = refl
 is_early-under f node (Package areas owed commands) = refl
 is_early-under f node _ = refl
 
-pub take-under : (f : ℕ → ℕ) → f 0 ≡ 0 → (node : Destination) (epoch : ℕ) (frame : Frame) → IsWholeFrame frame → destination.take (destination_under f node) epoch (frame_under f frame) ≡ map_ok (sends_under f (λ addr. bytes_in frame)) (destination.take node epoch frame)
+pub take-under : (f : ℕ → ℕ) → f 0 ≡ 0 → (node : Destination) (epoch : ℕ) (frame : Frame) → IsWholeFrame frame → destination.take (destination_under f node) epoch (frame_under f frame) ≡ map_ok (destination_sends_under f (λ addr. bytes_in frame)) (destination.take node epoch frame)
 take-under f h node epoch frame whole =
     let new = frame_under f frame in
     let there = destination_under f node in
@@ -243,7 +236,7 @@ take-under f h node epoch frame whole =
     ap (λ (b : Bool). unless ((b && not (is_empty (map (copy_under f) node.arrivals)), Refusal.InstallFirst) ∷ (is_early there new, Refusal.UrgentFirst) ∷ []) result) (is_end-under f frame)
     ∙ ap (λ (b : Bool). unless ((is_end frame && not b, Refusal.InstallFirst) ∷ (is_early there new, Refusal.UrgentFirst) ∷ []) result) (is_empty-map (copy_under f) node.arrivals)
     ∙ ap (λ (b : Bool). unless ((is_end frame && not (is_empty node.arrivals), Refusal.InstallFirst) ∷ (b, Refusal.UrgentFirst) ∷ []) result) (is_early-under f node frame)
-    ∙ unless-map (sends_under f (λ addr. bytes_in frame)) _ (sent (frame_effect frame) (destination_answers node frame) (destination_took node epoch frame)) _ (λ i. sent (effect i) (answers i) (left i))
+    ∙ unless-map (destination_sends_under f (λ addr. bytes_in frame)) _ (sent (frame_effect frame) (destination_answers node frame) (destination_took node epoch frame)) _ (λ i. sent (effect i) (answers i) (left i))
 
 urgent_came-under : (f : ℕ → ℕ) (node : Destination) (page : ℕ) (bytes new : List ℕ) → new ≡ map f bytes →
     urgent_came (destination_under f node) (record { page = page; bytes = new }) ≡ destination_under f (urgent_came node (record { page = page; bytes = bytes }))
@@ -261,7 +254,7 @@ urgent-under f h node (Run first pages) whole = refl
 urgent-under f h node (Package areas owed commands) whole = refl
 urgent-under f h node _ whole = refl
 
-pub take_urgent-under : (f : ℕ → ℕ) → f 0 ≡ 0 → (node : Destination) (frame : Frame) → IsWholeFrame frame → destination.take_urgent (destination_under f node) (frame_under f frame) ≡ map_ok (acted_under f (λ addr. bytes_in frame)) (destination.take_urgent node frame)
+pub take_urgent-under : (f : ℕ → ℕ) → f 0 ≡ 0 → (node : Destination) (frame : Frame) → IsWholeFrame frame → destination.take_urgent (destination_under f node) (frame_under f frame) ≡ map_ok (destination_acted_under f (λ addr. bytes_in frame)) (destination.take_urgent node frame)
 take_urgent-under f h node frame whole =
     let effect = frame_effect-under f frame in
     let left = urgent-under f h node frame whole in
@@ -269,5 +262,5 @@ take_urgent-under f h node frame whole =
 
 -- A broken channel
 
-pub pause-under : (f : ℕ → ℕ) (bytes : ℕ → List ℕ) (node : Destination) → destination.pause (destination_under f node) ≡ map_ok (acted_under f bytes) (destination.pause node)
-pause-under f bytes node = in_phase-map (acted_under f bytes) (not (is_dest_paused node.phase)) (acted (Effect.Noticed Side.Destination) (destination_paused node)) _ refl
+pub pause-under : (f : ℕ → ℕ) (bytes : ℕ → List ℕ) (node : Destination) → destination.pause (destination_under f node) ≡ map_ok (destination_acted_under f bytes) (destination.pause node)
+pause-under f bytes node = in_phase-map (destination_acted_under f bytes) (not (is_dest_paused node.phase)) (acted (Effect.Noticed Side.Destination) (destination_paused node)) _ refl

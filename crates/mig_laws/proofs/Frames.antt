@@ -1,8 +1,5 @@
 -- Frames, copies and wires once all contents are changed.
-use Rattle.std.proofs.lemmas.Bool.Decides.{nat_tests}
-use Rattle.std.proofs.Common.{◌≡◌, ℕ, ◌+◌, ◌*◌, ◌/◌, ◌&&◌, Bool, true, false, cond, eqb, Option, Some, None, List, [], ◌∷◌, ◌++◌, map, length, refl, sym, ap, ◌∙◌, arith}
-use Rattle.std.specs.List.{list_all}
-use Rattle.std.specs.Option.{option_map}
+use Rattle.std.proofs.Common.{◌≡◌, ℕ, ◌+◌, ◌*◌, ◌&&◌, Bool, true, false, cond, eqb, List, [], ◌∷◌, ◌++◌, map, length, refl, sym, ap, ◌∙◌}
 use Rattle.std.specs.Ordering.{nat_cmp}
 use Rattle.std.specs.FinMap.{FinMap, insert}
 use Rattle.std.proofs.lemmas.Bool.{and_parts, eqb-true}
@@ -10,10 +7,10 @@ use Rattle.std.proofs.lemmas.List.{map-append, length-map}
 use Rattle.mig_base.specs.Bytes.{zero_page}
 use Rattle.mig_base.specs.declared.effect.Effect.{Effect}
 use Rattle.mig_model.specs.Effects.{frame_effect, page_effect}
-use Rattle.mig_model.specs.Wire.{Copy, Frame, Sent, Wire, is_zeros, kept_with, page_frame, run_copies, sending, sending_if, wire_if, wire_with}
+use Rattle.mig_model.specs.Wire.{Copy, Frame, Sent, Wire, is_zeros, kept_with, page_frame, run_copies, sending, wire_if, wire_with}
 use Rattle.mig_model.specs.Wire.Frame.{Advise, Page, Zero, Run, Discard, Package, End, Resume, Request, Recv, Done}
-use Rattle.mig_model.proofs.memory.Facts.{page_again, zero_bytes}
-use Rattle.mig_laws.specs.Contents.{command_under, pages_under}
+use Rattle.mig_model.proofs.memory.Facts.{zero_bytes}
+use Rattle.mig_laws.specs.Contents.{pages_under}
 use Rattle.mig_laws.specs.Worlds.{bytes_in, copy_under, effect_under, frame_under, sent_under, wire_under}
 use Rattle.mig_laws.proofs.PageMaps.{map_values-insert}
 

@@ -1,5 +1,5 @@
 -- The steps of a guest once all contents are changed.
-use Rattle.std.proofs.Common.{◌≡◌, ℕ, zero, suc, Bool, true, false, cond, ltb, Option, Some, None, List, [], ◌∷◌, map, set, length, get_or, refl, sym, ap, ◌∙◌}
+use Rattle.std.proofs.Common.{◌≡◌, ℕ, zero, suc, Bool, true, false, cond, ltb, Option, Some, None, List, map, set, length, refl, sym, ap, ◌∙◌}
 use Rattle.std.specs.Prelude.{Result, Ok, Err, nat_eq}
 use Rattle.std.specs.Option.{option_map}
 use Rattle.std.proofs.lemmas.List.{length-map, map-set}
@@ -8,10 +8,8 @@ use Rattle.mig_base.specs.Commands.{is_access, page_of}
 use Rattle.mig_base.specs.declared.command.Access.{Access}
 use Rattle.mig_base.specs.declared.command.Access.TheVariants.{Answered, Missing, Protected}
 use Rattle.mig_base.specs.declared.command.Command.{Command}
-use Rattle.mig_base.specs.declared.command.Entry.{Entry}
 use Rattle.mig_base.specs.declared.command.Reply.{Reply}
 use Rattle.mig_base.specs.declared.cpu_state.CpuState.{CpuState}
-use Rattle.mig_base.specs.declared.effect.Effect.{Effect}
 use Rattle.mig_base.specs.declared.message.Message.{Message}
 use Rattle.mig_base.specs.declared.message.Message.TheVariants.{PageFault, Remap, Remove, Unmap}
 use Rattle.mig_base.specs.declared.refusal.Refusal.{Refusal}
@@ -19,15 +17,16 @@ use Rattle.mig_base.specs.Flat.{reply_of}
 use Rattle.mig_model.specs.Cpus.{Cpus, Took, access_took, all_woken, call_took, entries_of, handed_over, idle_answer, idle_by, message_less, outstanding, processor_after, processor_at, woken_answer, woken_command, woken_if}
 use Rattle.mig_model.specs.Effects.{event_effect, read_effect, try_effect}
 use Rattle.mig_model.specs.Guest.{Guest, cpus_read, is_left_by, read_guest, resolved, space_by, took_by, tried}
-use Rattle.mig_model.specs.GuestSteps.{Tried, issue, retry, tried_with, try_command, when_quiet}
+use Rattle.mig_model.specs.GuestSteps.{issue, retry, tried_with, try_command, when_quiet}
 use Rattle.mig_model.specs.Host.{memory}
 use Rattle.mig_model.specs.NodeSteps.{and_then, in_phase}
 use Rattle.mig_model.specs.Space.{Space, access_of, queued_by}
 use Rattle.mig_laws.specs.Contents.{AreWholePages, IsByteMap, access_under, command_under, cpu_under, entry_under, guest_under, reply_under, space_under, took_under}
+use Rattle.mig_laws.specs.Nodes.{map_ok, tried_under}
 use Rattle.mig_laws.specs.Worlds.{effect_under}
 use Rattle.mig_laws.proofs.Replies.{host_replied}
 use Rattle.mig_laws.proofs.SpaceCommands.{access_of-under, accessed-under, called-under, is_access-under, page_of-under, queued_by-under}
-use Rattle.mig_laws.proofs.StepForms.{and_then-map, and_then-same, in_phase-map, map-twice, map_ok, unless-map}
+use Rattle.mig_laws.proofs.StepForms.{and_then-map, and_then-same, in_phase-map, map-twice, unless-map}
 
 -- Processors
 
@@ -116,10 +115,6 @@ tried-under f is access guest whole cpu command =
     ∙ ap (λ (s : CpuState). set (map (cpu_under f) guest.cpus) cpu s) (processor_after-under f command took)
     ∙ sym (map-set (cpu_under f) guest.cpus cpu (processor_after command took)) in
     λ i. record { space = space i; cpus = cpus i }
-
--- an accepted command, changed
-abbrev pub tried_under : (ℕ → ℕ) → (ℕ → List ℕ) → Tried → Tried
-tried_under f bytes tried = record { effect = effect_under f bytes tried.effect; entries = map (entry_under f) tried.entries; guest = guest_under f tried.guest }
 
 try_command-under : (f : ℕ → ℕ) → IsByteMap f → (bytes : ℕ → List ℕ) (guest : Guest) → AreWholePages guest.space.host.bytes → (cpu : ℕ) (command : Command) →
     try_command (guest_under f guest) cpu (command_under f command) ≡ map_ok (tried_under f bytes) (try_command guest cpu command)

@@ -1,6 +1,5 @@
 -- What the calls of a userfault object do in a space once its bytes are changed: they ask only which pages are present.
-use Rattle.std.proofs.Common.{◌≡◌, ℕ, ◌+◌, ◌*◌, ◌/◌, ◌&&◌, ◌||◌, Bool, true, false, cond, if◌then◌else◌, Option, Some, None, unwrap_or, List, map, length, take, drop, refl, sym, ap, ◌∙◌}
-use Rattle.std.specs.FinMap.{contains_key}
+use Rattle.std.proofs.Common.{◌≡◌, ℕ, ◌+◌, ◌*◌, ◌/◌, ◌&&◌, Bool, false, if◌then◌else◌, Option, Some, None, unwrap_or, List, map, length, take, drop, refl, sym, ap, ◌∙◌}
 use Rattle.std.specs.FinSet.{contains}
 use Rattle.std.proofs.lemmas.List.{take-map, drop-map, length-map}
 use Rattle.mig_base.specs.declared.command.Errno.{Errno}
@@ -9,7 +8,7 @@ use Rattle.mig_base.specs.Bits.{is_one}
 use Rattle.mig_base.specs.Bytes.{zero_page}
 use Rattle.mig_base.specs.Ranges.{in_range, least_below}
 use Rattle.mig_base.specs.Sets.{pages_where}
-use Rattle.mig_model.specs.Ioctls.{answer_put, copied, copy_answer, copy_error, handed, handshake_error, handshaken, installed, left_by, missing_run, protected_in, put_answer, put_pages, range_unregistered, read_error, read_space, register_error, registered, unregister_error, write_protected, writeprotect_error, zeropage_answer, zeropage_error, zeropaged}
+use Rattle.mig_model.specs.Ioctls.{answer_put, copied, copy_answer, copy_error, handed, handshake_error, handshaken, installed, left_by, missing_run, protected_in, put_answer, range_unregistered, read_error, read_space, register_error, registered, unregister_error, write_protected, writeprotect_error, zeropage_answer, zeropage_error, zeropaged}
 use Rattle.mig_model.specs.Guest.{is_present, zero_installed}
 use Rattle.mig_model.specs.Space.{Space}
 use Rattle.mig_laws.specs.Contents.{space_under}

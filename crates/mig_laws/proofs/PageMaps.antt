@@ -1,11 +1,10 @@
 -- A function applied to each value of a map of pages: what the map is asked and how it is changed before or after is the same.
-use Rattle.std.proofs.lemmas.Bool.Decides.{nat_tests}
-use Rattle.std.proofs.Common.{◌≡◌, ℕ, zero, suc, ◌+◌, ◌-◌, Bool, true, false, cond, not, eqb, ltb, Option, Some, None, is_some, unwrap_or, List, [], ◌∷◌, map, refl, sym, ap, ◌∙◌, arith}
+use Rattle.std.proofs.Common.{◌≡◌, ℕ, ◌+◌, ◌-◌, Bool, true, false, cond, ltb, Option, Some, None, is_some, unwrap_or, List, [], ◌∷◌, map, refl, sym, ap, ◌∙◌}
 use Rattle.std.specs.Option.{option_map}
 use Rattle.std.specs.Ordering.{nat_cmp, eq_by_cmp}
 use Rattle.std.specs.declared.cmp.Ordering.TheVariants.{Equal}
-use Rattle.std.specs.Cmp.{nat_cmp_total, unsigned_tied}
-use Rattle.std.specs.FinMap.{FinMap, find, entries, get, insert, empty, contains_key, retain_keys, from_entries, get-empty, get-entries, get-from_entries, get-insert, get-retain_keys, nat_cmp-IsAntisymmetric}
+use Rattle.std.specs.Cmp.{nat_cmp_total}
+use Rattle.std.specs.FinMap.{FinMap, find, entries, get, insert, empty, contains_key, retain_keys, get-empty, get-entries, get-from_entries, get-insert, get-retain_keys, nat_cmp-IsAntisymmetric}
 use Rattle.mig_base.specs.Ranges.{in_range}
 use Rattle.mig_base.specs.Pages.{remove_range, moved_range}
 use Rattle.mig_base.proofs.PageLemmas.{same_pages, get-remove_range, get-moved_range}

@@ -1,6 +1,5 @@
 -- What a flat memory answers once its bytes and those of the command are changed.
-use Rattle.std.proofs.lemmas.Bool.Decides.{nat_tests}
-use Rattle.std.proofs.Common.{◌≡◌, ℕ, ◌+◌, ◌-◌, ◌*◌, ◌/◌, ◌%◌, ◌^◌, ◌<◌, ◌≤◌, ◌&&◌, ◌||◌, Bool, true, false, cond, not, eqb, ltb, leb, Option, Some, None, is_some, unwrap_or, List, [], ◌∷◌, ◌++◌, map, get_or, length, refl, sym, ap, ◌∙◌, ⊎_elim, arith}
+use Rattle.std.proofs.Common.{◌≡◌, ℕ, ◌+◌, ◌-◌, ◌*◌, ◌/◌, ◌%◌, ◌^◌, ◌<◌, ◌≤◌, ◌&&◌, ◌||◌, Bool, true, false, cond, not, eqb, ltb, leb, Option, Some, None, unwrap_or, List, [], ◌∷◌, ◌++◌, map, get_or, length, refl, sym, ap, ◌∙◌, ⊎_elim, arith}
 use Rattle.std.specs.Option.{option_map}
 use Rattle.std.specs.List.{All}
 use Rattle.std.specs.Ordering.{nat_cmp}
@@ -24,7 +23,7 @@ use Rattle.mig_model.specs.Host.{Host, byte_in, memory}
 use Rattle.mig_model.proofs.memory.HostLemmas.{cell_at, memory-at, same_memory}
 use Rattle.mig_model.proofs.memory.NumberLemmas.{aligned_inside}
 use Rattle.mig_model.proofs.memory.ReplyOfLemmas.{prots, reply_of-prots}
-use Rattle.mig_laws.specs.Contents.{AreWholePages, IsByteMap, command_under, digits_under, host_under, memory_under, number_under, pages_under, reply_under, stored_under}
+use Rattle.mig_laws.specs.Contents.{AreWholePages, IsByteMap, command_under, host_under, memory_under, number_under, pages_under, reply_under, stored_under}
 use Rattle.mig_laws.proofs.Numbers.{fits-under, number_at-under}
 use Rattle.mig_laws.proofs.PageMaps.{get-map_values, unwrap_or-map}
 

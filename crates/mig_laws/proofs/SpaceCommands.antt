@@ -1,5 +1,5 @@
 -- What loads, stores and map calls do in a space once its bytes are changed.
-use Rattle.std.proofs.Common.{◌≡◌, ℕ, ◌*◌, ◌&&◌, Bool, true, false, cond, not, List, length, refl, sym, ap, ◌∙◌}
+use Rattle.std.proofs.Common.{◌≡◌, ℕ, ◌*◌, ◌&&◌, Bool, true, false, cond, not, List, map, length, refl, ap, ◌∙◌}
 use Rattle.std.specs.Ordering.{nat_cmp}
 use Rattle.std.specs.FinMap.{contains_key}
 use Rattle.std.specs.FinSet.{FinSet, contains}
@@ -7,20 +7,19 @@ use Rattle.mig_base.specs.declared.command.Access.{Access}
 use Rattle.mig_base.specs.declared.command.Access.TheVariants.{Answered, Missing, Protected}
 use Rattle.mig_base.specs.declared.command.Errno.TheVariants.{Enomem}
 use Rattle.mig_base.specs.declared.command.Command.{Command}
-use Rattle.mig_base.specs.declared.command.Command.TheVariants.{Load, Store, Mmap, Munmap, Mremap, DontNeed}
+use Rattle.mig_base.specs.declared.command.Command.TheVariants.{Store, Mmap, Munmap, Mremap, DontNeed}
 use Rattle.mig_base.specs.declared.command.Reply.{Reply}
 use Rattle.mig_base.specs.declared.command.Reply.TheVariants.{Value, Done, At, Refused}
 use Rattle.mig_base.specs.declared.message.Message.{Message}
 use Rattle.mig_base.specs.Commands.{is_access, is_store, page_of}
 use Rattle.mig_base.specs.Flat.{reply_of}
 use Rattle.mig_base.specs.Userfault.{Object, fault_queued}
-use Rattle.mig_model.specs.Host.{memory, host_after}
+use Rattle.mig_model.specs.Host.{memory}
 use Rattle.mig_model.specs.Space.{Space, access_of, accessed, accessed_by, all_queued, call_messages, called, is_made, modes_after, protected_after, queued_by}
 use Rattle.mig_laws.specs.Contents.{AreWholePages, IsByteMap, access_under, command_under, host_under, pages_under, reply_under, space_under}
 use Rattle.mig_laws.proofs.Hosts.{host_after-under}
 use Rattle.mig_laws.proofs.PageMaps.{contains_key-map_values}
 use Rattle.mig_laws.proofs.Replies.{host_replied}
-use Rattle.std.specs.Prelude.{map}
 
 -- Commands
 

@@ -1,15 +1,11 @@
 -- The forms of steps: a function applied to what a step gives passes through its tests.
-use Rattle.std.proofs.Common.{◌≡◌, Bool, true, false, cond, not, ◌||◌, Option, Some, None, List, [], ◌∷◌, map, refl, sym, ap, ◌∙◌}
+use Rattle.std.proofs.Common.{◌≡◌, Bool, true, false, cond, not, ◌||◌, Option, Some, None, List, [], ◌∷◌, map, refl, ap, ◌∙◌}
 use Rattle.std.specs.Prelude.{Result, Ok, Err, ok_or}
 use Rattle.std.specs.Option.{option_map}
 use Rattle.mig_base.specs.Tests.{is_empty}
 use Rattle.mig_base.specs.declared.refusal.Refusal.{Refusal}
+use Rattle.mig_laws.specs.Nodes.{map_ok}
 use Rattle.mig_model.specs.NodeSteps.{and_then, first_of, in_phase, is_out_of_phase, rest_of, unless, while_down, while_up}
-
--- what a step gives, changed
-abbrev pub map_ok : {A B : Type 0} → (A → B) → Result A Refusal → Result B Refusal
-map_ok g (Ok x) = Ok (g x)
-map_ok g (Err refusal) = Err refusal
 
 refused : {A B : Type 0} (g : A → B) (b : Bool) (refusal : Refusal) (result : Result A Refusal) (new : Result B Refusal) → new ≡ map_ok g result → cond b (Err refusal) new ≡ map_ok g (cond b (Err refusal) result)
 refused g true refusal result new h = refl

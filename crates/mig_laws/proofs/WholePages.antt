@@ -1,18 +1,17 @@
 -- Maps of whole pages stay so, whatever a command does.
 use Rattle.std.proofs.lemmas.Bool.Decides.{nat_tests}
-use Rattle.std.proofs.Common.{◌≡◌, ℕ, zero, suc, ◌+◌, ◌-◌, ◌/◌, ◌%◌, ◌^◌, ◌<◌, ◌≤◌, ◌&&◌, Bool, true, false, cond, eqb, ltb, Option, Some, None, unwrap_or, List, [], ◌∷◌, ◌++◌, length, take, drop, refl, sym, ap, ◌∙◌, subst, arith}
+use Rattle.std.proofs.Common.{◌≡◌, ℕ, zero, suc, ◌+◌, ◌-◌, ◌/◌, ◌%◌, ◌<◌, Bool, true, false, cond, eqb, ltb, Option, Some, None, unwrap_or, List, ◌++◌, length, take, drop, refl, sym, ap, ◌∙◌, subst, arith}
 use Rattle.std.specs.Int.{byte_at, bytes_low_first}
 use Rattle.std.specs.List.{All}
 use Rattle.std.specs.Ordering.{nat_cmp}
 use Rattle.std.specs.FinMap.{FinMap, empty, get, get-empty, get-retain_keys, insert, nat_cmp-IsAntisymmetric, retain_keys}
-use Rattle.std.proofs.lemmas.Bool.{and_parts}
 use Rattle.std.proofs.lemmas.List.Elements.{All-append, All-drop, All-replicate, All-take}
 use Rattle.std.proofs.lemmas.Option.{none-some, same_Some}
 use Rattle.mig_base.specs.declared.command.Errno.TheVariants.{Enomem}
 use Rattle.mig_base.specs.declared.command.Command.{Command}
 use Rattle.mig_base.specs.declared.command.Command.TheVariants.{Store, Mmap, Munmap, Mremap, DontNeed}
 use Rattle.mig_base.specs.declared.command.Reply.{Reply}
-use Rattle.mig_base.specs.declared.command.Reply.TheVariants.{Done, At, BadAccess, Refused}
+use Rattle.mig_base.specs.declared.command.Reply.TheVariants.{Done, At, Refused}
 use Rattle.mig_base.specs.Bytes.{contents, low_bytes, overwrite, zero_page}
 use Rattle.mig_base.specs.Flat.{is_aligned, reply_of}
 use Rattle.mig_base.specs.Pages.{moved_range, remove_range}
@@ -21,7 +20,7 @@ use Rattle.mig_base.proofs.ByteLemmas.{length-overwrite, length-zero_page}
 use Rattle.mig_base.proofs.PageLemmas.{get-moved_range, get-remove_range}
 use Rattle.mig_model.specs.Bounds.{IsPageBytes}
 use Rattle.mig_model.specs.Guest.{Guest, tried}
-use Rattle.mig_model.specs.Host.{Host, host_after, host_changed, memory}
+use Rattle.mig_model.specs.Host.{Host, host_changed, memory}
 use Rattle.mig_model.specs.Ioctls.{put_pages}
 use Rattle.mig_model.proofs.memory.CommandLemmas.{digits_low_bytes, stored_form}
 use Rattle.mig_model.proofs.memory.HostLemmas.{get-put, some_kept}
@@ -67,8 +66,7 @@ written_whole held addr width value form whole =
     let digits = digits_low_bytes value width inside.few in
     let count = digits.count in
     let fits = inside.inside in
-    let long = whole.0 in
-    (
+    let long = whole.0 in (
       length-overwrite held (low_bytes value width) (addr % 4096) (omega (arith, count, fits, long)) ∙ long,
       written_bytes held (low_bytes value width) (addr % 4096) whole.1 (All-take (λ byte. byte < 256) width (bytes_low_first 0 8 value) (low_first_bytes 8 0 value)),
     )

@@ -1,9 +1,9 @@
 -- Every reached world has whole pages alone.
-use Rattle.std.proofs.Common.{◌≡◌, ℕ, zero, suc, ◌+◌, Bool, true, false, cond, Option, Some, None, List, [], ◌∷◌, ◌++◌, map, refl, sym, ap, ◌∙◌, subst}
+use Rattle.std.proofs.Common.{◌≡◌, ℕ, zero, suc, ◌+◌, Bool, true, false, cond, Option, Some, None, List, [], ◌∷◌, ◌++◌, map, refl, sym, subst}
 use Rattle.std.specs.Ordering.{nat_cmp}
 use Rattle.std.specs.FinMap as finmap
 use Rattle.std.specs.FinMap.{FinMap}
-use Rattle.std.specs.FinSet.{FinSet, contains}
+use Rattle.std.specs.FinSet.{FinSet}
 use Rattle.mig_base.specs.Commands.{is_access}
 use Rattle.mig_base.specs.Bytes.{zero_page}
 use Rattle.mig_base.specs.declared.command.Command.{Command}
@@ -20,7 +20,7 @@ use Rattle.mig_model.specs.Log.{no_pages, present}
 use Rattle.mig_model.specs.Migration.{World, after_steps, first_world_with, guest_by, guest_of, next, with_guest_by}
 use Rattle.mig_model.specs.Owed.{home}
 use Rattle.mig_model.specs.Promises.{IsReached}
-use Rattle.mig_model.specs.Source.{Source, bytes_of, package_frames, rebuild_frames, run_of, source_act, source_acted_by, source_answers, source_rebuilt, source_took, space_of, switch_frames}
+use Rattle.mig_model.specs.Source.{Source, bytes_of, package_frames, run_of, source_act, source_acted_by, source_answers, source_took, space_of, switch_frames}
 use Rattle.mig_model.specs.Wire.{Copy, Frame, Sent, is_zeros, kept_with, page_frame, run_copies, sending, sending_if}
 use Rattle.mig_model.specs.Wire.Frame.{Advise, Page, Zero, Run, Discard, Package, End, Resume, Request, Recv, Done}
 use Rattle.mig_model.proofs.steps.StepCases.{MakesWorld, made-next}

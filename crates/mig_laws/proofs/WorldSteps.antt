@@ -1,6 +1,6 @@
 -- Every step of a world once all contents are changed.
 use Rattle.std.proofs.lemmas.Bool.Decides.{nat_tests}
-use Rattle.std.proofs.Common.{◌≡◌, ℕ, suc, ◌+◌, ◌-◌, ◌*◌, ◌/◌, ◌<◌, ◌&&◌, Bool, true, false, cond, not, eqb, ltb, Option, Some, None, List, [], ◌∷◌, ◌++◌, map, length, refl, sym, ap, ◌∙◌, arith}
+use Rattle.std.proofs.Common.{◌≡◌, ℕ, suc, ◌+◌, ◌-◌, ◌*◌, ◌<◌, ◌&&◌, Bool, true, false, cond, eqb, ltb, Option, Some, None, List, [], ◌∷◌, map, refl, sym, ap, ◌∙◌, arith}
 use Rattle.std.specs.Prelude.{Result, Ok, Err}
 use Rattle.std.specs.List.{All}
 use Rattle.std.specs.Option.{option_map}
@@ -8,7 +8,6 @@ use Rattle.std.proofs.lemmas.Bool.{and_parts, eqb-true, false≢true}
 use Rattle.std.proofs.lemmas.List.{map-append, length-map}
 use Rattle.mig_base.specs.declared.command.Command.{Command}
 use Rattle.mig_base.specs.declared.command.Command.TheVariants.{Load, Store}
-use Rattle.mig_base.specs.declared.command.Entry.{Entry}
 use Rattle.mig_base.specs.declared.effect.Effect.{Effect}
 use Rattle.mig_base.specs.declared.refusal.Refusal.{Refusal}
 use Rattle.mig_base.specs.declared.schedule.Side.{Side}
@@ -18,20 +17,21 @@ use Rattle.mig_model.specs.DestinationSteps as destination
 use Rattle.mig_model.specs.Guest.{Guest}
 use Rattle.mig_model.specs.GuestSteps.{Tried, issue, retry}
 use Rattle.mig_model.specs.Lengths.{area_count, command_len, commands_len, run_count, text_len}
-use Rattle.mig_model.specs.Migration.{Answer, Made, World, answer, break, cut, delivered, destination_acts, destination_sends, guest_by, guest_of, guest_tries, has_started, is_short, made, runs, source_acts, source_sends, source_sends_urgently, with_guest, with_guest_by}
+use Rattle.mig_model.specs.Migration.{Answer, Made, World, answer, cut, delivered, destination_acts, destination_sends, guest_by, guest_of, guest_tries, has_started, is_short, made, runs, source_acts, source_sends, source_sends_urgently, with_guest_by}
 use Rattle.mig_model.specs.NodeSteps.{Acted, Sends, in_phase, while_down, while_up}
-use Rattle.mig_model.specs.Source.{Source, is_under_way, space_of}
+use Rattle.mig_model.specs.Source.{Source, is_under_way}
 use Rattle.mig_model.specs.SourceSteps as source
-use Rattle.mig_model.specs.Wire.{Frame, Sent, Wire, is_zeros, wire_behind, wire_if, wire_with}
+use Rattle.mig_model.specs.Wire.{Frame, Sent, Wire, is_zeros, wire_behind}
 use Rattle.mig_model.specs.Wire.Frame.{Advise, Page, Zero, Run, Discard, Package, End, Resume, Request, Recv, Done}
 use Rattle.mig_laws.specs.Contents.{AreWholePages, IsByteMap, command_under, entry_under, guest_under}
 use Rattle.mig_laws.specs.Runs.{KeepsOthers}
+use Rattle.mig_laws.specs.Nodes.{destination_acted_under, destination_sends_under, map_ok, source_acted_under, source_sends_under, tried_under}
 use Rattle.mig_laws.specs.Worlds.{AreWholeFrames, HasWholePages, IsWholeFrame, answer_under, bytes_in, destination_under, effect_under, ends_inside, first_bytes, frame_under, is_page, is_partial, moved_bytes, sent_under, source_under, step_under, wire_under, world_under}
 use Rattle.mig_laws.proofs.DestinationNode as node
 use Rattle.mig_laws.proofs.Frames.{wire_if-under, wire_with-under}
-use Rattle.mig_laws.proofs.GuestSteps.{issue-under, retry-under, tried_under}
+use Rattle.mig_laws.proofs.GuestSteps.{issue-under, retry-under}
 use Rattle.mig_laws.proofs.SourceNode as from
-use Rattle.mig_laws.proofs.StepForms.{in_phase-map, map_ok, while_down-map, while_up-map}
+use Rattle.mig_laws.proofs.StepForms.{in_phase-map, while_down-map, while_up-map}
 
 -- what a step did, changed
 abbrev pub made_under : (ℕ → ℕ) → (ℕ → List ℕ) → Made → Made
@@ -60,25 +60,25 @@ tries-under f bytes world (Ok tried) =
 
 -- Steps of a node
 
-acts-under : (f : ℕ → ℕ) (bytes : ℕ → List ℕ) (world : World) (step : Result (Acted Source) Refusal) → source_acts (world_under f world) (map_ok (from.acted_under f bytes) step) ≡ map_ok (made_under f bytes) (source_acts world step)
+acts-under : (f : ℕ → ℕ) (bytes : ℕ → List ℕ) (world : World) (step : Result (Acted Source) Refusal) → source_acts (world_under f world) (map_ok (source_acted_under f bytes) step) ≡ map_ok (made_under f bytes) (source_acts world step)
 acts-under f bytes world (Ok acted) = refl
 acts-under f bytes world (Err refusal) = refl
 
-sends-under : (f : ℕ → ℕ) (bytes : ℕ → List ℕ) (world : World) (step : Result (Sends Source) Refusal) → source_sends (world_under f world) (map_ok (from.sends_under f bytes) step) ≡ map_ok (made_under f bytes) (source_sends world step)
+sends-under : (f : ℕ → ℕ) (bytes : ℕ → List ℕ) (world : World) (step : Result (Sends Source) Refusal) → source_sends (world_under f world) (map_ok (source_sends_under f bytes) step) ≡ map_ok (made_under f bytes) (source_sends world step)
 sends-under f bytes world (Ok sends) =
     ap (λ (wire : Wire). made (effect_under f bytes sends.effect) (record (world_under f world) { source = source_under f sends.node; forward = wire })) (wire_with-under f world.forward sends.node.epoch sends.frames _ refl)
 sends-under f bytes world (Err refusal) = refl
 
-sends_urgently-under : (f : ℕ → ℕ) (bytes : ℕ → List ℕ) (world : World) (step : Result (Sends Source) Refusal) → source_sends_urgently (world_under f world) (map_ok (from.sends_under f bytes) step) ≡ map_ok (made_under f bytes) (source_sends_urgently world step)
+sends_urgently-under : (f : ℕ → ℕ) (bytes : ℕ → List ℕ) (world : World) (step : Result (Sends Source) Refusal) → source_sends_urgently (world_under f world) (map_ok (source_sends_under f bytes) step) ≡ map_ok (made_under f bytes) (source_sends_urgently world step)
 sends_urgently-under f bytes world (Ok sends) =
     ap (λ (wire : Wire). made (effect_under f bytes sends.effect) (record (world_under f world) { source = source_under f sends.node; urgent = wire })) (wire_with-under f world.urgent sends.node.epoch sends.frames _ refl)
 sends_urgently-under f bytes world (Err refusal) = refl
 
-there_acts-under : (f : ℕ → ℕ) (bytes : ℕ → List ℕ) (world : World) (step : Result (Acted Destination) Refusal) → destination_acts (world_under f world) (map_ok (node.acted_under f bytes) step) ≡ map_ok (made_under f bytes) (destination_acts world step)
+there_acts-under : (f : ℕ → ℕ) (bytes : ℕ → List ℕ) (world : World) (step : Result (Acted Destination) Refusal) → destination_acts (world_under f world) (map_ok (destination_acted_under f bytes) step) ≡ map_ok (made_under f bytes) (destination_acts world step)
 there_acts-under f bytes world (Ok acted) = refl
 there_acts-under f bytes world (Err refusal) = refl
 
-there_sends-under : (f : ℕ → ℕ) (bytes : ℕ → List ℕ) (world : World) (step : Result (Sends Destination) Refusal) → destination_sends (world_under f world) (map_ok (node.sends_under f bytes) step) ≡ map_ok (made_under f bytes) (destination_sends world step)
+there_sends-under : (f : ℕ → ℕ) (bytes : ℕ → List ℕ) (world : World) (step : Result (Sends Destination) Refusal) → destination_sends (world_under f world) (map_ok (destination_sends_under f bytes) step) ≡ map_ok (made_under f bytes) (destination_sends world step)
 there_sends-under f bytes world (Ok sends) =
     ap (λ (wire : Wire). made (effect_under f bytes sends.effect) (record (world_under f world) { destination = destination_under f sends.node; back = wire })) (wire_if-under f world.up world.back sends.node.epoch sends.frames _ refl)
 there_sends-under f bytes world (Err refusal) = refl
@@ -206,9 +206,9 @@ forward_takes f h world =
     record {
       puts = λ wire. refl;
       takes = λ rest sent whole.
-      let behind = record world { forward = wire_behind rest } in
-      ap (destination_sends (world_under f behind)) (node.take-under f h world.destination sent.epoch sent.frame whole.0)
-      ∙ there_sends-under f (λ addr. bytes_in sent.frame) behind (destination.take world.destination sent.epoch sent.frame);
+          let behind = record world { forward = wire_behind rest } in
+          ap (destination_sends (world_under f behind)) (node.take-under f h world.destination sent.epoch sent.frame whole.0)
+          ∙ there_sends-under f (λ addr. bytes_in sent.frame) behind (destination.take world.destination sent.epoch sent.frame);
     }
 
 back_takes : (f : ℕ → ℕ) (world : World) →
@@ -217,8 +217,8 @@ back_takes f world =
     record {
       puts = λ wire. refl;
       takes = λ rest sent whole.
-      let behind = record world { back = wire_behind rest } in
-      ap (source_sends (world_under f behind)) (from.take-under f world.source sent.frame) ∙ sends-under f (λ addr. bytes_in sent.frame) behind (source.take world.source sent.frame);
+          let behind = record world { back = wire_behind rest } in
+          ap (source_sends (world_under f behind)) (from.take-under f world.source sent.frame) ∙ sends-under f (λ addr. bytes_in sent.frame) behind (source.take world.source sent.frame);
     }
 
 urgent_takes : (f : ℕ → ℕ) → f 0 ≡ 0 → (world : World) →
@@ -227,9 +227,9 @@ urgent_takes f h world =
     record {
       puts = λ wire. refl;
       takes = λ rest sent whole.
-      let behind = record world { urgent = wire_behind rest } in
-      ap (destination_acts (world_under f behind)) (node.take_urgent-under f h world.destination sent.frame whole.0)
-      ∙ there_acts-under f (λ addr. bytes_in sent.frame) behind (destination.take_urgent world.destination sent.frame);
+          let behind = record world { urgent = wire_behind rest } in
+          ap (destination_acts (world_under f behind)) (node.take_urgent-under f h world.destination sent.frame whole.0)
+          ∙ there_acts-under f (λ addr. bytes_in sent.frame) behind (destination.take_urgent world.destination sent.frame);
     }
 
 -- Every step
@@ -254,11 +254,11 @@ answer-map f is world whole Step.Round part =
     ap (source_acts (world_under f world)) (from.round-under f bytes world.source) ∙ acts-under f bytes world (source.round world.source)
 answer-map f is world whole Step.Send part =
     let bytes = moved_bytes world Step.Send in
-    ap (source_sends (world_under f world)) (while_up-map (from.sends_under f bytes) world.up (source.send world.source) _ (from.send-under f is.keeps_zero world.source))
+    ap (source_sends (world_under f world)) (while_up-map (source_sends_under f bytes) world.up (source.send world.source) _ (from.send-under f is.keeps_zero world.source))
     ∙ sends-under f bytes world (while_up world.up (source.send world.source))
 answer-map f is world whole (Step.SendRun count) part =
     let bytes = moved_bytes world (Step.SendRun count) in
-    ap (source_sends (world_under f world)) (while_up-map (from.sends_under f bytes) world.up (source.send_run world.source count) _ (from.send_run-under f is.keeps_zero bytes world.source count))
+    ap (source_sends (world_under f world)) (while_up-map (source_sends_under f bytes) world.up (source.send_run world.source count) _ (from.send_run-under f is.keeps_zero bytes world.source count))
     ∙ sends-under f bytes world (while_up world.up (source.send_run world.source count))
 answer-map f is world whole Step.SourceRead part =
     let bytes = moved_bytes world Step.SourceRead in
@@ -268,7 +268,7 @@ answer-map f is world whole Step.SourceAct part =
     ap (source_acts (world_under f world)) (from.act-under f is.keeps_zero bytes world.source) ∙ acts-under f bytes world (source.act world.source)
 answer-map f is world whole Step.Switch part =
     let bytes = moved_bytes world Step.Switch in
-    ap (source_sends (world_under f world)) (while_up-map (from.sends_under f bytes) world.up (source.switch world.source) _ (from.switch-under f bytes world.source))
+    ap (source_sends (world_under f world)) (while_up-map (source_sends_under f bytes) world.up (source.switch world.source) _ (from.switch-under f bytes world.source))
     ∙ sends-under f bytes world (while_up world.up (source.switch world.source))
 answer-map f is world whole (Step.Deliver n) part =
     while_up-map (made_under f (moved_bytes world (Step.Deliver n))) world.up _ _
@@ -289,11 +289,11 @@ answer-map f is world whole Step.Install part =
     ap (destination_acts (world_under f world)) (node.install-under f bytes world.destination) ∙ there_acts-under f bytes world (destination.install world.destination)
 answer-map f is world whole (Step.Push ticket) part =
     let bytes = moved_bytes world (Step.Push ticket) in
-    ap (source_sends (world_under f world)) (while_up-map (from.sends_under f bytes) world.up (source.push world.source ticket) _ (from.push-under f is.keeps_zero world.source ticket))
+    ap (source_sends (world_under f world)) (while_up-map (source_sends_under f bytes) world.up (source.push world.source ticket) _ (from.push-under f is.keeps_zero world.source ticket))
     ∙ sends-under f bytes world (while_up world.up (source.push world.source ticket))
 answer-map f is world whole (Step.PushUrgent ticket) part =
     let bytes = moved_bytes world (Step.PushUrgent ticket) in
-    ap (source_sends_urgently (world_under f world)) (while_up-map (from.sends_under f bytes) world.up (source.push_urgent world.source ticket) _ (from.push_urgent-under f is.keeps_zero world.source ticket))
+    ap (source_sends_urgently (world_under f world)) (while_up-map (source_sends_under f bytes) world.up (source.push_urgent world.source ticket) _ (from.push_urgent-under f is.keeps_zero world.source ticket))
     ∙ sends_urgently-under f bytes world (while_up world.up (source.push_urgent world.source ticket))
 answer-map f is world whole (Step.DeliverUrgent n) part =
     while_up-map (made_under f (moved_bytes world (Step.DeliverUrgent n))) world.up _ _
@@ -301,29 +301,29 @@ answer-map f is world whole (Step.DeliverUrgent n) part =
     (delivered-under f _ _ _ _ (urgent_takes f is.keeps_zero world) world.urgent.frames world.urgent.held n whole.urgent part))
 answer-map f is world whole Step.Serve part =
     let bytes = moved_bytes world Step.Serve in
-    ap (source_acts (world_under f world)) (while_up-map (from.acted_under f bytes) world.up (source.serve world.source) _ (from.serve-under f bytes world.source))
+    ap (source_acts (world_under f world)) (while_up-map (source_acted_under f bytes) world.up (source.serve world.source) _ (from.serve-under f bytes world.source))
     ∙ acts-under f bytes world (while_up world.up (source.serve world.source))
 answer-map f is world whole Step.End part =
     let bytes = moved_bytes world Step.End in
-    ap (source_sends (world_under f world)) (while_up-map (from.sends_under f bytes) world.up (source.end world.source) _ (from.end-under f bytes world.source))
+    ap (source_sends (world_under f world)) (while_up-map (source_sends_under f bytes) world.up (source.end world.source) _ (from.end-under f bytes world.source))
     ∙ sends-under f bytes world (while_up world.up (source.end world.source))
 answer-map f is world whole Step.Break part =
     while_up-map (made_under f (moved_bytes world Step.Break)) world.up (in_phase (is_under_way world.source) (made Effect.Broken (cut world))) _
     (in_phase-map (made_under f (moved_bytes world Step.Break)) (is_under_way world.source) (made Effect.Broken (cut world)) _ refl)
 answer-map f is world whole (Step.Notice Side.Source) part =
     let bytes = moved_bytes world (Step.Notice Side.Source) in
-    ap (source_acts (world_under f world)) (while_down-map (from.acted_under f bytes) world.up (source.pause world.source) _ (from.pause-under f bytes world.source))
+    ap (source_acts (world_under f world)) (while_down-map (source_acted_under f bytes) world.up (source.pause world.source) _ (from.pause-under f bytes world.source))
     ∙ acts-under f bytes world (while_down world.up (source.pause world.source))
 answer-map f is world whole (Step.Notice Side.Destination) part =
     let bytes = moved_bytes world (Step.Notice Side.Destination) in
     let step = in_phase (is_under_way world.source) (destination.pause world.destination) in
-    ap (destination_acts (world_under f world)) (while_down-map (node.acted_under f bytes) world.up step _ (in_phase-map (node.acted_under f bytes) (is_under_way world.source) (destination.pause world.destination) _ (node.pause-under f bytes world.destination)))
+    ap (destination_acts (world_under f world)) (while_down-map (destination_acted_under f bytes) world.up step _ (in_phase-map (destination_acted_under f bytes) (is_under_way world.source) (destination.pause world.destination) _ (node.pause-under f bytes world.destination)))
     ∙ there_acts-under f bytes world (while_down world.up step)
 answer-map f is world whole Step.Resume part =
     let bytes = moved_bytes world Step.Resume in
     let up : World = record world { up = true } in
     let step = in_phase (is_dest_paused world.destination.phase) (source.resume world.source) in
-    ap (source_sends (world_under f up)) (while_down-map (from.sends_under f bytes) world.up step _ (in_phase-map (from.sends_under f bytes) (is_dest_paused world.destination.phase) (source.resume world.source) _ (from.resume-under f bytes world.source)))
+    ap (source_sends (world_under f up)) (while_down-map (source_sends_under f bytes) world.up step _ (in_phase-map (source_sends_under f bytes) (is_dest_paused world.destination.phase) (source.resume world.source) _ (from.resume-under f bytes world.source)))
     ∙ sends-under f bytes up (while_down world.up step)
 
 same_answer : (f : ℕ → ℕ) (world : World) (step : Step) (answer : Answer) → map_ok (made_under f (moved_bytes world step)) answer ≡ answer_under f world step answer

@@ -1,6 +1,6 @@
 -- A map of bytes, and how it acts on all that has contents at one host: pages, numbers, commands, replies, spaces and guests. It changes
 -- no address, page number, protection, message or count.
-use Rattle.std.specs.Prelude.{◌≡◌, ℕ, zero, suc, ◌+◌, ◌*◌, ◌/◌, ◌%◌, ◌^◌, ◌<◌, ◌&&◌, nat_lt, if◌then◌else◌, List, map, Option, Some}
+use Rattle.std.specs.Prelude.{◌≡◌, ℕ, zero, suc, ◌+◌, ◌*◌, ◌/◌, ◌%◌, ◌^◌, ◌<◌, ◌&&◌, nat_lt, if◌then◌else◌, List, map, Some}
 use Rattle.std.specs.Option.{option_map}
 use Rattle.std.specs.Ordering.{nat_cmp}
 use Rattle.std.specs.FinMap.{FinMap, entries, from_entries, get}
@@ -14,7 +14,7 @@ use Rattle.mig_base.specs.declared.command.Reply.TheVariants.{Value}
 use Rattle.mig_base.specs.declared.cpu_state.CpuState.{CpuState}
 use Rattle.mig_base.specs.Flat.{Cell, Memory, is_aligned}
 use Rattle.mig_model.specs.Bounds.{IsPageBytes}
-use Rattle.mig_model.specs.Cpus.{Cpus, Took}
+use Rattle.mig_model.specs.Cpus.{Took}
 use Rattle.mig_model.specs.Guest.{Guest}
 use Rattle.mig_model.specs.Host.{Host}
 use Rattle.mig_model.specs.Space.{Space}

@@ -1,5 +1,4 @@
 use Rattle.std.proofs.Common.{ap, ◌∙◌}
-use Rattle.mig_model.specs.Migration.{outcome}
 use Rattle.mig_laws.specs.Worlds.{outcome_under}
 use Rattle.mig_laws.proofs.ChangedRuns.{long_whole, outcome-under}
 use Rattle.mig_laws.proofs.WholeWorlds.{whole-reached}

@@ -1,4 +1,4 @@
-use Rattle.std.proofs.Common.{◌≡◌, ℕ, ◌^◌, ◌&&◌, cond, ltb, ap, sym, subst, ◌∙◌}
+use Rattle.std.proofs.Common.{ℕ, ◌^◌, ◌&&◌, cond, ltb, ap, sym, subst}
 use Rattle.mig_base.specs.Flat.{is_aligned}
 use Rattle.mig_model.specs.Migration.{after_steps, first_world_with}
 use Rattle.mig_laws.specs.Runs.{DecideAlike}

@@ -1,4 +1,4 @@
-use Rattle.std.proofs.Common.{ap, sym, subst, ◌∙◌}
+use Rattle.std.proofs.Common.{sym, subst}
 use Rattle.mig_model.specs.Migration.{after_steps}
 use Rattle.mig_model.specs.Promises.{IsComplete}
 use Rattle.mig_laws.specs.Runs.{DecideAlike}
