@@ -43,8 +43,8 @@ pub fn every_changed_step()
         outcome (world_under f world) (step_under f step) ≡ Err refusal }
 {}
 
-/// The same of steps made in turn: the changed run answers the changed answers, and ends in the changed world. A run whose deliveries are
-/// each of 4112 bytes or more, as many as complete a Page, has none that ends inside one.
+/// The same of steps made in turn: the changed run answers the changed answers, and ends in the changed world. In a run whose deliveries
+/// are each of 4112 bytes or more, which always complete a Page, none ends inside one.
 pub fn every_changed_run()
     ensures world { (f : ℕ → ℕ) (world : World) (steps : List Step) → IsByteMap f →
         IsReached world → NonePartial world steps →
