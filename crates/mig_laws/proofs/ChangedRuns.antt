@@ -10,26 +10,28 @@ use Rattle.std.proofs.lemmas.Bool.{and_parts}
 use Rattle.mig_base.specs.declared.TheConstants.{HIGH_PAGE}
 use Rattle.mig_base.specs.declared.command.Command.{Command}
 use Rattle.mig_base.specs.declared.command.Command.TheVariants.{Store}
+use Rattle.mig_base.specs.declared.command.Reply.{Reply}
+use Rattle.mig_base.specs.declared.command.Reply.TheVariants.{Value}
 use Rattle.mig_base.specs.declared.cpu_state.CpuState.{CpuState}
 use Rattle.mig_base.specs.declared.schedule.Step.{Step}
 use Rattle.mig_base.specs.Pages.{map_below}
 use Rattle.mig_base.proofs.PageLemmas.{get-map_below, same_pages}
+use Rattle.mig_model.specs.Guest.{Guest}
 use Rattle.mig_model.specs.Host.{Host, bare_host, memory}
 use Rattle.mig_model.specs.Lengths.{text_len}
 use Rattle.mig_model.specs.Migration.{Answer, World, after_steps, answer, first_world_with, next, next_by, outcome, outcome_by}
 use Rattle.mig_model.specs.Promises.{IsReached}
 use Rattle.mig_model.specs.Runs.{outcomes}
 use Rattle.mig_model.specs.Source.{space_of}
-use Rattle.mig_model.specs.Space.{Space}
 use Rattle.mig_model.specs.Whereabouts.{current_by, current_host, seen_bytes}
 use Rattle.mig_model.specs.Destination.{settled}
 use Rattle.mig_model.specs.Wire.{Frame, Sent, Wire, is_zeros}
 use Rattle.mig_model.specs.Wire.Frame.{Page, Zero, Run, Package}
-use Rattle.mig_laws.specs.Contents.{IsByteMap, command_under, cpu_under, digits_under, host_under, memory_under, pages_under, space_under}
-use Rattle.mig_laws.specs.Runs.{AreAlikeSpaces, AreAlikeWires, DecideAlike, IsReachedWhole, KeepsOthers, NonePartial, bare_command, bare_frame, is_long, outcomes_under}
-use Rattle.mig_laws.specs.Worlds.{HasWholePages, answer_under, ends_inside, frame_under, is_page, is_partial, outcome_under, sent_under, step_under, wire_under, world_under}
+use Rattle.mig_laws.specs.Contents.{IsByteMap, command_under, cpu_under, digits_under, guest_under, host_under, memory_under, pages_under, reply_under}
+use Rattle.mig_laws.specs.Runs.{AreAlikeGuests, AreAlikeWires, DecideAlike, IsReachedWhole, KeepsOthers, NonePartial, bare_command, bare_cpu, bare_frame, bare_reply, is_long, outcomes_under}
+use Rattle.mig_laws.specs.Worlds.{HasWholePages, answer_under, copy_under, ends_inside, frame_under, is_page, is_partial, outcome_under, sent_under, step_under, wire_under, world_under}
 use Rattle.mig_laws.proofs.ObjectCalls.{present-under}
-use Rattle.mig_laws.proofs.PageMaps.{get-map_values, map_values-empty}
+use Rattle.mig_laws.proofs.PageMaps.{contains_key-map_values, get-map_values, map_values-empty}
 use Rattle.mig_laws.proofs.Replies.{memory-under}
 use Rattle.mig_laws.proofs.WholeWorlds.{whole-first, whole-next}
 use Rattle.mig_laws.proofs.WorldSteps.{IsAlike, alike_kept, alike_whole, answer-under}
@@ -223,8 +225,24 @@ bare-frames f (sent ∷ rest) = λ i. record sent { frame = bare-frame f sent.fr
 wires-alike : (f : ℕ → ℕ) (wire : Wire) → AreAlikeWires wire (wire_under f wire)
 wires-alike f wire = record { frames = bare-frames f wire.frames; held = refl }
 
-spaces-alike : (f : ℕ → ℕ) (space : Space) → AreAlikeSpaces space (space_under f space)
-spaces-alike f space = record { areas = refl; present = present-under f space; protected = refl; object = refl }
+bare-reply : (f : ℕ → ℕ) (reply : Reply) → bare_reply (reply_under f reply) ≡ bare_reply reply
+bare-reply f (Value number) = refl
+bare-reply f _ = refl
+
+bare-cpu : (f : ℕ → ℕ) (state : CpuState) → bare_cpu (cpu_under f state) ≡ bare_cpu state
+bare-cpu f CpuState.Idle = refl
+bare-cpu f (CpuState.Asleep command) = ap (λ (c : Command). CpuState.Asleep c) (bare-command f command)
+bare-cpu f (CpuState.Woken command) = ap (λ (c : Command). CpuState.Woken c) (bare-command f command)
+bare-cpu f (CpuState.InCall reply left) = ap (λ (r : Reply). CpuState.InCall r left) (bare-reply f reply)
+
+-- a change that a second function does not see
+unseen : {A B : Type 0} (change : A → A) (view : A → B) → ((x : A) → view (change x) ≡ view x) → (xs : List A) → map view (map change xs) ≡ map view xs
+unseen change view same [] = refl
+unseen change view same (x ∷ xs) = λ i. same x i ∷ unseen change view same xs i
+
+guests-alike : (f : ℕ → ℕ) (guest : Guest) → AreAlikeGuests guest (guest_under f guest)
+guests-alike f guest =
+    record { areas = refl; present = present-under f guest.space; protected = refl; object = refl; cpus = unseen (cpu_under f) bare_cpu (bare-cpu f) guest.cpus }
 
 pub decide-alike : (f : ℕ → ℕ) (world : World) → DecideAlike world (world_under f world)
 decide-alike f world =
@@ -244,8 +262,10 @@ decide-alike f world =
       requests = refl;
       left = refl;
       counts = refl;
-      source = spaces-alike f (space_of world.source);
-      destination = spaces-alike f world.destination.guest.space;
+      kept = contains_key-map_values (map f) world.destination.kept;
+      arrivals = unseen (copy_under f) (λ copy. copy.page) (λ copy. refl) world.destination.arrivals;
+      source = guests-alike f world.source.guest;
+      destination = guests-alike f world.destination.guest;
       forward = wires-alike f world.forward;
       back = wires-alike f world.back;
       urgent = wires-alike f world.urgent;

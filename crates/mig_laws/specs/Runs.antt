@@ -1,18 +1,20 @@
 -- Runs of which only the contents differ: which steps they may have, what they answer, and what they decide alike.
 use Rattle.std.specs.Prelude.{◌≡◌, ℕ, ◌<◌, nat_le, Bool, true, false, List, [], ◌∷◌, map, Result}
 use Rattle.std.specs.Option.{option_map}
+use Rattle.std.specs.FinMap.{contains_key}
 use Rattle.mig_base.specs.declared.command.Command.{Command}
 use Rattle.mig_base.specs.declared.command.Command.TheVariants.{Store}
+use Rattle.mig_base.specs.declared.command.Reply.{Reply}
+use Rattle.mig_base.specs.declared.command.Reply.TheVariants.{Value}
+use Rattle.mig_base.specs.declared.cpu_state.CpuState.{CpuState}
 use Rattle.mig_base.specs.declared.effect.Effect.{Effect}
 use Rattle.mig_base.specs.declared.refusal.Refusal.{Refusal}
 use Rattle.mig_base.specs.declared.schedule.Step.{Step}
 use Rattle.mig_model.specs.Lengths.{text_len}
-use Rattle.mig_model.specs.Guest.{is_present}
+use Rattle.mig_model.specs.Guest.{Guest, is_present}
 use Rattle.mig_model.specs.Migration.{World, after_steps, first_world_with, next, outcome}
-use Rattle.mig_model.specs.Source.{space_of}
-use Rattle.mig_model.specs.Space.{Space}
 use Rattle.mig_model.specs.Views.{counts_of, owed_left, phase_of}
-use Rattle.mig_model.specs.Wire.{Frame, Sent, Wire}
+use Rattle.mig_model.specs.Wire.{Copy, Frame, Sent, Wire}
 use Rattle.mig_model.specs.Wire.Frame.{Page, Zero, Run, Package}
 use Rattle.mig_laws.specs.Worlds.{is_partial, outcome_under}
 
@@ -61,6 +63,18 @@ abbrev pub bare_command : Command → Command
 bare_command (Store addr width value) = Store addr width 0
 bare_command command = command
 
+-- a reply without the value of a load
+abbrev pub bare_reply : Reply → Reply
+bare_reply (Value number) = Value 0
+bare_reply reply = reply
+
+-- a processor without values
+abbrev pub bare_cpu : CpuState → CpuState
+bare_cpu CpuState.Idle = CpuState.Idle
+bare_cpu (CpuState.Asleep command) = CpuState.Asleep (bare_command command)
+bare_cpu (CpuState.Woken command) = CpuState.Woken (bare_command command)
+bare_cpu (CpuState.InCall reply left) = CpuState.InCall (bare_reply reply) left
+
 -- a frame without its contents: a Page is as a Zero, a Run has as many pages, and a Package has no values of stores
 abbrev pub bare_frame : Frame → Frame
 bare_frame (Page page bytes) = Zero page
@@ -73,12 +87,14 @@ pub record AreAlikeWires (old new : Wire) : Type 0 where
   pub frames : map (λ (sent : Sent). record sent { frame = bare_frame sent.frame }) new.frames ≡ map (λ (sent : Sent). record sent { frame = bare_frame sent.frame }) old.frames
   pub held : new.held ≡ old.held
 
--- two spaces with the same pages mapped, present, write-protected and registered, and the same unread messages
-pub record AreAlikeSpaces (old new : Space) : Type 0 where
-  pub areas : new.host.areas ≡ old.host.areas
-  pub present : (page : ℕ) → is_present new page ≡ is_present old page
-  pub protected : new.protected ≡ old.protected
-  pub object : new.object ≡ old.object
+-- two guests with the same pages mapped, present, write-protected and registered, and the same unread messages, whose processors are in the
+-- same states, with the same commands but for values
+pub record AreAlikeGuests (old new : Guest) : Type 0 where
+  pub areas : new.space.host.areas ≡ old.space.host.areas
+  pub present : (page : ℕ) → is_present new.space page ≡ is_present old.space page
+  pub protected : new.space.protected ≡ old.space.protected
+  pub object : new.space.object ≡ old.space.object
+  pub cpus : map bare_cpu new.cpus ≡ map bare_cpu old.cpus
 
 -- two worlds that differ in contents alone: all that a node decides by is the same
 pub record DecideAlike (old new : World) : Type 0 where
@@ -99,8 +115,11 @@ pub record DecideAlike (old new : World) : Type 0 where
   pub requests : new.destination.requests ≡ old.destination.requests
   pub left : owed_left new ≡ owed_left old
   pub counts : counts_of new ≡ counts_of old
-  pub source : AreAlikeSpaces (space_of old.source) (space_of new.source)
-  pub destination : AreAlikeSpaces old.destination.guest.space new.destination.guest.space
+  -- the pages whose copies are kept, and those whose copies have arrived
+  pub kept : (page : ℕ) → contains_key new.destination.kept page ≡ contains_key old.destination.kept page
+  pub arrivals : map (λ (copy : Copy). copy.page) new.destination.arrivals ≡ map (λ (copy : Copy). copy.page) old.destination.arrivals
+  pub source : AreAlikeGuests old.source.guest new.source.guest
+  pub destination : AreAlikeGuests old.destination.guest new.destination.guest
   -- Discard, Package and Recv among the frames
   pub forward : AreAlikeWires old.forward new.forward
   pub back : AreAlikeWires old.back new.back

@@ -68,13 +68,16 @@ pub fn every_changed_run()
 {}
 
 /// Phases, epochs, clean pages and those to be sent, what remains, is asked for, owed and requested, the counts, which pages are mapped,
-/// present, protected and registered, unread messages, and each Discard, Package and Recv in flight depend on no byte; so a changed run
-/// completes exactly if the run does.
+/// present, protected and registered, which copies are kept and have arrived, unread messages, what each processor waits for, and each
+/// Discard, Package and Recv in flight depend on no byte; so a changed run completes exactly if the run does.
 pub fn what_no_byte_decides()
     ensures world { (f : ℕ → ℕ) (world : World) → DecideAlike world (world_under f world) }
     ensures run { (f : ℕ → ℕ) (world : World) (steps : List Step) → IsByteMap f →
         IsReached world → NonePartial world steps →
         DecideAlike (after_steps world steps)
+        (after_steps (world_under f world) (map (step_under f) steps)) }
+    ensures kept_run { (f : ℕ → ℕ) (world : World) (steps : List Step) → IsByteMap f →
+        KeepsOthers f → IsReached world → DecideAlike (after_steps world steps)
         (after_steps (world_under f world) (map (step_under f) steps)) }
     ensures complete { (f : ℕ → ℕ) (world : World) (steps : List Step) → IsByteMap f →
         IsReached world → NonePartial world steps →
