@@ -260,6 +260,7 @@ decide-alike f world =
       asked = refl;
       owed = refl;
       requests = refl;
+      urgent_frames = (refl, refl);
       left = refl;
       counts = refl;
       kept = contains_key-map_values (map f) world.destination.kept;

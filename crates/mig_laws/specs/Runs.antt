@@ -113,6 +113,8 @@ pub record DecideAlike (old new : World) : Type 0 where
   pub asked : new.source.asked ≡ old.source.asked
   pub owed : new.destination.owed ≡ old.destination.owed
   pub requests : new.destination.requests ≡ old.destination.requests
+  -- how many frames the source has put on the urgent wire in its epoch, and how many of them the destination has taken
+  pub urgent_frames : (new.source.urgent_sent ≡ old.source.urgent_sent) × (new.destination.urgent_taken ≡ old.destination.urgent_taken)
   pub left : owed_left new ≡ owed_left old
   pub counts : counts_of new ≡ counts_of old
   -- the pages whose copies are kept, and those whose copies have arrived
