@@ -1,5 +1,5 @@
 #!/usr/bin/env python3
-"""Lists the files of lemmas of mig_model and frame_texts, each with the first sentence of its head.
+"""Lists the files of lemmas of mig_model, mig_laws and frame_texts, each with the first sentence of its head.
 
 python3 bench/check/lemmas.py [--write]
 
@@ -17,7 +17,7 @@ import page
 CRATES = page.TOP / "crates"
 PROTOCOL = page.TOP / "docs" / "PROTOCOL.md"
 SECTION = "## Each step keeps it"
-CRATES_OF_LEMMAS = ("mig_model", "frame_texts")
+CRATES_OF_LEMMAS = ("mig_model", "mig_laws", "frame_texts")
 
 
 def head_of(file):

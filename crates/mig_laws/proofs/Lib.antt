@@ -1,0 +1,15 @@
+pub mod Numbers
+pub mod PageMaps
+pub mod Replies
+pub mod Hosts
+pub mod SpaceCommands
+pub mod ObjectCalls
+pub mod StepForms
+pub mod GuestSteps
+pub mod Frames
+pub mod SourceNode
+pub mod DestinationNode
+pub mod WorldSteps
+pub mod WholePages
+pub mod WholeWorlds
+pub mod ChangedRuns

@@ -1,0 +1,4 @@
+pub mod Contents
+pub mod Worlds
+pub mod Nodes
+pub mod Runs

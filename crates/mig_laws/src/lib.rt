@@ -1,0 +1,12 @@
+//! Laws that follow from the machine of `mig_model`, and on which no other crate stands.
+//!
+//! Contents do not matter. A map of bytes that keeps 0 acts on all that has contents: `specs/Contents.antt` says how on pages, numbers,
+//! commands, spaces and guests, `specs/Worlds.antt` on nodes, frames, worlds, steps and answers, and `specs/Nodes.antt` on what a step of
+//! a node gives. `specs/Runs.antt` has what two runs that differ in contents alone decide alike.
+//!
+//! [`spaces`] has the laws of an address space, [`nodes`] those of a guest and of a node, and [`worlds`] those of a migration.
+#![tactic(auto)]
+
+pub mod nodes;
+pub mod spaces;
+pub mod worlds;
