@@ -10,6 +10,7 @@ import argparse
 import os
 import queue
 import struct
+import sys
 import threading
 
 LOW_PAGE, MOST_OF_RUN, EPOCH = 0x10, 64, 1
@@ -89,7 +90,8 @@ def read(length):
     while len(data) < length:
         piece = os.read(0, length - len(data))
         if not piece:
-            raise SystemExit("the destination has ended")
+            print("the destination has ended", file=sys.stderr)
+            os._exit(1)  # (from this thread, while the other one waits)
         data += piece
     return data
 

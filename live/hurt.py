@@ -1,8 +1,12 @@
 """Ways to hurt a migration: a side that is killed, strangers at the door, bytes that are no frames. Each case returns what is wrong, or None."""
 
+import concurrent.futures
 import contextlib
+import shlex
 import signal
 import socket
+import subprocess
+import sys
 import tempfile
 import threading
 import time
@@ -269,10 +273,50 @@ def handler_dies_after_the_switch(program):
     return wrong
 
 
+FED = ["--memory", "4M", "--threads", "3", "--given", "2"]
+
+
+def fed(program, role, command, words=()):
+    """The status of a side whose other side is a command, and all that it says."""
+    done = subprocess.run([program, role, *FED, *words, "--feed", command], stdin=subprocess.DEVNULL, capture_output=True, text=True, timeout=60)
+    return done.returncode, done.stdout + done.stderr
+
+
+def example(*words):
+    return shlex.join([sys.executable, str(pair.FOLDER / "example_source.py"), *FED, *words])
+
+
+def source_of_somebody_else(program):
+    """The example; one of another guest; and one that is cut off before the switch and after it."""
+    cut = f"{example()} 2>/dev/null | head -c"
+    return expect([("dest", fed(program, "dest", example(), ["--check-owed"]), pair.DONE, "wrong_loads=0 wrong_pages=0"),
+                   ("dest of another guest", fed(program, "dest", example("--seed", "2")), pair.REFUSED, "this guest was started with other"),
+                   ("dest before the switch", fed(program, "dest", f"{cut} 900000"), pair.LOST, "the source is gone before the switch"),
+                   ("dest after the switch", fed(program, "dest", f"{cut} 2900000"), pair.LOST, "the guest is lost")])
+
+
+def no_other_side(program):
+    return expect([("dest", fed(program, "dest", "exit 3"), pair.LOST, "fed status=3"),
+                   ("dest", fed(program, "dest", "echo this is no frame"), pair.REFUSED, "stream fault BadTag"),
+                   ("source", fed(program, "source", "exit 3"), pair.LOST, "its memory is right"),
+                   ("source", fed(program, "source", "exec cat"), pair.LOST, "refused OutOfPlace")])
+
+
+def both_are_fed(program):
+    """Each has a relay to the other as its other side."""
+    with tempfile.TemporaryDirectory(prefix="live-") as folder:
+        relay = [shlex.join([sys.executable, str(pair.FOLDER / "relay.py"), how, f"{folder}/socket"]) for how in ("listen", "connect")]
+        with concurrent.futures.ThreadPoolExecutor(2) as threads:
+            dest = threads.submit(fed, program, "dest", relay[0], ["--check-owed"])
+            source = threads.submit(fed, program, "source", relay[1], ["--rounds", "2", "--target", "0"])
+    return expect([("source", source.result(), pair.DONE, ""), ("dest", dest.result(), pair.DONE, "wrong_loads=0 wrong_pages=0")])
+
+
 CASES = (
     destination_dies_before_the_switch, another_destination_before_the_switch, destination_dies_after_the_switch,
     another_destination_after_the_switch, source_dies_before_the_switch, source_dies_after_the_switch, frozen_destination, strangers,
     old_epoch, hostile_source, hostile_destination, hostile_monitor, monitor_dies_after_the_switch, handler_dies_after_the_switch,
+    source_of_somebody_else, no_other_side, both_are_fed,
 )
 
 
