@@ -273,7 +273,7 @@ def handler_dies_after_the_switch(program):
     return wrong
 
 
-FED = ["--memory", "4M", "--threads", "3", "--given", "2"]
+FED = ["--memory", "1M", "--threads", "3", "--given", "2"]
 
 
 def fed(program, role, command, words=()):
@@ -291,8 +291,8 @@ def source_of_somebody_else(program):
     cut = f"{example()} 2>/dev/null | head -c"
     return expect([("dest", fed(program, "dest", example(), ["--check-owed"]), pair.DONE, "wrong_loads=0 wrong_pages=0"),
                    ("dest of another guest", fed(program, "dest", example("--seed", "2")), pair.REFUSED, "this guest was started with other"),
-                   ("dest before the switch", fed(program, "dest", f"{cut} 900000"), pair.LOST, "the source is gone before the switch"),
-                   ("dest after the switch", fed(program, "dest", f"{cut} 2900000"), pair.LOST, "the guest is lost")])
+                   ("dest before the switch", fed(program, "dest", f"{cut} 300000"), pair.LOST, "the source is gone before the switch"),
+                   ("dest after the switch", fed(program, "dest", f"{cut} 700000"), pair.LOST, "the guest is lost")])
 
 
 def no_other_side(program):
