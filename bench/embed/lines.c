@@ -35,7 +35,7 @@ static void one_script(const char *path, const char *stored) {
     for (size_t at = 0; at < length;) {
         uint8_t *end = memchr(script + at, '\n', length - at);
         size_t count = end ? (size_t)(end - (script + at)) : length - at;
-        /* memory of just this line, so that the sanitizer sees a read behind it */
+        /* memory of just this line, so that the sanitizer sees a read past its end */
         uint8_t *line = malloc(count ? count : 1);
         memcpy(line, script + at, count);
         WANT(postmig_world_line(&world, line, count, out, sizeof out, &written) == POSTMIG_OK);

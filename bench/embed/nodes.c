@@ -66,7 +66,7 @@ static void deliver(void) {
     for (size_t at = 0; at < length; at += head) {
         DO(postmig_frame_lengths(text + at, length - at, &head, &pages));
         WANT(pages == 0 && head <= length - at);
-        /* memory of just this frame, so that the sanitizer sees a read behind it */
+        /* memory of just this frame, so that the sanitizer sees a read past its end */
         uint8_t *bytes = __real_malloc(head);
         memcpy(bytes, text + at, head);
         DO(postmig_destination_take(&destination, bytes, head, &effect));
