@@ -2,10 +2,10 @@
 //!
 //! Addresses, pages and protections; the commands of processors and the replies to them; the steps of a world and their
 //! outcomes, in [`schedule`], [`effect`], [`refusal`], [`fault`], [`phase`], [`cpu_state`] and [`counts`]; [`act::Act`], how a handler
-//! resolves a page fault; [`Message`], which a
-//! userfault object reports, [`Wake`], the processors that its calls wake, and [`flags`], the numbers of these calls; [`PageSet`], a set
-//! of pages, with its iterators in [`iter`], and [`PageBytes`], the bytes of one page. Refusals, effects, replies and messages are
-//! `Display`: `specs/Texts.antt` defines their texts.
+//! resolves a page fault; [`Message`], which a userfault object reports, [`Wake`], the processors that its calls wake, and [`flags`], the
+//! numbers of these calls; [`PageSet`], a set of pages, with its iterators in [`iter`], [`PageBytes`], the bytes of one page, and
+//! [`zeros`], the test for bytes that are all zero. Refusals, effects, replies and messages are `Display`: `specs/Texts.antt` defines
+//! their texts.
 //! The definition `specs/Flat.antt` says what the commands do to one flat memory, after mmap(2), munmap(2), mremap(2) and
 //! madvise(2). This crate executes no command.
 #![tactic(auto)]
