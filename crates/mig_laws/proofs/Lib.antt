@@ -13,3 +13,5 @@ pub mod WorldSteps
 pub mod WholePages
 pub mod WholeWorlds
 pub mod ChangedRuns
+pub mod SideForms
+pub mod EitherOrder

@@ -2,3 +2,5 @@ pub mod Contents
 pub mod Worlds
 pub mod Nodes
 pub mod Runs
+pub mod Sides
+pub mod Orders

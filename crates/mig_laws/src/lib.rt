@@ -8,5 +8,6 @@
 #![tactic(auto)]
 
 pub mod nodes;
+pub mod sides;
 pub mod spaces;
 pub mod worlds;
