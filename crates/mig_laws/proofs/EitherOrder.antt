@@ -74,7 +74,7 @@ fronted-if false Front.Goes wire epoch frames fits = refl
 -- Steps that are accepted
 
 -- what holds of every accepted answer
-ok-holds : {A : Type 0} (Q : A → Type 0) (result : Result A Refusal) (done : A) → Holds Q result → result ≡ Ok done → Q done
+pub ok-holds : {A : Type 0} (Q : A → Type 0) (result : Result A Refusal) (done : A) → Holds Q result → result ≡ Ok done → Q done
 ok-holds Q result done h is = subst (λ r. Holds Q r) is h
 
 answered : (P : Type 0) (world : World) (step : Step) → Holds (λ (m : Made). P) (answer world step) → IsOk (outcome world step) → P
@@ -569,11 +569,11 @@ destination-form world Step.Break side ok = absurd (cc)
 -- Both
 
 -- the world after an accepted step
-next-made : (world : World) (step : Step) (effect : Effect) (new : World) → answer world step ≡ made effect new → next world step ≡ new
+pub next-made : (world : World) (step : Step) (effect : Effect) (new : World) → answer world step ≡ made effect new → next world step ≡ new
 unfolding next
 next-made world step effect new is = ap (next_by world) is
 
-outcome-made : (world : World) (step : Step) (effect : Effect) (new : World) → answer world step ≡ made effect new → outcome world step ≡ Ok effect
+pub outcome-made : (world : World) (step : Step) (effect : Effect) (new : World) → answer world step ≡ made effect new → outcome world step ≡ Ok effect
 unfolding outcome
 outcome-made world step effect new is = ap outcome_by is
 
@@ -600,7 +600,7 @@ idle-flight _ source destination forward back urgent wires idle = absurd (false�
 nothing-first : (sent : Sent) (rest flight : List Sent) → flight ≡ [] → flight ≡ sent ∷ rest → ⊥
 nothing-first sent rest flight none first = cc
 
-not-true : (b : Bool) → (b ≡ true → ⊥) → b ≡ false
+pub not-true : (b : Bool) → (b ≡ true → ⊥) → b ≡ false
 not-true true never = absurd (never refl)
 not-true false never = refl
 

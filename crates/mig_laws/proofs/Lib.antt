@@ -15,3 +15,4 @@ pub mod WholeWorlds
 pub mod ChangedRuns
 pub mod SideForms
 pub mod EitherOrder
+pub mod Processes

@@ -31,3 +31,10 @@ pub fn either_order()
         IsOk (outcome world here) → IsOk (outcome world there) →
         next (next world here) there ≡ next (next world there) here }
 {}
+
+/// X.
+pub fn two_logs_are_a_run()
+    ensures accepted { (cpus epoch rounds : ℕ) (turns : List Turn) (effects : List Effect) (new : Pair) →
+        AreTurns (first_pair cpus epoch rounds) turns effects new →
+        outcomes (first_world_with cpus epoch rounds) (map step_of turns) ≡ map Ok effects }
+{}
