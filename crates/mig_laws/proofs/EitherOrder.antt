@@ -95,11 +95,11 @@ holds-down Q up (Err refusal) h = grind (arith, nat_tests)
 
 -- Entries: a step that is no command enters nothing in the transcript
 
-acts-quiet : {Node : Type 0} (step : Result (Acted Node) Refusal) → Holds (λ (did : Did Node). did.entries ≡ []) (acts step)
+pub acts-quiet : {Node : Type 0} (step : Result (Acted Node) Refusal) → Holds (λ (did : Did Node). did.entries ≡ []) (acts step)
 acts-quiet (Ok acted) = refl
 acts-quiet (Err refusal) = tt
 
-sends-quiet : {Node : Type 0} (step : Result (Sends Node) Refusal) → Holds (λ (did : Did Node). did.entries ≡ []) (sends step)
+pub sends-quiet : {Node : Type 0} (step : Result (Sends Node) Refusal) → Holds (λ (did : Did Node). did.entries ≡ []) (sends step)
 sends-quiet (Ok sent) = refl
 sends-quiet (Err refusal) = tt
 
@@ -108,7 +108,7 @@ urgently-quiet (Ok sent) = refl
 urgently-quiet (Err refusal) = tt
 
 -- the source's own steps enter nothing
-source-quiet : (up : Bool) (node : Source) (step : Step) → is_source_own step ≡ true → Holds (λ (did : Did Source). did.entries ≡ []) (source_linked up node step)
+pub source-quiet : (up : Bool) (node : Source) (step : Step) → is_source_own step ≡ true → Holds (λ (did : Did Source). did.entries ≡ []) (source_linked up node step)
 source-quiet up node Step.Start own = sends-quiet (source.start node)
 source-quiet up node Step.Round own = acts-quiet (source.round node)
 source-quiet up node Step.Send own = holds-while_up _ up _ (λ is. sends-quiet (source.send node))
@@ -651,7 +651,7 @@ suits-later world Step.Resume sound new back transcript kept side ok = tt
 suits-later world Step.Break sound new back transcript kept side ok = tt
 
 -- only one of the two enters anything
-entered : (transcript one other : List Entry) → (one ≡ []) ⊎ (other ≡ []) → (transcript ++ one) ++ other ≡ (transcript ++ other) ++ one
+pub entered : (transcript one other : List Entry) → (one ≡ []) ⊎ (other ≡ []) → (transcript ++ one) ++ other ≡ (transcript ++ other) ++ one
 entered transcript one other (inl none) =
     ap (λ entries. (transcript ++ entries) ++ other) none ∙ ap (λ entries. entries ++ other) (append-nil transcript) ∙ sym (append-nil (transcript ++ other)) ∙ sym (ap (λ entries. (transcript ++ other) ++ entries) none)
 entered transcript one other (inr none) =

@@ -16,3 +16,4 @@ pub mod ChangedRuns
 pub mod SideForms
 pub mod EitherOrder
 pub mod Processes
+pub mod LogNodes

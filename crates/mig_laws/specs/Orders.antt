@@ -16,7 +16,7 @@ use Rattle.mig_laws.specs.Sides.{Did, Line, destination_line, side_of, source_li
 -- Two processes
 
 -- the two nodes; the frames that were sent over the channel and not taken yet, on each wire; whether the channel carries frames; and the
--- commands that took effect
+-- commands that took effect at each node
 pub record Pair : Type 0 where
   pub source : Source
   pub destination : Destination
@@ -24,14 +24,15 @@ pub record Pair : Type 0 where
   pub back : List Sent
   pub urgent : List Sent
   pub up : Bool
-  pub transcript : List Entry
+  pub at_source : List Entry
+  pub at_destination : List Entry
 
 -- two nodes of `cpus` processors to which nothing has happened; the source's epoch and number of rounds are those given
 abbrev pub first_pair : ℕ → ℕ → ℕ → Pair
 first_pair cpus epoch rounds =
-    record { source = first_source cpus epoch rounds; destination = first_destination cpus; forward = []; back = []; urgent = []; up = true; transcript = [] }
+    record { source = first_source cpus epoch rounds; destination = first_destination cpus; forward = []; back = []; urgent = []; up = true; at_source = []; at_destination = [] }
 
--- the world of two processes: no part of a frame has been delivered
+-- the world of two processes: no part of a frame has been delivered, and the destination's commands come after the source's
 abbrev pub world_of : Pair → World
 world_of pair =
     record {
@@ -41,7 +42,7 @@ world_of pair =
       back = wire_behind pair.back;
       urgent = wire_behind pair.urgent;
       up = pair.up;
-      transcript = pair.transcript;
+      transcript = pair.at_source ++ pair.at_destination;
     }
 
 -- Where a line may come
@@ -98,7 +99,7 @@ pub record IsSourceTurn (old : Pair) (line : Line) (did : Did Source) (new : Pai
     urgent = sending old.urgent did.node.epoch did.urgent;
     back = back;
     up = is_resume line || old.up;
-    transcript = old.transcript ++ did.entries;
+    at_source = old.at_source ++ did.entries;
   }
 
 -- a line of the destination leads from one pair to the other. What it sends while the channel carries no frames is lost
@@ -114,7 +115,7 @@ pub record IsDestinationTurn (old : Pair) (line : Line) (did : Did Destination) 
     forward = forward;
     urgent = urgent;
     back = sending_if old.up old.back did.node.epoch did.frames;
-    transcript = old.transcript ++ did.entries;
+    at_destination = old.at_destination ++ did.entries;
   }
 
 -- a channel is lost that carried frames, and what is in flight on it: no later line takes it. A channel that closes before the migration

@@ -1,5 +1,5 @@
 -- The two sides of a migration: which node makes a step, what a node gives in a process of its own, and the lines of its log.
-use Rattle.std.specs.Prelude.{◌||◌, not, Bool, true, false, if◌then◌else◌, Option, Some, None, Result, Err, List, []}
+use Rattle.std.specs.Prelude.{◌||◌, not, Bool, true, false, if◌then◌else◌, Option, Some, None, Result, Ok, Err, List, [], ◌∷◌, ◌++◌}
 use Rattle.mig_base.specs.declared.command.Entry.{Entry}
 use Rattle.mig_base.specs.declared.effect.Effect.{Effect}
 use Rattle.mig_base.specs.declared.refusal.Refusal.{Refusal}
@@ -118,3 +118,35 @@ abbrev pub destination_line : Destination → Line → Result (Did Destination) 
 destination_line node (Line.Made step) = destination_step node step
 destination_line node (Line.Took sent) = sends (destination.take node sent.epoch sent.frame)
 destination_line node (Line.TookUrgent sent) = in_phase node.has_run (acts (destination.take_urgent node sent.frame))
+
+-- What a log leaves: lines in turn, of which none is refused
+
+-- the node after one line
+abbrev pub node_by : {Node : Type 0} → Node → Result (Did Node) Refusal → Node
+node_by node (Ok did) = did.node
+node_by node (Err refusal) = node
+
+-- the commands that took effect in it
+abbrev pub entries_by : {Node : Type 0} → Result (Did Node) Refusal → List Entry
+entries_by (Ok did) = did.entries
+entries_by (Err refusal) = []
+
+-- the source after its log
+abbrev pub source_after : Source → List Line → Source
+source_after node [] = node
+source_after node (line ∷ lines) = source_after (node_by node (source_line node line)) lines
+
+-- the commands in its log that took effect
+abbrev pub source_entries : Source → List Line → List Entry
+source_entries node [] = []
+source_entries node (line ∷ lines) = entries_by (source_line node line) ++ source_entries (node_by node (source_line node line)) lines
+
+-- the destination after its log
+abbrev pub destination_after : Destination → List Line → Destination
+destination_after node [] = node
+destination_after node (line ∷ lines) = destination_after (node_by node (destination_line node line)) lines
+
+-- the commands in its log that took effect
+abbrev pub destination_entries : Destination → List Line → List Entry
+destination_entries node [] = []
+destination_entries node (line ∷ lines) = entries_by (destination_line node line) ++ destination_entries (node_by node (destination_line node line)) lines
