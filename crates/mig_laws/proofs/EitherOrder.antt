@@ -1,7 +1,7 @@
 -- A step of the source and a step of the destination commute: each changes its own node, takes from the front of a wire, and puts frames at
 -- the end of another.
 use Rattle.std.proofs.lemmas.Bool.Decides.{nat_tests}
-use Rattle.std.proofs.Common.{◌≡◌, ◌≢◌, ◌⊎◌, inl, inr, ℕ, ◌||◌, ◌&&◌, Bool, true, false, not, Option, Some, None, List, [], ◌∷◌, ◌++◌, if◌then◌else◌, refl, sym, ap, subst, ◌∙◌, arith}
+use Rattle.std.proofs.Common.{◌≡◌, ◌≢◌, ◌⊎◌, inl, inr, ℕ, ◌&&◌, Bool, true, false, not, Some, List, [], ◌∷◌, ◌++◌, refl, sym, ap, subst, ◌∙◌, arith}
 use Rattle.std.specs.Prelude.{Result, Ok, Err, IsOk, ok_or}
 use Rattle.std.proofs.lemmas.Bool.{false≢true}
 use Rattle.std.proofs.lemmas.List.{append-nil}
@@ -17,7 +17,7 @@ use Rattle.mig_model.specs.Effects.{frame_effect}
 use Rattle.mig_model.specs.DestinationSteps as destination
 use Rattle.mig_model.specs.Invariant.{IsSoundWorld, Wires}
 use Rattle.mig_model.specs.Migration.{Answer, Made, World, answer, has_started, is_short, made, next, next_by, outcome, outcome_by}
-use Rattle.mig_model.specs.NodeSteps.{Acted, Sends, and_then, first_of, in_phase, rest_of, while_down, while_up}
+use Rattle.mig_model.specs.NodeSteps.{Acted, Sends, first_of, rest_of, while_down}
 use Rattle.mig_model.specs.Promises.{IsReached}
 use Rattle.mig_model.specs.Source.{Source, is_released, is_source_idle, is_under_way, source_answers, source_took}
 use Rattle.mig_model.specs.SourceSteps as source
@@ -26,8 +26,7 @@ use Rattle.mig_model.proofs.invariant.WireLemmas.{sending-behind}
 use Rattle.mig_model.proofs.steps.EveryStep.{kept-reached, runs_source}
 use Rattle.mig_model.proofs.steps.ReachedLemmas.{reached-next}
 use Rattle.mig_model.proofs.steps.StepCases.{holds-made}
-use Rattle.mig_model.proofs.steps.StepLemmas.{Holds, delivers, delivers_back, delivers_urgent, first_and_rest, holds-and_then, holds-either, holds-in_phase, holds-ok_or, holds-while_up, leaves-ok}
-use Rattle.mig_laws.specs.Nodes.{map_ok}
+use Rattle.mig_model.proofs.steps.StepLemmas.{Holds, delivers, delivers_back, delivers_urgent, first_and_rest, holds-and_then, holds-in_phase, holds-ok_or, holds-while_up, leaves-ok}
 use Rattle.mig_laws.specs.Sides.{Did, acts, destination_step, resumes, running_side, sends, sends_urgently, side_of, source_step}
 use Rattle.mig_laws.proofs.SideForms.{destination-issue, destination-own, destination-retry, destination_did, destination_done, destination_gives, destination_linked, is_destination_own, is_source_own, sends-gives, source-issue, source-own, source-retry, source_did, source_done, source_gives, source_linked, there_acts-gives, there_sends-gives}
 
@@ -93,7 +92,7 @@ holds-down Q false (Ok done) h = h refl
 holds-down Q true (Ok done) h = tt
 holds-down Q up (Err refusal) h = grind (arith, nat_tests)
 
--- Entries: a step that is no command enters nothing in the transcript
+-- Entries: only a command enters anything in the transcript
 
 pub acts-quiet : {Node : Type 0} (step : Result (Acted Node) Refusal) → Holds (λ (did : Did Node). did.entries ≡ []) (acts step)
 acts-quiet (Ok acted) = refl
@@ -482,7 +481,7 @@ forward-form world n found false is ok =
     let given = destination.take world.destination found.sent.epoch found.sent.frame in
     let behind = record world { forward = wire_behind found.rest } in
     let taken : (did : Did Destination) × (sends given ≡ Ok did) =
-        destination_did behind (sends given) (accepted-by world (Step.Deliver n) (destination_gives behind (sends given)) (delivers world n found.sent found.rest false found.started found.up found.first is ∙ there_sends-gives behind given) ok) in
+    destination_did behind (sends given) (accepted-by world (Step.Deliver n) (destination_gives behind (sends given)) (delivers world n found.sent found.rest false found.started found.up found.first is ∙ there_sends-gives behind given) ok) in
     record {
       did = taken.0;
       ahead = Front.Goes;
@@ -689,15 +688,15 @@ commute world here there sound sound_here sound_there side ok a b =
     let behind = fronted-if world.up a.front world.back b.did.node.epoch b.did.frames a.fits in
     let entries = entered world.transcript a.did.entries b.did.entries (one_enters world.destination.has_run a.did.entries b.did.entries a.said b.said) in
     let same : here_then_there ≡ there_then_here =
-        λ i. record {
-          source = a.did.node;
-          destination = b.did.node;
-          forward = ahead i;
-          back = sym behind i;
-          urgent = aside i;
-          up = world.up;
-          transcript = entries i;
-        } in
+    λ i. record {
+      source = a.did.node;
+      destination = b.did.node;
+      forward = ahead i;
+      back = sym behind i;
+      urgent = aside i;
+      up = world.up;
+      transcript = entries i;
+    } in
     record {
       source = ap (λ w. outcome w here) next_there ∙ outcome-made after_there here a.did.effect there_then_here later_here ∙ sym (outcome-made world here a.did.effect after_here a.here);
       destination = ap (λ w. outcome w there) next_here ∙ outcome-made after_here there b.did.effect here_then_there later_there ∙ sym (outcome-made world there b.did.effect after_there b.here);

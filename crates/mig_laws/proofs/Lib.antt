@@ -17,3 +17,5 @@ pub mod SideForms
 pub mod EitherOrder
 pub mod Processes
 pub mod LogNodes
+pub mod ChangedOrders
+pub mod ExampleOrder

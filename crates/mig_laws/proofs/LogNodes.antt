@@ -1,14 +1,9 @@
 -- What a log leaves at its node does not depend on the order of the two logs.
-use Rattle.std.proofs.Common.{◌≡◌, ◌++◌, List, [], ◌∷◌, append_assoc, refl, sym, ap, subst, ◌∙◌}
-use Rattle.std.specs.Prelude.{Result, Ok, Err}
+use Rattle.std.proofs.Common.{◌≡◌, ◌++◌, List, [], ◌∷◌, append_assoc, sym, ap, ◌∙◌}
 use Rattle.std.proofs.lemmas.List.{append-nil}
-use Rattle.mig_base.specs.declared.command.Entry.{Entry}
 use Rattle.mig_base.specs.declared.effect.Effect.{Effect}
-use Rattle.mig_base.specs.declared.refusal.Refusal.{Refusal}
-use Rattle.mig_model.specs.Destination.{Destination}
-use Rattle.mig_model.specs.Source.{Source}
-use Rattle.mig_laws.specs.Orders.{AreTurns, IsTurn, Pair, Turn, destination_lines, source_lines}
-use Rattle.mig_laws.specs.Sides.{Did, Line, destination_after, destination_entries, destination_line, entries_by, node_by, source_after, source_entries, source_line}
+use Rattle.mig_laws.specs.Orders.{AreTurns, Pair, Turn, destination_lines, source_lines}
+use Rattle.mig_laws.specs.Sides.{Line, destination_after, destination_entries, destination_line, entries_by, node_by, source_after, source_entries, source_line}
 
 -- what two processes have once the lines of both logs are made, by each log alone
 pub record IsLeft (old : Pair) (here there : List Line) (new : Pair) : Type 0 where

@@ -1,7 +1,7 @@
 -- Two logs in an order in which they may have happened are a run of one world, and its two sides.
 use Rattle.std.proofs.lemmas.Bool.Decides.{nat_tests}
-use Rattle.std.proofs.Common.{◌≡◌, ◌≢◌, ◌⊎◌, inl, inr, append_assoc, ℕ, ◌-◌, ◌||◌, ◌&&◌, Bool, true, false, not, ltb, Option, Some, None, List, [], ◌∷◌, ◌++◌, map, if◌then◌else◌, refl, sym, ap, subst, ◌∙◌, arith}
-use Rattle.std.specs.Prelude.{Result, Ok, Err, IsOk, ok_or}
+use Rattle.std.proofs.Common.{◌≡◌, ◌⊎◌, inl, inr, append_assoc, ℕ, ◌-◌, ◌||◌, Bool, true, false, not, ltb, Option, Some, None, List, [], ◌∷◌, ◌++◌, map, if◌then◌else◌, refl, sym, ap, subst, ◌∙◌, arith}
+use Rattle.std.specs.Prelude.{Result, Ok, Err, ok_or}
 use Rattle.std.proofs.lemmas.Bool.{and_parts, false≢true}
 use Rattle.std.proofs.lemmas.List.{append-nil}
 use Rattle.mig_base.specs.Bytes.{zero_page}
@@ -21,12 +21,12 @@ use Rattle.mig_model.specs.Guest.Act.{Unprotected, Zeroed, Woke, Forgot, Request
 use Rattle.mig_model.specs.GuestSteps.{Tried, issue, retry, try_command, when_quiet}
 use Rattle.mig_model.specs.Invariant.{IsSoundWorld}
 use Rattle.mig_model.specs.Lengths.{text_len}
-use Rattle.mig_model.specs.Migration.{World, after_steps, answer, cut, is_short, made, next, next_by, outcome, outcome_by, source_sends}
+use Rattle.mig_model.specs.Migration.{World, after_steps, answer, cut, made, next, source_sends}
 use Rattle.mig_model.specs.Owed.{home}
-use Rattle.mig_model.specs.NodeSteps.{and_then, first_of, in_phase, rest_of, while_down, while_up}
+use Rattle.mig_model.specs.NodeSteps.{first_of, in_phase, rest_of}
 use Rattle.mig_model.specs.Promises.{IsReached}
 use Rattle.mig_model.specs.Runs.{outcomes}
-use Rattle.mig_model.specs.Source.{Source, is_source_idle, is_under_way}
+use Rattle.mig_model.specs.Source.{Source, is_under_way}
 use Rattle.mig_model.specs.SourceSteps as source
 use Rattle.mig_model.specs.Wire.Frame.{Advise, Page, Zero, Run, Discard, Package, End, Resume, Request, Recv, Done}
 use Rattle.mig_model.specs.Wire.{Copy, Frame, Sent, sending_if, sending, wire_behind}
@@ -34,8 +34,8 @@ use Rattle.mig_model.proofs.steps.EveryStep.{kept-reached}
 use Rattle.mig_model.proofs.steps.ReachedLemmas.{reached-next}
 use Rattle.mig_model.proofs.steps.StepLemmas.{Holds, delivers, delivers_back, delivers_urgent, holds-and_then, holds-in_phase, holds-unless, in-phase, is-down, is-up}
 use Rattle.mig_laws.specs.Nodes.{map_ok}
-use Rattle.mig_laws.specs.Orders.{AreTurns, IsCut, IsDestinationTurn, IsSourceTurn, IsTurn, Pair, Turn, destination_lines, destination_may, first_pair, line_of, log_of, logged, makes, needs_link, is_resume, source_lines, source_may, step_of, taken_line, world_of}
-use Rattle.mig_laws.specs.Sides.{Did, Line, acts, destination_line, destination_step, running_side, sends, side_of, source_line, source_step, tries}
+use Rattle.mig_laws.specs.Orders.{AreTurns, IsCut, IsDestinationTurn, IsSourceTurn, IsTurn, Pair, Turn, destination_lines, first_pair, line_of, log_of, logged, makes, source_lines, source_may, step_of, taken_line, world_of}
+use Rattle.mig_laws.specs.Sides.{Did, Line, acts, destination_line, destination_step, running_side, sends, source_step}
 use Rattle.mig_laws.proofs.EitherOrder.{next-made, sends-quiet, source-quiet, not-true, ok-holds, outcome-made, started-back, started-forward, under_way-down}
 use Rattle.mig_laws.proofs.SideForms.{destination-issue, destination-own, destination-retry, destination_done, destination_gives, destination_linked, is_destination_own, is_source_own, sends-gives, source-issue, source-own, source-retry, source_done, source_gives, source_linked, there_acts-gives, there_sends-gives}
 
@@ -62,7 +62,7 @@ down-if true may = absurd (false≢true may)
 down-if false may = refl
 
 -- where it may come a step gives what the source gives by itself
-source-may : (pair : Pair) (step : Step) → is_source_own step ≡ true → source_may pair (Line.Made step) ≡ true → source_linked pair.up pair.source step ≡ source_step pair.source step
+source-may : (pair : Pair) (step : Step) → is_source_own step ≡ true → source_may pair.up (is_dest_paused pair.destination.phase) (Line.Made step) ≡ true → source_linked pair.up pair.source step ≡ source_step pair.source step
 source-may pair Step.Start own may = refl
 source-may pair Step.Round own may = refl
 source-may pair Step.Send own may = is-up pair.up _ (up-if pair.up may)
@@ -133,7 +133,7 @@ gave old did back new up quiet same_back is =
     ∙ ap (λ (entries : List Entry). made did.effect (record (source_done (record (world_of old) { up = up; back = wire_behind back }) did) { transcript = entries })) (entered-before old.at_source old.at_destination did.entries quiet)
     ∙ ap (λ (pair : Pair). made did.effect (world_of pair)) (sym is)
 
-source-made : (old : Pair) (step : Step) (did : Did Source) (back : List Sent) (new : Pair) → is_source_own step ≡ true → source_step old.source step ≡ Ok did → source_may old (Line.Made step) ≡ true → back ≡ old.back →
+source-made : (old : Pair) (step : Step) (did : Did Source) (back : List Sent) (new : Pair) → is_source_own step ≡ true → source_step old.source step ≡ Ok did → source_may old.up (is_dest_paused old.destination.phase) (Line.Made step) ≡ true → back ≡ old.back →
     new ≡ record old { source = did.node; forward = sending old.forward did.node.epoch did.frames; urgent = sending old.urgent did.node.epoch did.urgent; back = back; up = old.up; at_source = old.at_source ++ did.entries } →
     answer (world_of old) step ≡ made did.effect (world_of new)
 source-made old step did back new own gives may takes is =

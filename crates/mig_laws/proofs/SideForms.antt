@@ -1,24 +1,21 @@
 -- What a step of a node does to a world: what the node gives by itself, and nothing else.
-use Rattle.std.proofs.Common.{◌≡◌, ◌⊎◌, inl, inr, ℕ, ◌||◌, ◌&&◌, Bool, true, false, not, Option, Some, None, List, [], ◌∷◌, ◌++◌, if◌then◌else◌, refl, sym, ap, ◌∙◌}
+use Rattle.std.proofs.Common.{◌≡◌, ℕ, ◌||◌, Bool, true, false, not, [], ◌++◌, if◌then◌else◌, refl, sym, ap, ◌∙◌}
 use Rattle.std.specs.Prelude.{Result, Ok, Err, IsOk}
 use Rattle.std.proofs.Math.Bool.{or-true}
 use Rattle.std.proofs.lemmas.Bool.{false≢true}
 use Rattle.std.proofs.lemmas.List.{append-nil}
 use Rattle.mig_base.specs.declared.command.Command.{Command}
-use Rattle.mig_base.specs.declared.effect.Effect.{Effect}
 use Rattle.mig_base.specs.declared.refusal.Refusal.{Refusal}
 use Rattle.mig_base.specs.declared.schedule.Side.{Side}
 use Rattle.mig_base.specs.declared.schedule.Step.{Step}
 use Rattle.mig_model.specs.Destination.{Destination}
 use Rattle.mig_model.specs.DestinationSteps as destination
-use Rattle.mig_model.specs.Guest.{Guest}
 use Rattle.mig_model.specs.GuestSteps.{Tried, issue, retry}
-use Rattle.mig_model.specs.Migration.{Answer, Made, World, answer, destination_acts, destination_sends, guest_by, guest_tries, made, outcome_by, source_acts, source_sends, source_sends_urgently, with_guest_by}
+use Rattle.mig_model.specs.Migration.{Answer, World, answer, destination_acts, destination_sends, guest_by, guest_tries, made, outcome_by, source_acts, source_sends, source_sends_urgently, with_guest_by}
 use Rattle.mig_model.specs.NodeSteps.{Acted, Sends, and_then, in_phase, while_down, while_up}
 use Rattle.mig_model.specs.Source.{Source, is_under_way}
 use Rattle.mig_model.specs.SourceSteps as source
 use Rattle.mig_model.specs.Wire.{wire_if, wire_with}
-use Rattle.mig_laws.specs.Nodes.{map_ok}
 use Rattle.mig_laws.specs.Orders.{needs_link}
 use Rattle.mig_laws.specs.Sides.{Did, acts, destination_step, sends, sends_urgently, source_step, tries}
 use Rattle.mig_laws.proofs.StepForms.{in_phase-map, while_down-map, while_up-map}

@@ -4,3 +4,4 @@ pub mod Nodes
 pub mod Runs
 pub mod Sides
 pub mod Orders
+pub mod Example

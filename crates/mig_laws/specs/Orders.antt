@@ -1,6 +1,6 @@
 -- Two processes: the two nodes with what is in flight between them, the orders in which the lines of their logs may have happened, and
 -- the logs of the two sides of a world.
-use Rattle.std.specs.Prelude.{◌≡◌, ℕ, ◌||◌, ◌&&◌, not, Bool, true, false, if◌then◌else◌, Option, Some, None, Result, Ok, Err, List, [], ◌∷◌, ◌++◌}
+use Rattle.std.specs.Prelude.{◌≡◌, ℕ, ◌||◌, ◌&&◌, not, Bool, true, false, if◌then◌else◌, Option, Some, Result, Ok, Err, IsOk, List, [], ◌∷◌, ◌++◌}
 use Rattle.mig_base.specs.declared.command.Entry.{Entry}
 use Rattle.mig_base.specs.declared.effect.Effect.{Effect}
 use Rattle.mig_base.specs.declared.refusal.Refusal.{Refusal}
@@ -11,7 +11,7 @@ use Rattle.mig_model.specs.Lengths.{text_len}
 use Rattle.mig_model.specs.Migration.{World, is_short, next, outcome}
 use Rattle.mig_model.specs.Source.{Source, first_source, is_under_way}
 use Rattle.mig_model.specs.Wire.{Sent, Wire, sending, sending_if, wire_behind}
-use Rattle.mig_laws.specs.Sides.{Did, Line, destination_line, side_of, source_line}
+use Rattle.mig_laws.specs.Sides.{Did, Line, destination_line, node_by, side_of, source_line}
 
 -- Two processes
 
@@ -58,19 +58,19 @@ needs_link Step.Serve = true
 needs_link Step.End = true
 needs_link step = false
 
--- whether a line may come there at the source: it uses the channel while the channel carries frames, notices a loss after it, and
--- resumes once the destination has noticed it as well
-abbrev pub source_may : Pair → Line → Bool
-source_may pair (Line.Made (Step.Notice side)) = not pair.up
-source_may pair (Line.Made Step.Resume) = not pair.up && is_dest_paused pair.destination.phase
-source_may pair (Line.Made step) = pair.up || not (needs_link step)
-source_may pair line = pair.up
+-- whether a line may come there at the source, by whether the channel carries frames and the destination is paused: it uses the channel
+-- while the channel carries frames, notices a loss after it, and resumes once the destination has noticed it as well
+abbrev pub source_may : (up paused : Bool) → Line → Bool
+source_may up paused (Line.Made (Step.Notice side)) = not up
+source_may up paused (Line.Made Step.Resume) = not up && paused
+source_may up paused (Line.Made step) = up || not (needs_link step)
+source_may up paused line = up
 
 -- the same at the destination
-abbrev pub destination_may : Pair → Line → Bool
-destination_may pair (Line.Made (Step.Notice side)) = not pair.up
-destination_may pair (Line.Made step) = true
-destination_may pair line = pair.up
+abbrev pub destination_may : (up : Bool) → Line → Bool
+destination_may up (Line.Made (Step.Notice side)) = not up
+destination_may up (Line.Made step) = true
+destination_may up line = up
 
 -- whether a line is the source's Resume, after which a new channel carries frames
 abbrev pub is_resume : Line → Bool
@@ -90,7 +90,7 @@ TakesUrgentFront line flight rest = rest ≡ flight
 -- a line of the source leads from one pair to the other: the source gives this by itself, and the frames that it sends are in flight
 pub record IsSourceTurn (old : Pair) (line : Line) (did : Did Source) (new : Pair) : Type 0 where
   pub gives : source_line old.source line ≡ Ok did
-  pub may : source_may old line ≡ true
+  pub may : source_may old.up (is_dest_paused old.destination.phase) line ≡ true
   pub back : List Sent
   pub takes : TakesFront line old.back back
   pub is : new ≡ record old {
@@ -105,7 +105,7 @@ pub record IsSourceTurn (old : Pair) (line : Line) (did : Did Source) (new : Pai
 -- a line of the destination leads from one pair to the other. What it sends while the channel carries no frames is lost
 pub record IsDestinationTurn (old : Pair) (line : Line) (did : Did Destination) (new : Pair) : Type 0 where
   pub gives : destination_line old.destination line ≡ Ok did
-  pub may : destination_may old line ≡ true
+  pub may : destination_may old.up line ≡ true
   pub forward : List Sent
   pub takes : TakesFront line old.forward forward
   pub urgent : List Sent
@@ -159,6 +159,32 @@ AreTurns old [] [] new = new ≡ old
 AreTurns old (turn ∷ turns) (effect ∷ effects) new = (mid : Pair) × IsTurn old turn effect mid × AreTurns mid turns effects new
 AreTurns old [] (effect ∷ effects) new = ⊥
 AreTurns old (turn ∷ turns) [] new = ⊥
+
+-- whether the frame that a line takes is there
+abbrev pub finds_front : Line → List Sent → Bool
+finds_front (Line.Took sent) [] = false
+finds_front line flight = true
+
+-- the same of the urgent wire
+abbrev pub finds_urgent_front : Line → List Sent → Bool
+finds_urgent_front (Line.TookUrgent sent) [] = false
+finds_urgent_front line flight = true
+
+-- Lines that need no channel: a side's notice, and what it does by itself after a loss
+abbrev pub is_alone : Line → Bool
+is_alone (Line.Made Step.Resume) = false
+is_alone (Line.Made step) = not (needs_link step)
+is_alone line = false
+
+-- the source makes lines by itself that need no channel, and refuses none of them
+abbrev pub IsSourceAlone : Source → List Line → Type 0
+IsSourceAlone node [] = Unit {0}
+IsSourceAlone node (line ∷ lines) = (is_alone line ≡ true) × IsOk (source_line node line) × IsSourceAlone (node_by node (source_line node line)) lines
+
+-- the same of the destination
+abbrev pub IsDestinationAlone : Destination → List Line → Type 0
+IsDestinationAlone node [] = Unit {0}
+IsDestinationAlone node (line ∷ lines) = (is_alone line ≡ true) × IsOk (destination_line node line) × IsDestinationAlone (node_by node (destination_line node line)) lines
 
 -- the step of a world that a turn is: a frame is taken by a delivery of all its bytes
 abbrev pub step_of : Turn → Step

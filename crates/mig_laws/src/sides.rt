@@ -12,8 +12,9 @@ ghost use Rattle.mig_model.specs.Promises.{IsAlone, IsReached};
 ghost use Rattle.mig_model.specs.Runs.{outcomes};
 ghost use Rattle.mig_model.specs.Source.{is_released};
 ghost use Rattle.mig_model.specs.Whereabouts.{current_host};
-ghost use Rattle.mig_laws.specs.Orders.{AreTurns, Pair, Turn, destination_lines, first_pair, log_of, source_lines, step_of, world_of};
-ghost use Rattle.mig_laws.specs.Sides.{destination_after, destination_entries, resumes, side_of, source_after, source_entries};
+ghost use Rattle.mig_laws.specs.Example.{its_effects, with_a_break};
+ghost use Rattle.mig_laws.specs.Orders.{AreTurns, IsDestinationAlone, IsSourceAlone, IsTurn, Pair, Turn, destination_lines, finds_front, finds_urgent_front, first_pair, is_resume, log_of, source_lines, step_of, world_of};
+ghost use Rattle.mig_laws.specs.Sides.{Line, destination_after, destination_entries, resumes, side_of, source_after, source_entries};
 
 /// A step of the source and a step of the destination that are both accepted are accepted in either order, with the same effects, and lead
 /// to the same world. That holds of deliveries, whole or partial, and of commands. Break is a step of neither side, and loses what the
@@ -89,4 +90,38 @@ pub fn the_headline_of_two_processes()
     ensures alone { (cpus epoch rounds : ℕ) (turns : List Turn) (effects : List Effect)
         (new : Pair) → AreTurns (first_pair cpus epoch rounds) turns effects new →
         is_released new.source.phase ≡ true → IsAlone (world_of new) }
+{}
+
+/// Neighbours in an order may change places where they are lines of the two sides, neither takes what the other has just sent, and neither
+/// is Resume. They have the same effects, and lead to the same pair.
+pub fn neighbours_change_places()
+    ensures source_first { (old mid new : Pair) (here there : Line) (one other : Effect) →
+        IsTurn old (Turn.AtSource here) one mid → IsTurn mid (Turn.AtDestination there) other new →
+        is_resume here ≡ false → finds_front there old.forward ≡ true →
+        finds_urgent_front there old.urgent ≡ true → (between : Pair) ×
+        IsTurn old (Turn.AtDestination there) other between ×
+        IsTurn between (Turn.AtSource here) one new }
+    ensures destination_first { (old mid new : Pair) (here there : Line) (one other : Effect) →
+        IsTurn old (Turn.AtDestination there) other mid → IsTurn mid (Turn.AtSource here) one new →
+        is_resume here ≡ false → finds_front here old.back ≡ true → (between : Pair) ×
+        IsTurn old (Turn.AtSource here) one between ×
+        IsTurn between (Turn.AtDestination there) other new }
+{}
+
+/// Once the channel is lost each side is alone: its notice and whatever else it does without a channel come next, whatever the other side
+/// has done and whether or not it has noticed. Only the side itself can refuse them.
+pub fn each_side_notices_by_itself()
+    ensures source { (old : Pair) (lines : List Line) → old.up ≡ false →
+        IsSourceAlone old.source lines → (effects : List Effect) × (new : Pair) ×
+        AreTurns old (map (λ line. Turn.AtSource line) lines) effects new ×
+        (new.destination ≡ old.destination) × (new.up ≡ false) }
+    ensures destination { (old : Pair) (lines : List Line) → old.up ≡ false →
+        IsDestinationAlone old.destination lines → (effects : List Effect) × (new : Pair) ×
+        AreTurns old (map (λ line. Turn.AtDestination line) lines) effects new ×
+        (new.source ≡ old.source) × (new.up ≡ false) }
+{}
+
+/// There is such an order: frames are taken on both main wires, the channel is lost, each side notices, and both continue over a new one.
+pub fn an_order_with_a_break()
+    ensures { (new : Pair) × AreTurns (first_pair 1 0 0) with_a_break its_effects new }
 {}
