@@ -13,3 +13,9 @@ pub mod WorldSteps
 pub mod WholePages
 pub mod WholeWorlds
 pub mod ChangedRuns
+pub mod SideForms
+pub mod EitherOrder
+pub mod Processes
+pub mod LogNodes
+pub mod ChangedOrders
+pub mod ExampleOrder

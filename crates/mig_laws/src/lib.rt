@@ -4,9 +4,14 @@
 //! commands, spaces and guests, `specs/Worlds.antt` on nodes, frames, worlds, steps and answers, and `specs/Nodes.antt` on what a step of
 //! a node gives. `specs/Runs.antt` has what two runs that differ in contents alone decide alike.
 //!
-//! [`spaces`] has the laws of an address space, [`nodes`] those of a guest and of a node, and [`worlds`] those of a migration.
+//! Two nodes are a world. `specs/Sides.antt` says what a node gives by itself and what is in its log, and `specs/Orders.antt` in which
+//! orders the lines of two logs may have happened. `specs/Example.antt` has such an order.
+//!
+//! [`spaces`] has the laws of an address space, [`nodes`] those of a guest and of a node, [`worlds`] those of a migration, and [`sides`] those of two
+//! nodes in processes of their own.
 #![tactic(auto)]
 
 pub mod nodes;
+pub mod sides;
 pub mod spaces;
 pub mod worlds;

@@ -1,0 +1,14 @@
+use Rattle.mig_laws.proofs.LogNodes.{left}
+use Rattle.mig_laws.proofs.sides.a_log_decides_its_node.Goals as goal
+
+pub returns-clause-source : goal.returns-clause-source
+returns-clause-source c old new turns effects is = (left old turns effects new is).source
+
+pub returns-clause-destination : goal.returns-clause-destination
+returns-clause-destination c old new turns effects is = (left old turns effects new is).destination
+
+pub returns-clause-at_source : goal.returns-clause-at_source
+returns-clause-at_source c old new turns effects is = (left old turns effects new is).at_source
+
+pub returns-clause-at_destination : goal.returns-clause-at_destination
+returns-clause-at_destination c old new turns effects is = (left old turns effects new is).at_destination

@@ -1,0 +1,29 @@
+-- An order of two logs with a break: a migration begins, the channel is lost, both sides notice, and they continue over a new one.
+use Rattle.std.specs.Prelude.{List, [], ◌∷◌}
+use Rattle.std.specs.FinSet as finset
+use Rattle.mig_base.specs.declared.effect.Effect.{Effect}
+use Rattle.mig_base.specs.declared.phase.Received.{Received}
+use Rattle.mig_base.specs.declared.schedule.Side.{Side}
+use Rattle.mig_base.specs.declared.schedule.Step.{Step}
+use Rattle.mig_model.specs.Log.{no_pages}
+use Rattle.mig_model.specs.Wire.{Frame}
+use Rattle.mig_laws.specs.Orders.{Turn}
+use Rattle.mig_laws.specs.Sides.{Line}
+
+-- Start, whose Advise is taken; a loss, which each side notices; Resume, which is taken; and its Recv, which is taken as well
+abbrev pub with_a_break : List Turn
+with_a_break =
+    Turn.AtSource (Line.Made Step.Start)
+    ∷ Turn.AtDestination (Line.Took (record { epoch = 1; frame = Frame.Advise }))
+    ∷ Turn.Cut
+    ∷ Turn.AtSource (Line.Made (Step.Notice Side.Source))
+    ∷ Turn.AtDestination (Line.Made (Step.Notice Side.Destination))
+    ∷ Turn.AtSource (Line.Made Step.Resume)
+    ∷ Turn.AtDestination (Line.Took (record { epoch = 2; frame = Frame.Resume }))
+    ∷ Turn.AtSource (Line.Took (record { epoch = 2; frame = Frame.Recv Received.NotRun no_pages }))
+    ∷ []
+
+-- what they answer
+abbrev pub its_effects : List Effect
+its_effects =
+    Effect.Started 1 ∷ Effect.TookAdvise ∷ Effect.Broken ∷ Effect.Noticed Side.Source ∷ Effect.Noticed Side.Destination ∷ Effect.Resumed 2 ∷ Effect.TookResume ∷ Effect.TookRecv Received.NotRun (finset.len no_pages) ∷ []
