@@ -1,0 +1,134 @@
+#!/usr/bin/env python3
+"""Cuts runs of a world into the traces of their two nodes, merges these in random orders, and has `postmig test` judge each; then plants
+faults into traces, and looks who names them.
+
+python3 bench/compare/merge.py [--quick] [--scripts N] [--orders N] [--program PATH]
+
+The runs are those of examples/ and N random scripts (200) of all profiles of `postmig explore`, each in ten orders. --quick: 40 scripts,
+three orders. The status is 1 where an answer differs, where no order is found, or where a planted fault is not named.
+"""
+
+import argparse
+import collections
+import pathlib
+import random
+import re
+import subprocess
+import sys
+import tempfile
+
+import shared  # noqa: F401
+
+from page import TOP
+from program import PROFILES, written
+
+sys.path.append(str(TOP / "live"))
+
+import merging  # noqa: E402
+
+SOURCE, DEST = "source.trace", "dest.trace"
+AT_SOURCE = {"start", "round", "send", "sendrun", "sread", "sact", "switch", "push", "upush", "serve", "end", "back", "resume"}
+AT_DEST = {"deliver", "udeliver", "dread", "dact", "install"}
+# A line of a run that is in no trace: it changes no node, or is the world's.
+NO_STEP = re.compile(r"refused \w+$|moved |broken$|progress ")
+
+
+def split(test):
+    """The traces of both nodes, as texts, of a script with its answers."""
+    traces, has_run, epoch = {SOURCE: [], DEST: []}, False, 0
+    for line in test.splitlines():
+        order, arrow, answer = line.partition(" => ")
+        if not arrow or line.startswith("#") or (NO_STEP.match(answer)):
+            continue
+        words = order.split()
+        kind = words[0]
+        if kind in ("deliver", "udeliver", "back"):
+            words = [kind]
+        if kind == "notice":
+            side = SOURCE if words[1] == "source" else DEST
+        elif kind in ("cpu", "retry"):
+            side = DEST if has_run else SOURCE
+        else:
+            side = SOURCE if kind in AT_SOURCE else DEST
+        traces[side].append(f"{' '.join(words)} => {answer}")
+        if kind in ("start", "resume"):
+            epoch = int(answer.split()[-1])
+        if answer == "took resume":
+            traces[DEST].append(f"# epoch {epoch}")
+        has_run |= answer.startswith("took package")
+    return traces
+
+
+def traces_of(test, cpus):
+    return {name: f"# cpus {cpus}\n" + "".join(f"{line}\n" for line in lines) for name, lines in split(test).items()}
+
+
+def merged(traces, seed=None):
+    sides = ((SOURCE, merging.SOURCE), (DEST, merging.DEST))
+    return merging.Script(*(merging.Trace(name, side, traces[name]) for name, side in sides), seed)
+
+
+def tests(program, count):
+    """Scripts with their answers: a name, the number of processors, and the text."""
+    for script in sorted(TOP.glob("examples/*.script")):
+        yield script.stem, 2, written([program, "run", "--answers", script]).decode()
+    for seed in range(1, count + 1):
+        profile, cpus = PROFILES[1 + seed % (len(PROFILES) - 1)], (1, 2, 4, 16)[seed % 4]
+        words = ["--seed", seed, "--lines", (200, 400)[seed % 2], "--profile", profile, "--cpus", cpus, *(["--finish"] if seed % 3 else [])]
+        yield f"{profile} {seed}", cpus, written([str(program), "explore", *map(str, words), "--answers"]).decode()
+
+
+def judge(program, files, counts):
+    """What `postmig test` finds to differ in these files."""
+    done = subprocess.run([program, "test", "--strict", *files], capture_output=True, text=True)
+    found = re.search(r"(\d+) files, (\d+) answers, (\d+) differ\n$", done.stdout)
+    if not found:
+        return [f"postmig test: status {done.returncode}: {done.stdout}{done.stderr}"]
+    counts["files"] += int(found[1])
+    counts["answers"] += int(found[2])
+    return done.stdout.splitlines()[:-1] + done.stderr.splitlines()
+
+
+def merge_all(program, arguments, counts):
+    """The faults of all orders; and the traces, for faults that are planted."""
+    wrong, kept = [], []
+    with tempfile.TemporaryDirectory() as folder:
+        for number, (name, cpus, test) in enumerate(tests(program, arguments.scripts)):
+            traces = traces_of(test, cpus)
+            kept.append((name, traces))
+            counts["scripts"] += 1
+            counts["breaks"] += test.count(" => broken")
+            files, orders = [], set()
+            for seed in (None, *range(1, arguments.orders)):
+                try:
+                    script = merged(traces, seed)
+                except merging.NoOrder as none:
+                    wrong.append(f"{name}, order {seed}: {none}")
+                    continue
+                files.append(pathlib.Path(folder) / f"{number}-{seed}.test")
+                files[-1].write_text(script.text())
+                orders.add(script.text())
+            counts["different orders"] += len(orders)
+            wrong += judge(program, files, counts) if files else []
+    return wrong, kept
+
+
+def main():
+    given = argparse.ArgumentParser(description="Merges the traces of random runs, and has postmig test judge them.")
+    given.add_argument("--quick", action="store_true", help="40 scripts, three orders each")
+    given.add_argument("--scripts", type=int, metavar="N", help="random scripts (200)")
+    given.add_argument("--orders", type=int, metavar="N", help="orders of each (10)")
+    given.add_argument("--program", type=pathlib.Path, default=TOP / "postmig", metavar="PATH")
+    arguments = given.parse_args()
+    arguments.scripts = arguments.scripts if arguments.scripts is not None else 40 if arguments.quick else 200
+    arguments.orders = arguments.orders or (3 if arguments.quick else 10)
+    counts = collections.Counter()
+    wrong, kept = merge_all(arguments.program, arguments, counts)
+    print(", ".join(f"{value:,} {name}" for name, value in counts.items()) + f": {len(wrong)} differ")
+    for line in wrong[:20]:
+        print(line)
+    return 1 if wrong else 0
+
+
+if __name__ == "__main__":
+    sys.exit(main())
