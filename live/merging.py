@@ -30,9 +30,11 @@ ORDERS = {
 }
 LINKED = {"send", "sendrun", "switch", "push", "upush", "serve", "end", "back", "deliver", "udeliver"}
 NOTICES = {"notice source", "notice dest"}
+# Lines of comments at the top of a script.
+HEAD = 2
 # A frame whose count the trace of its sender does not tell.
 ANY = " *"
-DIFFERS = re.compile(r"-:(\d+): (expected .*)")
+DIFFERS = re.compile(r"-:(\d+): (expected .*|not a line of a test)")
 
 
 class Unreadable(Exception):
@@ -408,7 +410,7 @@ class Script:
     def __init__(self, source, dest, seed=None, cpus=None):
         merge = Merge(source, dest)
         self.lines = [f"# cpus {processors(source, dest, cpus)}", f"# {source.name} and {dest.name}, merged"]
-        self.origins = [None, None]
+        self.origins = [None] * HEAD
         for trace, index in merge.order(first_ready if seed is None else at_random(seed)):
             if trace is None:
                 self.lines.append("break => broken")
@@ -423,16 +425,17 @@ class Script:
         return "".join(itertools.chain.from_iterable((line, "\n") for line in lines))
 
     def judged(self, program):
-        """The first line that `postmig test` finds to differ, as a text, or None. OSError if it cannot judge."""
-        done = subprocess.run([program, "test", "--strict", "-"], input=self.text(), capture_output=True, text=True)
-        found = DIFFERS.match(done.stdout)
+        """The first line that `postmig test` finds to be wrong, as a text, or None. OSError if it cannot judge."""
+        done = subprocess.run([program, "test", "--strict"], input=self.text(), capture_output=True, text=True)
         if done.returncode == 0:
             return None
-        if done.returncode != 3 or not found:
+        found = DIFFERS.search(done.stdout) or DIFFERS.search(done.stderr)
+        if not found:
             raise OSError(f"postmig test: status {done.returncode}: {done.stdout.strip()} {done.stderr.strip()}")
-        origin = self.origins[int(found[1]) - 1]
-        where = "{}:{}".format(*origin) if origin else f"a break before {self.next_origin(int(found[1]))}"
-        return f"{where}: {self.lines[int(found[1]) - 1]}: {found[2]}"
+        line = int(found[1])
+        origin = self.origins[line - 1]
+        where = "{}:{}".format(*origin) if origin else f"a break before {self.next_origin(line)}"
+        return f"{where}: {self.lines[line - 1]}: {found[2]}"
 
     def next_origin(self, line):
         return next(("{}:{}".format(*origin) for origin in self.origins[line:] if origin), "the end")
