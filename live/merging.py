@@ -409,7 +409,8 @@ class Script:
 
     def __init__(self, source, dest, seed=None, cpus=None):
         merge = Merge(source, dest)
-        self.lines = [f"# cpus {processors(source, dest, cpus)}", f"# {source.name} and {dest.name}, merged"]
+        self.cpus = str(processors(source, dest, cpus))
+        self.lines = [f"# cpus {self.cpus}", f"# {source.name} and {dest.name}, merged"]
         self.origins = [None] * HEAD
         for trace, index in merge.order(first_ready if seed is None else at_random(seed)):
             if trace is None:

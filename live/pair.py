@@ -79,11 +79,13 @@ class Side:
 
 class Migration:
     """shared, source, dest: words of the command lines. With is_unix the two talk over a Unix socket; with is_handed the guest's memory at the
-    destination is that of a third process, the monitor. With is_traced both write their steps, and `judged` is what is wrong with them."""
+    destination is that of a third process, the monitor. With is_traced both write their steps, to files in the folder `kept` if there is one, and
+    `judged` is what is wrong with them."""
 
-    def __init__(self, shared, source, dest, program=PROGRAM, is_unix=False, on_progress=None, is_handed=False, is_traced=False):
+    def __init__(self, shared, source, dest, program=PROGRAM, is_unix=False, on_progress=None, is_handed=False, is_traced=False,
+                 kept=None):
         self.folder = tempfile.TemporaryDirectory(prefix="live-")
-        self.traces = [f"{self.folder.name}/{side}.trace" for side in ("source", "dest")] if is_traced else None
+        self.traces = [f"{kept or self.folder.name}/{side}.trace" for side in ("source", "dest")] if is_traced else None
         self.script = self.judged = None
         if is_traced:
             source, dest = [*source, "--trace", self.traces[0]], [*dest, "--trace", self.traces[1]]
