@@ -10,6 +10,7 @@ three orders. The status is 1 where an answer differs, where no order is found, 
 
 import argparse
 import collections
+import itertools
 import pathlib
 import random
 import re
@@ -20,13 +21,14 @@ import tempfile
 import shared  # noqa: F401
 
 from page import TOP
-from program import PROFILES, written
+from program import PROFILES, PROGRAM, written
 
 sys.path.append(str(TOP / "live"))
 
 import merging  # noqa: E402
+import planted_traces  # noqa: E402
+from planted_traces import DEST, SOURCE  # noqa: E402
 
-SOURCE, DEST = "source.trace", "dest.trace"
 AT_SOURCE = {"start", "round", "send", "sendrun", "sread", "sact", "switch", "push", "upush", "serve", "end", "back", "resume"}
 AT_DEST = {"deliver", "udeliver", "dread", "dact", "install"}
 # A line of a run that is in no trace: it changes no node, or is the world's.
@@ -91,14 +93,14 @@ def judge(program, files, counts):
 
 def merge_all(program, arguments, counts):
     """The faults of all orders; and the traces, for faults that are planted."""
-    wrong, kept = [], []
+    wrong, kept, files = [], [], []
     with tempfile.TemporaryDirectory() as folder:
         for number, (name, cpus, test) in enumerate(tests(program, arguments.scripts)):
             traces = traces_of(test, cpus)
             kept.append((name, traces))
             counts["scripts"] += 1
             counts["breaks"] += test.count(" => broken")
-            files, orders = [], set()
+            orders = set()
             for seed in (None, *range(1, arguments.orders)):
                 try:
                     script = merged(traces, seed)
@@ -109,8 +111,54 @@ def merge_all(program, arguments, counts):
                 files[-1].write_text(script.text())
                 orders.add(script.text())
             counts["different orders"] += len(orders)
-            wrong += judge(program, files, counts) if files else []
+        wrong += judge(program, files, counts)
     return wrong, kept
+
+
+# PLANTED FAULTS
+
+
+def by_whom(program, make, folder):
+    """By whom a fault is named: `merge`, `test`, or nobody, None."""
+    try:
+        lines = make()
+    except (merging.NoOrder, merging.Unreadable):
+        return "merge"
+    file = pathlib.Path(folder) / "planted.test"
+    file.write_text("".join(f"{line}\n" for line in lines))
+    return "test" if subprocess.run([program, "test", "--strict", file], capture_output=True).returncode else None
+
+
+def planted(kept, plant, side, draw):
+    """The lines that a plant changes, of runs in which it has a place, and the lines to judge then."""
+    for name, traces in draw.sample(kept, len(kept)):
+        if side is None:
+            lines = plant(merged(traces).lines, draw)
+            if lines:
+                yield name, lambda lines=lines: lines
+            continue
+        head, *lines = traces[side].splitlines()
+        lines = plant(lines, draw)
+        if lines is not None:
+            text = "".join(f"{line}\n" for line in (head, *lines))
+            yield name, lambda traces=traces, text=text: merged({**traces, side: text}).lines
+
+
+def plant_all(program, kept, runs):
+    """A table of the faults; the number of those that were not named each time."""
+    missed, draw = 0, random.Random(1)
+    kinds = (("in a trace", planted_traces.TRACES), ("a node's answer", planted_traces.ANSWERS),
+             ("in an order", [(name, None, plant) for name, plant in planted_traces.SCRIPTS]))
+    with tempfile.TemporaryDirectory() as folder:
+        for kind, plants in kinds:
+            print(f"{kind:47} runs  merge   test  nobody")
+            for name, side, plant in plants:
+                found = [(who, by_whom(program, make, folder)) for who, make in itertools.islice(planted(kept, plant, side, draw), runs)]
+                counts = collections.Counter(by for _, by in found)
+                print(f"    {name:43} {len(found):4} {counts['merge']:6} {counts['test']:6} {counts[None]:7}"
+                      + "".join(f" ({who})" for who, by in found if by is None), flush=True)
+                missed += not found or counts[None] > 0
+    return missed
 
 
 def main():
@@ -118,7 +166,7 @@ def main():
     given.add_argument("--quick", action="store_true", help="40 scripts, three orders each")
     given.add_argument("--scripts", type=int, metavar="N", help="random scripts (200)")
     given.add_argument("--orders", type=int, metavar="N", help="orders of each (10)")
-    given.add_argument("--program", type=pathlib.Path, default=TOP / "postmig", metavar="PATH")
+    given.add_argument("--program", type=pathlib.Path, default=PROGRAM if PROGRAM.exists() else TOP / "postmig", metavar="PATH")
     arguments = given.parse_args()
     arguments.scripts = arguments.scripts if arguments.scripts is not None else 40 if arguments.quick else 200
     arguments.orders = arguments.orders or (3 if arguments.quick else 10)
@@ -127,7 +175,8 @@ def main():
     print(", ".join(f"{value:,} {name}" for name, value in counts.items()) + f": {len(wrong)} differ")
     for line in wrong[:20]:
         print(line)
-    return 1 if wrong else 0
+    missed = plant_all(arguments.program, kept, 1 if arguments.quick else 10)
+    return 1 if wrong or missed else 0
 
 
 if __name__ == "__main__":
