@@ -30,9 +30,15 @@ import planted_traces  # noqa: E402
 from planted_traces import DEST, SOURCE  # noqa: E402
 
 AT_SOURCE = {"start", "round", "send", "sendrun", "sread", "sact", "switch", "push", "upush", "serve", "end", "back", "resume"}
-AT_DEST = {"deliver", "udeliver", "dread", "dact", "install"}
 # A line of a run that is in no trace: it changes no node, or is the world's.
 NO_STEP = re.compile(r"refused \w+$|moved |broken$|progress ")
+
+
+def is_at_source(words, has_run):
+    """Whose step a line is: of a processor's, that of the node where the guest runs."""
+    if words[0] == "notice":
+        return words[1] == "source"
+    return not has_run if words[0] in ("cpu", "retry") else words[0] in AT_SOURCE
 
 
 def split(test):
@@ -43,17 +49,11 @@ def split(test):
         if not arrow or line.startswith("#") or (NO_STEP.match(answer)):
             continue
         words = order.split()
-        kind = words[0]
-        if kind in ("deliver", "udeliver", "back"):
-            words = [kind]
-        if kind == "notice":
-            side = SOURCE if words[1] == "source" else DEST
-        elif kind in ("cpu", "retry"):
-            side = DEST if has_run else SOURCE
-        else:
-            side = SOURCE if kind in AT_SOURCE else DEST
+        if words[0] in ("deliver", "udeliver", "back"):
+            words = words[:1]
+        side = SOURCE if is_at_source(words, has_run) else DEST
         traces[side].append(f"{' '.join(words)} => {answer}")
-        if kind in ("start", "resume"):
+        if words[0] in ("start", "resume"):
             epoch = int(answer.split()[-1])
         if answer == "took resume":
             traces[DEST].append(f"# epoch {epoch}")

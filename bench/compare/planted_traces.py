@@ -54,6 +54,36 @@ def installed_early(lines, draw):
     return None
 
 
+def acted_early(lines, draw):
+    """A fault is acted on before it is read, while no other one is held."""
+    held, found = 0, []
+    for at, line in enumerate(lines[:-1]):
+        if line.startswith("sread => read fault"):
+            if not held and lines[at + 1].startswith("sact"):
+                found.append(at)
+            held += 1
+        held -= line.startswith("sact")
+    if not found:
+        return None
+    at = draw.choice(found)
+    return [*lines[:at], lines[at + 1], lines[at], *lines[at + 2 :]]
+
+
+def retried_early(lines, draw):
+    """A processor tries again before the act that wakes it: it slept on the page since nobody acted on that."""
+    asleep = {}
+    for at, line in enumerate(lines[:-1]):
+        words = line.split()
+        if words[0] == "cpu" and line.endswith("asleep"):
+            asleep[words[1]] = int(words[3], 16) // 4096, at
+        if words[0] in ("dact", "install") and words[2] not in ("advise",) and lines[at + 1].startswith("retry "):
+            page, since = asleep.get(lines[at + 1].split()[1], (None, 0))
+            acts = [it for it in lines[since:at] if re.match("dact => (zeroed|woke|forgot)|install|dread => read (remove|unmap|remap)|retry", it)]
+            if words[3][:2] == "0x" and int(words[3], 16) // 4096 == page and words[2] in ("zeroed", "installed") and not acts:
+                return [*lines[:at], lines[at + 1], line, *lines[at + 2 :]]
+    return None
+
+
 def changed(pattern, to):
     """What the group of a pattern matches is changed by a function of its text."""
     def plant(lines, draw):
@@ -89,8 +119,8 @@ TRACES = (
     ("a trace is cut off", SOURCE, cut_off),
     ("two frames are taken in the other order", DEST, swapped("^deliver => took (zero|page|run)", "^deliver => took (zero|page|run)")),
     ("a copy is installed before it has come", DEST, installed_early),
-    ("a fault is acted on before it is read", SOURCE, swapped("^sread => read fault", "^sact")),
-    ("a fault is retried before it is acted on", DEST, swapped("^(dact => zeroed|install => installed)", "^retry")),
+    ("a fault is acted on before it is read", SOURCE, acted_early),
+    ("a fault is retried before it is acted on", DEST, retried_early),
     ("a notice is left out", DEST, left_out("^notice dest")),
     ("a notice comes too early", DEST, lambda lines, draw: early(lines, "^notice dest", "^u?deliver => took (?!resume)")),
     ("a resume is left out", SOURCE, left_out("^resume")),
