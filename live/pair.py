@@ -109,14 +109,15 @@ class Migration:
             hang = f"no end after {patience} s: source {self.source.state()}; destination {self.dest.state()}"
         if self.source.is_running() and not hang:
             time.sleep(0.05)
-        if self.source.is_running():
+        is_killed = self.source.is_running()
+        if is_killed:
             self.source.process.kill()
         self.source_status, self.source_text = self.source.end(10)
         self.dest.close_input()
         self.dest_status, self.dest_text = self.dest.end(30)
         if self.monitor:
             self.end_monitor()
-        if self.traces and not hang:
+        if self.traces and not hang and not is_killed:
             self.judge()
         self.folder.cleanup()
         return hang or self.wrong() or self.judged
