@@ -17,25 +17,39 @@ static struct {
 
 /* TEXT */
 
-static void put_text(const char *text)
+static void put_bytes(const char *text, size_t length)
 {
-    size_t length = strlen(text);
-
     memcpy(trace.text + trace.end, text, length);
     trace.end += length;
 }
 
-static void put_number(uint64_t value, unsigned base)
+static void put_text(const char *text)
 {
-    static const char digits[] = "0123456789abcdef";
+    put_bytes(text, strlen(text));
+}
+
+static void put_decimal(uint64_t value)
+{
     char text[20];
     size_t at = sizeof text;
 
     do
-        text[--at] = digits[value % base];
-    while (value /= base);
-    memcpy(trace.text + trace.end, text + at, sizeof text - at);
-    trace.end += sizeof text - at;
+        text[--at] = (char)('0' + value % 10);
+    while (value /= 10);
+    put_bytes(text + at, sizeof text - at);
+}
+
+static void put_hexadecimal(uint64_t value)
+{
+    char text[18];
+    size_t at = sizeof text;
+
+    do
+        text[--at] = "0123456789abcdef"[value & 15];
+    while (value >>= 4);
+    text[--at] = 'x';
+    text[--at] = '0';
+    put_bytes(text + at, sizeof text - at);
 }
 
 /* %x: a uint64_t in hexadecimal digits, with 0x. %u: one in decimal digits. %s: a text. */
@@ -45,17 +59,14 @@ static void put(const char *format, ...)
 
     va_start(arguments, format);
     for (; *format; format++) {
-        if (*format != '%') {
+        if (*format != '%')
             trace.text[trace.end++] = *format;
-        } else if (*++format == 's') {
+        else if (*++format == 's')
             put_text(va_arg(arguments, const char *));
-        } else {
-            bool is_address = *format == 'x';
-
-            if (is_address)
-                put_text("0x");
-            put_number(va_arg(arguments, uint64_t), is_address ? 16 : 10);
-        }
+        else if (*format == 'x')
+            put_hexadecimal(va_arg(arguments, uint64_t));
+        else
+            put_decimal(va_arg(arguments, uint64_t));
     }
     va_end(arguments);
 }

@@ -29,6 +29,7 @@ void trace_begin(const char *path, struct node *node, uint32_t processors)
     trace.file = fopen(path, "w");
     if (!trace.file)
         refuse_errno(errno, "%s", path);
+    (void)setvbuf(trace.file, NULL, _IOFBF, CHUNK_BYTES); /* a smaller buffer is as right */
     node_expect(postmig_node_trace(&node->handle, true), "postmig_node_trace");
     if (fprintf(trace.file, "# cpus %u\n", processors) < 0)
         refuse_errno(errno, "the trace");

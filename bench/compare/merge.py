@@ -161,6 +161,32 @@ def plant_all(program, kept, runs):
     return missed
 
 
+# THE COMMAND LINE
+
+
+def command_line(traces):
+    """What is wrong with the status or the text of live/merge."""
+    wrong = []
+    with tempfile.TemporaryDirectory() as folder:
+        def write(name, text):
+            (pathlib.Path(folder) / name).write_text(text)
+            return f"{folder}/{name}"
+
+        source, dest = (write(name, traces[name]) for name in (SOURCE, DEST))
+        changed = write("changed.trace", re.sub("(?m)(?<=^round => round 1 todo )", "7", traces[SOURCE]))
+        short = write("short.trace", traces[SOURCE].replace("\nsend ", "\n# ", 1))
+        script = merged(traces).text().partition("\n")[2].partition("\n")[2]
+        for words, status, text in (
+                ([source, dest], 0, script), ([source, dest, "--orders"], 0, "\nswitch\n"), ([source, dest, "--seed", "1", "--judge"], 0, "a run of the machine"),
+                ([changed, dest, "--judge"], 3, "changed.trace:"), ([short, dest], 1, "dest.trace:"), ([dest, source], 2, "not a step of a source"),
+                ([source, f"{folder}/none"], 2, "No such file"), ([source, write("words.trace", "# cpus 2\nhello\n")], 2, "words.trace:2: not a line"),
+                ([source, write("no.trace", "")], 1, "source.trace:")):
+            done = subprocess.run([TOP / "live/merge", *words], capture_output=True, text=True)
+            if done.returncode != status or text not in done.stdout + done.stderr:
+                wrong.append(f"merge {' '.join(words)}: status {done.returncode}: {done.stdout[:200]}{done.stderr}")
+    return wrong
+
+
 def main():
     given = argparse.ArgumentParser(description="Merges the traces of random runs, and has postmig test judge them.")
     given.add_argument("--quick", action="store_true", help="40 scripts, three orders each")
@@ -175,7 +201,9 @@ def main():
     print(", ".join(f"{value:,} {name}" for name, value in counts.items()) + f": {len(wrong)} differ")
     for line in wrong[:20]:
         print(line)
-    missed = plant_all(arguments.program, kept, 1 if arguments.quick else 10)
+    wrong_uses = command_line(dict(kept)["lost-before-switch"])
+    print(*wrong_uses, sep="\n", end="\n" if wrong_uses else "")
+    missed = plant_all(arguments.program, kept, 1 if arguments.quick else 10) + len(wrong_uses)
     return 1 if wrong or missed else 0
 
 
