@@ -13,13 +13,16 @@ What an order must keep:
 - an epoch ends with a `break`, after all that either node has sent or taken in it, and before the first `notice` of its end;
 - `resume` comes once both nodes have noticed.
 
-A frame that was sent and not taken is lost by the break. Any order that keeps these four is a run of the world, or none is.
+A frame that was sent and not taken is lost by the break. If one order that keeps these four is a run of the world, so is each other one: that
+is tested (bench/compare/merge.py), and not proved. Which Resume of the source a destination has taken follows from the frames, and where two
+would fit, from the comment `# epoch N`, or else it is the earliest.
 """
 
 import itertools
 import random
 import re
 import subprocess
+import sys
 
 SOURCE, DEST = "source", "destination"
 # What each node's steps are called, and those that need the channel.
@@ -223,6 +226,7 @@ def pair(own, others, fits):
     the source has taken a report has one."""
     must = [has_report(epoch) for epoch in own]
     known = {}
+    sys.setrecursionlimit(max(sys.getrecursionlimit(), 4 * len(others) + 1000))  # (one call for each epoch)
 
     def rest(place, at):
         """Of the destination's epochs from `place` on, with those of the source from `at` on."""
