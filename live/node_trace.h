@@ -4,6 +4,8 @@
 
 #include <postmig_node.h>
 
+#ifndef HAS_NODE_TRACE /* (those headers have them) */
+
 /* One more answer of a call: the node has no trace. */
 enum { POSTMIG_NO_TRACE = 14 };
 
@@ -13,4 +15,5 @@ uint32_t postmig_node_trace(postmig_handle *node, bool on);
 /* Takes the first lines that wait: as many whole ones as fit, each with its line feed. *written is 0 where none waits. */
 uint32_t postmig_node_trace_take(postmig_handle *node, uint8_t *out, size_t room, size_t *written);
 
+#endif
 #endif

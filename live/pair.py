@@ -130,7 +130,7 @@ class Migration:
         except (merging.NoOrder, merging.Unreadable, OSError) as fault:
             differs = str(fault)
         if differs:
-            self.judged = f"no run of the machine: {differs.replace(f'{self.folder.name}/', '')}"
+            self.judged = f"no run of the machine: {differs.replace(f'{self.folder.name}/', '').replace(f'{FOLDER.parent}/', '')}"
 
     def end_monitor(self):
         """Its verdict, and the first operation of the guest, are taken for those of the destination."""

@@ -34,10 +34,10 @@ LIVE = TOP / "live"
 def build(folder):
     """The player, with both sanitizers."""
     made = pathlib.Path(folder) / "play"
-    steps = written(["make", "-s", "-C", str(LIVE), "--eval", "wraps: ; @echo $(WRAPS)", "wraps"]).decode().split()
-    written(["cc", "-std=gnu11", "-g", "-O1", "-Wall", "-Wextra", "-fsanitize=address,undefined", "-I", str(LIVE), "-I",
-             str(TOP / "crates/postmig_c/include"), "-o", str(made), str(TOP / "bench/embed/play.c"), str(LIVE / "node_trace.c"), *steps,
-             str(TOP / "dist/libpostmig.a")])
+    # (node_trace.c, where the library has no traces of its own)
+    words = written(["make", "-s", "-C", LIVE, "--eval", "traces: ; @echo $(filter node_trace.c,$(SOURCES)) $(filter -D%,$(FLAGS)) $(WRAPS)", "traces"])
+    written(["cc", "-std=gnu11", "-g", "-O1", "-Wall", "-Wextra", "-fsanitize=address,undefined", "-fno-sanitize-recover=all", "-I", LIVE, "-I",
+             TOP / "crates/postmig_c/include", "-o", made, TOP / "bench/embed/play.c", *words.decode().split(), TOP / "dist/libpostmig.a"], folder=LIVE)
     return made
 
 
