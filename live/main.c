@@ -238,9 +238,6 @@ static void set_option(struct options *options, int option, const char *name, ch
     case FEED:
         options->feed = text;
         break;
-    case TRACE:
-        options->trace = text;
-        break;
     case MONITOR:
         read_unix_address(&options->monitor, text);
         break;
@@ -249,6 +246,9 @@ static void set_option(struct options *options, int option, const char *name, ch
         break;
     case CUT:
         read_cuts(options, text);
+        break;
+    case TRACE:
+        options->trace = text;
         break;
     case PROGRESS:
         options->shows_progress = true;

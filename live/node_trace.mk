@@ -8,6 +8,8 @@ ifneq ($(shell nm $(LIBPOSTMIG) 2>/dev/null | grep ' T postmig_node_trace$$'),)
 SOURCES := $(filter-out node_trace.c,$(SOURCES))
 else
 WRAPS = $(addprefix -Wl$(comma)--wrap=postmig_,$(STEPS))
+override CFLAGS += $(WRAPS)
+SANITIZERS += $(WRAPS)
 endif
 
 ifneq ($(shell grep -s postmig_node_trace $(NODE_INCLUDE)/postmig_node.h),)

@@ -18,6 +18,7 @@ struct cuts {
 
 struct options {
     struct address address;
+    const char *trace; /* the file of the node's steps, or NULL */
     struct guest_plan plan;
     struct guest_pace pace;
     uint32_t buffer;   /* bytes of a socket's buffers in the kernel */
@@ -25,7 +26,6 @@ struct options {
     uint32_t cuts;
     struct cuts cut[MOST_CUTS]; /* of the first epochs */
     bool shows_progress;
-    const char *trace; /* the file of the node's steps, or NULL */
     const char *feed; /* a command that takes the part of the other side, or NULL */
     /* of the source */
     uint32_t rounds, target, push_rate, before;
