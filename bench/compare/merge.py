@@ -4,7 +4,7 @@ faults into traces, and looks who names them.
 
 python3 bench/compare/merge.py [--quick] [--scripts N] [--orders N] [--program PATH]
 
-The runs are those of examples/ and N random scripts (200) of all profiles of `postmig explore`, each in ten orders. --quick: 40 scripts,
+The runs are those of examples/ and N random scripts (200) of all profiles of `postmig explore`, each in ten orders. --quick: 24 scripts,
 three orders. The status is 1 where an answer differs, where no order is found, or where a planted fault is not named.
 """
 
@@ -21,7 +21,7 @@ import tempfile
 import shared  # noqa: F401
 
 from page import TOP
-from program import PROFILES, PROGRAM, written
+from program import PROFILES, written
 
 sys.path.append(str(TOP / "live"))
 
@@ -189,12 +189,12 @@ def command_line(traces):
 
 def main():
     given = argparse.ArgumentParser(description="Merges the traces of random runs, and has postmig test judge them.")
-    given.add_argument("--quick", action="store_true", help="40 scripts, three orders each")
+    given.add_argument("--quick", action="store_true", help="24 scripts, three orders each")
     given.add_argument("--scripts", type=int, metavar="N", help="random scripts (200)")
     given.add_argument("--orders", type=int, metavar="N", help="orders of each (10)")
-    given.add_argument("--program", type=pathlib.Path, default=PROGRAM if PROGRAM.exists() else TOP / "postmig", metavar="PATH")
+    given.add_argument("--program", type=pathlib.Path, default=TOP / "postmig", metavar="PATH")
     arguments = given.parse_args()
-    arguments.scripts = arguments.scripts if arguments.scripts is not None else 40 if arguments.quick else 200
+    arguments.scripts = arguments.scripts if arguments.scripts is not None else 24 if arguments.quick else 200
     arguments.orders = arguments.orders or (3 if arguments.quick else 10)
     counts = collections.Counter()
     wrong, kept = merge_all(arguments.program, arguments, counts)

@@ -23,7 +23,7 @@ import contents
 import merge
 import merging
 from page import TOP
-from program import PROGRAM, run, written
+from program import run, written
 
 # Bytes of a pipe; of a user without privileges the kernel allows this.
 PIPE = 1 << 20
@@ -131,7 +131,7 @@ def zeroed(test):
 def main():
     given = argparse.ArgumentParser(description="Plays scripts through two nodes, and compares each step with postmig run.")
     given.add_argument("--scripts", type=int, default=200, metavar="N", help="random scripts (200)")
-    given.add_argument("--program", type=pathlib.Path, default=PROGRAM if PROGRAM.exists() else TOP / "postmig", metavar="PATH")
+    given.add_argument("--program", type=pathlib.Path, default=TOP / "postmig", metavar="PATH")
     arguments = given.parse_args()
     counts, wrong = collections.Counter(), []
     with tempfile.TemporaryDirectory() as folder:

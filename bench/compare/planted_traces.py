@@ -128,7 +128,7 @@ TRACES = (
     ("the epoch of a Resume is wrong", DEST, changed("^# epoch ([0-9]+)", more)),
     ("the epoch of a push is wrong", SOURCE, changed("^u?push 0x[0-9a-f]+ ([0-9]+) => sent", more)),
     ("a request is taken that nobody has made", SOURCE, changed("^back => took request (0x[0-9a-f]+)", more)),
-    ("a map call is left out", SOURCE, left_out("^cpu . mmap .* => cpu . at")),
+    ("the first map call is left out", SOURCE, lambda lines, draw: lines[1:] if " mmap " in lines[0] else None),
     ("an event is left unread", DEST, left_out("^dread => read (remove|unmap|remap)")),
 )
 
