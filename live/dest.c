@@ -14,6 +14,7 @@
 #include "figures.h"
 #include "handed.h"
 #include "kernel.h"
+#include "trace.h"
 #include "watch.h"
 
 #define HEADER_BYTES 12u
@@ -79,6 +80,7 @@ static void begin(struct dest *dest, const struct options *options)
     watch_open(&dest->watch, &dest->node, &dest->guest, dest->is_handed ? &dest->handed : NULL);
     watch_keep_times(&dest->watch);
     node_expect(postmig_destination_new((uint8_t)options->plan.threads, &dest->node.handle), "postmig_destination_new");
+    trace_begin(options->trace, &dest->node, options->plan.threads);
     dest->instance = hello_new_instance();
     look(dest);
 }
@@ -494,6 +496,7 @@ static bool turn(struct dest *dest)
         lose_channel(dest);
     if (dest->state.has_run && dest->is_handed)
         dest->has_more |= watch_put_kept(&dest->watch, KEPT_AT_A_TIME);
+    trace_write();
     show_progress(dest);
     return dest->is_over || wait_for_more(dest);
 }
@@ -582,6 +585,7 @@ int dest_run(const struct options *options)
     door_close(&dest.door);
     stop_guest(&dest);
     say_figures(&dest);
+    trace_end();
     postmig_free(&dest.node.handle);
     return verdict(&dest);
 }

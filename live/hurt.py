@@ -32,12 +32,12 @@ def expect(sides):
 
 
 class Watched:
-    """Two sides, and events for the first lines of progress with the phases that the cases wait for."""
+    """Two sides with traces, and events for the first lines of progress with the phases that the cases wait for."""
 
     def __init__(self, program, source, dest=(), memory=()):
         self.program, self.shared = program, [*(memory or MEMORY), "--progress"]
         self.phases = {name: threading.Event() for name in ("source precopy", "source stopped", "destination running")}
-        self.migration = pair.Migration(self.shared, source, list(dest), program, on_progress=self.see)
+        self.migration = pair.Migration(self.shared, source, list(dest), program, on_progress=self.see, is_traced=True)
         self.source, self.dest = self.migration.source, self.migration.dest
         self.address = f"127.0.0.1:{self.dest.number('listening', 'port')}"
 
@@ -51,9 +51,15 @@ class Watched:
             raise TimeoutError(f"the phase {phase} does not come")
 
     def another_dest(self):
-        dest = pair.Side([str(self.program), "dest", "--listen", self.address, *self.shared])
+        self.migration.traces[1] += "-of-another"
+        dest = pair.Side([str(self.program), "dest", "--listen", self.address, *self.shared, "--trace", self.migration.traces[1]])
         dest.listening.wait(20)
         return dest
+
+    def judged(self):
+        """What is wrong with the steps of the source and of the last destination."""
+        self.migration.judge()
+        return self.migration.judged
 
 
 def destination_dies_before_the_switch(program):
@@ -72,7 +78,7 @@ def another_destination_before_the_switch(program):
     dest = both.another_dest()
     source = both.source.end(40)
     dest.close_input()
-    return expect([("source", source, pair.DONE, ""), ("destination", dest.end(20), pair.DONE, "")])
+    return expect([("source", source, pair.DONE, ""), ("destination", dest.end(20), pair.DONE, "")]) or both.judged()
 
 
 def destination_dies_after_the_switch(program):

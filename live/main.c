@@ -13,6 +13,7 @@
 #include "monitor.h"
 #include "options.h"
 #include "source.h"
+#include "trace.h"
 
 static const char USAGE[] =
     "live source --connect ADDRESS [OPTION ..]    moves its guest to a destination\n"
@@ -38,6 +39,7 @@ static const char USAGE[] =
     "  --feed COMMAND    takes the part of the other side: frames go to its standard input and come from its standard output. There\n"
     "                    is no --connect or --listen then, and no second epoch\n"
     "  --progress        a line each tenth of a second\n"
+    "  --trace FILE      the steps of its node, a line for each: `live/merge` makes one script of both sides' files. (not of a monitor)\n"
     "of the source:\n"
     "  --rounds N        of pre-copy at most (3)\n"
     "  --target PAGES    it switches after a round with no more (1000)\n"
@@ -53,6 +55,7 @@ static const char USAGE[] =
 
 static _Noreturn void end(enum status status, int error, const char *format, va_list arguments)
 {
+    trace_end();
     (void)fflush(NULL); /* the figures; the text is what counts now */
     fprintf(stderr, "live: ");
     vfprintf(stderr, format, arguments);
@@ -157,7 +160,7 @@ static void read_cuts(struct options *options, char *text)
 
 enum {
     CONNECT = 256, LISTEN, MEMORY, THREADS, SEED, COLD_STORES, GIVEN_BACK, BATCH, PAUSE, BUFFER, CUT, PROGRESS, ROUNDS, TARGET,
-    NO_URGENT, PUSH_RATE, BEFORE, PATIENCE, AFTER, CHECK_OWED, MONITOR, FEED, HELP
+    NO_URGENT, PUSH_RATE, BEFORE, PATIENCE, AFTER, CHECK_OWED, MONITOR, FEED, TRACE, HELP
 };
 
 #define SHARED_OPTIONS                                                                                                              \
@@ -166,6 +169,7 @@ enum {
     { "given", required_argument, NULL, GIVEN_BACK }, { "batch", required_argument, NULL, BATCH },                                  \
     { "pause", required_argument, NULL, PAUSE }, { "buffer", required_argument, NULL, BUFFER },                                     \
     { "cut", required_argument, NULL, CUT }, { "progress", no_argument, NULL, PROGRESS },                                           \
+    { "trace", required_argument, NULL, TRACE },                                                                                    \
     { "help", no_argument, NULL, HELP }
 
 static const struct option source_options[] = {
@@ -242,6 +246,9 @@ static void set_option(struct options *options, int option, const char *name, ch
         break;
     case CUT:
         read_cuts(options, text);
+        break;
+    case TRACE:
+        options->trace = text;
         break;
     case PROGRESS:
         options->shows_progress = true;

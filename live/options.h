@@ -18,6 +18,7 @@ struct cuts {
 
 struct options {
     struct address address;
+    const char *trace; /* the file of the node's steps, or NULL */
     struct guest_plan plan;
     struct guest_pace pace;
     uint32_t buffer;   /* bytes of a socket's buffers in the kernel */

@@ -7,8 +7,11 @@ import tempfile
 import threading
 import time
 
+import merging
+
 FOLDER = pathlib.Path(__file__).resolve().parent
 PROGRAM = FOLDER / "out/live"
+POSTMIG = FOLDER.parent / "postmig"
 # What a program ends with: live.h.
 DONE, LOST, REFUSED, WRONG = range(4)
 
@@ -76,10 +79,16 @@ class Side:
 
 class Migration:
     """shared, source, dest: words of the command lines. With is_unix the two talk over a Unix socket; with is_handed the guest's memory at the
-    destination is that of a third process, the monitor."""
+    destination is that of a third process, the monitor. With is_traced both write their steps, to files in the folder `kept` if there is one, and
+    `judged` is what is wrong with them."""
 
-    def __init__(self, shared, source, dest, program=PROGRAM, is_unix=False, on_progress=None, is_handed=False):
+    def __init__(self, shared, source, dest, program=PROGRAM, is_unix=False, on_progress=None, is_handed=False, is_traced=False,
+                 kept=None):
         self.folder = tempfile.TemporaryDirectory(prefix="live-")
+        self.traces = [f"{kept or self.folder.name}/{side}.trace" for side in ("source", "dest")] if is_traced else None
+        self.script = self.judged = None
+        if is_traced:
+            source, dest = [*source, "--trace", self.traces[0]], [*dest, "--trace", self.traces[1]]
         address = f"unix:{self.folder.name}/socket" if is_unix else "127.0.0.1:0"
         place = f"unix:{self.folder.name}/monitor"
         role = ["handler", "--monitor", place] if is_handed else ["dest"]
@@ -100,15 +109,28 @@ class Migration:
             hang = f"no end after {patience} s: source {self.source.state()}; destination {self.dest.state()}"
         if self.source.is_running() and not hang:
             time.sleep(0.05)
-        if self.source.is_running():
+        is_killed = self.source.is_running()
+        if is_killed:
             self.source.process.kill()
         self.source_status, self.source_text = self.source.end(10)
         self.dest.close_input()
         self.dest_status, self.dest_text = self.dest.end(30)
         if self.monitor:
             self.end_monitor()
+        if self.traces and not hang and not is_killed:
+            self.judge()
         self.folder.cleanup()
-        return hang or self.wrong()
+        return hang or self.wrong() or self.judged
+
+    def judge(self):
+        """Both traces in one script, which `postmig test` judges."""
+        try:
+            self.script = merging.merge_files(*self.traces)
+            differs = self.script.judged(POSTMIG)
+        except (merging.NoOrder, merging.Unreadable, OSError) as fault:
+            differs = str(fault)
+        if differs:
+            self.judged = f"no run of the machine: {differs.replace(f'{self.folder.name}/', '').replace(f'{FOLDER.parent}/', '')}"
 
     def end_monitor(self):
         """Its verdict, and the first operation of the guest, are taken for those of the destination."""

@@ -12,6 +12,7 @@
 #include "feed.h"
 #include "figures.h"
 #include "kernel.h"
+#include "trace.h"
 #include "watch.h"
 
 #define MOST_OF_RUN 64u
@@ -147,6 +148,7 @@ static void begin(struct source *source, const struct options *options)
     guest_start(&source->guest);
     sleep_ms(options->before);
     node_expect(postmig_source_new((uint8_t)options->plan.threads, 0, 0, &source->node.handle), "postmig_source_new");
+    trace_begin(options->trace, &source->node, options->plan.threads);
     source->figures.start = kernel_now();
     enter_memory(source);
     node_expect(postmig_source_start(&source->node.handle, &effect), "postmig_source_start");
@@ -629,6 +631,7 @@ static void turn(struct source *source)
     has_more = work(source);
     if (stream_is_open(&source->urgent) && stream_unsent(&source->urgent) && !stream_send(&source->urgent))
         lose_channel(source);
+    trace_write();
     show_progress(source);
     if (!has_more && source->state.phase != POSTMIG_SOURCE_RELEASED)
         wait_for_more(source);
@@ -662,6 +665,7 @@ static int keep_guest(struct source *source)
         sleep_ms(1);
     }
     stop_guest(source);
+    trace_end();
     kernel_unregister(source->watch.userfault, source->guest.memory, (size_t)source->guest.plan.pages * PAGE_BYTES);
     wrong = guest_check(&source->guest, &page);
     printf("kept operations=%" PRIu64 " wrong_loads=%" PRIu64 " wrong_pages=%u\n", guest_operations(&source->guest),
@@ -688,6 +692,7 @@ int source_run(const struct options *options)
     source.figures.busy = kernel_thread_time() - source.figures.busy;
     look(&source);
     say_figures(&source);
+    trace_end();
     postmig_free(&source.node.handle);
     return STATUS_OK;
 }

@@ -124,10 +124,16 @@ def programs(work):
     run("cc", "-I", DIST, "-o", shared, EMBED / "drive.c", "-L", DIST, "-lpostmig", f"-Wl,-rpath,{DIST}")
     if run(shared) != run(drive):
         sys.exit("embed: drive.c differs over the shared object")
+    strict = ["-Wall", "-Wextra", "-Wconversion", "-Werror", "-g", "-fsanitize=address,undefined", "-fno-sanitize-recover=all"]
+    two = built(work / "two", *strict, EMBED / "two_nodes.c")
+    for _ in range(10):
+        said = sorted(run(two).decode().splitlines())
+        if said != ["destination: 16 pages as the source stored them", "source: 8 pages owed, 8 discarded", "source: released"]:
+            sys.exit(f"embed: two_nodes.c: {said}")
     said = run(sys.executable, EMBED / "compare.py", *SCRIPTS[0]).decode()
     if said != "all answers agree\n":
         sys.exit("embed: compare.py: " + said)
-    print("drive.c and compare.py say what docs/USING.md says")
+    print("drive.c, two_nodes.c and compare.py say what docs/USING.md says")
 
 
 def beside_the_program(work, loads):

@@ -1,0 +1,450 @@
+"""Two traces, each the steps of one node in its own order, become one script of the whole world.
+
+A trace has a line `ORDER => ANSWER` for each step that its node has made, in the words of docs/SCRIPT.md, as postmig_node_trace_take gives
+them. Lines that begin with # are comments; two of them count:
+
+    # cpus N     the first line: the processors of the guest
+    # epoch N    at the destination, between one `deliver => took resume` and the next: the epoch of that Resume
+
+What an order must keep:
+
+- the steps of each node, as they are in its trace;
+- a frame is taken after it was sent, and the frames of a wire in the order in which they were sent, within an epoch;
+- an epoch ends with a `break`, after all that either node has sent or taken in it, and before the first `notice` of its end;
+- `resume` comes once both nodes have noticed.
+
+A frame that was sent and not taken is lost by the break. If one order that keeps these four is a run of the world, so is each other one: that
+is tested (bench/compare/merge.py), and not proved. Which Resume of the source a destination has taken follows from the frames, and where two
+would fit, from the comment `# epoch N`, or else it is the earliest.
+"""
+
+import itertools
+import random
+import re
+import subprocess
+import sys
+
+SOURCE, DEST = "source", "destination"
+# What each node's steps are called, and those that need the channel.
+ORDERS = {
+    SOURCE: {"cpu", "retry", "start", "round", "send", "sendrun", "sread", "sact", "switch", "push", "upush", "serve", "end", "back",
+             "notice source", "resume"},
+    DEST: {"cpu", "retry", "deliver", "udeliver", "dread", "dact", "install", "notice dest"},
+}
+LINKED = {"send", "sendrun", "switch", "push", "upush", "serve", "end", "back", "deliver", "udeliver"}
+NOTICES = {"notice source", "notice dest"}
+# Lines of comments at the top of a script.
+HEAD = 2
+# A frame whose count the trace of its sender does not tell.
+ANY = " *"
+DIFFERS = re.compile(r"-:(\d+): (expected .*|not a line of a test)")
+
+
+class Unreadable(Exception):
+    """A file that is no trace."""
+
+
+class NoOrder(Exception):
+    """No order of both traces is a run: the text names the lines."""
+
+
+class Trace:
+    """The steps of one node: for each the number of its line, the name of its order, its answer, and the whole line."""
+
+    def __init__(self, name, side, text):
+        self.name, self.side, self.cpus, self.steps, self.epochs = name, side, None, [], {}
+        orders, steps, most, resumes = ORDERS[side], self.steps, -1, 0
+        for number, line in enumerate(text.split("\n"), 1):
+            order, arrow, answer = line.partition(" => ")
+            if not arrow or line[0] == "#":
+                self.read_comment(number, line, resumes)
+                continue
+            kind = order.split(" ", 1)[0]
+            if kind == "notice":
+                kind = order
+            if kind not in orders or not answer:
+                raise Unreadable(f"{name}:{number}: not a step of a {side}: {line}")
+            if answer.startswith("refused "):
+                raise Unreadable(f"{name}:{number}: a refused step is not a line of a trace: {line}")
+            if kind in ("cpu", "retry"):
+                most = max(most, self.processor(number, order))
+            resumes += answer == "took resume"
+            steps.append((number, kind, answer, line))
+        self.least_cpus = most + 1
+
+    def processor(self, number, order):
+        words = order.split(" ")
+        if len(words) < 2 or not words[1].isdecimal():
+            raise Unreadable(f"{self.name}:{number}: not a line of a trace: {order}")
+        return int(words[1])
+
+    def read_comment(self, number, line, resumes):
+        if line.strip() and line[0] != "#":
+            raise Unreadable(f"{self.name}:{number}: not a line `ORDER => ANSWER`: {line}")
+        words = line.split()
+        if len(words) == 3 and words[2].isdecimal() and words[1] == "cpus" and number == 1:
+            self.cpus = int(words[2])
+        elif len(words) == 3 and words[2].isdecimal() and words[1] == "epoch":
+            self.epochs[resumes] = int(words[2])
+
+    def at(self, index):
+        """Where a step is, and what it says."""
+        number, _, _, line = self.steps[index]
+        return f"{self.name}:{number}: {line}"
+
+
+def read(name, side):
+    try:
+        with open(name, encoding="utf-8", newline="\n") as file:
+            return Trace(name, side, file.read())
+    except (OSError, UnicodeDecodeError) as error:
+        raise Unreadable(f"{name}: {getattr(error, 'strerror', None) or error}") from None
+
+
+class Epoch:
+    """What a node has sent and taken from one `start` or Resume to the next: for each wire the frames, in order, each with the index of its
+    step. `end` is after the last step that needs the channel."""
+
+    def __init__(self, begin, number=None):
+        self.begin, self.end, self.number, self.notice = begin, begin, number, None
+        self.sent = {"main": [], "urgent": [], "back": []}
+        self.taken = {"main": [], "urgent": [], "back": []}
+
+
+def epochs_of_source(trace):
+    """The first begins with the first line: before `start` nothing is sent."""
+    epochs, has_switched = [Epoch(0)], False
+    for index, (_, kind, answer, _) in enumerate(trace.steps):
+        if kind == "resume":
+            epochs.append(Epoch(index))
+        epoch = epochs[-1]
+        main = epoch.sent["main"]
+        if kind in ("start", "resume"):
+            epoch.number = int(answer.split(" ")[-1])
+            main.append(("advise" if kind == "start" else "resume", index))
+        elif kind in ("send", "sendrun", "push"):
+            main.append((answer[5:], index))
+        elif kind == "upush":
+            epoch.sent["urgent"].append((answer[5:], index))
+        elif kind == "end":
+            main.append(("end", index))
+        elif kind == "switch":
+            discard, owed = answer.removeprefix("switched discard ").split(" owed ")
+            main += [(f"discard {discard}", index), (f"package owed {owed}", index)]
+            has_switched = True
+        elif kind == "back":
+            epoch.taken["back"].append((answer[5:], index))
+            if answer.startswith("took recv notrun") and has_switched:
+                main += [("discard" + ANY, index), ("package owed" + ANY, index)]
+        elif kind == "notice source":
+            epoch.notice = index
+        if kind in LINKED or kind in ("start", "resume"):
+            epoch.end = index + 1
+    return epochs
+
+
+class Requests:
+    """What the destination sends back: a page is requested once, and all that are not installed once more after a Resume."""
+
+    def __init__(self):
+        self.pages, self.state, self.is_paused = {}, "notrun", False
+
+    def frames(self, kind, answer):
+        """Those that a step sends."""
+        words = answer.split(" ")
+        if kind == "dact" and words[0] == "requested":
+            is_new = words[1] not in self.pages
+            self.pages[words[1]] = True
+            return [f"request {words[1]}"] if is_new and self.state == "running" and not self.is_paused else []
+        if kind == "install" and words[0] == "installed":
+            self.pages.pop(words[-1], None)
+        elif kind == "notice dest":
+            self.is_paused = True
+        elif answer.startswith("took package"):
+            self.state = "running"
+        elif answer == "took end":
+            self.state = "ended"
+            return ["done"]
+        elif answer == "took resume":
+            self.is_paused = False
+            return [f"recv {self.state}{ANY}", *(f"request {page}" for page in self.pages if self.state == "running")]
+        return []
+
+
+def epochs_of_destination(trace):
+    """Each begins with the taking of its Resume, but the first."""
+    epochs, requests = [Epoch(0, trace.epochs.get(0))], Requests()
+    for index, (_, kind, answer, _) in enumerate(trace.steps):
+        if answer == "took resume":
+            epochs.append(Epoch(index, trace.epochs.get(len(epochs))))
+        epoch = epochs[-1]
+        if kind in ("deliver", "udeliver"):
+            epoch.taken["main" if kind == "deliver" else "urgent"].append((answer[5:], index))
+            epoch.end = index + 1
+        elif kind == "notice dest":
+            epoch.notice = index
+        if kind in ("dact", "install", "notice dest", "deliver"):
+            epoch.sent["back"] += ((frame, index) for frame in requests.frames(kind, answer))
+    return epochs
+
+
+# WHICH EPOCHS OF BOTH ARE THE SAME ONE
+
+
+def is_frame(sent, taken):
+    return sent == taken or (sent.endswith(ANY) and taken.startswith(sent[:-1]))
+
+
+def first_difference(sent, taken):
+    """The first frame that was taken and was not the next of its wire, by its place; None if there is none."""
+    for place, frame in enumerate(taken):
+        if place == len(sent) or not is_frame(sent[place][0], frame[0]):
+            return place
+    return None
+
+
+def has_report(epoch):
+    return any(frame.startswith("recv ") for frame, _ in epoch.taken["back"])
+
+
+def may_be_one(own, other):
+    """Whether these epochs of the source and of the destination may be one, by their numbers and the kinds of their frames."""
+    if other.number is not None and own.number is not None and other.number != own.number:
+        return False
+    is_more = len(other.taken["main"]) + len(other.taken["urgent"]) > 1
+    return has_report(own) or not is_more
+
+
+def are_one(own, other):
+    return may_be_one(own, other) and all(
+        first_difference(sender.sent[wire], taker.taken[wire]) is None
+        for wire, sender, taker in (("main", own, other), ("urgent", own, other), ("back", other, own)))
+
+
+def pair(own, others, fits):
+    """For each epoch of the destination but the first, the place of that of the source: the earliest that fit, or None. Each epoch in which
+    the source has taken a report has one."""
+    must = [has_report(epoch) for epoch in own]
+    known = {}
+    sys.setrecursionlimit(max(sys.getrecursionlimit(), 4 * len(others) + 1000))  # (one call for each epoch)
+
+    def rest(place, at):
+        """Of the destination's epochs from `place` on, with those of the source from `at` on."""
+        if place == len(others):
+            return None if any(must[at:]) else ()
+        if (place, at) not in known:
+            known[place, at] = None
+            for x in range(at, len(own)):
+                more = rest(place + 1, x + 1) if fits(own[x], others[place]) else None
+                if more is not None:
+                    known[place, at] = (x, *more)
+                    break
+                if must[x]:
+                    break
+        return known[place, at]
+
+    return rest(1, 1)
+
+
+# ORDERS
+
+
+class Merge:
+    """Both traces, with what each step of either waits for."""
+
+    def __init__(self, source, dest):
+        self.source, self.dest = source, dest
+        self.own, self.others = epochs_of_source(source), epochs_of_destination(dest)
+        # A step waits for one of the other trace (by its index), and for a break (by its number).
+        self.source_waits, self.dest_waits = {}, {}
+        self.breaks_of_source, self.breaks_of_dest = {}, {}
+        # A break waits until this number of steps of each has been made.
+        self.breaks = []
+        self.join()
+
+    def join(self):
+        paired = pair(self.own, self.others, are_one)
+        if paired is None:
+            paired = pair(self.own, self.others, may_be_one)
+        if paired is None:
+            self.fail_to_pair()
+        place_of = {0: 0, **{x: place for place, x in enumerate(paired, 1)}}
+        for x, own in enumerate(self.own):
+            if x in place_of:
+                self.join_frames(own, self.others[place_of[x]])
+        self.join_breaks(place_of)
+
+    def fail_to_pair(self):
+        """The first Resume for which the source has no epoch, or the first report for which the destination has none."""
+        resumes, reports = len(self.others) - 1, [epoch for epoch in self.own if has_report(epoch)]
+        if resumes > len(self.own) - 1:
+            raise NoOrder(f"{self.dest.at(self.others[len(self.own)].begin)}: the source has resumed {len(self.own) - 1} times "
+                          f"({self.source.name})")
+        if resumes < len(reports):
+            index = next(index for frame, index in reports[resumes].taken["back"] if frame.startswith("recv "))
+            raise NoOrder(f"{self.source.at(index)}: the destination has taken {resumes} times a Resume ({self.dest.name})")
+        last = self.others[-1]
+        raise NoOrder(f"{self.dest.at(last.begin)}: no epoch of the source is that of this Resume"
+                      f"{'' if last.number is None else f', {last.number}'} ({self.source.name})")
+
+    def join_frames(self, own, other):
+        for wire, sender, sends, taker, takes, waits in (
+                ("main", self.source, own, self.dest, other, self.dest_waits),
+                ("urgent", self.source, own, self.dest, other, self.dest_waits),
+                ("back", self.dest, other, self.source, own, self.source_waits)):
+            sent, taken = sends.sent[wire], takes.taken[wire]
+            place = first_difference(sent, taken)
+            if place is not None:
+                self.fail_to_take(sender, sent, taker, taken[place][1], place)
+            waits.update((index, sent[place][1]) for place, (_, index) in enumerate(taken))
+
+    def fail_to_take(self, sender, sent, taker, index, place):
+        if place < len(sent):
+            frame, by = sent[place]
+            raise NoOrder(f"{taker.at(index)}: the next frame of this wire is {frame.removesuffix(ANY)}, of {sender.at(by)}")
+        last = f"; the last was sent by {sender.at(sent[-1][1])}" if sent else ""
+        raise NoOrder(f"{taker.at(index)}: the {sender.side} has sent no more frames on this wire in this epoch ({sender.name}){last}")
+
+    def join_breaks(self, place_of):
+        """One break after each epoch but the last, and after that too if either has noticed one."""
+        last = len(self.own) - 1
+        for x, own in enumerate(self.own):
+            other = self.others[place_of[x]] if x in place_of else None
+            is_over = x < last or own.notice is not None or (other and other.notice is not None)
+            if not is_over:
+                break
+            self.check_notice(self.source, own)
+            self.breaks.append([own.end, other.end if other else 0])
+            if own.notice is not None:
+                self.breaks_of_source[own.notice] = x
+            if other:
+                self.end_epoch(own, other, x, x < last)
+            if x < last:
+                self.breaks_of_source[self.own[x + 1].begin] = x
+
+    def end_epoch(self, own, other, x, is_resumed):
+        self.check_notice(self.dest, other)
+        if other.notice is None and is_resumed:
+            raise NoOrder(f"{self.source.at(self.own[x + 1].begin)}: the destination has not noticed the end of the epoch before "
+                          f"({self.dest.name})")
+        if other.notice is None:
+            return
+        released = [index for frame, index in own.taken["back"] if frame == "done" or frame.startswith("recv ended")]
+        if released:
+            raise NoOrder(f"{self.dest.at(other.notice)}: the migration is complete by {self.source.at(released[0])}, and no break follows it")
+        self.breaks_of_dest[other.notice] = x
+        if is_resumed:
+            self.source_waits[self.own[x + 1].begin] = other.notice
+
+    def check_notice(self, trace, epoch):
+        if epoch.notice is not None and epoch.end > epoch.notice:
+            raise NoOrder(f"{trace.at(epoch.end - 1)}: the {trace.side} has noticed a break before, at line {trace.steps[epoch.notice][0]}")
+
+    def order(self, choose):
+        """Yields (trace, index) for each step, and (None, 0) for a break. choose: which of several may come next, by 0, 1, and 2 of a
+        break."""
+        own, others = len(self.source.steps), len(self.dest.steps)
+        i = j = broken = 0
+        source_waits, dest_waits = self.source_waits.get, self.dest_waits.get
+        breaks_of_source, breaks_of_dest, breaks = self.breaks_of_source.get, self.breaks_of_dest.get, self.breaks
+        while True:
+            ready = []
+            if j < others and dest_waits(j, -1) < i and breaks_of_dest(j, -1) < broken:
+                ready.append(0)
+            if i < own and source_waits(i, -1) < j and breaks_of_source(i, -1) < broken:
+                ready.append(1)
+            if broken < len(breaks) and breaks[broken][0] <= i and breaks[broken][1] <= j:
+                ready.append(2)
+            if not ready:
+                break
+            which = choose(ready)
+            if which == 0:
+                yield self.dest, j
+                j += 1
+            elif which == 1:
+                yield self.source, i
+                i += 1
+            else:
+                yield None, 0
+                broken += 1
+        if i < own or j < others:
+            self.fail_to_order(i, j)
+
+    def fail_to_order(self, i, j):
+        """Each of the two next steps waits for one after the other."""
+        source = self.source.at(i) if i < len(self.source.steps) else None
+        dest = self.dest.at(j) if j < len(self.dest.steps) else None
+        if source and dest:
+            raise NoOrder(f"{source}\n{dest}: each of these two can only be made after the other")
+        raise NoOrder(f"{source or dest}: nothing can be made that it waits for")
+
+
+def first_ready(ready):
+    """The destination's steps as early as they may be, and a break as late."""
+    return ready[0]
+
+
+def at_random(seed):
+    """Any of them; for a while one side is preferred."""
+    draw = random.Random(seed)
+    state = [0, 0]
+
+    def choose(ready):
+        if len(ready) == 1:
+            return ready[0]
+        if state[0] == 0:
+            state[:] = draw.randrange(1, 40), draw.randrange(4)
+        state[0] -= 1
+        return state[1] if state[1] in ready else draw.choice(ready)
+
+    return choose
+
+
+def processors(source, dest, given):
+    """The guest's, as both traces say."""
+    said = {trace.cpus for trace in (source, dest) if trace.cpus is not None}
+    if len(said) > 1:
+        raise NoOrder(f"{source.name}: {source.cpus} processors, {dest.name}: {dest.cpus}")
+    return given or (said.pop() if said else max(2, source.least_cpus, dest.least_cpus))
+
+
+class Script:
+    """The merged lines, and the line of a trace from which each comes: (its name, its number), or None."""
+
+    def __init__(self, source, dest, seed=None, cpus=None):
+        merge = Merge(source, dest)
+        self.cpus = str(processors(source, dest, cpus))
+        self.lines = [f"# cpus {self.cpus}", f"# {source.name} and {dest.name}, merged"]
+        self.origins = [None] * HEAD
+        for trace, index in merge.order(first_ready if seed is None else at_random(seed)):
+            if trace is None:
+                self.lines.append("break => broken")
+                self.origins.append(None)
+            else:
+                number, _, _, line = trace.steps[index]
+                self.lines.append(line)
+                self.origins.append((trace.name, number))
+
+    def text(self, has_answers=True):
+        lines = self.lines if has_answers else (line if line[:1] == "#" else line.partition(" => ")[0] for line in self.lines)
+        return "".join(itertools.chain.from_iterable((line, "\n") for line in lines))
+
+    def judged(self, program):
+        """The first line that `postmig test` finds to be wrong, as a text, or None. OSError if it cannot judge."""
+        done = subprocess.run([program, "test", "--strict"], input=self.text(), capture_output=True, text=True)
+        if done.returncode == 0:
+            return None
+        found = DIFFERS.search(done.stdout) or DIFFERS.search(done.stderr)
+        if not found:
+            raise OSError(f"postmig test: status {done.returncode}: {done.stdout.strip()} {done.stderr.strip()}")
+        line = int(found[1])
+        origin = self.origins[line - 1]
+        where = "{}:{}".format(*origin) if origin else f"a break before {self.next_origin(line)}"
+        return f"{where}: {self.lines[line - 1]}: {found[2]}"
+
+    def next_origin(self, line):
+        return next(("{}:{}".format(*origin) for origin in self.origins[line:] if origin), "the end")
+
+
+def merge_files(source, dest, seed=None, cpus=None):
+    return Script(read(source, SOURCE), read(dest, DEST), seed, cpus)
