@@ -98,7 +98,7 @@ later-back (Line.Made step) up flight before epoch frames takes = ap (λ f. send
 later-back (Line.TookUrgent sent) up flight before epoch frames takes = ap (λ f. sending_if up f epoch frames) takes
 
 -- a line of the source may come wherever the link is as it was, but for Resume
-source-may-still : (up one other : Bool) (line : Line) → is_resume line ≡ false → source_may up one line ≡ true → source_may up other line ≡ true
+pub source-may-still : (up one other : Bool) (line : Line) → is_resume line ≡ false → source_may up one line ≡ true → source_may up other line ≡ true
 source-may-still up one other (Line.Made Step.Resume) not_resume may = absurd (false≢true (sym not_resume))
 source-may-still up one other (Line.Made _) not_resume may = may
 source-may-still up one other (Line.Took sent) not_resume may = may
@@ -191,28 +191,29 @@ destination-first old mid new x y here there one other not_resume finds =
 
 -- Alone
 
-got : {Node : Type 0} (given : Result (Did Node) Refusal) → IsOk given → (did : Did Node) × (given ≡ Ok did)
+pub got : {Node : Type 0} (given : Result (Did Node) Refusal) → IsOk given → (did : Did Node) × (given ≡ Ok did)
 got (Ok did) ok = (did, refl)
 got (Err refusal) ok = absurd (false≢true ok)
 
-alone-may : (paused : Bool) (line : Line) → is_alone line ≡ true → source_may false paused line ≡ true
+pub alone-may : (paused : Bool) (line : Line) → is_alone line ≡ true → source_may false paused line ≡ true
+alone-may paused (Line.Made Step.Start) alone = absurd (false≢true alone)
 alone-may paused (Line.Made Step.Resume) alone = absurd (false≢true alone)
 alone-may paused (Line.Made (Step.Notice side)) alone = refl
 alone-may paused (Line.Made _) alone = alone
 alone-may paused (Line.Took sent) alone = absurd (false≢true alone)
 alone-may paused (Line.TookUrgent sent) alone = absurd (false≢true alone)
 
-alone-takes : (line : Line) (flight : List Sent) → is_alone line ≡ true → TakesFront line flight flight
+pub alone-takes : (line : Line) (flight : List Sent) → is_alone line ≡ true → TakesFront line flight flight
 alone-takes (Line.Made step) flight alone = refl
 alone-takes (Line.Took sent) flight alone = absurd (false≢true alone)
 alone-takes (Line.TookUrgent sent) flight alone = refl
 
-alone-urgent : (line : Line) (flight : List Sent) → is_alone line ≡ true → TakesUrgentFront line flight flight
+pub alone-urgent : (line : Line) (flight : List Sent) → is_alone line ≡ true → TakesUrgentFront line flight flight
 alone-urgent (Line.Made step) flight alone = refl
 alone-urgent (Line.Took sent) flight alone = refl
 alone-urgent (Line.TookUrgent sent) flight alone = absurd (false≢true alone)
 
-alone-resume : (line : Line) → is_alone line ≡ true → is_resume line ≡ false
+pub alone-resume : (line : Line) → is_alone line ≡ true → is_resume line ≡ false
 alone-resume (Line.Made Step.Resume) alone = absurd (false≢true alone)
 alone-resume (Line.Made _) alone = refl
 alone-resume (Line.Took sent) alone = refl
@@ -244,7 +245,7 @@ here-alone old (line ∷ lines) down alone =
     let rest = here-alone mid lines still (subst (λ given. IsSourceAlone (node_by old.source given) lines) found.1 alone.2) in
     record { effects = did.effect ∷ rest.effects; new = rest.new; are = (mid, (did, turn, refl), rest.are); destination = rest.destination; down = rest.down }
 
-there-may : (line : Line) → is_alone line ≡ true → destination_may false line ≡ true
+pub there-may : (line : Line) → is_alone line ≡ true → destination_may false line ≡ true
 there-may (Line.Made (Step.Notice side)) alone = refl
 there-may (Line.Made _) alone = refl
 there-may (Line.Took sent) alone = absurd (false≢true alone)

@@ -19,3 +19,4 @@ pub mod Processes
 pub mod LogNodes
 pub mod ChangedOrders
 pub mod ExampleOrder
+pub mod TwoProcesses

@@ -45,7 +45,7 @@ pub record IsStep (old : Pair) (turn : Turn) (effect : Effect) (new : Pair) : Ty
   pub here : logged Side.Source (world_of old) (step_of turn) (Ok effect) ≡ source_lines (turn ∷ [])
   pub there : logged Side.Destination (world_of old) (step_of turn) (Ok effect) ≡ destination_lines (turn ∷ [])
 
-never : {A : Type 0} (refusal : Refusal) (done : A) → Err refusal ≡ Ok done → ⊥
+pub never : {A : Type 0} (refusal : Refusal) (done : A) → Err refusal ≡ Ok done → ⊥
 never refusal done is = cc
 
 -- Where the channel carries frames
@@ -88,7 +88,7 @@ source-may pair Step.Resume own may = absurd (false≢true own)
 
 -- Commands
 
-each : {A : Type 0} (Q : A → Type 0) (result : Result A Refusal) → ((done : A) → Q done) → Holds Q result
+pub each : {A : Type 0} (Q : A → Type 0) (result : Result A Refusal) → ((done : A) → Q done) → Holds Q result
 each Q (Ok done) h = h done
 each Q (Err refusal) h = tt
 
@@ -365,7 +365,7 @@ every-turn old Turn.Cut effect new sound later turn = subst (λ e. IsStep old Tu
 
 -- A destination that has not run has entered nothing
 
-over_map : {A B : Type 0} (Q : B → Type 0) (g : A → B) (result : Result A Refusal) → Holds (λ done. Q (g done)) result → Holds Q (map_ok g result)
+pub over_map : {A B : Type 0} (Q : B → Type 0) (g : A → B) (result : Result A Refusal) → Holds (λ done. Q (g done)) result → Holds Q (map_ok g result)
 over_map Q g (Ok done) h = h
 over_map Q g (Err refusal) h = h
 

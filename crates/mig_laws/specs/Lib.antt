@@ -5,3 +5,4 @@ pub mod Runs
 pub mod Sides
 pub mod Orders
 pub mod Example
+pub mod Processes

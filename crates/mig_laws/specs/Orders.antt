@@ -172,6 +172,7 @@ finds_urgent_front line flight = true
 
 -- Lines that need no channel: a side's notice, and what it does by itself after a loss
 abbrev pub is_alone : Line → Bool
+is_alone (Line.Made Step.Start) = false
 is_alone (Line.Made Step.Resume) = false
 is_alone (Line.Made step) = not (needs_link step)
 is_alone line = false

@@ -14,6 +14,7 @@ ghost use Rattle.mig_model.specs.Source.{is_released};
 ghost use Rattle.mig_model.specs.Whereabouts.{current_host};
 ghost use Rattle.mig_laws.specs.Example.{its_effects, with_a_break};
 ghost use Rattle.mig_laws.specs.Orders.{AreTurns, IsDestinationAlone, IsSourceAlone, IsTurn, Pair, Turn, destination_lines, finds_front, finds_urgent_front, first_pair, is_resume, log_of, source_lines, step_of, world_of};
+ghost use Rattle.mig_laws.specs.Processes.{AreEvents, Event, IsSettled, Processes, first_processes, log_here, log_there};
 ghost use Rattle.mig_laws.specs.Sides.{Line, destination_after, destination_entries, resumes, side_of, source_after, source_entries};
 
 /// A step of the source and a step of the destination that are both accepted are accepted in either order, with the same effects, and lead
@@ -124,4 +125,14 @@ pub fn each_side_notices_by_itself()
 /// There is such an order: frames are taken on both main wires, the channel is lost, each side notices, and both continue over a new one.
 pub fn an_order_with_a_break()
     ensures { (new : Pair) × AreTurns (first_pair 1 0 0) with_a_break its_effects new }
+{}
+
+/// X.
+pub fn two_processes_are_a_world()
+    ensures order { (cpus epoch rounds : ℕ) (events : List Event) (new : Processes) →
+        AreEvents (first_processes cpus epoch rounds) events new → IsSettled new →
+        (turns : List Turn) × (effects : List Effect) × (pair : Pair) ×
+        AreTurns (first_pair cpus epoch rounds) turns effects pair ×
+        (source_lines turns ≡ log_here events) × (destination_lines turns ≡ log_there events) ×
+        (pair.source ≡ new.source) × (pair.destination ≡ new.destination) }
 {}
