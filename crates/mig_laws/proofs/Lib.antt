@@ -15,7 +15,7 @@ pub mod WholeWorlds
 pub mod ChangedRuns
 pub mod SideForms
 pub mod EitherOrder
-pub mod Processes
+pub mod OrderRuns
 pub mod LogNodes
 pub mod ChangedOrders
 pub mod ExampleOrder
