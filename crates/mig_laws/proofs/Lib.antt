@@ -20,3 +20,4 @@ pub mod LogNodes
 pub mod ChangedOrders
 pub mod ExampleOrder
 pub mod TwoProcesses
+pub mod WorldSides

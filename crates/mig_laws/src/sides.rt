@@ -14,7 +14,7 @@ ghost use Rattle.mig_model.specs.Runs.{outcomes};
 ghost use Rattle.mig_model.specs.Source.{first_source, is_released};
 ghost use Rattle.mig_model.specs.Whereabouts.{current_host};
 ghost use Rattle.mig_laws.specs.Example.{its_effects, with_a_break, with_a_late_notice};
-ghost use Rattle.mig_laws.specs.Orders.{AreTurns, IsDestinationAlone, IsSourceAlone, IsTurn, Pair, Turn, destination_lines, finds_front, finds_urgent_front, first_pair, is_resume, log_of, source_lines, step_of, world_of};
+ghost use Rattle.mig_laws.specs.Orders.{AreTurns, AreWhole, IsDestinationAlone, IsSourceAlone, IsTurn, Pair, Turn, destination_lines, finds_front, finds_urgent_front, first_pair, is_resume, log_of, source_lines, step_of, world_of};
 ghost use Rattle.mig_laws.specs.Processes.{AreEvents, Event, IsSettled, Processes, first_processes, log_here, log_there};
 ghost use Rattle.mig_laws.specs.Sides.{Line, destination_after, destination_entries, resumes, side_of, source_after, source_entries};
 
@@ -57,6 +57,19 @@ pub fn two_logs_are_a_run()
         (new : Pair) → AreTurns (first_pair cpus epoch rounds) turns effects new →
         log_of Side.Destination (first_world_with cpus epoch rounds) (map step_of turns) ≡
         destination_lines turns }
+{}
+
+/// The other way round: the two sides of every run of a world whose deliveries are of whole frames are two logs in an order, which leads to
+/// that world. So no log is left out that a world can have.
+pub fn a_world_is_two_logs()
+    ensures { (cpus epoch rounds : ℕ) (steps : List Step) →
+        AreWhole (first_world_with cpus epoch rounds) steps →
+        (turns : List Turn) × (effects : List Effect) × (new : Pair) ×
+        AreTurns (first_pair cpus epoch rounds) turns effects new ×
+        (after_steps (first_world_with cpus epoch rounds) steps ≡ world_of new) ×
+        (log_of Side.Source (first_world_with cpus epoch rounds) steps ≡ source_lines turns) ×
+        (log_of Side.Destination (first_world_with cpus epoch rounds) steps ≡
+        destination_lines turns) }
 {}
 
 /// The order of two logs does not matter: each node, and the commands that took effect there, are what its own log gives. So any two orders
