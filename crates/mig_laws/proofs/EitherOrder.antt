@@ -76,14 +76,14 @@ fronted-if false Front.Goes wire epoch frames fits = refl
 pub ok-holds : {A : Type 0} (Q : A → Type 0) (result : Result A Refusal) (done : A) → Holds Q result → result ≡ Ok done → Q done
 ok-holds Q result done h is = subst (λ r. Holds Q r) is h
 
-answered : (P : Type 0) (world : World) (step : Step) → Holds (λ (m : Made). P) (answer world step) → IsOk (outcome world step) → P
+pub answered : (P : Type 0) (world : World) (step : Step) → Holds (λ (m : Made). P) (answer world step) → IsOk (outcome world step) → P
 answered P world step h ok = leaves-ok (λ w. P) world step h ok
 
-accepted-by : (world : World) (step : Step) (given : Answer) → answer world step ≡ given → IsOk (outcome world step) → IsOk (outcome_by given)
+pub accepted-by : (world : World) (step : Step) (given : Answer) → answer world step ≡ given → IsOk (outcome world step) → IsOk (outcome_by given)
 unfolding outcome
 accepted-by world step given is ok = subst (λ a. IsOk (outcome_by a)) is ok
 
-always : {A : Type 0} (P : Type 0) (result : Result A Refusal) → P → Holds (λ (done : A). P) result
+pub always : {A : Type 0} (P : Type 0) (result : Result A Refusal) → P → Holds (λ (done : A). P) result
 always P (Ok done) h = h
 always P (Err refusal) h = tt
 
@@ -210,14 +210,14 @@ retry-form world cpu is ok =
     }
 
 -- what an accepted delivery back finds
-record FindsBack (world : World) (n : ℕ) : Type 0 where
-  up : world.up ≡ true
-  started : has_started world ≡ true
-  sent : Sent
-  rest : List Sent
-  first : world.back.frames ≡ sent ∷ rest
+pub record FindsBack (world : World) (n : ℕ) : Type 0 where
+  pub up : world.up ≡ true
+  pub started : has_started world ≡ true
+  pub sent : Sent
+  pub rest : List Sent
+  pub first : world.back.frames ≡ sent ∷ rest
 
-finds-back : (world : World) (n : ℕ) → IsOk (outcome world (Step.DeliverBack n)) → FindsBack world n
+pub finds-back : (world : World) (n : ℕ) → IsOk (outcome world (Step.DeliverBack n)) → FindsBack world n
 finds-back world n ok =
     let frames = world.back.frames in
     answered (FindsBack world n) world (Step.DeliverBack n)
@@ -409,14 +409,14 @@ there_retry-form world cpu is ok =
     }
 
 -- what an accepted delivery finds
-record FindsForward (world : World) (n : ℕ) : Type 0 where
-  up : world.up ≡ true
-  started : has_started world ≡ true
-  sent : Sent
-  rest : List Sent
-  first : world.forward.frames ≡ sent ∷ rest
+pub record FindsForward (world : World) (n : ℕ) : Type 0 where
+  pub up : world.up ≡ true
+  pub started : has_started world ≡ true
+  pub sent : Sent
+  pub rest : List Sent
+  pub first : world.forward.frames ≡ sent ∷ rest
 
-finds-forward : (world : World) (n : ℕ) → IsOk (outcome world (Step.Deliver n)) → FindsForward world n
+pub finds-forward : (world : World) (n : ℕ) → IsOk (outcome world (Step.Deliver n)) → FindsForward world n
 finds-forward world n ok =
     let frames = world.forward.frames in
     answered (FindsForward world n) world (Step.Deliver n)
@@ -427,14 +427,14 @@ finds-forward world n ok =
     always (FindsForward world n) _ found))))) ok
 
 -- what an accepted delivery of the urgent wire finds
-record FindsUrgent (world : World) (n : ℕ) : Type 0 where
-  up : world.up ≡ true
-  ran : world.destination.has_run ≡ true
-  sent : Sent
-  rest : List Sent
-  first : world.urgent.frames ≡ sent ∷ rest
+pub record FindsUrgent (world : World) (n : ℕ) : Type 0 where
+  pub up : world.up ≡ true
+  pub ran : world.destination.has_run ≡ true
+  pub sent : Sent
+  pub rest : List Sent
+  pub first : world.urgent.frames ≡ sent ∷ rest
 
-finds-urgent : (world : World) (n : ℕ) → IsOk (outcome world (Step.DeliverUrgent n)) → FindsUrgent world n
+pub finds-urgent : (world : World) (n : ℕ) → IsOk (outcome world (Step.DeliverUrgent n)) → FindsUrgent world n
 finds-urgent world n ok =
     let frames = world.urgent.frames in
     answered (FindsUrgent world n) world (Step.DeliverUrgent n)

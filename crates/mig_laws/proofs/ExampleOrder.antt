@@ -1,5 +1,5 @@
--- The order of the example is one.
-use Rattle.std.proofs.Common.{false, List, [], ◌∷◌, refl}
+-- The order of the example is one, and its events happen.
+use Rattle.std.proofs.Common.{true, false, List, [], ◌∷◌, refl}
 use Rattle.std.specs.FinSet as finset
 use Rattle.mig_base.specs.declared.effect.Effect.{Effect}
 use Rattle.mig_base.specs.declared.phase.Received.{Received}
@@ -10,7 +10,8 @@ use Rattle.mig_model.specs.Log.{no_pages}
 use Rattle.mig_model.specs.NodeSteps.{unless}
 use Rattle.mig_model.specs.Source.{Source, first_source, resumed, source_paused, source_started, source_took}
 use Rattle.mig_model.specs.Wire.{Frame, Sent}
-use Rattle.mig_laws.specs.Example.{its_effects, with_a_break}
+use Rattle.mig_laws.specs.Example.{its_effects, with_a_break, with_a_late_notice}
+use Rattle.mig_laws.specs.Processes.{AreEvents, Channel, IsHere, IsOpening, IsSettled, IsThere, Processes, first_processes}
 use Rattle.mig_laws.specs.Orders.{AreTurns, IsCut, IsDestinationTurn, IsSourceTurn, Pair, first_pair}
 use Rattle.mig_laws.specs.Sides.{Did, Line}
 use Rattle.mig_laws.proofs.ChangedOrders.{after_here, after_there}
@@ -129,4 +130,113 @@ example = (
       ),
     ),
   ),
+)
+
+-- The events
+
+abbrev wire : List Sent → List Sent → Channel
+wire forward back = record { forward = forward; back = back; urgent = [] }
+
+abbrev advise : Sent
+advise = record { epoch = 1; frame = Frame.Advise }
+
+abbrev e0 : Processes
+e0 = first_processes 1 0 0
+
+abbrev e1 : Processes
+e1 = record e0 { source = started.node; first = wire (advise ∷ []) [] }
+
+abbrev e2 : Processes
+e2 = record e1 { here = false }
+
+abbrev e3 : Processes
+e3 = record e2 { source = noticed.node }
+
+abbrev e4 : Processes
+e4 = record e3 { source = again.node; later = wire (sent_in_two Frame.Resume ∷ []) [] ∷ []; here = true }
+
+abbrev e5 : Processes
+e5 = record e4 { destination = advised.node; first = wire [] [] }
+
+abbrev e6 : Processes
+e6 = record e5 { there = false }
+
+abbrev e7 : Processes
+e7 = record e6 { destination = noticed_there.node }
+
+abbrev e8 : Processes
+e8 = record e7 { first = wire (sent_in_two Frame.Resume ∷ []) []; later = []; there = true }
+
+abbrev e9 : Processes
+e9 = record e8 { destination = again_there.node; first = wire [] (sent_in_two recv ∷ []) }
+
+abbrev e10 : Processes
+e10 = record e9 { source = told.node; first = wire [] [] }
+
+event-1 : IsHere e0 (Line.Made Step.Start) e1
+unfolding unless
+event-1 = record { did = started; gives = refl; may = refl; back = []; takes = refl; channel = wire (advise ∷ []) []; puts = refl; is = refl }
+
+event-3 : IsHere e2 (Line.Made (Step.Notice Side.Source)) e3
+event-3 = record { did = noticed; gives = refl; may = refl; back = []; takes = refl; channel = wire (advise ∷ []) []; puts = refl; is = refl }
+
+event-4 : IsOpening e3 e4
+unfolding unless
+event-4 = record { did = again; gives = refl; lost = refl; is = refl }
+
+event-5 : IsThere e4 (Line.Took advise) e5
+unfolding unless
+event-5 = record { did = advised; gives = refl; may = refl; forward = []; takes = refl; urgent = []; takes_urgent = refl; is = refl }
+
+event-7 : IsThere e6 (Line.Made (Step.Notice Side.Destination)) e7
+event-7 = record { did = noticed_there; gives = refl; may = refl; forward = []; takes = refl; urgent = []; takes_urgent = refl; is = refl }
+
+event-9 : IsThere e8 (Line.Took (sent_in_two Frame.Resume)) e9
+unfolding unless
+event-9 = record { did = again_there; gives = refl; may = refl; forward = []; takes = refl; urgent = []; takes_urgent = refl; is = refl }
+
+event-10 : IsHere e9 (Line.Took (sent_in_two recv)) e10
+event-10 = record { did = told; gives = refl; may = refl; back = []; takes = refl; channel = wire [] []; puts = refl; is = refl }
+
+pub example-events : (new : Processes) × AreEvents e0 with_a_late_notice new × IsSettled new
+example-events = (
+  e10,
+  (
+    e1,
+    event-1,
+    (
+      e2,
+      record { used = refl; under_way = refl; is = refl },
+      (
+        e3,
+        event-3,
+        (
+          e4,
+          event-4,
+          (
+            e5,
+            event-5,
+            (
+              e6,
+              record { used = refl; is = refl },
+              (
+                e7,
+                event-7,
+                (
+                  e8,
+                  record { lost = refl; paused = refl; next = wire (sent_in_two Frame.Resume ∷ []) []; rest = []; opened = refl; is = refl },
+                  (
+                    e9,
+                    event-9,
+                    (e10, event-10, refl),
+                  ),
+                ),
+              ),
+            ),
+          ),
+        ),
+      ),
+    ),
+  ),
+  record { joined = refl; under_way = refl },
 )

@@ -15,8 +15,9 @@ pub mod WholeWorlds
 pub mod ChangedRuns
 pub mod SideForms
 pub mod EitherOrder
-pub mod Processes
+pub mod OrderRuns
 pub mod LogNodes
 pub mod ChangedOrders
 pub mod ExampleOrder
 pub mod TwoProcesses
+pub mod WorldSides

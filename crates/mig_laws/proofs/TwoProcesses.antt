@@ -1,6 +1,6 @@
 -- What happens to two processes has an order of their logs: a side that has lost its channel first waits until the other has lost it too.
 use Rattle.std.proofs.Common.{◌≡◌, ◌⊎◌, inl, inr, ℕ, ◌||◌, Bool, true, false, not, List, [], ◌∷◌, ◌++◌, map, if◌then◌else◌, append_assoc, refl, sym, ap, subst, ◌∙◌}
-use Rattle.std.specs.Prelude.{Result, Ok, Err, IsOk}
+use Rattle.std.specs.Prelude.{Ok, IsOk}
 use Rattle.std.proofs.Math.Bool.{or-true}
 use Rattle.std.proofs.lemmas.Bool.{false≢true}
 use Rattle.std.proofs.lemmas.List.{append-nil, map-append}
@@ -9,18 +9,20 @@ use Rattle.mig_base.specs.declared.effect.Effect.{Effect}
 use Rattle.mig_base.specs.declared.refusal.Refusal.{Refusal}
 use Rattle.mig_base.specs.declared.schedule.Side.{Side}
 use Rattle.mig_base.specs.declared.schedule.Step.{Step}
-use Rattle.mig_model.specs.Destination.{Destination, is_dest_paused}
+use Rattle.mig_model.specs.Destination.{Destination, first_destination, is_dest_paused}
 use Rattle.mig_model.specs.GuestSteps.{issue, retry}
-use Rattle.mig_model.specs.Source.{Source, is_under_way}
+use Rattle.mig_model.specs.Migration.{World, after_steps, first_world_with}
+use Rattle.mig_model.specs.Promises.{IsReached}
+use Rattle.mig_model.specs.Source.{Source, first_source, is_under_way}
 use Rattle.mig_model.specs.SourceSteps as source
 use Rattle.mig_model.specs.Wire.{Sent, sending, sending_if}
-use Rattle.mig_model.proofs.steps.StepLemmas.{Holds}
-use Rattle.mig_laws.specs.Orders.{AreTurns, IsCut, IsDestinationAlone, IsDestinationTurn, IsSourceAlone, IsSourceTurn, IsTurn, Pair, TakesFront, TakesUrgentFront, Turn, destination_lines, destination_may, first_pair, is_alone, is_resume, source_lines, source_may}
-use Rattle.mig_laws.specs.Processes.{AreEvents, Channel, Event, IsEvent, IsHere, IsJoining, IsLossHere, IsLossThere, IsOpening, IsSettled, IsThere, Processes, first_processes, last_of, log_here, log_there, logged_here, logged_there, put_first, put_later}
-use Rattle.mig_laws.specs.Sides.{Did, Line, acts, destination_after, destination_line, node_by, source_after, source_line, source_step, tries}
+use Rattle.mig_laws.specs.Orders.{AreTurns, IsCut, IsDestinationAlone, IsDestinationTurn, IsSourceAlone, IsSourceTurn, Pair, TakesFront, TakesUrgentFront, Turn, destination_lines, destination_may, first_pair, is_alone, is_resume, log_of, source_lines, source_may, step_of}
+use Rattle.mig_laws.specs.Processes.{AreEvents, Channel, Event, IsEvent, IsSettled, Processes, first_processes, last_of, log_here, log_there, logged_here, logged_there, put_first, put_later}
+use Rattle.mig_laws.specs.Sides.{Did, Line, acts, destination_after, destination_entries, destination_line, node_by, source_after, source_entries, source_line, source_step}
 use Rattle.mig_laws.proofs.ChangedOrders.{alone-may, alone-resume, alone-takes, alone-urgent, got, source-may-still, there-may}
 use Rattle.mig_laws.proofs.EitherOrder.{ok-holds}
-use Rattle.mig_laws.proofs.Processes.{each, never, over_map}
+use Rattle.mig_laws.proofs.LogNodes.{left}
+use Rattle.mig_laws.proofs.OrderRuns.{each, never, over_map, run_of_logs}
 
 -- Pairs
 
@@ -178,8 +180,11 @@ all-alone here there said told (line ∷ lines) alone =
     record {
       effects = did.effect ∷ rest.effects;
       more = rest.more;
-      are = (down did.node there (said ++ did.entries) told, (did, down-here here there said told line did alone.0 found.1, refl),
-          subst (λ node. AreTurns (down did.node there (said ++ did.entries) told) (map (λ line. Turn.AtSource line) lines) rest.effects (down (source_after node lines) there rest.more told)) (sym (ap (node_by here) found.1)) rest.are);
+      are = (
+        down did.node there (said ++ did.entries) told,
+        (did, down-here here there said told line did alone.0 found.1, refl),
+        subst (λ node. AreTurns (down did.node there (said ++ did.entries) told) (map (λ line. Turn.AtSource line) lines) rest.effects (down (source_after node lines) there rest.more told)) (sym (ap (node_by here) found.1)) rest.are,
+      );
     }
 
 record AloneThere (here : Source) (there : Destination) (said told : List Entry) (lines : List Line) : Type 0 where
@@ -196,8 +201,11 @@ all-alone_there here there said told (line ∷ lines) alone =
     record {
       effects = did.effect ∷ rest.effects;
       more = rest.more;
-      are = (down here did.node said (told ++ did.entries), (did, down-there here there said told line did alone.0 found.1, refl),
-          subst (λ node. AreTurns (down here did.node said (told ++ did.entries)) (map (λ line. Turn.AtDestination line) lines) rest.effects (down here (destination_after node lines) said rest.more)) (sym (ap (node_by there) found.1)) rest.are);
+      are = (
+        down here did.node said (told ++ did.entries),
+        (did, down-there here there said told line did alone.0 found.1, refl),
+        subst (λ node. AreTurns (down here did.node said (told ++ did.entries)) (map (λ line. Turn.AtDestination line) lines) rest.effects (down here (destination_after node lines) said rest.more)) (sym (ap (node_by there) found.1)) rest.are,
+      );
     }
 
 -- one more of them
@@ -332,10 +340,14 @@ shut-more here channel [] false now lines line did new (mid, opened, rest, way, 
 shut-more here channel (next ∷ later) uses now lines line did new (mid, opened, rest, way, inl used, is) adds = absurd (never-used mid next later uses now rest used)
 shut-more here channel [] true now lines line did new (mid, opened, rest, way, inr (alone, more, lost, shut, split), is) adds = absurd (false≢true (sym shut.0))
 shut-more here channel [] false now lines line did new (mid, opened, rest, way, inr (alone, more, lost, shut, split), is) adds =
-    let grew = alone-more mid alone line did lost.alone adds.may (subst (λ node. source_line node line ≡ Ok did) shut.1 adds.gives) in
-    (mid, opened, rest ++ line ∷ [], subst (λ c. Opened here c mid opened) (sym (lost-same now channel new line did adds)) way,
-    inr (alone ++ line ∷ [], [], record { under_way = lost.under_way; alone = grew.0 }, (refl, sym grew.1, refl), ap (λ l. l ++ line ∷ []) (split ∙ ap (λ m. alone ++ m) shut.2 ∙ append-nil alone) ∙ sym (append-nil (alone ++ line ∷ []))),
-    regroup opened rest line lines is)
+    let grew = alone-more mid alone line did lost.alone adds.may (subst (λ node. source_line node line ≡ Ok did) shut.1 adds.gives) in (
+      mid,
+      opened,
+      rest ++ line ∷ [],
+      subst (λ c. Opened here c mid opened) (sym (lost-same now channel new line did adds)) way,
+      inr (alone ++ line ∷ [], [], record { under_way = lost.under_way; alone = grew.0 }, (refl, sym grew.1, refl), ap (λ l. l ++ line ∷ []) (split ∙ ap (λ m. alone ++ m) shut.2 ∙ append-nil alone) ∙ sym (append-nil (alone ++ line ∷ []))),
+      regroup opened rest line lines is,
+    )
 shut-more here channel (next ∷ later) uses now lines line did new (mid, opened, rest, way, inr (alone, more, lost, shut, split), is) adds =
     let further = shut-more (source_after mid alone) next later uses now more line did new shut adds in
     (mid, opened, rest ++ line ∷ [], way, inr (alone, more ++ line ∷ [], lost, further, regroup alone more line rest split), regroup opened rest line lines is)
@@ -456,8 +468,13 @@ here-met first here there source destination channel [] false line did new at wa
       said = said;
       told = told;
       leads = subst (λ (c : Channel). Leads first done there (on c at destination said told)) (sym (lost-same source channel new line did adds)) leads;
-      ahead = inr (alone ++ line ∷ [], [], record { under_way = lost.under_way; alone = grew.0 }, (refl, sym grew.1, refl),
-          ap (λ l. l ++ line ∷ []) (split ∙ ap (λ m. alone ++ m) shut.2 ∙ append-nil alone) ∙ sym (append-nil (alone ++ line ∷ [])));
+      ahead = inr (
+        alone ++ line ∷ [],
+        [],
+        record { under_way = lost.under_way; alone = grew.0 },
+        (refl, sym grew.1, refl),
+        ap (λ l. l ++ line ∷ []) (split ∙ ap (λ m. alone ++ m) shut.2 ∙ append-nil alone) ∙ sym (append-nil (alone ++ line ∷ [])),
+      );
       is = regroup done waiting line here is;
     }
 here-met first here there source destination channel (next ∷ later) uses line did new at waiting done said told leads (inr (alone, more, lost, shut, split)) is adds =
@@ -583,10 +600,12 @@ waited first here there source destination channel later uses waits under_way =
     let middle = down source waits.at waits.said waits.told in
     let alone = all-alone_there source waits.at waits.said waits.told waits.waiting waits.alone in
     let cut = leads-cut first before middle here waits.done waits.leads (cut-pair channel source waits.at waits.said waits.told under_way) in
-    let after = leads-there first middle (down source (destination_after waits.at waits.waiting) waits.said alone.more) here waits.done waits.waiting alone.effects cut alone.are in
-    (waits.said, alone.more,
-    subst (λ log. Leads first here log (down source destination waits.said alone.more)) (sym waits.is)
-    (subst (λ node. Leads first here (waits.done ++ waits.waiting) (down source node waits.said alone.more)) (sym waits.now) after))
+    let after = leads-there first middle (down source (destination_after waits.at waits.waiting) waits.said alone.more) here waits.done waits.waiting alone.effects cut alone.are in (
+      waits.said,
+      alone.more,
+      subst (λ log. Leads first here log (down source destination waits.said alone.more)) (sym waits.is)
+          (subst (λ node. Leads first here (waits.done ++ waits.waiting) (down source node waits.said alone.more)) (sym waits.now) after),
+    )
 
 loses-sim : (first : Pair) (here there : List Line) (source : Source) (destination : Destination) (channel : Channel) (later : List Channel) (reads : Bool) → SimBy first here there source destination channel later true reads → is_under_way source ≡ true →
     SimBy first here there source destination channel later false reads
@@ -681,9 +700,11 @@ there-sim first here there source destination channel later uses false line did 
 cut-met : (first : Pair) (there : List Line) (destination : Destination) (channel : Channel) (at : Source) (alone done : List Line) (said told : List Entry) → Leads first done there (on channel at destination said told) → IsLost at alone →
     (more : List Entry) × Leads first (done ++ alone) there (down (source_after at alone) destination more told)
 cut-met first there destination channel at alone done said told leads lost =
-    let flat = all-alone at destination said told alone lost.alone in
-    (flat.more, leads-here first (down at destination said told) (down (source_after at alone) destination flat.more told) done there alone flat.effects
-    (leads-cut first (on channel at destination said told) (down at destination said told) done there leads (cut-pair channel at destination said told lost.under_way)) flat.are)
+    let flat = all-alone at destination said told alone lost.alone in (
+      flat.more,
+      leads-here first (down at destination said told) (down (source_after at alone) destination flat.more told) done there alone flat.effects
+          (leads-cut first (on channel at destination said told) (down at destination said told) done there leads (cut-pair channel at destination said told lost.under_way)) flat.are,
+    )
 
 parted-met : (first : Pair) (here there : List Line) (source : Source) (destination : Destination) (channel : Channel) (later : List Channel) (uses : Bool) (at : Source) (waiting done : List Line) (said told : List Entry) → Leads first done there (on channel at destination said told) →
     Open at later uses source waiting → here ≡ done ++ waiting → SimBy first here there source destination channel later uses false
@@ -841,3 +862,34 @@ pub ends : (cpus epoch rounds : ℕ) (events : List Event) (new : Processes) →
 ends cpus epoch rounds events new is settled =
     ends-by (first_pair cpus epoch rounds) (log_here events) (log_there events) new.source new.destination new.first new.later new.here new.there settled.joined settled.under_way
     (events-sim (first_pair cpus epoch rounds) [] [] (first_processes cpus epoch rounds) events new is (first-sim cpus epoch rounds))
+
+-- Two logs as the sides of a world
+
+-- a world with two logs as its sides, which ends with these nodes
+pub record IsWorldOf (cpus epoch rounds : ℕ) (here there : List Line) (source : Source) (destination : Destination) : Type 0 where
+  pub steps : List Step
+  pub here_is : log_of Side.Source (first_world_with cpus epoch rounds) steps ≡ here
+  pub there_is : log_of Side.Destination (first_world_with cpus epoch rounds) steps ≡ there
+  pub source_is : (after_steps (first_world_with cpus epoch rounds) steps).source ≡ source
+  pub destination_is : (after_steps (first_world_with cpus epoch rounds) steps).destination ≡ destination
+  pub transcript_is : (after_steps (first_world_with cpus epoch rounds) steps).transcript ≡ source_entries (first_source cpus epoch rounds) here ++ destination_entries (first_destination cpus) there
+
+pub world-of : (cpus epoch rounds : ℕ) (events : List Event) (new : Processes) → AreEvents (first_processes cpus epoch rounds) events new → IsSettled new → IsWorldOf cpus epoch rounds (log_here events) (log_there events) new.source new.destination
+world-of cpus epoch rounds events new is settled =
+    let end = ends cpus epoch rounds events new is settled in
+    let run = run_of_logs cpus epoch rounds end.leads.turns end.leads.effects end.pair end.leads.are in
+    let logs = left (first_pair cpus epoch rounds) end.leads.turns end.leads.effects end.pair end.leads.are in
+    record {
+      steps = map step_of end.leads.turns;
+      here_is = run.here ∙ end.leads.here_is;
+      there_is = run.there ∙ end.leads.there_is;
+      source_is = ap (λ (w : World). w.source) run.world ∙ end.source_is;
+      destination_is = ap (λ (w : World). w.destination) run.world ∙ end.destination_is;
+      transcript_is =
+          ap (λ (w : World). w.transcript) run.world ∙ (λ i. logs.at_source i ++ logs.at_destination i)
+          ∙ (λ i. source_entries (first_source cpus epoch rounds) (end.leads.here_is i) ++ destination_entries (first_destination cpus) (end.leads.there_is i));
+    }
+
+-- and a world of two logs is reached
+pub reached-of : (cpus epoch rounds : ℕ) (steps : List Step) → IsReached (after_steps (first_world_with cpus epoch rounds) steps)
+reached-of cpus epoch rounds steps = record { cpus = cpus; epoch = epoch; rounds = rounds; steps = steps; is = refl }

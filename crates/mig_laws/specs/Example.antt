@@ -1,4 +1,5 @@
--- An order of two logs with a break: a migration begins, the channel is lost, both sides notice, and they continue over a new one.
+-- An order of two logs with a break, and two processes with these logs: a migration begins, the channel is lost, both sides notice, and they
+-- continue over a new one.
 use Rattle.std.specs.Prelude.{List, [], ◌∷◌}
 use Rattle.std.specs.FinSet as finset
 use Rattle.mig_base.specs.declared.effect.Effect.{Effect}
@@ -8,6 +9,7 @@ use Rattle.mig_base.specs.declared.schedule.Step.{Step}
 use Rattle.mig_model.specs.Log.{no_pages}
 use Rattle.mig_model.specs.Wire.{Frame}
 use Rattle.mig_laws.specs.Orders.{Turn}
+use Rattle.mig_laws.specs.Processes.{Event}
 use Rattle.mig_laws.specs.Sides.{Line}
 
 -- Start, whose Advise is taken; a loss, which each side notices; Resume, which is taken; and its Recv, which is taken as well
@@ -27,3 +29,18 @@ with_a_break =
 abbrev pub its_effects : List Effect
 its_effects =
     Effect.Started 1 ∷ Effect.TookAdvise ∷ Effect.Broken ∷ Effect.Noticed Side.Source ∷ Effect.Noticed Side.Destination ∷ Effect.Resumed 2 ∷ Effect.TookResume ∷ Effect.TookRecv Received.NotRun (finset.len no_pages) ∷ []
+
+-- the same logs, where the source opens a new channel before the destination has lost the old one
+abbrev pub with_a_late_notice : List Event
+with_a_late_notice =
+    Event.Here (Line.Made Step.Start)
+    ∷ Event.LosesHere
+    ∷ Event.Here (Line.Made (Step.Notice Side.Source))
+    ∷ Event.Opens
+    ∷ Event.There (Line.Took (record { epoch = 1; frame = Frame.Advise }))
+    ∷ Event.LosesThere
+    ∷ Event.There (Line.Made (Step.Notice Side.Destination))
+    ∷ Event.Joins
+    ∷ Event.There (Line.Took (record { epoch = 2; frame = Frame.Resume }))
+    ∷ Event.Here (Line.Took (record { epoch = 2; frame = Frame.Recv Received.NotRun no_pages }))
+    ∷ []

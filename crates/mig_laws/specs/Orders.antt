@@ -226,3 +226,20 @@ logged side world step (Err refusal) = []
 abbrev pub log_of : Side → World → List Step → List Line
 log_of side world [] = []
 log_of side world (step ∷ steps) = logged side world step (outcome world step) ++ log_of side (next world step) steps
+
+-- whether a delivery of `n` bytes completes the first frame of its wire, if there is one
+abbrev pub completes : Wire → List Sent → ℕ → Bool
+completes wire [] n = true
+completes wire (sent ∷ rest) n = not (is_short wire sent.frame n)
+
+-- whether a step, if it is a delivery, moves whole frames alone
+abbrev pub is_whole : World → Step → Bool
+is_whole world (Step.Deliver n) = completes world.forward world.forward.frames n
+is_whole world (Step.DeliverBack n) = completes world.back world.back.frames n
+is_whole world (Step.DeliverUrgent n) = completes world.urgent world.urgent.frames n
+is_whole world step = true
+
+-- none of the steps, made in turn, is a delivery of a part of a frame
+abbrev pub AreWhole : World → List Step → Type 0
+AreWhole world [] = Unit {0}
+AreWhole world (step ∷ steps) = (is_whole world step ≡ true) × AreWhole (next world step) steps

@@ -38,11 +38,12 @@ abbrev pub last_of : Channel → List Channel → Channel
 last_of first [] = first
 last_of first (channel ∷ later) = last_of channel later
 
--- the first channel, and the later ones, once the last of all is another
+-- the first channel, once the last of all is another
 abbrev pub put_first : Channel → List Channel → Channel → Channel
 put_first first [] new = new
 put_first first (channel ∷ later) new = first
 
+-- the later channels then
 abbrev pub put_later : List Channel → Channel → List Channel
 put_later [] new = []
 put_later (channel ∷ later) new = put_first channel later new ∷ put_later later new

@@ -5,10 +5,11 @@
 //! a node gives. `specs/Runs.antt` has what two runs that differ in contents alone decide alike.
 //!
 //! Two nodes are a world. `specs/Sides.antt` says what a node gives by itself and what is in its log, and `specs/Orders.antt` in which
-//! orders the lines of two logs may have happened. `specs/Example.antt` has such an order.
+//! orders the lines of two logs may have happened. `specs/Processes.antt` has two processes, each of which learns by itself that its channel
+//! is lost. `specs/Example.antt` has an order, and what happens to two processes with the same logs.
 //!
-//! [`spaces`] has the laws of an address space, [`nodes`] those of a guest and of a node, [`worlds`] those of a migration, and [`sides`] those of two
-//! nodes in processes of their own.
+//! [`spaces`] has the laws of an address space, [`nodes`] those of a guest and of a node, [`worlds`] those of a migration whose contents
+//! change, and [`sides`] those of two nodes in processes of their own.
 #![tactic(auto)]
 
 pub mod nodes;

@@ -6,14 +6,15 @@ ghost use Rattle.mig_base.specs.declared.effect.Effect.{Effect};
 ghost use Rattle.mig_base.specs.declared.schedule.Side.{Side};
 ghost use Rattle.mig_base.specs.declared.schedule.Step.{Step};
 ghost use Rattle.mig_base.specs.Flat.{IsFlatRun, memory_of};
+ghost use Rattle.mig_model.specs.Destination.{first_destination};
 ghost use Rattle.mig_model.specs.Host.{memory};
 ghost use Rattle.mig_model.specs.Migration.{World, after_steps, first_world_with, next, outcome};
 ghost use Rattle.mig_model.specs.Promises.{IsAlone, IsReached};
 ghost use Rattle.mig_model.specs.Runs.{outcomes};
-ghost use Rattle.mig_model.specs.Source.{is_released};
+ghost use Rattle.mig_model.specs.Source.{first_source, is_released};
 ghost use Rattle.mig_model.specs.Whereabouts.{current_host};
-ghost use Rattle.mig_laws.specs.Example.{its_effects, with_a_break};
-ghost use Rattle.mig_laws.specs.Orders.{AreTurns, IsDestinationAlone, IsSourceAlone, IsTurn, Pair, Turn, destination_lines, finds_front, finds_urgent_front, first_pair, is_resume, log_of, source_lines, step_of, world_of};
+ghost use Rattle.mig_laws.specs.Example.{its_effects, with_a_break, with_a_late_notice};
+ghost use Rattle.mig_laws.specs.Orders.{AreTurns, AreWhole, IsDestinationAlone, IsSourceAlone, IsTurn, Pair, Turn, destination_lines, finds_front, finds_urgent_front, first_pair, is_resume, log_of, source_lines, step_of, world_of};
 ghost use Rattle.mig_laws.specs.Processes.{AreEvents, Event, IsSettled, Processes, first_processes, log_here, log_there};
 ghost use Rattle.mig_laws.specs.Sides.{Line, destination_after, destination_entries, resumes, side_of, source_after, source_entries};
 
@@ -56,6 +57,19 @@ pub fn two_logs_are_a_run()
         (new : Pair) → AreTurns (first_pair cpus epoch rounds) turns effects new →
         log_of Side.Destination (first_world_with cpus epoch rounds) (map step_of turns) ≡
         destination_lines turns }
+{}
+
+/// The other way round: the two sides of every run of a world whose deliveries are of whole frames are two logs in an order, which leads to
+/// that world. So no log is left out that a world can have.
+pub fn a_world_is_two_logs()
+    ensures { (cpus epoch rounds : ℕ) (steps : List Step) →
+        AreWhole (first_world_with cpus epoch rounds) steps →
+        (turns : List Turn) × (effects : List Effect) × (new : Pair) ×
+        AreTurns (first_pair cpus epoch rounds) turns effects new ×
+        (after_steps (first_world_with cpus epoch rounds) steps ≡ world_of new) ×
+        (log_of Side.Source (first_world_with cpus epoch rounds) steps ≡ source_lines turns) ×
+        (log_of Side.Destination (first_world_with cpus epoch rounds) steps ≡
+        destination_lines turns) }
 {}
 
 /// The order of two logs does not matter: each node, and the commands that took effect there, are what its own log gives. So any two orders
@@ -122,12 +136,11 @@ pub fn each_side_notices_by_itself()
         (new.source ≡ old.source) × (new.up ≡ false) }
 {}
 
-/// There is such an order: frames are taken on both main wires, the channel is lost, each side notices, and both continue over a new one.
-pub fn an_order_with_a_break()
-    ensures { (new : Pair) × AreTurns (first_pair 1 0 0) with_a_break its_effects new }
-{}
-
-/// X.
+/// Two processes, each of which learns by itself that its channel is lost, are a world. One side may notice long before the other, the
+/// destination may take frames of a channel that the source has lost, and the source may open new channels before the destination has lost
+/// the old one. Their logs have an order all the same. So some steps of a world have exactly these logs as their two sides, and lead to
+/// the two nodes; and the commands that took effect in the source's log, and after them those in the destination's, are a run of one flat
+/// memory. Once the source is released, that memory is the destination's.
 pub fn two_processes_are_a_world()
     ensures order { (cpus epoch rounds : ℕ) (events : List Event) (new : Processes) →
         AreEvents (first_processes cpus epoch rounds) events new → IsSettled new →
@@ -135,4 +148,28 @@ pub fn two_processes_are_a_world()
         AreTurns (first_pair cpus epoch rounds) turns effects pair ×
         (source_lines turns ≡ log_here events) × (destination_lines turns ≡ log_there events) ×
         (pair.source ≡ new.source) × (pair.destination ≡ new.destination) }
+    ensures world { (cpus epoch rounds : ℕ) (events : List Event) (new : Processes) →
+        AreEvents (first_processes cpus epoch rounds) events new → IsSettled new →
+        (steps : List Step) ×
+        (log_of Side.Source (first_world_with cpus epoch rounds) steps ≡ log_here events) ×
+        (log_of Side.Destination (first_world_with cpus epoch rounds) steps ≡ log_there events) ×
+        ((after_steps (first_world_with cpus epoch rounds) steps).source ≡ new.source) ×
+        ((after_steps (first_world_with cpus epoch rounds) steps).destination ≡ new.destination) }
+    ensures transcript { (cpus epoch rounds : ℕ) (events : List Event) (new : Processes) →
+        AreEvents (first_processes cpus epoch rounds) events new → IsSettled new →
+        IsFlatRun (source_entries (first_source cpus epoch rounds) (log_here events) ++
+        destination_entries (first_destination cpus) (log_there events)) }
+    ensures alone { (cpus epoch rounds : ℕ) (events : List Event) (new : Processes) →
+        AreEvents (first_processes cpus epoch rounds) events new → IsSettled new →
+        is_released new.source.phase ≡ true → memory new.destination.guest.space.host ≡
+        memory_of (source_entries (first_source cpus epoch rounds) (log_here events) ++
+        destination_entries (first_destination cpus) (log_there events)) }
+{}
+
+/// There are such orders and such processes: frames are taken on both main wires, the channel is lost, each side notices, and both continue
+/// over a new one. The source may open that before the destination takes the last frame of the old one.
+pub fn an_order_with_a_break()
+    ensures order { (new : Pair) × AreTurns (first_pair 1 0 0) with_a_break its_effects new }
+    ensures processes { (new : Processes) ×
+        AreEvents (first_processes 1 0 0) with_a_late_notice new × IsSettled new }
 {}

@@ -1,5 +1,5 @@
 use Rattle.mig_laws.specs.Orders.{world_of}
-use Rattle.mig_laws.proofs.Processes.{reached-logs}
+use Rattle.mig_laws.proofs.OrderRuns.{reached-logs}
 use Rattle.mig_model.proofs.steps.EveryStep.{kept-reached}
 use Rattle.mig_model.proofs.transcript.PromiseLemmas.{is_alone}
 use Rattle.mig_laws.proofs.sides.the_headline_of_two_processes.Goals as goal

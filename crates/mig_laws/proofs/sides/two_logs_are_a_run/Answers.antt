@@ -1,4 +1,4 @@
-use Rattle.mig_laws.proofs.Processes.{run_of_logs}
+use Rattle.mig_laws.proofs.OrderRuns.{run_of_logs}
 use Rattle.mig_laws.proofs.sides.two_logs_are_a_run.Goals as goal
 
 pub returns-clause-accepted : goal.returns-clause-accepted

@@ -54,10 +54,10 @@ or-false : (b : Bool) → (b || false) ≡ b
 or-false true = refl
 or-false false = refl
 
-up-if : (up : Bool) → (up || false) ≡ true → up ≡ true
+pub up-if : (up : Bool) → (up || false) ≡ true → up ≡ true
 up-if up may = sym (or-false up) ∙ may
 
-down-if : (up : Bool) → not up ≡ true → up ≡ false
+pub down-if : (up : Bool) → not up ≡ true → up ≡ false
 down-if true may = absurd (false≢true may)
 down-if false may = refl
 
@@ -210,7 +210,7 @@ source-turn old Step.Break did new sound later turn = absurd (never Refusal.Phas
 
 -- Frames that are taken whole
 
-whole : (n : ℕ) → ltb n (n - 0) ≡ false
+pub whole : (n : ℕ) → ltb n (n - 0) ≡ false
 whole n = grind (arith, nat_tests)
 
 -- the line of a delivery of a whole frame
@@ -316,7 +316,7 @@ took_there-turn old sent did new sound turn =
       there = taken-line (λ one. Line.Took one) old.forward turn.forward sent turn.takes;
     }
 
-allowed : {A : Type 0} (may : Bool) (result : Result A Refusal) (done : A) → in_phase may result ≡ Ok done → (may ≡ true) × (result ≡ Ok done)
+pub allowed : {A : Type 0} (may : Bool) (result : Result A Refusal) (done : A) → in_phase may result ≡ Ok done → (may ≡ true) × (result ≡ Ok done)
 allowed true result done is = (refl, is)
 allowed false result done is = absurd (never Refusal.Phase done is)
 
@@ -456,7 +456,7 @@ idle-line node (Line.TookUrgent sent) did gives =
     let ran = allowed node.has_run (acts (destination.take_urgent node sent.frame)) did gives in
     ok-holds (IsIdleAfter node) (acts (destination.take_urgent node sent.frame)) did (λ none. (sym (took_urgent-ran node sent.frame) ∙ none, refl)) ran.1
 
-later-new : (old new : Pair) (turn : Turn) (effect : Effect) → IsTurn old turn effect new → IsLater old → IsLater new
+pub later-new : (old new : Pair) (turn : Turn) (effect : Effect) → IsTurn old turn effect new → IsLater old → IsLater new
 later-new old new (Turn.AtSource line) effect turn later = subst IsLater (sym turn.1.is) later
 later-new old new (Turn.AtDestination line) effect turn later =
     subst IsLater (sym turn.1.is) (λ none.
@@ -473,12 +473,12 @@ pub record IsRunOfBoth (old : Pair) (turns : List Turn) (effects : List Effect) 
   pub here : log_of Side.Source (world_of old) (map step_of turns) ≡ source_lines turns
   pub there : log_of Side.Destination (world_of old) (map step_of turns) ≡ destination_lines turns
 
-here_first : (turn : Turn) (turns : List Turn) → source_lines (turn ∷ []) ++ source_lines turns ≡ source_lines (turn ∷ turns)
+pub here_first : (turn : Turn) (turns : List Turn) → source_lines (turn ∷ []) ++ source_lines turns ≡ source_lines (turn ∷ turns)
 here_first (Turn.AtSource line) turns = refl
 here_first (Turn.AtDestination line) turns = refl
 here_first Turn.Cut turns = refl
 
-there_first : (turn : Turn) (turns : List Turn) → destination_lines (turn ∷ []) ++ destination_lines turns ≡ destination_lines (turn ∷ turns)
+pub there_first : (turn : Turn) (turns : List Turn) → destination_lines (turn ∷ []) ++ destination_lines turns ≡ destination_lines (turn ∷ turns)
 there_first (Turn.AtSource line) turns = refl
 there_first (Turn.AtDestination line) turns = refl
 there_first Turn.Cut turns = refl
@@ -508,10 +508,10 @@ run_of_both old (turn ∷ turns) (effect ∷ effects) new reached later is =
     }
 
 -- two nodes to which nothing has happened are a first world
-first-reached : (cpus epoch rounds : ℕ) → IsReached (world_of (first_pair cpus epoch rounds))
+pub first-reached : (cpus epoch rounds : ℕ) → IsReached (world_of (first_pair cpus epoch rounds))
 first-reached cpus epoch rounds = record { cpus = cpus; epoch = epoch; rounds = rounds; steps = []; is = refl }
 
-first-later : (cpus epoch rounds : ℕ) → IsLater (first_pair cpus epoch rounds)
+pub first-later : (cpus epoch rounds : ℕ) → IsLater (first_pair cpus epoch rounds)
 first-later cpus epoch rounds = λ none. refl
 
 pub run_of_logs : (cpus epoch rounds : ℕ) (turns : List Turn) (effects : List Effect) (new : Pair) → AreTurns (first_pair cpus epoch rounds) turns effects new → IsRunOfBoth (first_pair cpus epoch rounds) turns effects new
