@@ -1,4 +1,4 @@
--- A table holds no map call under way: nothing is told, and no call is EAGAIN for it.
+-- A table holds no map call under way: no event waits, and no call is EAGAIN for one.
 use Rattle.std.proofs.Common.{◌≡◌, ℕ, Bool, true, false, Option, Some, None, refl}
 use Rattle.std.proofs.lemmas.Bool.{eq-eqb}
 use Rattle.std.specs.Prelude.{◌==◌, ◌/◌, ◌&&◌, ◌||◌, if◌then◌else◌, is_some, not}

@@ -1,6 +1,6 @@
 -- What the checker finds is a run of the log.
-use Rattle.std.proofs.Common.{◌≡◌, ◌∙◌, ℕ, zero, suc, ◌+◌, Bool, true, false, List, [], ◌∷◌, ◌++◌, Option, Some, None, refl, sym, ap, subst, length, take, append_assoc}
-use Rattle.std.specs.Prelude.{is_some, ◌==◌, ◌&&◌, if◌then◌else◌, not, filter, filter_map, map, option_map, option_to_list, slice_get}
+use Rattle.std.proofs.Common.{◌≡◌, ◌∙◌, ℕ, zero, suc, Bool, true, false, List, [], ◌∷◌, ◌++◌, Option, Some, None, refl, sym, ap, subst, length, take, append_assoc}
+use Rattle.std.specs.Prelude.{is_some, ◌==◌, ◌&&◌, if◌then◌else◌, not, filter_map, map, option_map, option_to_list, slice_get}
 use Rattle.std.proofs.lemmas.Bool.{eq-eqb, eqb-true, ne_eqb}
 use Rattle.std.proofs.lemmas.List.{append-nil, map-append}
 use Rattle.std.proofs.Math.Numerals.{add-one}
@@ -17,10 +17,10 @@ use Rattle.kernel_rules.specs.declared.run.Entry.TheVariants as entry
 use Rattle.kernel_rules.specs.declared.run.Made.{Made}
 use Rattle.kernel_rules.specs.declared.run.Move.{Move}
 use Rattle.kernel_rules.specs.declared.run.Move.TheVariants as move
-use Rattle.kernel_rules.specs.Certified.{Place, affected, at_end, begun_at, certified, effected, ended_at, entered, find_of, fresh_place, is_ended_by, is_mremap, judged, lined, moved, moved_all, next_after, others_than, outcome_in, quiet, read_on, ruled, step_of, steps_of, then_moved, IsCertified}
+use Rattle.kernel_rules.specs.Certified.{Place, affected, at_end, certified, effected, ended_at, entered, find_of, fresh_place, is_ended_by, is_mremap, judged, lined, moved, moved_all, next_after, others_than, outcome_in, quiet, read_on, ruled, step_of, steps_of, then_moved, IsCertified}
 use Rattle.kernel_rules.specs.Faults.{sees, queues, leaves}
 use Rattle.kernel_rules.specs.MapCalls.{may_return, returned}
-use Rattle.kernel_rules.specs.Runs.{IsClean, Begun, Outcome, Step, World, begins, begun_of, effect, effect_at_end, ends, event_of, fresh_world, line, line_of, lines_of, outcome_of, takes, thread_leaves, thread_queues, thread_sees, without_begun, world_with, IsRun, IsStep, Leads}
+use Rattle.kernel_rules.specs.Runs.{IsClean, Begun, Outcome, Step, World, begins, begun_of, effect, effect_at_end, ends, event_of, line, line_of, lines_of, outcome_of, takes, thread_leaves, thread_queues, thread_sees, without_begun, world_with, IsStep, Leads}
 use Rattle.kernel_rules.specs.State.{Kernel}
 use Rattle.kernel_rules.specs.Held.{kernel_of}
 use Rattle.kernel_rules.specs.Worlds.{if_made}

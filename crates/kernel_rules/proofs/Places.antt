@@ -1,6 +1,6 @@
 -- What tables of a run hold after a step.
-use Rattle.std.proofs.Common.{◌≡◌, ◌∙◌, ℕ, ◌+◌, Bool, true, false, List, [], ◌∷◌, ◌++◌, Option, Some, None, Result, Ok, Err, refl, sym, ap}
-use Rattle.std.specs.Prelude.{is_some, if◌then◌else◌, slice_get, IfOk}
+use Rattle.std.proofs.Common.{◌≡◌, ◌∙◌, ℕ, Bool, true, false, List, [], ◌∷◌, ◌++◌, Option, Some, None, Result, Ok, Err, refl, sym, ap}
+use Rattle.std.specs.Prelude.{is_some, slice_get, IfOk}
 use Rattle.mig_base.specs.declared.NoMemory.{NoMemory}
 use Rattle.uffd_log.specs.declared.line.Answer.{Answer}
 use Rattle.kernel_rules.specs.declared.certify.BegunCall.{BegunCall}
@@ -56,7 +56,7 @@ pub effect_made : (old new : WorldTable) (key at : ℕ) (one : BegunCall) (out :
     → effected (place_of old) key at (find_of old.begun.items key) of_out ≡ Some (place_of new)
 effect_made old new key at one out of_out table took found here none taken holds noted same =
     let p : place_of new ≡ record (place_of old) { kernel = kernel_of table; begun = others_than key old.begun.items ++ record { made = one.made; at = Some at } ∷ [] } =
-      ap place_of same ∙ ap (λ b. record (place_of old) { kernel = kernel_of table; begun = b }) noted in
+    ap place_of same ∙ ap (λ b. record (place_of old) { kernel = kernel_of table; begun = b }) noted in
     rw (found, here, none, taken, holds) (ap (λ (q : Place). Some q) (sym p))
 
 pub effect_refused : (old : WorldTable) (key at : ℕ) (one : BegunCall) (out : Outcome) (of_out : Option Outcome) (table : KernelTable) (took : Bool) → find_of old.begun.items key ≡ Some one → of_out ≡ Some out

@@ -19,7 +19,7 @@ use Rattle.kernel_rules.specs.Certified.{is_mremap, judged, quiet}
 use Rattle.kernel_rules.specs.Faults.{faults_over, left_unanswered}
 use Rattle.kernel_rules.specs.Held.{kernel_of}
 use Rattle.kernel_rules.specs.Ioctls.{opened}
-use Rattle.kernel_rules.specs.MapCalls.{cleared_to, clearing, has_cleared, is_clearing, is_mappable, is_told, madvised, mmapped, munmapped, objects_in, unmap_events, unmapped, unmapped_bytes}
+use Rattle.kernel_rules.specs.MapCalls.{cleared_to, clearing, has_cleared, is_clearing, is_mappable, is_told, madvised, mmapped, munmapped, objects_in, unmap_events, unmapped_bytes}
 use Rattle.kernel_rules.specs.Runs.{Outcome, object_of, on_object, on_space}
 use Rattle.kernel_rules.specs.State.{Kernel, allowed, of_object, set_pages}
 use Rattle.kernel_rules.proofs.Calm.{quiet_allowed}

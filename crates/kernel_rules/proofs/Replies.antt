@@ -1,7 +1,7 @@
 -- Replies of a kernel, once their tests are known.
 use Rattle.std.proofs.Common.{◌≡◌, ℕ, Bool, true, false, List, [], ◌∷◌, Some, None, refl}
 use Rattle.std.proofs.lemmas.Bool.{eq-eqb, ne_eqb}
-use Rattle.std.specs.Prelude.{◌==◌, ◌/◌, if◌then◌else◌, is_some, not, filter}
+use Rattle.std.specs.Prelude.{◌/◌, is_some, not, filter}
 use Rattle.mig_base.specs.declared.TheConstants.{PAGE_SIZE}
 use Rattle.mig_base.specs.Bits.{is_one}
 use Rattle.uffd_log.specs.declared.call.Descriptor.{Descriptor}

@@ -1,5 +1,5 @@
 -- The pages of all spaces, once the table of one has changed.
-use Rattle.std.proofs.Common.{◌≡◌, ◌∙◌, ℕ, true, false, Bool, Option, Some, refl, inl, inr, sym, ap}
+use Rattle.std.proofs.Common.{◌≡◌, ◌∙◌, ℕ, false, Option, Some, refl, inl, inr, ap}
 use Rattle.std.specs.Prelude.{◌==◌, if◌then◌else◌, nat_eq}
 use Rattle.std.proofs.Math.Path.{fun_ext}
 use Rattle.std.proofs.lemmas.Bool.{cases_Bool, eqb-true}
@@ -10,7 +10,6 @@ use Rattle.kernel_rules.specs.State.{set_pages}
 use Rattle.kernel_rules.specs.Tables.{pages_of}
 use Rattle.kernel_rules.specs.declared.change.Change.{Change}
 use Rattle.kernel_rules.specs.declared.kernel_table.KernelTable.{KernelTable}
-use Rattle.kernel_rules.specs.declared.known.Page.{Page}
 use Rattle.kernel_rules.specs.declared.page_table.PageTable.{PageTable}
 
 page_put : (old new : ℕ → Option PageTable) (space first count : ℕ) (change : Change) (table : PageTable) → ((q : ℕ) → new q ≡ (if space == q then Some table else old q))

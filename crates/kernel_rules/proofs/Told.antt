@@ -1,5 +1,5 @@
--- Whether anybody is told of a range, one page after another.
-use Rattle.std.proofs.Common.{◌≡◌, ◌∙◌, ℕ, ◌+◌, Bool, true, false, List, [], ◌∷◌, ◌++◌, Option, Some, None, refl, sym, ap, inl, inr, arith}
+-- Whether anybody gets an event of a range, one page after another.
+use Rattle.std.proofs.Common.{◌≡◌, ◌∙◌, ℕ, ◌+◌, Bool, true, false, List, [], ◌∷◌, ◌++◌, Option, Some, None, refl, sym, ap, inl, inr}
 use Rattle.std.specs.Prelude.{◌==◌, ◌&&◌, ◌||◌, if◌then◌else◌, not, filter}
 use Rattle.std.specs.List.{list_any}
 use Rattle.std.proofs.Math.Numerals.{add-one}
@@ -55,7 +55,7 @@ watcher_told : (p : ℕ → Bool) (names : List ℕ) (page : Option Page) → is
 watcher_told p names None = and_true (is_empty (filter p names))
 watcher_told p names (Some page) = name_told p names page.object
 
--- nobody is told of no page
+-- nobody gets an event of no page
 pub none_told : (kernel : Kernel) (p : ℕ → Bool) (space first : ℕ) → true ≡ is_empty (filter p (objects_in kernel space first 0))
 unfolding objects_in
 none_told kernel p space first = refl

@@ -1,6 +1,6 @@
 -- What a checker of runs does: a function of a log and of a run. That what it finds is a run of the log is a law (`certify`). It follows
 -- no call of which an event tells anybody, and no mremap(2).
-use Rattle.std.specs.Prelude.{◌≡◌, ℕ, zero, suc, ◌+◌, ◌==◌, ◌&&◌, Bool, true, false, if◌then◌else◌, Option, Some, None, is_some, not, option_map, option_to_list, List, [], ◌∷◌, ◌++◌, filter, length, map, slice_get}
+use Rattle.std.specs.Prelude.{◌≡◌, ℕ, ◌+◌, ◌==◌, ◌&&◌, Bool, true, false, if◌then◌else◌, Option, Some, None, is_some, not, option_map, option_to_list, List, [], ◌∷◌, ◌++◌, filter, length, map, slice_get}
 use Rattle.mig_base.specs.Tests.{is_empty}
 use Rattle.uffd_log.specs.declared.call.Call.{Call}
 use Rattle.uffd_log.specs.declared.call.Call.TheVariants as call

@@ -1,5 +1,5 @@
 -- Tests of pages as values.
-use Rattle.std.specs.Prelude.{ℕ, ◌==◌, ◌&&◌, ◌||◌, not, Bool, true}
+use Rattle.std.specs.Prelude.{◌==◌, ◌&&◌, ◌||◌, not, Bool, true}
 use Rattle.kernel_rules.specs.Pages.{may_be_missing}
 use Rattle.kernel_rules.specs.declared.known.Page.{Page}
 use Rattle.kernel_rules.specs.declared.page_test.PageTest.{PageTest}

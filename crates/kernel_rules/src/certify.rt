@@ -59,7 +59,8 @@ fn fits(one: BegunCall, answer: Answer, next: usize) -> bool
 
 /// The ending of an entry, if a call ends there.
 fn ending_at(log: &[Entry], at: usize) -> Option<&Ending>
-    ensures { option_map (λ ending. outcome_of ending.now) result ≡ outcome_in (slice_get log.now at) }
+    ensures { option_map (λ ending. outcome_of ending.now) result ≡
+        outcome_in (slice_get log.now at) }
 {
     match log.get(at) {
         Some(Entry::Ends { ending, .. }) => Some(ending),
@@ -237,8 +238,8 @@ impl WorldTable {
 ///
 /// A call that never ends in the log may take effect with the ending of any entry.
 ///
-/// Not followed, and so refused, are mremap(2), map calls of which an object asked to be told, reads of the messages of such calls, and
-/// UFFDIO_MOVE, UFFDIO_CONTINUE and UFFDIO_POISON.
+/// Not followed, and so refused, are mremap(2), map calls of which an object gets an event, and reads of events; an object with
+/// UFFD_FEATURE_EVENT_FORK; and UFFDIO_MOVE, UFFDIO_CONTINUE, UFFDIO_POISON and the minor mode.
 pub fn certify(alloc: Global, log: &[Entry], run: &[Move]) -> Result<Option<KernelTable>, NoMemory>
     ensures tables { IfOk result (λ found. IfSome found AreTables) }
     ensures run { IfOk result (λ found. IfSome found (λ table.

@@ -1,5 +1,5 @@
-//! The calls that change an address space and of which no object asked to be told, by the rules of `specs/MapCalls.antt`. After `NoMemory`,
-//! or where no rule allows the answer, a table is not to be used.
+//! The calls that change an address space, where no object gets an event of them, by the rules of `specs/MapCalls.antt`. After `NoMemory`, or
+//! where no rule allows the answer, a table is not to be used.
 
 ghost use Rattle.std.specs.Prelude.{◌≡◌, ◌<◌, ◌≤◌, ◌+◌, ◌^◌, filter, not, Some, IfOk, OnOk};
 ghost use Rattle.mig_base.specs.Ranges.{pages_of};

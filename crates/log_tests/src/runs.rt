@@ -214,7 +214,7 @@ static CASES: [Case; 16] = [
     ),
     // a feature that is not offered
     (Some((3, b"1400 70 70 end 2 ok 0xff 0x0")), None, None),
-    // an object that is told of its child
+    // an object with UFFD_FEATURE_EVENT_FORK
     (
         Some((2, b"1300 70 70 begin 2 api 8:5 0xaa 0x102")),
         None,

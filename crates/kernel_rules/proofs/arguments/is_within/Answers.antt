@@ -1,4 +1,4 @@
-use Rattle.std.proofs.Common.{◌≡◌, ◌∙◌, ℕ, sym, arith}
+use Rattle.std.proofs.Common.{◌∙◌, sym, arith}
 use Rattle.std.specs.Prelude.{not, ◌&&◌}
 use borrow.Author.Count.{below_more}
 use Rattle.mig_base.specs.Bits.{is_one}

@@ -1,4 +1,4 @@
-use Rattle.std.proofs.Common.{◌≡◌, ◌∙◌, ℕ, ◌+◌, sym, ap, arith}
+use Rattle.std.proofs.Common.{◌∙◌, ◌+◌, sym, ap, arith}
 use Rattle.std.specs.Prelude.{not}
 use borrow.Author.Count.{below_more}
 use Rattle.mig_base.proofs.RangeLemmas.{none_below-from, none_below-not}

@@ -14,12 +14,12 @@ pub loop-i-preserved : goal.loop-i-preserved
 loop-i-preserved c =
     elim c.if-nobody.branch [
       | then-nobody w ↦
-        w.nobody-is
-        ∙ told_more (kernel_of c.args.self.now) (is_told (kernel_of c.args.self.now) c.args.bit) c.args.space c.args.first c.loop-i.i true w.is_told_of.result
-        (sym w.if-nobody.true ∙ c.loop-i.invariant) w.is_told_of.ensures
+          w.nobody-is
+          ∙ told_more (kernel_of c.args.self.now) (is_told (kernel_of c.args.self.now) c.args.bit) c.args.space c.args.first c.loop-i.i true w.is_told_of.result
+          (sym w.if-nobody.true ∙ c.loop-i.invariant) w.is_told_of.ensures
       | else-nobody w ↦
-        w.nobody-is ∙ w.if-nobody.false
-        ∙ told_more (kernel_of c.args.self.now) (is_told (kernel_of c.args.self.now) c.args.bit) c.args.space c.args.first c.loop-i.i false
-        (page_is (λ (page : Page). is_told (kernel_of c.args.self.now) c.args.bit page.object) ((kernel_of c.args.self.now).pages c.args.space (c.args.first + c.loop-i.i)))
-        (sym w.if-nobody.false ∙ c.loop-i.invariant) refl
+          w.nobody-is ∙ w.if-nobody.false
+          ∙ told_more (kernel_of c.args.self.now) (is_told (kernel_of c.args.self.now) c.args.bit) c.args.space c.args.first c.loop-i.i false
+          (page_is (λ (page : Page). is_told (kernel_of c.args.self.now) c.args.bit page.object) ((kernel_of c.args.self.now).pages c.args.space (c.args.first + c.loop-i.i)))
+          (sym w.if-nobody.false ∙ c.loop-i.invariant) refl
     ]
