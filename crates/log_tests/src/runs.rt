@@ -275,9 +275,14 @@ fn entries(alloc: Global, texts: &[&'static [u8]]) -> Result<Vec<Entry>, NoMemor
                 }),
             )?,
             Some(Line::Read { message, .. }) => add(&mut messages, message)?,
-            Some(Line::Have {
-                start, len, bits, ..
-            }) => add(&mut runs, Run { start, len, bits })?,
+            Some(
+                Line::Have {
+                    start,
+                    len,
+                    bits,
+                    ..
+                },
+            ) => add(&mut runs, Run { start, len, bits })?,
             Some(Line::End { number, answer, .. }) => add(
                 &mut log,
                 Entry::Ends {
@@ -301,23 +306,19 @@ fn changed<T: Copy + Drop>(
     items: &[T],
     change: Changed<T>,
 ) -> Result<Vec<T>, NoMemory> {
-    let mut list = Vec::new(alloc);
-    for (i, item) in items.iter().enumerate() {
-        let item = match change {
-            Some((at, other)) if at == i => other,
-            _ => *item,
-        };
-        add(&mut list, item)?;
+    let Ok(mut list) = Vec::from_slice(alloc, items) else {
+        return Err(NoMemory);
+    };
+    if let Some((at, other)) = change {
+        if at < list.len() {
+            list[at] = other;
+        }
     }
     Ok(list)
 }
 
 /// What is found of a log and a run.
-fn found(
-    alloc: Global,
-    texts: &[&'static [u8]],
-    run: &[Move],
-) -> Result<Option<Found>, NoMemory> {
+fn found(alloc: Global, texts: &[&'static [u8]], run: &[Move]) -> Result<Option<Found>, NoMemory> {
     let log = entries(alloc, texts)?;
     let Some(mut table) = certify(alloc, &log, run)? else {
         return Ok(None);
