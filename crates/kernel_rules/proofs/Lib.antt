@@ -1,2 +1,10 @@
+pub mod Calm
+pub mod Laws
 pub mod Layers
+pub mod Owed
+pub mod Places
+pub mod Quiet
+pub mod Replies
+pub mod Spaces
 pub mod Steps
+pub mod Told

@@ -1,5 +1,5 @@
 -- What threads do that no line of a log shows: they find a page missing or write-protected, queue a fault, sleep, and leave it.
-use Rattle.std.specs.Prelude.{ℕ, ◌==◌, ◌&&◌, ◌||◌, not, Bool, true, false, if◌then◌else◌, Option, Some, None, List, [], ◌∷◌, ◌++◌, filter, filter_map}
+use Rattle.std.specs.Prelude.{ℕ, ◌==◌, ◌&&◌, ◌||◌, not, Bool, true, false, if◌then◌else◌, Option, Some, None, is_some, List, [], ◌∷◌, ◌++◌, filter, filter_map}
 use Rattle.std.specs.List.{list_any}
 use Rattle.mig_base.specs.Ranges.{in_range}
 use Rattle.kernel_rules.specs.declared.fault.Fault.{Fault}
@@ -8,6 +8,8 @@ use Rattle.kernel_rules.specs.declared.difference.Difference.TheVariants.{FaultO
 use Rattle.kernel_rules.specs.declared.known.Phase.{Phase}
 use Rattle.kernel_rules.specs.declared.known.Phase.TheVariants.{Seen, Unread, Asleep}
 use Rattle.kernel_rules.specs.declared.known.Page.{Page}
+use Rattle.kernel_rules.specs.declared.fault.Reach.{Reach}
+use Rattle.kernel_rules.specs.declared.fault.Reach.TheVariants.{Everywhere, Within}
 use Rattle.kernel_rules.specs.State.{Kernel, page_is, pages_changed, of_object, allowed, noted_if}
 
 -- the thread has looked at its page, and has queued nothing yet
@@ -34,9 +36,14 @@ stops_at object flags page =
 abbrev pub must_wait : Kernel → ℕ → Fault → Bool
 must_wait kernel space fault = page_is (stops_at fault.object fault.flags) (kernel.pages space fault.page)
 
+-- the fault of a thread, if it waits
+abbrev pub fault_of : List Fault → ℕ → Option Fault
+fault_of [] thread = None
+fault_of (fault ∷ faults) thread = if fault.thread == thread then Some fault else fault_of faults thread
+
 -- whether a thread waits
 abbrev pub waits : Kernel → ℕ → Bool
-waits kernel thread = list_any (λ (fault : Fault). fault.thread == thread) kernel.faults
+waits kernel thread = is_some (fault_of kernel.faults thread)
 
 -- a thread finds that it has to wait at a page
 abbrev pub sees : Kernel → ℕ → ℕ → ℕ → ℕ → Option Kernel
@@ -45,11 +52,6 @@ sees kernel thread object page flags = of_object (kernel.objects object) (λ o.
     (record (pages_changed kernel o.space page 1 (shown (is_of_protection flags))) {
       faults = kernel.faults ++ record { thread = thread; object = object; page = page; flags = flags; phase = Seen; read_by = None } ∷ [];
     }))
-
--- the fault of a thread, if it waits
-abbrev pub fault_of : List Fault → ℕ → Option Fault
-fault_of [] thread = None
-fault_of (fault ∷ faults) thread = if fault.thread == thread then Some fault else fault_of faults thread
 
 -- the faults without that of a thread
 abbrev pub faults_without : List Fault → ℕ → List Fault
@@ -72,7 +74,7 @@ queues kernel thread = of_fault (fault_of kernel.faults thread) (λ fault. of_ob
     allowed (is_seen fault.phase)
     (noted_if (list_any (is_twin fault) kernel.faults) FaultOfEachThread
     (noted_if (not (must_wait kernel o.space fault)) FaultOnItsWay
-    (record kernel { faults = faults_without kernel.faults thread ++ record fault { phase = Unread } ∷ [] })))))
+    (record kernel { faults = faults_without kernel.faults fault.thread ++ record fault { phase = Unread } ∷ [] })))))
 
 -- the read of a fault that has to be answered, where it is to be counted
 abbrev pub left_unanswered : (Fault → Bool) → Fault → Option ℕ
@@ -99,13 +101,18 @@ leaves kernel thread = of_fault (fault_of kernel.faults thread) (λ fault. of_ob
 abbrev pub sleeps_in : ℕ → ℕ → ℕ → Fault → Bool
 sleeps_in object first count fault = fault.object == object && in_range first count fault.page && not (is_seen fault.phase)
 
--- whether an unread fault does
-abbrev pub is_unread_in : ℕ → ℕ → ℕ → Fault → Bool
-is_unread_in object first count fault = sleeps_in object first count fault && is_unread fault.phase
-
 -- whether a fault sleeps anywhere in the object's pages
 abbrev pub sleeps_at : ℕ → Fault → Bool
 sleeps_at object fault = fault.object == object && not (is_seen fault.phase)
+
+-- whether a fault sleeps in those of the object's pages that a call is of
+abbrev pub sleeps : ℕ → Reach → Fault → Bool
+sleeps object Everywhere fault = sleeps_at object fault
+sleeps object (Within first count) fault = sleeps_in object first count fault
+
+-- whether an unread fault does
+abbrev pub is_unread_in : ℕ → Reach → Fault → Bool
+is_unread_in object reach fault = sleeps object reach fault && is_unread fault.phase
 
 -- the threads that sleep on faults which pass the test are woken. An unread message goes with its sleeper
 abbrev pub woken : Kernel → (Fault → Bool) → Bool → Kernel

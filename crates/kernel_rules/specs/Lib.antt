@@ -1,10 +1,14 @@
+pub mod Certified
 pub mod Changes
 pub mod Faults
 pub mod Held
 pub mod Ioctls
+pub mod Kinds
 pub mod MapCalls
 pub mod Pages
 pub mod Reads
 pub mod Runs
 pub mod State
 pub mod Tables
+pub mod Tests
+pub mod Worlds

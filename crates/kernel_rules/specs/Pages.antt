@@ -55,6 +55,10 @@ abbrev pub protected_page : Bool → Bool → Page → Page
 protected_page protect unpopulated page =
     if page.protect then record page { guarded = protect && (unpopulated || not (is_missing page.presence)) } else page
 
+-- a page of a range that a refused call may have protected
+abbrev pub perhaps_protected : Bool → Page → Page
+perhaps_protected protect page = if protect && page.protect then record page { guarded = true } else page
+
 -- nothing is known of the page's presence
 abbrev pub is_unknown : Presence → Bool
 is_unknown Missing = false

@@ -1,11 +1,11 @@
 -- read(2) and poll(2) of a userfault object. userfaultfd(2).
-use Rattle.std.specs.Prelude.{ℕ, ◌+◌, ◌-◌, ◌/◌, ◌==◌, ◌&&◌, ◌||◌, not, nat_le, nat_lt, Bool, true, false, if◌then◌else◌, Option, Some, None, List, [], ◌∷◌, ◌++◌, length}
+use Rattle.std.specs.Prelude.{ℕ, ◌+◌, ◌-◌, ◌/◌, ◌==◌, ◌&&◌, ◌||◌, not, nat_le, nat_lt, Bool, true, false, if◌then◌else◌, Option, Some, None, is_some, List, [], ◌∷◌, ◌++◌, length}
 use Rattle.std.specs.List.{list_any}
 use Rattle.mig_base.specs.declared.TheConstants.{PAGE_SIZE}
 use Rattle.mig_base.specs.Bits.{is_one}
-use Rattle.mig_base.specs.Tests.{is_empty}
 use Rattle.uffd_log.specs.declared.line.Answer.{Answer}
 use Rattle.uffd_log.specs.declared.line.Answer.TheVariants.{Value, Failed}
+use Rattle.uffd_log.specs.declared.errno.Errno.{Errno}
 use Rattle.uffd_log.specs.declared.errno.Errno.TheVariants.{Eintr, Eagain, Efault, Einval}
 use Rattle.uffd_log.specs.declared.call.Message.{Message}
 use Rattle.uffd_log.specs.declared.call.Message.TheVariants as message
@@ -107,7 +107,7 @@ fault_taken kernel key name object addr flags thread = of_fault (first_unread ke
 
 -- whether a fault of the object is unread
 abbrev pub has_unread_fault : Kernel → ℕ → Bool
-has_unread_fault kernel name = list_any (λ (fault : Fault). fault.object == name && is_unread fault.phase) kernel.faults
+has_unread_fault kernel name = is_some (first_unread kernel.faults name)
 
 -- the kernel once call `key` has read a message: a page fault comes before events. Fork events are not judged
 abbrev pub message_taken : Kernel → ℕ → ℕ → Object → Message → Option Kernel
@@ -129,37 +129,48 @@ messages_taken kernel key name object (event ∷ events) =
 
 -- read(2)
 
+-- whether the next of these events is for the object, or a REMOVE that is still to come
+abbrev pub first_for : ℕ → (ℕ → Bool) → List (ℕ × Message) → Bool
+first_for name tells [] = tells name
+first_for name tells (event ∷ events) = event.0 == name
+
+-- whether an event of the call waits to be read by the object
+abbrev pub is_queued_for : ℕ → Calling → Bool
+is_queued_for name calling = calling.queued && first_for name calling.tells calling.events
+
 -- whether anything waits to be read
 abbrev pub has_unread : Kernel → ℕ → Bool
-has_unread kernel name =
-    has_unread_fault kernel name || list_any (λ (calling : Calling). calling.queued && is_for calling) kernel.calls where
-      first_is : List (ℕ × Message) → Bool
-      first_is [] = false
-      first_is (event ∷ events) = event.0 == name
-
-      is_for : Calling → Bool
-      is_for calling = if is_empty calling.events then calling.tells name else first_is calling.events
+has_unread kernel name = has_unread_fault kernel name || list_any (is_queued_for name) kernel.calls
 
 -- the room that a read has, if the log says so
 abbrev pub has_room : Option ℕ → Bool
 has_room None = true
 has_room (Some room) = nat_le 32 room
 
+-- why read(2) may fail
+abbrev pub read_failed : Kernel → ℕ → Object → Option ℕ → Errno → Bool
+read_failed kernel name object room Eagain = is_enabled object && not object.waits && not (has_unread kernel name)
+read_failed kernel name object room Einval = not (is_enabled object) || not (has_room room)
+read_failed kernel name object room Eintr = true
+read_failed kernel name object room Efault = true
+read_failed kernel name object room _ = false
+
 -- read(2): it returns messages, or an error that the state allows
 abbrev pub read : Kernel → ℕ → ℕ → Object → Option ℕ → List Message → Answer → Option Kernel
 read kernel key name object room messages (Value count) =
     if is_enabled object && count == length messages && nat_lt 0 count then messages_taken kernel key name object messages else None
-read kernel key name object room messages (Failed Eagain bytes) = allowed (is_enabled object && not object.waits && not (has_unread kernel name)) kernel
-read kernel key name object room messages (Failed Einval bytes) = allowed (not (is_enabled object) || not (has_room room)) kernel
-read kernel key name object room messages (Failed Eintr bytes) = Some kernel
-read kernel key name object room messages (Failed Efault bytes) = Some kernel
+read kernel key name object room messages (Failed errno bytes) = allowed (read_failed kernel name object room errno) kernel
 read kernel key name object room messages _ = None
 
--- poll(2): POLLIN is bit 0, POLLERR bit 3, POLLNVAL bit 5
+-- whether poll(2) may have found these events: POLLIN is bit 0, POLLERR bit 3, POLLNVAL bit 5
+abbrev pub may_poll : Kernel → ℕ → Object → ℕ → Bool
+may_poll kernel name object events =
+    is_one events 5
+    || (if is_one events 3 then not (is_enabled object) || object.waits
+    else is_enabled object && not object.waits && (if is_one events 0 then has_unread kernel name else not (has_unread kernel name)))
+
+-- poll(2)
 abbrev pub polled : Kernel → ℕ → Object → Answer → Option Kernel
-polled kernel name object (Value events) =
-    if is_one events 5 then Some kernel
-    else if is_one events 3 then allowed (not (is_enabled object) || object.waits) kernel
-    else allowed (is_enabled object && not object.waits && (if is_one events 0 then has_unread kernel name else not (has_unread kernel name))) kernel
+polled kernel name object (Value events) = allowed (may_poll kernel name object events) kernel
 polled kernel name object (Failed errno bytes) = Some kernel
 polled kernel name object _ = None

@@ -1,7 +1,7 @@
 -- What a run of a log is: the lines of the log in their order, with steps put in between. A call takes effect once, between the line where
 -- it begins and the one where it ends; so a call that ended before another began took effect first. The rules of a kernel allow each step
 -- with exactly the answer of the log.
-use Rattle.std.specs.Prelude.{◌≡◌, ℕ, ◌==◌, not, Bool, true, false, if◌then◌else◌, Option, Some, None, is_some, List, [], ◌∷◌, filter, filter_map}
+use Rattle.std.specs.Prelude.{◌≡◌, ℕ, ◌==◌, Contains, not, Bool, true, false, if◌then◌else◌, Option, Some, None, is_some, List, [], ◌∷◌, ◌++◌, filter, filter_map}
 use Rattle.uffd_log.specs.declared.call.Call.{Call}
 use Rattle.uffd_log.specs.declared.call.Call.TheVariants as call
 use Rattle.uffd_log.specs.declared.call.Message.{Message}
@@ -9,20 +9,19 @@ use Rattle.uffd_log.specs.declared.line.Answer.{Answer}
 use Rattle.uffd_log.specs.declared.line.Answer.TheVariants.{Done, Failed, Interrupted}
 use Rattle.kernel_rules.specs.declared.difference.Difference.{Difference}
 use Rattle.kernel_rules.specs.declared.object.Object.{Object}
+use Rattle.kernel_rules.specs.declared.object.Registration.{Registration}
+use Rattle.kernel_rules.specs.declared.run.Ending.{Ending}
+use Rattle.kernel_rules.specs.declared.run.Entry.{Entry}
+use Rattle.kernel_rules.specs.declared.run.Entry.TheVariants as entry
+use Rattle.kernel_rules.specs.declared.run.Made.{Made}
+use Rattle.kernel_rules.specs.declared.run.Run.{Run}
 use Rattle.kernel_rules.specs.State.{Kernel, fresh_kernel, with_object, of_object}
 use Rattle.kernel_rules.specs.Faults.{sees, queues, leaves, faults_over}
-use Rattle.kernel_rules.specs.Ioctls.{Run, opened, shaken, registered, unregistered, waked, put_with, protected_with, scanned, closed}
+use Rattle.kernel_rules.specs.Ioctls.{end_range, opened, shaken, registered, unregistered, waked, put_with, protected_with, scanned, closed}
 use Rattle.kernel_rules.specs.MapCalls.{mmapped, munmapped, mremapped, madvised, tells, clears, may_return, returned}
 use Rattle.kernel_rules.specs.Reads.{read, polled}
 
 -- The lines of a log that a judge reads
-
--- a call: its number in the log, the address space that it changes, and whether it closes the last descriptor of its object
-pub record Made : Type 0 where
-  pub key : ℕ
-  pub space : ℕ
-  pub call : Call
-  pub last : Bool
 
 -- how it ended: its answer, the messages that it has read, and the runs of pages that a scan found
 pub record Outcome : Type 0 where
@@ -35,56 +34,89 @@ pub data Event : Type 0 where
   begins : Made → Event
   ends : ℕ → Outcome → Event
 
+-- the outcome of a call, by its ending in a log
+abbrev pub outcome_of : Ending → Outcome
+outcome_of ending = record { answer = ending.answer; messages = ending.messages.items; runs = ending.runs.items }
+
+-- the line of an entry
+abbrev pub event_of : Entry → Event
+event_of (entry.Begins made) = begins made
+event_of (entry.Ends key ending) = ends key (outcome_of ending)
+
 -- What a call may answer, and what follows from it
-
--- the call has succeeded, and returned nothing else
-abbrev pub is_done : Answer → Bool
-is_done Done = true
-is_done _ = false
-
--- the call has failed
-abbrev pub is_failed : Answer → Bool
-is_failed (Failed errno bytes) = true
-is_failed _ = false
 
 -- O_NONBLOCK is set or cleared
 abbrev pub unblocked : Kernel → ℕ → Object → Bool → Answer → Option Kernel
-unblocked kernel name object set answer =
-    if is_done answer then Some (with_object kernel name (record object { waits = not set })) else if is_failed answer then Some kernel else None
+unblocked kernel name object set Done = Some (with_object kernel name (record object { waits = not set }))
+unblocked kernel name object set (Failed errno bytes) = Some kernel
+unblocked kernel name object set _ = None
 
 -- close(2): it ends the object if the descriptor was its last
 abbrev pub close_taken : Kernel → ℕ → Object → Bool → Answer → Option Kernel
-close_taken kernel name object last answer =
-    if is_done answer then Some (if last then closed kernel name object else kernel) else if is_failed answer then Some kernel else None
+close_taken kernel name object last Done = Some (if last then closed kernel name object else kernel)
+close_taken kernel name object last (Failed errno bytes) = Some kernel
+close_taken kernel name object last _ = None
 
--- a call on an object. UFFDIO_MOVE, UFFDIO_CONTINUE and UFFDIO_POISON are not judged
-unfoldable pub object_call_taken : Kernel → ℕ → Bool → Call → Outcome → Option Kernel
-object_call_taken kernel key last (call.Api on api features) out = of_object (kernel.objects on.object) (λ o. shaken kernel on.object o api features out.answer)
-object_call_taken kernel key last (call.Register on start len mode) out = of_object (kernel.objects on.object) (λ o. registered kernel on.object o start len mode out.answer)
-object_call_taken kernel key last (call.Unregister on start len) out = of_object (kernel.objects on.object) (λ o. unregistered kernel on.object o start len out.answer)
-object_call_taken kernel key last (call.Wake on start len) out = of_object (kernel.objects on.object) (λ o. waked kernel on.object o start len out.answer)
-object_call_taken kernel key last (call.Copy on to from len mode) out = of_object (kernel.objects on.object) (λ o. put_with kernel key on.object o to len mode 3 out.answer)
-object_call_taken kernel key last (call.ZeroPage on start len mode) out = of_object (kernel.objects on.object) (λ o. put_with kernel key on.object o start len mode 1 out.answer)
-object_call_taken kernel key last (call.WriteProtect on start len mode) out = of_object (kernel.objects on.object) (λ o. protected_with kernel on.object o start len mode out.answer)
-object_call_taken kernel key last (call.Read on room) out = of_object (kernel.objects on.object) (λ o. read kernel key on.object o room out.messages out.answer)
-object_call_taken kernel key last (call.Poll on) out = of_object (kernel.objects on.object) (λ o. polled kernel on.object o out.answer)
-object_call_taken kernel key last (call.NonBlock on set) out = of_object (kernel.objects on.object) (λ o. unblocked kernel on.object o set out.answer)
-object_call_taken kernel key last (call.Dup on target) out = Some kernel
-object_call_taken kernel key last (call.Close on) out = of_object (kernel.objects on.object) (λ o. close_taken kernel on.object o last out.answer)
-object_call_taken kernel key last (call.Scan on start len) out = of_object (kernel.objects on.object) (λ o. scanned kernel o start len out.runs out.answer)
-object_call_taken kernel key last _ out = None
+-- the object on which a call is made, if it is on one
+abbrev pub object_of : Call → Option ℕ
+object_of (call.Open device flags) = None
+object_of (call.Api on api features) = Some on.object
+object_of (call.Register on start len mode) = Some on.object
+object_of (call.Unregister on start len) = Some on.object
+object_of (call.Wake on start len) = Some on.object
+object_of (call.Copy on to from len mode) = Some on.object
+object_of (call.Move on to from len mode) = Some on.object
+object_of (call.ZeroPage on start len mode) = Some on.object
+object_of (call.Continue on start len mode) = Some on.object
+object_of (call.Poison on start len mode) = Some on.object
+object_of (call.WriteProtect on start len mode) = Some on.object
+object_of (call.Read on room) = Some on.object
+object_of (call.Poll on) = Some on.object
+object_of (call.NonBlock on set) = Some on.object
+object_of (call.Dup on target) = Some on.object
+object_of (call.Close on) = Some on.object
+object_of (call.Scan on start len) = Some on.object
+object_of (call.Mmap addr len prot flags) = None
+object_of (call.Munmap addr len) = None
+object_of (call.Mremap addr old_len new_len flags target) = None
+object_of (call.Madvise addr len advice) = None
+object_of call.Fork = None
+
+-- a call on an open object takes effect with its outcome. UFFDIO_MOVE, UFFDIO_CONTINUE and UFFDIO_POISON are not judged
+unfoldable pub on_object : Kernel → ℕ → ℕ → Object → Bool → Outcome → Call → Option Kernel
+on_object kernel key name object last out (call.Api on api features) = shaken kernel name object api features out.answer
+on_object kernel key name object last out (call.Register on start len mode) = registered kernel name object start len mode out.answer
+on_object kernel key name object last out (call.Unregister on start len) = unregistered kernel name object start len out.answer
+on_object kernel key name object last out (call.Wake on start len) = waked kernel name object start len out.answer
+on_object kernel key name object last out (call.Copy on to from len mode) = put_with kernel key name object to len mode 3 out.answer
+on_object kernel key name object last out (call.ZeroPage on start len mode) = put_with kernel key name object start len mode 1 out.answer
+on_object kernel key name object last out (call.WriteProtect on start len mode) = protected_with kernel name object start len mode out.answer
+on_object kernel key name object last out (call.Read on room) = read kernel key name object room out.messages out.answer
+on_object kernel key name object last out (call.Poll on) = polled kernel name object out.answer
+on_object kernel key name object last out (call.NonBlock on set) = unblocked kernel name object set out.answer
+on_object kernel key name object last out (call.Dup on target) = Some kernel
+on_object kernel key name object last out (call.Close on) = close_taken kernel name object last out.answer
+on_object kernel key name object last out (call.Scan on start len) = scanned kernel object start len out.runs out.answer
+on_object kernel key name object last out _ = None
+
+-- the other calls, of an address space
+unfoldable pub on_space : Kernel → ℕ → ℕ → Outcome → Call → Option Kernel
+on_space kernel key space out (call.Open device flags) = opened kernel space flags out.answer
+on_space kernel key space out (call.Mmap addr len prot flags) = mmapped kernel key space len out.answer
+on_space kernel key space out (call.Munmap addr len) = munmapped kernel key space addr len out.answer
+on_space kernel key space out (call.Mremap addr old_len new_len flags target) = mremapped kernel key space addr old_len new_len out.answer
+on_space kernel key space out (call.Madvise addr len advice) = madvised kernel key space addr len advice out.answer
+on_space kernel key space out call.Fork = Some kernel
+on_space kernel key space out _ = None
+
+-- the same, by the object that a call is on
+abbrev pub taken_by : Kernel → Made → Outcome → Option ℕ → Option Kernel
+taken_by kernel made out None = on_space kernel made.key made.space out made.call
+taken_by kernel made out (Some name) = of_object (kernel.objects name) (λ object. on_object kernel made.key name object made.last out made.call)
 
 -- a call of a log takes effect with its outcome; None where no kernel has it
-unfoldable pub takes : Kernel → Made → Outcome → Option Kernel
-takes kernel made out = taken made.call where
-  taken : Call → Option Kernel
-  taken (call.Open device flags) = opened kernel made.space flags out.answer
-  taken (call.Mmap addr len prot flags) = mmapped kernel made.key made.space len out.answer
-  taken (call.Munmap addr len) = munmapped kernel made.key made.space addr len out.answer
-  taken (call.Mremap addr old_len new_len flags target) = mremapped kernel made.key made.space addr old_len new_len out.answer
-  taken (call.Madvise addr len advice) = madvised kernel made.key made.space addr len advice out.answer
-  taken call.Fork = Some kernel
-  taken other = object_call_taken kernel made.key made.last other out
+abbrev pub takes : Kernel → Made → Outcome → Option Kernel
+takes kernel made out = taken_by kernel made out (object_of made.call)
 
 -- Runs
 
@@ -131,7 +163,7 @@ abbrev pub effect_of : World → Option Begun → ℕ → Outcome → Option Wor
 effect_of world None key out = None
 effect_of world (Some one) key out =
     if is_some one.out then None
-    else world_with (record world { begun = record one { out = Some out } ∷ without_begun world.begun key }) (takes world.kernel one.made out)
+    else world_with (record world { begun = without_begun world.begun key ++ record one { out = Some out } ∷ [] }) (takes world.kernel one.made out)
 
 -- the effect that a call must have had at its end: one that was interrupted had none
 abbrev pub effect_at_end : Answer → Outcome → Option Outcome
@@ -140,7 +172,7 @@ effect_at_end _ out = Some out
 
 -- the step leads from a world to another. At its end a call has taken effect with the outcome of that line, and its events are read
 abbrev pub IsStep : World → Step → World → Type 0
-IsStep world (line (begins made)) after = (begun_of world.begun made.key ≡ None) × (after ≡ record world { begun = record { made = made; out = None } ∷ world.begun })
+IsStep world (line (begins made)) after = (begun_of world.begun made.key ≡ None) × (after ≡ record world { begun = world.begun ++ record { made = made; out = None } ∷ [] })
 IsStep world (line (ends key out)) after =
     (one : Begun) × (begun_of world.begun key ≡ Some one) × (may_return world.kernel key ≡ true) × (one.out ≡ effect_at_end out.answer out)
     × (after ≡ record { kernel = returned world.kernel key; begun = without_begun world.begun key })
@@ -176,10 +208,20 @@ IsClean log differs = (steps : List Step) × (last : World) × IsRun log steps l
 
 -- Findings of a run: what the last kernel has
 
+-- the kernel once a range of an object that is open is no longer registered
+abbrev pub end_of : Kernel → Option Object → Registration → Kernel
+end_of kernel None range = kernel
+end_of kernel (Some object) range = end_range kernel range.object object range
+
+-- the kernel once none of these ranges is registered
+abbrev pub end_all : Kernel → List Registration → Kernel
+end_all kernel [] = kernel
+end_all kernel (range ∷ ranges) = end_all (end_of kernel (kernel.objects range.object) range) ranges
+
+-- the kernel at the end of a log: what is registered then is judged as it is, and who sleeps then was not answered
+abbrev pub finished : Kernel → Kernel
+finished kernel = faults_over (end_all kernel kernel.ranges) (λ fault. true) false
+
 -- a page is owed: it was missing when its registration ended, or is at the end of the log
 abbrev pub IsOwed : Kernel → ℕ → ℕ → Type 0
-IsOwed kernel space page = kernel.owed space page ≡ true
-
--- the reads whose fault nobody has answered, also those of threads that sleep at the end of the log
-abbrev pub unanswered_at_end : Kernel → List ℕ
-unanswered_at_end kernel = (faults_over kernel (λ fault. true) false).unanswered
+IsOwed kernel space page = Contains (finished kernel).owed (space, page)

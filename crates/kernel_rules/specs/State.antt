@@ -40,8 +40,8 @@ pub record Kernel : Type 0 where
   pub differs : List Difference
   -- the reads whose fault nobody has answered
   pub unanswered : List ℕ
-  -- the pages, by space, that were registered for missing faults and missing when that ended
-  pub owed : ℕ → ℕ → Bool
+  -- the pages, each with its space, that were registered for missing faults and missing when that ended
+  pub owed : List (ℕ × ℕ)
   -- the calls that stopped at a page that was there: one that the log has put, or another
   pub twice : List ℕ
   pub there_before : List ℕ
@@ -59,7 +59,7 @@ fresh_kernel =
       calls = [];
       differs = [];
       unanswered = [];
-      owed = λ space page. false;
+      owed = [];
       twice = [];
       there_before = [];
       outside = [];
@@ -79,17 +79,12 @@ is_within word other = none_below (λ i. is_one word i && not (is_one other i)) 
 
 -- a function of two numbers, changed at one row in a range
 abbrev pub set_pages : {A : Type 0} → (ℕ → ℕ → A) → ℕ → ℕ → ℕ → (ℕ → A) → ℕ → ℕ → A
-set_pages at space first count new = λ other page. if other == space && in_range first count page then new page else at other page
+set_pages at space first count new = λ other page. if space == other && in_range first count page then new page else at other page
 
 -- whether a page is registered, and passes a test
 abbrev pub page_is : (Page → Bool) → Option Page → Bool
 page_is test None = false
 page_is test (Some page) = test page
-
--- whether a page passes a test, or is not registered
-abbrev pub page_may : (Page → Bool) → Option Page → Bool
-page_may test None = true
-page_may test (Some page) = test page
 
 -- whether each page of a range is registered, and passes a test
 abbrev pub each_page : Kernel → ℕ → ℕ → ℕ → (Page → Bool) → Bool
@@ -108,7 +103,7 @@ pages_changed kernel space first count change =
 
 -- the kernel with an object
 abbrev pub with_object : Kernel → ℕ → Object → Kernel
-with_object kernel name object = record kernel { objects = λ other. if other == name then Some object else kernel.objects other }
+with_object kernel name object = record kernel { objects = λ other. if name == other then Some object else kernel.objects other }
 
 -- what a rule says of an object that is open
 abbrev pub of_object : Option Object → (Object → Option Kernel) → Option Kernel
@@ -117,8 +112,7 @@ of_object (Some object) rule = rule object
 
 -- the kernel, if a rule allows the answer
 abbrev pub allowed : Bool → Kernel → Option Kernel
-allowed true kernel = Some kernel
-allowed false kernel = None
+allowed allows kernel = if allows then Some kernel else None
 
 -- whether an object asked for a feature, by its bit
 abbrev pub asked_for : Object → ℕ → Bool

@@ -2,7 +2,7 @@
 
 ghost use Rattle.std.specs.Prelude.{◌≡◌, Some};
 ghost use Rattle.kernel_rules.specs.Changes.{changed};
-ghost use Rattle.kernel_rules.specs.Pages.{cleared_page, protected_page, put_page, registered_page, settled, shown};
+ghost use Rattle.kernel_rules.specs.Pages.{cleared_page, perhaps_protected, protected_page, put_page, registered_page, settled, shown};
 
 use crate::known::{Page, Presence};
 
@@ -17,6 +17,8 @@ pub enum Change {
     },
     /// It is unmapped.
     Forget,
+    /// Another page is moved to its place.
+    Set(Option<Page>),
     /// It is no longer registered with the object.
     ForgetObject {
         object: u64,
@@ -31,6 +33,10 @@ pub enum Change {
     Protect {
         protect: bool,
         unpopulated: bool,
+    },
+    /// UFFDIO_WRITEPROTECT, which failed and may have protected it.
+    PerhapsProtect {
+        protect: bool,
     },
     /// It is cleared, or may be.
     Clear {
@@ -135,8 +141,7 @@ fn faulted(page: Page, protected: bool) -> Page
 
 impl Change {
     /// What becomes of a page.
-    #[tactic(auto, unfolding(crate::specs::Changes::changed))]
-    pub fn apply(self, page: Option<Page>) -> Option<Page>
+    pub(crate) fn apply(self, page: Option<Page>) -> Option<Page>
         ensures { result ≡ changed self page }
     {
         if let Change::Register {
@@ -147,9 +152,12 @@ impl Change {
         {
             return Some(registered(page, object, missing, protect));
         }
+        if let Change::Set(found) = self {
+            return found;
+        }
         let page = page?;
         match self {
-            Change::Register { .. } | Change::Forget => None,
+            Change::Register { .. } | Change::Forget | Change::Set(_) => None,
             Change::ForgetObject { object } if page.object == object => None,
             Change::ForgetObject { .. } => Some(page),
             Change::Put { protect } => Some(put(page, protect)),
@@ -161,6 +169,7 @@ impl Change {
                 protect,
                 unpopulated,
             } => Some(protected(page, protect, unpopulated)),
+            Change::PerhapsProtect { protect } => Some(perhaps_protected(page, protect)),
             Change::Clear { presence } => Some(cleared(page, presence)),
             Change::Fault { protected } => Some(faulted(page, protected)),
             Change::Settle { presence } => Some(settled_by(page, presence)),
@@ -175,6 +184,20 @@ fn protected(page: Page, protect: bool, unpopulated: bool) -> Page
     if page.protect {
         Page {
             guarded: protect && (unpopulated || !matches!(page.presence, Presence::Missing)),
+            ..page
+        }
+    } else {
+        page
+    }
+}
+
+/// A page that a refused call may have protected.
+fn perhaps_protected(page: Page, protect: bool) -> Page
+    ensures { result ≡ perhaps_protected protect page }
+{
+    if protect && page.protect {
+        Page {
+            guarded: true,
             ..page
         }
     } else {

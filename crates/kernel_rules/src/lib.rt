@@ -7,18 +7,31 @@
 //! what a run of a log is.
 #![tactic(auto)]
 
+pub mod arguments;
+pub mod certify;
 pub mod change;
+mod closes;
 pub mod difference;
 pub mod fault;
+mod installs;
+mod ioctls;
 pub mod kernel_table;
 pub mod known;
+mod map_calls;
 pub mod object;
 pub mod page_table;
+pub mod page_test;
+mod reads;
+pub mod run;
+mod scans;
+mod takes;
 
 pub use crate::change::Change;
 pub use crate::difference::Difference;
-pub use crate::fault::Fault;
+pub use crate::fault::{Fault, Reach};
 pub use crate::kernel_table::KernelTable;
 pub use crate::known::{Page, Phase, Presence};
 pub use crate::object::{Object, Registration};
 pub use crate::page_table::PageTable;
+pub use crate::page_test::PageTest;
+pub use crate::run::{Ending, Entry, Made, Move, Run};

@@ -1,6 +1,6 @@
 //! The registered pages of an address space, in a table: changes of long ranges are kept as they are, and short ones page by page.
 
-ghost use Rattle.std.specs.Prelude.{◌≡◌, ℕ, if◌then◌else◌, None, OnOk, OnErr};
+ghost use Rattle.std.specs.Prelude.{◌≡◌, ◌≤◌, ◌+◌, ◌^◌, ℕ, if◌then◌else◌, None, OnOk, OnErr};
 ghost use Rattle.mig_base.specs.Ranges.{in_range};
 ghost use Rattle.kernel_rules.specs.Changes.{changed, range_changed};
 ghost use Rattle.kernel_rules.specs.Tables.{pages_of, IsTable};
@@ -10,6 +10,9 @@ use crate::known::Page;
 use indexmap::IndexMap;
 use mig_base::NoMemory;
 use std::alloc::Global;
+
+/// The most pages that are changed one by one.
+const SHORT: u64 = 1024;
 
 /// A single page, and how many changes of ranges were made before it was kept: it includes these.
 #[derive(Clone, Copy, Debug, PartialEq, Eq)]
@@ -49,7 +52,7 @@ impl Layer {
 
 impl PageTable {
     /// No page is registered.
-    pub fn new(alloc: Global) -> PageTable
+    pub(crate) fn new(alloc: Global) -> PageTable
         ensures table { IsTable result }
         ensures none { (page : ℕ) → pages_of result page ≡ None }
     {
@@ -60,7 +63,7 @@ impl PageTable {
     }
 
     /// The page, if it is registered.
-    pub fn look(&self, page: u64) -> Option<Page>
+    pub(crate) fn look(&self, page: u64) -> Option<Page>
         requires { IsTable self.now }
         ensures { result ≡ pages_of self.now page }
     {
@@ -75,7 +78,7 @@ impl PageTable {
     }
 
     /// Changes one page. `NoMemory` comes if room is refused, and nothing has changed then.
-    pub fn change_one(&mut self, page: u64, change: Change) -> Result<(), NoMemory>
+    pub(crate) fn change_one(&mut self, page: u64, change: Change) -> Result<(), NoMemory>
         requires { IsTable self.old }
         ensures table { IsTable self.new }
         ensures ok { OnOk result ((n : ℕ) →
@@ -91,7 +94,12 @@ impl PageTable {
     }
 
     /// Changes `count` pages from `first` on, as one. `NoMemory` comes if room is refused, and nothing has changed then.
-    pub fn change_range(&mut self, first: u64, count: u64, change: Change) -> Result<(), NoMemory>
+    pub(crate) fn change_range(
+        &mut self,
+        first: u64,
+        count: u64,
+        change: Change,
+    ) -> Result<(), NoMemory>
         requires { IsTable self.old }
         ensures table { IsTable self.new }
         ensures ok { OnOk result ((n : ℕ) →
@@ -105,6 +113,35 @@ impl PageTable {
         }) {
             Ok(()) => Ok(()),
             Err(_) => Err(NoMemory),
+        }
+    }
+
+    /// Changes pages from `first` on, one by one. After `NoMemory` some are changed.
+    fn change_each(&mut self, first: u64, count: u64, change: Change) -> Result<(), NoMemory>
+        requires table { IsTable self.old }
+        requires room { first + count ≤ 2 ^ 64 }
+        ensures table { IsTable self.new }
+        ensures ok { OnOk result ((n : ℕ) →
+            pages_of self.new n ≡ range_changed (pages_of self.old) first count change n) }
+    {
+        for i in 0..count {
+            self.change_one(first + i, change)?;
+        }
+        Ok(())
+    }
+
+    /// Changes `count` pages from `first` on: a long range is kept as it is, and a short one page by page. After `NoMemory` some are changed.
+    pub(crate) fn change(&mut self, first: u64, count: u64, change: Change) -> Result<(), NoMemory>
+        requires table { IsTable self.old }
+        requires room { first + count ≤ 2 ^ 64 }
+        ensures table { IsTable self.new }
+        ensures ok { OnOk result ((n : ℕ) →
+            pages_of self.new n ≡ range_changed (pages_of self.old) first count change n) }
+    {
+        if count <= SHORT {
+            self.change_each(first, count, change)
+        } else {
+            self.change_range(first, count, change)
         }
     }
 }

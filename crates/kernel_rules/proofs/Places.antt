@@ -1,0 +1,110 @@
+-- What tables of a run hold after a step.
+use Rattle.std.proofs.Common.{◌≡◌, ◌∙◌, ℕ, Bool, true, false, List, [], ◌∷◌, ◌++◌, Option, Some, None, Result, Ok, Err, refl, sym, ap}
+use Rattle.std.specs.Prelude.{is_some, slice_get, IfOk}
+use Rattle.mig_base.specs.declared.NoMemory.{NoMemory}
+use Rattle.uffd_log.specs.declared.line.Answer.{Answer}
+use Rattle.kernel_rules.specs.declared.certify.BegunCall.{BegunCall}
+use Rattle.kernel_rules.specs.declared.certify.WorldTable.{WorldTable}
+use Rattle.kernel_rules.specs.declared.kernel_table.KernelTable.{KernelTable}
+use Rattle.kernel_rules.specs.declared.run.Entry.{Entry}
+use Rattle.kernel_rules.specs.declared.run.Made.{Made}
+use Rattle.kernel_rules.specs.declared.run.Move.{Move}
+use Rattle.kernel_rules.specs.declared.run.Move.TheVariants as move
+use Rattle.kernel_rules.specs.Certified.{Place, begun_at, effected, ended_at, entered, find_of, is_ended_by, judged, lined, moved, others_than, outcome_in, read_on, ruled}
+use Rattle.kernel_rules.specs.Faults.{leaves, queues, sees}
+use Rattle.kernel_rules.specs.Held.{kernel_of}
+use Rattle.kernel_rules.specs.Runs.{Outcome}
+use Rattle.kernel_rules.specs.State.{Kernel, allowed}
+use Rattle.kernel_rules.specs.Worlds.{if_made, place_of}
+
+-- a call begins
+pub begun_made : (old new : WorldTable) (made : Made) → is_some (find_of old.begun.items made.key) ≡ false → new.begun.items ≡ old.begun.items ++ record { made = made; at = None } ∷ []
+    → new ≡ record old { begun = new.begun } → begun_at (place_of old) made ≡ Some (place_of new)
+begun_made old new made fresh added same =
+    let p : place_of new ≡ record (place_of old) { begun = old.begun.items ++ record { made = made; at = None } ∷ [] } = ap place_of same ∙ ap (λ b. record (place_of old) { begun = b }) added in
+    rw fresh (ap (λ (q : Place). Some q) (sym p))
+
+pub begun_twice : (table : WorldTable) (made : Made) → is_some (find_of table.begun.items made.key) ≡ true → begun_at (place_of table) made ≡ None
+begun_twice table made found = rw found refl
+
+-- a call ends
+pub ended_made : (old new : WorldTable) (key : ℕ) (answer : Answer) (one : BegunCall) → find_of old.begun.items key ≡ Some one → is_ended_by one.at answer old.next ≡ true
+    → new.begun.items ≡ others_than key old.begun.items → new ≡ record old { begun = new.begun } → ended_at (place_of old) key answer (find_of old.begun.items key) ≡ Some (place_of new)
+unfolding kernel_of
+ended_made old new key answer one found fits left same =
+    let p : place_of new ≡ record (place_of old) { begun = others_than key old.begun.items } = ap place_of same ∙ ap (λ b. record (place_of old) { begun = b }) left in
+    rw (found, fits) (ap (λ (q : Place). Some q) (sym p))
+
+pub ended_unfit : (table : WorldTable) (key : ℕ) (answer : Answer) (one : BegunCall) → find_of table.begun.items key ≡ Some one → is_ended_by one.at answer table.next ≡ false
+    → ended_at (place_of table) key answer (find_of table.begun.items key) ≡ None
+unfolding kernel_of
+ended_unfit table key answer one found unfit = rw (found, unfit) refl
+
+-- the next line is read
+pub line_made : (old mid : WorldTable) (one : Option Entry) (entry : Entry) (made : Bool) → one ≡ Some entry → entered (place_of old) entry ≡ if_made made (place_of mid) → made ≡ true
+    → lined (place_of old) one ≡ Some (read_on (place_of mid))
+line_made old mid one entry made here is holds = rw (here, is, holds) refl
+
+pub line_refused : (old mid : WorldTable) (one : Option Entry) (entry : Entry) (made : Bool) → one ≡ Some entry → entered (place_of old) entry ≡ if_made made (place_of mid) → made ≡ false
+    → lined (place_of old) one ≡ None
+line_refused old mid one entry made here is fails = rw (here, is, fails) refl
+
+-- a call takes effect
+pub effect_made : (old new : WorldTable) (key at : ℕ) (one : BegunCall) (out : Outcome) (of_out : Option Outcome) (table : KernelTable) (took : Bool) → find_of old.begun.items key ≡ Some one → of_out ≡ Some out
+    → is_some one.at ≡ false → judged (kernel_of old.kernel) one.made out ≡ allowed took (kernel_of table) → took ≡ true
+    → new.begun.items ≡ others_than key old.begun.items ++ record { made = one.made; at = Some at } ∷ [] → new ≡ record old { kernel = table; begun = new.begun }
+    → effected (place_of old) key at (find_of old.begun.items key) of_out ≡ Some (place_of new)
+effect_made old new key at one out of_out table took found here none taken holds noted same =
+    let p : place_of new ≡ record (place_of old) { kernel = kernel_of table; begun = others_than key old.begun.items ++ record { made = one.made; at = Some at } ∷ [] } =
+    ap place_of same ∙ ap (λ b. record (place_of old) { kernel = kernel_of table; begun = b }) noted in
+    rw (found, here, none, taken, holds) (ap (λ (q : Place). Some q) (sym p))
+
+pub effect_refused : (old : WorldTable) (key at : ℕ) (one : BegunCall) (out : Outcome) (of_out : Option Outcome) (table : KernelTable) (took : Bool) → find_of old.begun.items key ≡ Some one → of_out ≡ Some out
+    → is_some one.at ≡ false → judged (kernel_of old.kernel) one.made out ≡ allowed took (kernel_of table) → took ≡ false → effected (place_of old) key at (find_of old.begun.items key) of_out ≡ None
+effect_refused old key at one out of_out table took found here none taken fails = rw (found, here, none, taken, fails) refl
+
+pub effect_twice : (old : WorldTable) (key at : ℕ) (one : BegunCall) (out : Outcome) (of_out : Option Outcome) → find_of old.begun.items key ≡ Some one → of_out ≡ Some out → is_some one.at ≡ true
+    → effected (place_of old) key at (find_of old.begun.items key) of_out ≡ None
+effect_twice old key at one out of_out found here some = rw (found, here, some) refl
+
+pub effect_nowhere : (old : WorldTable) (key at : ℕ) (one : Option BegunCall) (of_out : Option Outcome) → of_out ≡ None → effected (place_of old) key at one of_out ≡ None
+effect_nowhere old key at None of_out fails = refl
+effect_nowhere old key at (Some one) of_out fails = rw fails refl
+
+pub effect_unbegun : (old : WorldTable) (key at : ℕ) (of_out : Option Outcome) → find_of old.begun.items key ≡ None → effected (place_of old) key at (find_of old.begun.items key) of_out ≡ None
+effect_unbegun old key at of_out fails = rw fails refl
+
+-- a step by a rule of the kernel
+pub rule_made : (old : WorldTable) (table : KernelTable) (rule : Option Kernel) (made : Bool) → rule ≡ allowed made (kernel_of table)
+    → ruled (place_of old) rule ≡ if_made made (place_of (record old { kernel = table }))
+rule_made old table rule true is = rw is refl
+rule_made old table rule false is = rw is refl
+
+-- the same of a move
+pub rule_step : (old : WorldTable) (table : KernelTable) (rule : Option Kernel) (place : Option Place) (result : Result Bool NoMemory) → place ≡ ruled (place_of old) rule
+    → IfOk result (λ made. rule ≡ allowed made (kernel_of table)) → IfOk result (λ ok. place ≡ if_made ok (place_of (record old { kernel = table })))
+rule_step old table rule place (Err e) is made = tt
+rule_step old table rule place (Ok made) is steps = is ∙ rule_made old table rule made steps
+
+-- moves by what they are
+pub line_moved : (log : List Entry) (place : Place) (step : Move) → step ≡ move.Line → moved log place step ≡ lined place (slice_get log place.next)
+unfolding moved
+line_moved log place step is = rw is refl
+
+pub effect_moved : (log : List Entry) (place : Place) (step : Move) (key at : ℕ) → step ≡ move.Effect key at
+    → moved log place step ≡ effected place key at (find_of place.begun key) (outcome_in (slice_get log at))
+unfolding moved
+effect_moved log place step key at is = rw is refl
+
+pub sees_moved : (log : List Entry) (place : Place) (step : Move) (thread object page flags : ℕ) → step ≡ move.Sees thread object page flags
+    → moved log place step ≡ ruled place (sees place.kernel thread object page flags)
+unfolding moved
+sees_moved log place step thread object page flags is = rw is refl
+
+pub queues_moved : (log : List Entry) (place : Place) (step : Move) (thread : ℕ) → step ≡ move.Queues thread → moved log place step ≡ ruled place (queues place.kernel thread)
+unfolding moved
+queues_moved log place step thread is = rw is refl
+
+pub leaves_moved : (log : List Entry) (place : Place) (step : Move) (thread : ℕ) → step ≡ move.Leaves thread → moved log place step ≡ ruled place (leaves place.kernel thread)
+unfolding moved
+leaves_moved log place step thread is = rw is refl

@@ -1,0 +1,162 @@
+-- What a checker of runs does: a function of a log and of a run. That what it finds is a run of the log is a law (`certify`). It follows
+-- no call of which an event tells anybody, and no mremap(2).
+use Rattle.std.specs.Prelude.{◌≡◌, ℕ, ◌+◌, ◌==◌, ◌&&◌, Bool, true, false, if◌then◌else◌, Option, Some, None, is_some, not, option_map, option_to_list, List, [], ◌∷◌, ◌++◌, filter, length, map, slice_get}
+use Rattle.mig_base.specs.Tests.{is_empty}
+use Rattle.uffd_log.specs.declared.call.Call.{Call}
+use Rattle.uffd_log.specs.declared.call.Call.TheVariants as call
+use Rattle.uffd_log.specs.declared.line.Answer.{Answer}
+use Rattle.uffd_log.specs.declared.line.Answer.TheVariants.{Interrupted}
+use Rattle.kernel_rules.specs.declared.certify.BegunCall.{BegunCall}
+use Rattle.kernel_rules.specs.declared.run.Entry.{Entry}
+use Rattle.kernel_rules.specs.declared.run.Entry.TheVariants as entry
+use Rattle.kernel_rules.specs.declared.run.Made.{Made}
+use Rattle.kernel_rules.specs.declared.run.Move.{Move}
+use Rattle.kernel_rules.specs.declared.run.Move.TheVariants as move
+use Rattle.kernel_rules.specs.Faults.{sees, queues, leaves}
+use Rattle.kernel_rules.specs.MapCalls.{may_return, returned}
+use Rattle.kernel_rules.specs.Runs.{Outcome, Step, World, effect, event_of, line, outcome_of, takes, thread_leaves, thread_queues, thread_sees, IsRun}
+use Rattle.kernel_rules.specs.State.{Kernel, fresh_kernel}
+
+-- The run that moves are
+
+-- the outcome of an entry, if a call ends there
+abbrev pub outcome_in : Option Entry → Option Outcome
+outcome_in None = None
+outcome_in (Some (entry.Begins made)) = None
+outcome_in (Some (entry.Ends key ending)) = Some (outcome_of ending)
+
+-- the step of a move, where `next` is the next entry of the log
+abbrev pub step_of : List Entry → ℕ → Move → Option Step
+step_of log next move.Line = option_map (λ e. line (event_of e)) (slice_get log next)
+step_of log next (move.Effect key at) = option_map (effect key) (outcome_in (slice_get log at))
+step_of log next (move.Sees thread object page flags) = Some (thread_sees thread object page flags)
+step_of log next (move.Queues thread) = Some (thread_queues thread)
+step_of log next (move.Leaves thread) = Some (thread_leaves thread)
+
+-- the next entry after a move
+abbrev pub next_after : ℕ → Move → ℕ
+next_after next move.Line = next + 1
+next_after next _ = next
+
+-- the steps of a run
+abbrev pub steps_of : List Entry → ℕ → List Move → List Step
+steps_of log next [] = []
+steps_of log next (move ∷ moves) = option_to_list (step_of log next move) ++ steps_of log (next_after next move) moves
+
+-- the run is one of the log, with this kernel at its end
+abbrev pub IsCertified : List Entry → List Move → Kernel → Type 0
+IsCertified log run kernel = (last : World) × IsRun (map event_of log) (steps_of log 0 run) last × (last.kernel ≡ kernel)
+
+-- The calls that the checker follows
+
+-- mremap(2)
+abbrev pub is_mremap : Call → Bool
+is_mremap (call.Mremap addr old_len new_len flags target) = true
+is_mremap _ = false
+
+-- the kernel, unless a map call is under way that has something to tell
+abbrev pub quiet : Option Kernel → Option Kernel
+quiet None = None
+quiet (Some kernel) = if is_empty kernel.calls then Some kernel else None
+
+-- a call takes effect, if the checker follows it
+unfoldable pub judged : Kernel → Made → Outcome → Option Kernel
+judged kernel made out = if is_mremap made.call then None else quiet (takes kernel made out)
+
+-- What the checker has, and what becomes of it
+
+-- a kernel, the calls that have begun and not ended, each with the entry of its ending once it has taken effect, and the next entry
+pub record Place : Type 0 where
+  pub kernel : Kernel
+  pub begun : List BegunCall
+  pub next : ℕ
+
+-- nothing has happened
+abbrev pub fresh_place : Place
+fresh_place = record { kernel = fresh_kernel; begun = []; next = 0 }
+
+-- a call that has begun, by its number
+abbrev pub find_of : List BegunCall → ℕ → Option BegunCall
+find_of [] key = None
+find_of (one ∷ others) key = if one.made.key == key then Some one else find_of others key
+
+-- the calls that have begun but this one
+abbrev pub others_than : ℕ → List BegunCall → List BegunCall
+others_than key calls = filter (λ (one : BegunCall). not (one.made.key == key)) calls
+
+-- whether a call has taken effect with the ending of the entry where it ends: one that was interrupted has had no effect
+abbrev pub is_ended_by : Option ℕ → Answer → ℕ → Bool
+is_ended_by at Interrupted next = not (is_some at)
+is_ended_by (Some at) _ next = at == next
+is_ended_by None _ next = false
+
+-- a call begins, if none of its number is under way
+abbrev pub begun_at : Place → Made → Option Place
+begun_at place made =
+    if is_some (find_of place.begun made.key) then None else Some (record place { begun = place.begun ++ record { made = made; at = None } ∷ [] })
+
+-- a call ends, if it has begun and has taken effect so
+abbrev pub ended_at : Place → ℕ → Answer → Option BegunCall → Option Place
+ended_at place key answer None = None
+ended_at place key answer (Some one) =
+    if may_return place.kernel key && is_ended_by one.at answer place.next
+    then Some (record place { kernel = returned place.kernel key; begun = others_than key place.begun })
+    else None
+
+-- the line of an entry
+abbrev pub entered : Place → Entry → Option Place
+entered place (entry.Begins made) = begun_at place made
+entered place (entry.Ends key ending) = ended_at place key ending.answer (find_of place.begun key)
+
+-- one entry more is read
+abbrev pub read_on : Place → Place
+read_on place = record place { next = place.next + 1 }
+
+-- the next line, if there is one
+abbrev pub lined : Place → Option Entry → Option Place
+lined place None = None
+lined place (Some one) = option_map read_on (entered place one)
+
+-- a call has taken effect, and stays begun, with the entry of its ending
+abbrev pub affected : Place → ℕ → ℕ → Made → Option Kernel → Option Place
+affected place key at made None = None
+affected place key at made (Some kernel) =
+    Some (record place { kernel = kernel; begun = others_than key place.begun ++ record { made = made; at = Some at } ∷ [] })
+
+-- a call takes effect with an outcome, if it has begun and has not taken effect
+abbrev pub effected : Place → ℕ → ℕ → Option BegunCall → Option Outcome → Option Place
+effected place key at None out = None
+effected place key at (Some one) None = None
+effected place key at (Some one) (Some out) = if is_some one.at then None else affected place key at one.made (judged place.kernel one.made out)
+
+-- the place with another kernel, if a rule has one
+abbrev pub ruled : Place → Option Kernel → Option Place
+ruled place None = None
+ruled place (Some kernel) = Some (record place { kernel = kernel })
+
+-- a move, if the rules allow it and the checker follows it
+unfoldable pub moved : List Entry → Place → Move → Option Place
+moved log place move.Line = lined place (slice_get log place.next)
+moved log place (move.Effect key at) = effected place key at (find_of place.begun key) (outcome_in (slice_get log at))
+moved log place (move.Sees thread object page flags) = ruled place (sees place.kernel thread object page flags)
+moved log place (move.Queues thread) = ruled place (queues place.kernel thread)
+moved log place (move.Leaves thread) = ruled place (leaves place.kernel thread)
+
+-- one move after another, if the first is made
+abbrev pub then_moved : Option Place → (Place → Option Place) → Option Place
+then_moved None rest = None
+then_moved (Some place) rest = rest place
+
+-- moves in turn
+abbrev pub moved_all : List Entry → Place → List Move → Option Place
+moved_all log place [] = Some place
+moved_all log place (move ∷ moves) = then_moved (moved log place move) (λ next. moved_all log next moves)
+
+-- the kernel at the end of a log, if each entry was read
+abbrev pub at_end : List Entry → Option Place → Option Kernel
+at_end log None = None
+at_end log (Some place) = if place.next == length log then Some place.kernel else None
+
+-- the kernel to which a run leads, if the checker finds that it is one of the log
+unfoldable pub certified : List Entry → List Move → Option Kernel
+certified log run = at_end log (moved_all log fresh_place run)

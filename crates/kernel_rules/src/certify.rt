@@ -1,0 +1,259 @@
+//! A run of a log: the lines of the log in their order, with steps put in between, each of which the rules of a kernel allow.
+
+ghost use Rattle.std.specs.Prelude.{◌≡◌, ◌++◌, ◌∷◌, [], map, slice_get, IfOk, OnOk, IfSome, option_map};
+ghost use Rattle.kernel_rules.specs.Certified.{begun_at, certified, effected, ended_at, entered, find_of, fresh_place, is_ended_by, lined, moved, moved_all, others_than, outcome_in, IsCertified};
+ghost use Rattle.kernel_rules.specs.Runs.{event_of, outcome_of, IsClean};
+ghost use Rattle.kernel_rules.specs.Held.{kernel_of, AreTables};
+ghost use Rattle.kernel_rules.specs.Worlds.{if_made, place_of};
+
+use crate::kernel_table::KernelTable;
+use crate::run::{Ending, Entry, Made, Move};
+use mig_base::NoMemory;
+use std::alloc::Global;
+use uffd_log::Answer;
+
+/// A call that has begun, and the entry with its ending once it has taken effect.
+#[derive(Clone, Copy)]
+pub struct BegunCall {
+    pub made: Made,
+    pub at: Option<usize>,
+}
+
+/// A kernel, the calls that have begun and not ended, and the next entry of the log.
+#[derive(Drop)]
+pub struct WorldTable {
+    pub kernel: KernelTable,
+    pub begun: Vec<BegunCall>,
+    pub next: usize,
+}
+
+/// A call that has begun, by its number.
+fn find_begun(begun: &[BegunCall], key: u64) -> Option<BegunCall>
+    ensures { result ≡ find_of begun.now key }
+{
+    for one in begun {
+        if one.made.key == key {
+            return Some(*one);
+        }
+    }
+    None
+}
+
+/// Takes a call away.
+fn remove_begun(begun: &mut Vec<BegunCall>, key: u64)
+    ensures { begun.new.items ≡ others_than key begun.old.items }
+{
+    begun.retain(|one| one.made.key != key);
+}
+
+/// Whether a call has taken effect with the ending of the entry where it ends.
+fn fits(one: BegunCall, answer: Answer, next: usize) -> bool
+    ensures { result ≡ is_ended_by one.at answer next }
+{
+    match (answer, one.at) {
+        (Answer::Interrupted, at) => at.is_none(),
+        (_, Some(at)) => at == next,
+        (_, None) => false,
+    }
+}
+
+/// The ending of an entry, if a call ends there.
+fn ending_at(log: &[Entry], at: usize) -> Option<&Ending>
+    ensures { option_map (λ ending. outcome_of ending.now) result ≡
+        outcome_in (slice_get log.now at) }
+{
+    match log.get(at) {
+        Some(Entry::Ends { ending, .. }) => Some(ending),
+        _ => None,
+    }
+}
+
+impl WorldTable {
+    /// Nothing has happened.
+    fn new(alloc: Global) -> WorldTable
+        ensures tables { AreTables result.kernel }
+        ensures fresh { place_of result ≡ fresh_place }
+    {
+        WorldTable {
+            kernel: KernelTable::new(alloc),
+            begun: Vec::new(alloc),
+            next: 0,
+        }
+    }
+
+    /// Adds a call that has begun, with the entry of its ending once it has taken effect.
+    fn add_begun(&mut self, made: Made, at: Option<usize>) -> Result<(), NoMemory>
+        ensures added { OnOk result (self.new.begun.items ≡
+            self.old.begun.items ++ record { made = made; at = at } ∷ []) }
+        ensures same { self.new ≡ record self.old { begun = self.new.begun } }
+    {
+        match self.begun.push(BegunCall { made, at }) {
+            Ok(()) => Ok(()),
+            Err(_) => Err(NoMemory),
+        }
+    }
+
+    /// A call begins, if none of its number is under way.
+    fn begin(&mut self, made: Made) -> Result<bool, NoMemory>
+        requires { AreTables self.old.kernel }
+        ensures tables { AreTables self.new.kernel }
+        ensures next { self.new.next ≡ self.old.next }
+        ensures step { IfOk result (λ ok.
+            begun_at (place_of self.old) made ≡ if_made ok (place_of self.new)) }
+    {
+        if find_begun(&self.begun, made.key).is_some() {
+            return Ok(false);
+        }
+        self.add_begun(made, None)?;
+        Ok(true)
+    }
+
+    /// A call ends, if it has begun and has taken effect so.
+    fn end(&mut self, key: u64, answer: Answer) -> bool
+        requires { AreTables self.old.kernel }
+        ensures tables { AreTables self.new.kernel }
+        ensures next { self.new.next ≡ self.old.next }
+        ensures step { ended_at (place_of self.old) key answer (find_of self.old.begun.items key) ≡
+            if_made result (place_of self.new) }
+    {
+        let Some(one) = find_begun(&self.begun, key) else {
+            return false;
+        };
+        if !fits(one, answer, self.next) {
+            return false;
+        }
+        remove_begun(&mut self.begun, key);
+        true
+    }
+
+    /// The line of an entry.
+    fn enter(&mut self, one: &Entry) -> Result<bool, NoMemory>
+        requires { AreTables self.old.kernel }
+        ensures tables { AreTables self.new.kernel }
+        ensures next { self.new.next ≡ self.old.next }
+        ensures step { IfOk result (λ ok.
+            entered (place_of self.old) one.now ≡ if_made ok (place_of self.new)) }
+    {
+        match one {
+            Entry::Begins(made) => self.begin(*made),
+            Entry::Ends { key, ending } => Ok(self.end(*key, ending.answer)),
+        }
+    }
+
+    /// The next line of the log.
+    fn line(&mut self, log: &[Entry]) -> Result<bool, NoMemory>
+        requires { AreTables self.old.kernel }
+        ensures tables { AreTables self.new.kernel }
+        ensures step { IfOk result (λ ok.
+            lined (place_of self.old) (slice_get log.now self.old.next) ≡
+            if_made ok (place_of self.new)) }
+    {
+        let Some(one) = log.get(self.next) else {
+            return Ok(false);
+        };
+        if !self.enter(one)? {
+            return Ok(false);
+        }
+        self.next += 1;
+        Ok(true)
+    }
+
+    /// A call has taken effect: it stays begun, with its entry.
+    fn note_effect(&mut self, key: u64, made: Made, at: usize) -> Result<(), NoMemory>
+        ensures noted { OnOk result (self.new.begun.items ≡
+            others_than key self.old.begun.items
+            ++ record { made = made; at = Some at } ∷ []) }
+        ensures same { self.new ≡ record self.old { begun = self.new.begun } }
+    {
+        remove_begun(&mut self.begun, key);
+        self.add_begun(made, Some(at))
+    }
+
+    /// A call takes effect with the ending in an entry, if it has begun and has not taken effect.
+    fn effect(&mut self, log: &[Entry], key: u64, at: usize) -> Result<bool, NoMemory>
+        requires { AreTables self.old.kernel }
+        ensures tables { AreTables self.new.kernel }
+        ensures step { IfOk result (λ ok.
+            effected (place_of self.old) key at (find_of self.old.begun.items key)
+            (outcome_in (slice_get log.now at)) ≡ if_made ok (place_of self.new)) }
+    {
+        let Some(one) = find_begun(&self.begun, key) else {
+            return Ok(false);
+        };
+        let Some(ending) = ending_at(log, at) else {
+            return Ok(false);
+        };
+        if one.at.is_some() {
+            return Ok(false);
+        }
+        if !self.kernel.takes(one.made, ending)? {
+            return Ok(false);
+        }
+        self.note_effect(key, one.made, at)?;
+        Ok(true)
+    }
+
+    /// A move of a run. False where no rule allows it, or it is of a call that is not followed. After `NoMemory`, or then, a table is not
+    /// to be used.
+    fn step(&mut self, log: &[Entry], step: Move) -> Result<bool, NoMemory>
+        requires { AreTables self.old.kernel }
+        ensures tables { AreTables self.new.kernel }
+        ensures step { IfOk result (λ ok.
+            moved log.now (place_of self.old) step ≡ if_made ok (place_of self.new)) }
+    {
+        match step {
+            Move::Line => self.line(log),
+            Move::Effect { key, at } => self.effect(log, key, at),
+            Move::Sees {
+                thread,
+                object,
+                page,
+                flags,
+            } => self.kernel.sees(thread, object, page, flags),
+            Move::Queues { thread } => self.kernel.queues(thread),
+            Move::Leaves { thread } => self.kernel.leaves(thread),
+        }
+    }
+
+    /// The moves of a run. False where one is not made.
+    fn steps(&mut self, log: &[Entry], run: &[Move]) -> Result<bool, NoMemory>
+        requires { AreTables self.old.kernel }
+        ensures tables { AreTables self.new.kernel }
+        ensures steps { IfOk result (λ ok.
+            moved_all log.now (place_of self.old) run.now ≡ if_made ok (place_of self.new)) }
+    {
+        for step in run {
+            if !self.step(log, *step)? {
+                return Ok(false);
+            }
+        }
+        Ok(true)
+    }
+}
+
+/// Whether a run is one of the log: it has the lines of the log in their order, so that it keeps the order of calls that do not overlap;
+/// each call takes effect once between its begin and its end, with exactly the answer of its end; and the rules of a kernel allow each
+/// step, also those that no line shows. Then the kernel at its end is returned, with its findings. `None` says that this run is none, or
+/// has a call that is not followed, and nothing of other runs. `NoMemory` comes if room is refused.
+///
+/// A call that never ends in the log may take effect with the ending of any entry.
+///
+/// Not followed, and so refused, are mremap(2), map calls of which an object gets an event, and reads of events; an object with
+/// UFFD_FEATURE_EVENT_FORK; and UFFDIO_MOVE, UFFDIO_CONTINUE, UFFDIO_POISON and the minor mode.
+pub fn certify(alloc: Global, log: &[Entry], run: &[Move]) -> Result<Option<KernelTable>, NoMemory>
+    ensures tables { IfOk result (λ found. IfSome found AreTables) }
+    ensures run { IfOk result (λ found. IfSome found (λ table.
+        IsCertified log.now run.now (kernel_of table))) }
+    ensures clean { IfOk result (λ found. IfSome found (λ table.
+        IsClean (map event_of log.now) table.differs.items)) }
+    ensures exact { IfOk result (λ found. option_map kernel_of found ≡ certified log.now run.now) }
+{
+    let mut world = WorldTable::new(alloc);
+    if !world.steps(log, run)? {
+        return Ok(None);
+    }
+    if world.next != log.len() {
+        return Ok(None);
+    }
+    Ok(Some(world.kernel))
+}

@@ -1,0 +1,62 @@
+//! What a judge reads of a log, and the run that it found.
+
+use uffd_log::{Answer, Call, Message};
+
+/// A call: its number in the log, the address space that it changes, and whether it closes the last descriptor of its object.
+#[derive(Clone, Copy)]
+pub struct Made {
+    pub key: u64,
+    pub space: u64,
+    pub call: Call,
+    pub last: bool,
+}
+
+/// A run of pages that a scan found, in bytes. Bits: 1 present, 2 swapped out or a marker, 4 write-protected.
+#[derive(Clone, Copy)]
+pub struct Run {
+    pub start: u64,
+    pub len: u64,
+    pub bits: u64,
+}
+
+/// How a call ended: its answer, the messages that it has read, and the runs of pages that a scan found, in their order.
+#[derive(Drop)]
+pub struct Ending {
+    pub answer: Answer,
+    pub messages: Vec<Message>,
+    pub runs: Vec<Run>,
+}
+
+/// A line of a log: a call begins or ends.
+#[derive(Drop)]
+pub enum Entry {
+    Begins(Made),
+    Ends { key: u64, ending: Ending },
+}
+
+/// A step of a run.
+#[derive(Clone, Copy)]
+pub enum Move {
+    /// The next line of the log.
+    Line,
+    /// A call takes effect, with the ending that the log has in entry `at`, from 0 on.
+    Effect {
+        key: u64,
+        at: usize,
+    },
+    /// A thread finds that it has to wait at a page.
+    Sees {
+        thread: u64,
+        object: u64,
+        page: u64,
+        flags: u64,
+    },
+    /// A thread queues its fault.
+    Queues {
+        thread: u64,
+    },
+    /// A thread leaves its fault.
+    Leaves {
+        thread: u64,
+    },
+}

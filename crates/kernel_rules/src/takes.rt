@@ -1,0 +1,257 @@
+//! A call of a log takes effect, by the rules of `specs/Runs.antt`. After `NoMemory`, or where no rule allows the answer, a table is not to
+//! be used.
+
+ghost use Rattle.std.specs.Prelude.{◌≡◌, false, if◌then◌else◌, IfOk};
+ghost use Rattle.kernel_rules.specs.Runs.{object_of, on_object, on_space, outcome_of, unblocked};
+ghost use Rattle.kernel_rules.specs.Certified.{is_mremap, judged, quiet};
+ghost use Rattle.kernel_rules.specs.State.{allowed, of_object};
+ghost use Rattle.kernel_rules.specs.Kinds.{only, is_install, is_on_range};
+ghost use Rattle.kernel_rules.specs.Held.{kernel_of, AreTables};
+
+use crate::kernel_table::KernelTable;
+use crate::object::Object;
+use crate::run::{Ending, Made};
+use mig_base::NoMemory;
+use uffd_log::{Answer, Call};
+
+/// The object on which a call is made, if it is on one.
+fn object_of(call: Call) -> Option<u64>
+    ensures { result ≡ object_of call }
+{
+    match call {
+        Call::Api { on, .. }
+        | Call::Register { on, .. }
+        | Call::Unregister { on, .. }
+        | Call::Wake { on, .. }
+        | Call::Copy { on, .. }
+        | Call::Move { on, .. }
+        | Call::ZeroPage { on, .. }
+        | Call::Continue { on, .. }
+        | Call::Poison { on, .. }
+        | Call::WriteProtect { on, .. }
+        | Call::Read { on, .. }
+        | Call::Poll { on }
+        | Call::NonBlock { on, .. }
+        | Call::Dup { on, .. }
+        | Call::Close { on }
+        | Call::Scan { on, .. } => Some(on.object),
+        Call::Open { .. }
+        | Call::Mmap { .. }
+        | Call::Munmap { .. }
+        | Call::Mremap { .. }
+        | Call::Madvise { .. }
+        | Call::Fork => None,
+    }
+}
+
+/// Whether a call puts or protects pages.
+fn is_install(call: Call) -> bool
+    ensures { result ≡ is_install call }
+{
+    matches!(
+        call,
+        Call::Copy { .. } | Call::ZeroPage { .. } | Call::WriteProtect { .. }
+    )
+}
+
+/// Whether a call is another one on a range of an object.
+fn is_on_range(call: Call) -> bool
+    ensures { result ≡ is_on_range call }
+{
+    matches!(
+        call,
+        Call::Register { .. } | Call::Unregister { .. } | Call::Wake { .. } | Call::Scan { .. }
+    )
+}
+
+impl KernelTable {
+    /// O_NONBLOCK is set or cleared.
+    fn unblocks(
+        &mut self,
+        name: u64,
+        object: Object,
+        set: bool,
+        answer: Answer,
+    ) -> Result<bool, NoMemory>
+        requires { AreTables self.old }
+        ensures tables { AreTables self.new }
+        ensures step { IfOk result (λ made.
+            unblocked (kernel_of self.old) name object set answer ≡
+            allowed made (kernel_of self.new)) }
+    {
+        match answer {
+            Answer::Done => {
+                self.set_object(
+                    name,
+                    Object {
+                        waits: !set,
+                        ..object
+                    },
+                )?;
+                Ok(true)
+            }
+            Answer::Failed { .. } => Ok(true),
+            _ => Ok(false),
+        }
+    }
+
+    /// A call that puts or protects pages. Others are refused.
+    #[tactic(auto, unfolding(crate::specs::Runs::on_object))]
+    fn take_install(
+        &mut self,
+        name: u64,
+        object: Object,
+        made: Made,
+        ending: &Ending,
+    ) -> Result<bool, NoMemory>
+        requires { AreTables self.old }
+        ensures tables { AreTables self.new }
+        ensures step { IfOk result (λ ok. only (is_install made.call)
+            (on_object (kernel_of self.old) made.key name object made.last (outcome_of ending.now)
+            made.call) ≡ allowed ok (kernel_of self.new)) }
+    {
+        let (key, answer) = (made.key, ending.answer);
+        match made.call {
+            Call::Copy { to, len, mode, .. } => {
+                self.puts(key, name, object, to, len, mode, 3, answer)
+            }
+            Call::ZeroPage {
+                start,
+                len,
+                mode,
+                ..
+            } => self.puts(key, name, object, start, len, mode, 1, answer),
+            Call::WriteProtect {
+                start,
+                len,
+                mode,
+                ..
+            } => self.protects(name, object, start, len, mode, answer),
+            _ => Ok(false),
+        }
+    }
+
+    /// Another call on a range of an object. Others are refused.
+    #[tactic(auto, unfolding(crate::specs::Runs::on_object))]
+    fn take_range(
+        &mut self,
+        name: u64,
+        object: Object,
+        made: Made,
+        ending: &Ending,
+    ) -> Result<bool, NoMemory>
+        requires { AreTables self.old }
+        ensures tables { AreTables self.new }
+        ensures step { IfOk result (λ ok. only (is_on_range made.call)
+            (on_object (kernel_of self.old) made.key name object made.last (outcome_of ending.now)
+            made.call) ≡ allowed ok (kernel_of self.new)) }
+    {
+        let answer = ending.answer;
+        match made.call {
+            Call::Register {
+                start,
+                len,
+                mode,
+                ..
+            } => self.register(name, object, start, len, mode, answer),
+            Call::Unregister { start, len, .. } => {
+                self.unregister(name, object, start, len, answer)
+            }
+            Call::Wake { start, len, .. } => self.wakes(name, object, start, len, answer),
+            Call::Scan { start, len, .. } => {
+                self.scans(object, start, len, &ending.runs, answer)
+            }
+            _ => Ok(false),
+        }
+    }
+
+    /// A call on an object, of neither of these.
+    #[tactic(auto, unfolding(crate::specs::Runs::on_object))]
+    fn take_other(
+        &mut self,
+        name: u64,
+        object: Object,
+        made: Made,
+        ending: &Ending,
+    ) -> Result<bool, NoMemory>
+        requires tables { AreTables self.old }
+        requires install { is_install made.call ≡ false }
+        requires range { is_on_range made.call ≡ false }
+        ensures tables { AreTables self.new }
+        ensures step { IfOk result (λ ok.
+            on_object (kernel_of self.old) made.key name object made.last (outcome_of ending.now)
+            made.call ≡ allowed ok (kernel_of self.new)) }
+    {
+        let answer = ending.answer;
+        match made.call {
+            Call::Api { api, features, .. } => self.api(name, object, api, features, answer),
+            Call::Read { room, .. } => {
+                self.reads(made.key, name, object, room, &ending.messages, answer)
+            }
+            Call::Poll { .. } => Ok(self.polls(name, object, answer)),
+            Call::NonBlock { set, .. } => self.unblocks(name, object, set, answer),
+            Call::Dup { .. } => Ok(true),
+            Call::Close { .. } => self.closes(name, object, made.last, answer),
+            _ => Ok(false),
+        }
+    }
+
+    /// A call on an object takes effect.
+    fn take_on_object(&mut self, name: u64, made: Made, ending: &Ending) -> Result<bool, NoMemory>
+        requires { AreTables self.old }
+        ensures tables { AreTables self.new }
+        ensures step { IfOk result (λ ok.
+            of_object ((kernel_of self.old).objects name) (λ object.
+            on_object (kernel_of self.old) made.key name object made.last (outcome_of ending.now)
+            made.call) ≡ allowed ok (kernel_of self.new)) }
+    {
+        let Some(object) = self.object(name) else {
+            return Ok(false);
+        };
+        if is_install(made.call) {
+            return self.take_install(name, object, made, ending);
+        }
+        if is_on_range(made.call) {
+            return self.take_range(name, object, made, ending);
+        }
+        self.take_other(name, object, made, ending)
+    }
+
+    /// A call of an address space takes effect, unless it is mremap(2), or tells somebody.
+    #[tactic(auto, unfolding(crate::specs::Runs::on_space))]
+    fn take_on_space(&mut self, made: Made, ending: &Ending) -> Result<bool, NoMemory>
+        requires tables { AreTables self.old }
+        ensures tables { AreTables self.new }
+        ensures step { IfOk result (λ ok.
+            quiet (if is_mremap made.call then None
+            else on_space (kernel_of self.old) made.key made.space (outcome_of ending.now)
+            made.call) ≡ allowed ok (kernel_of self.new)) }
+    {
+        let (space, answer) = (made.space, ending.answer);
+        match made.call {
+            Call::Open { flags, .. } => self.open(space, flags, answer),
+            Call::Mmap { len, .. } => self.mmaps(made.key, space, len, answer),
+            Call::Munmap { addr, len } => self.munmaps(made.key, space, addr, len, answer),
+            Call::Madvise { addr, len, advice } => {
+                self.madvises(made.key, space, addr, len, advice, answer)
+            }
+            Call::Fork => Ok(true),
+            _ => Ok(false),
+        }
+    }
+
+    /// A call of a log takes effect, if it is followed.
+    #[tactic(auto, unfolding(crate::specs::Certified::judged))]
+    pub fn takes(&mut self, made: Made, ending: &Ending) -> Result<bool, NoMemory>
+        requires { AreTables self.old }
+        ensures tables { AreTables self.new }
+        ensures step { IfOk result (λ ok.
+            judged (kernel_of self.old) made (outcome_of ending.now) ≡
+            allowed ok (kernel_of self.new)) }
+    {
+        match object_of(made.call) {
+            Some(name) => self.take_on_object(name, made, ending),
+            None => self.take_on_space(made, ending),
+        }
+    }
+}
