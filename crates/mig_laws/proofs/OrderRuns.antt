@@ -16,8 +16,9 @@ use Rattle.mig_base.specs.declared.schedule.Step.{Step}
 use Rattle.mig_model.specs.Cpus.{idle_answer, woken_answer}
 use Rattle.mig_model.specs.Destination.{Destination, copy_came, destination_act, destination_acted_by, destination_took, install_by, is_dest_paused, received_of, resumed_by, urgent_took}
 use Rattle.mig_model.specs.DestinationSteps as destination
-use Rattle.mig_model.specs.Guest.{Act, Guest}
-use Rattle.mig_model.specs.Guest.Act.{Unprotected, Zeroed, Woke, Forgot, Requested}
+use Rattle.mig_base.specs.declared.act.Act.{Act}
+use Rattle.mig_base.specs.declared.act.Act.TheVariants.{Unprotected, Zeroed, Woke, Forgot, Requested}
+use Rattle.mig_model.specs.Guest.{Guest}
 use Rattle.mig_model.specs.GuestSteps.{Tried, issue, retry, try_command, when_quiet}
 use Rattle.mig_model.specs.Invariant.{IsSoundWorld}
 use Rattle.mig_model.specs.Lengths.{text_len}
