@@ -1,7 +1,7 @@
 //! `postmig` runs, checks, draws and explores scripts of steps on a model of post-copy live migration.
 //!
 //! - `postmig run` reads a script and writes one line for each step, or with `--transcript` one for each command that took effect. With
-//!   `--answers` it writes the script with these lines after its own. With `--wire`, `--back` and `--urgent` files get what is put on
+//!   `--answers` it writes the script with these lines after its own, and with `--echo` beside them. With `--wire`, `--back` and `--urgent` files get what is put on
 //!   the wires.
 //! - `postmig finish` reads a script, and writes the lines that complete its migration.
 //! - `postmig check` reads such a transcript, and says whether it is that of one flat memory, or with `--explain` or `--all` what is
@@ -9,6 +9,7 @@
 //! - `postmig lint` lists the wrong lines of a script or a transcript.
 //! - `postmig frames` reads frames, and writes a destination's answer to each.
 //! - `postmig draw` runs a script, and writes a picture of the run.
+//! - `postmig show` runs a script up to a line, and writes what is there.
 //! - `postmig explore` writes a random script.
 //! - `postmig test` runs scripts whose lines have answers, and names the answers that differ, or with `--write` replaces them.
 //! - `postmig threads` reads nothing, runs a migration in threads, and writes a report.
@@ -25,6 +26,7 @@ mod commands;
 mod input;
 mod reasons;
 mod renewal;
+mod show;
 mod status;
 mod streams;
 mod tally;
