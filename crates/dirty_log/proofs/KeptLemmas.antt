@@ -15,7 +15,7 @@ use Rattle.mig_base.proofs.SetLemmas.{member_below, member_removed, member_with_
 use Rattle.mig_model.specs.Host.{memory}
 use Rattle.mig_base.specs.Userfault.{Noted, Object, first_noted, next_of, next_message, read_by, rest_noted, waits_fault}
 use Rattle.mig_model.specs.Space.{Space, IsSoundSpace, accessed_by, all_queued, call_messages, called, modes_after}
-use Rattle.mig_model.specs.Guest as machine
+use Rattle.mig_base.specs.declared.act.Act.{Act}
 use Rattle.mig_model.specs.Guest.{Fault, Guest, is_changed_by, is_present, read_guest}
 use Rattle.mig_model.specs.Whereabouts.{is_unread}
 use Rattle.mig_model.specs.Ioctls.{protected_in}
@@ -88,13 +88,13 @@ written_kept log space page q sound h kept =
     let was = kept parts.1 in
     member_below _ HIGH_PAGE q ∙ rw (watched_below space q sound (sound.watched q was), other_page page q parts.0, was) refl
 
-pub acted_kept : (act : machine.Act) (node : Source) (page : ℕ) → IsSoundSpace (space_of node) → AreProtected node.log (space_of node) → AreProtected (source_acted_by act node page).log (space_of (source_acted_by act node page))
-acted_kept machine.Act.Unprotected node page sound kept = λ q h u. written_kept node.log (space_of node) page q sound h (λ clean. kept q clean u)
-acted_kept machine.Act.Zeroed node page sound kept =
+pub acted_kept : (act : Act) (node : Source) (page : ℕ) → IsSoundSpace (space_of node) → AreProtected node.log (space_of node) → AreProtected (source_acted_by act node page).log (space_of (source_acted_by act node page))
+acted_kept Act.Unprotected node page sound kept = λ q h u. written_kept node.log (space_of node) page q sound h (λ clean. kept q clean u)
+acted_kept Act.Zeroed node page sound kept =
     λ q h u. member_below _ HIGH_PAGE q ∙ rw (watched_below (space_of node) q sound (sound.watched q (kept q h u)), kept q h u) refl
-acted_kept machine.Act.Woke node page sound kept = kept
-acted_kept machine.Act.Forgot node page sound kept = kept
-acted_kept (machine.Act.Requested origin) node page sound kept = kept
+acted_kept Act.Woke node page sound kept = kept
+acted_kept Act.Forgot node page sound kept = kept
+acted_kept (Act.Requested origin) node page sound kept = kept
 
 -- Commands of processors
 

@@ -32,7 +32,7 @@ use Rattle.uffd_ioctl.proofs.AccessLemmas.{all_zeros}
 use Rattle.dirty_log.specs.Answers.{send_refusal}
 use Rattle.dirty_log.specs.Sending.{frame_sent}
 use Rattle.dirty_log.specs.Spaces.{is_sendable}
-use Rattle.dirty_log.specs.declared.sent.Sent.{Sent}
+use Rattle.dirty_log.specs.declared.page_content.PageContent.{PageContent}
 use Rattle.mig_base.proofs.SetSizes.{only_where}
 
 -- A call that is not refused
@@ -74,19 +74,19 @@ zeros_by : (zeros : Bool) (page : ℕ) (bytes : List ℕ) → Frame.Zero page �
 zeros_by true page bytes h = refl
 zeros_by false page bytes h = absurd (cc)
 
-zero_by : (sent : Sent) (page : ℕ) → frame_sent page sent ≡ Frame.Zero page → sent ≡ Sent.Zero
-zero_by Sent.Zero page h = refl
-zero_by (Sent.Page bytes) page h = absurd (cc)
+zero_by : (sent : PageContent) (page : ℕ) → frame_sent page sent ≡ Frame.Zero page → sent ≡ PageContent.Zero
+zero_by PageContent.Zero page h = refl
+zero_by (PageContent.Page bytes) page h = absurd (cc)
 
 -- zeros alone are sent as such
-zeros_sent : (bytes : List ℕ) (page : ℕ) (sent : Sent) → length bytes ≡ 4096 → frame_sent page sent ≡ page_frame page bytes → (sent ≡ Sent.Zero) ↔ (bytes ≡ zero_page)
+zeros_sent : (bytes : List ℕ) (page : ℕ) (sent : PageContent) → length bytes ≡ 4096 → frame_sent page sent ≡ page_frame page bytes → (sent ≡ PageContent.Zero) ↔ (bytes ≡ zero_page)
 zeros_sent bytes page sent whole is = (
   λ h. zero_bytes bytes whole (zeros_by (is_zeros bytes) page bytes (ap (frame_sent page) (sym h) ∙ is)),
   λ h. zero_by sent page (is ∙ ap (page_frame page) h ∙ ap (λ zeros. cond zeros (Frame.Zero page) (Frame.Page page zero_page)) all_zeros),
 )
 
-pub zero_shown : (space : Space) (page : ℕ) (sent : Sent) → IsSoundSpace space → send_refusal space page 1 ≡ None → frame_sent page sent ≡ page_frame page (contents space.host.bytes page) →
-    (sent ≡ Sent.Zero) ↔ (contents space.host.bytes page ≡ zero_page)
+pub zero_shown : (space : Space) (page : ℕ) (sent : PageContent) → IsSoundSpace space → send_refusal space page 1 ≡ None → frame_sent page sent ≡ page_frame page (contents space.host.bytes page) →
+    (sent ≡ PageContent.Zero) ↔ (contents space.host.bytes page ≡ zero_page)
 zero_shown space page sent sound accepted is = zeros_sent (contents space.host.bytes page) page sent (whole_bytes space page (get space.host.bytes page) sound refl (here_there space page accepted)) is
 
 -- a present page of a space that is lent

@@ -3,5 +3,4 @@ pub mod Spaces
 pub mod Rounds
 pub mod Sending
 pub mod Lending
-pub mod Acts
 pub mod Answers

@@ -10,18 +10,16 @@
 //!
 //! Contracts see a log as the machine's (`mig_model`, `specs/Log.antt`), and each call as what the machine does with log, space and
 //! processors, or as a refusal that changes nothing; `specs/Answers.antt` says when each is refused. The modules follow: `log` (the
-//! type that callers see, and its calls in two families: `rounds` and `handler`), `act` (how a fault is resolved), `sent` (what is sent
-//! for a page), `content` (bytes of pages), `spaces` (the log's calls of a space), and `sets` (removing pages from a set).
+//! type that callers see, and its calls in two families: `rounds` and `handler`), `page_content` (what is sent for a page), `bytes` (the
+//! bytes of pages), `spaces` (the log's calls of a space), and `sets` (removing pages from a set).
 #![tactic(auto)]
 
-mod act;
-mod content;
+mod bytes;
 pub mod laws;
 pub mod log;
-mod sent;
+mod page_content;
 mod sets;
 mod spaces;
 
-pub use crate::act::Act;
 pub use crate::log::DirtyLog;
-pub use crate::sent::Sent;
+pub use crate::page_content::PageContent;

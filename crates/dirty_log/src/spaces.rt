@@ -10,9 +10,8 @@ ghost use Rattle.mig_model.specs.Ioctls.{protected_in};
 ghost use Rattle.mig_model.specs.Source.{all_registered, source_act_by};
 ghost use Rattle.uffd_ioctl.specs.Lent.{IsLent};
 ghost use Rattle.dirty_log.specs.Spaces.{is_sendable as sendable};
-ghost use Rattle.dirty_log.specs.Acts.{act_is};
 
-use crate::act::Act;
+use mig_base::act::Act;
 use mig_base::flags::{REGISTER_MISSING_BIT, REGISTER_WP_BIT, WRITEPROTECT_WP_BIT};
 use mig_base::refusal::Refusal;
 use mig_base::{HIGH, HIGH_PAGE, LOW, NoMemory, PAGE_SIZE, PageNo, page_address};
@@ -88,7 +87,7 @@ pub fn unprotect(space: &mut Space, page: PageNo)
 /// How a fault has to be resolved, according to the present state of its page.
 pub fn act_of(space: &Space, fault: &PageFault) -> Act
     ensures low { (result ≡ Act.Forgot) ⊎ (fault.now.page < HIGH_PAGE) }
-    ensures act { act_is result ≡
+    ensures act { result ≡
         source_act_by (is_forgotten space.now fault.now.page) (is_present space.now fault.now.page)
         (contains space.now.protected fault.now.page && fault.now.wp) }
 {

@@ -11,8 +11,9 @@ use Rattle.mig_base.specs.declared.refusal.Refusal.{Refusal}
 use Rattle.mig_model.specs.Cpus.{Cpus, all_woken}
 use Rattle.mig_model.specs.Destination.{Destination, act_frames, destination_act, destination_act_by, destination_acted, destination_acted_by, destination_read, settled}
 use Rattle.mig_model.specs.DestinationSteps.{act, read}
-use Rattle.mig_model.specs.Effects.{act_effect, read_effect}
-use Rattle.mig_model.specs.Guest as machine
+use Rattle.mig_base.specs.Acts.{act_effect}
+use Rattle.mig_model.specs.Effects.{read_effect}
+use Rattle.mig_base.specs.declared.act.Act.{Act}
 use Rattle.mig_model.specs.Guest.{Fault, Guest, counted, fault_count, held_after, in_bytes, is_forgotten, is_present, read_guest, rest_held, zero_installed}
 use Rattle.mig_model.specs.GuestSteps.{when_quiet}
 use Rattle.mig_model.specs.NodeSteps.{acted, and_then, first_of, in_phase, sent, unless}
@@ -134,7 +135,7 @@ act_by : (node : Destination) (next : Result Fault Refusal) → next_fault node 
     act node ≡ and_then next (λ fault. sent (act_effect (destination_act node fault) (PAGE_SIZE * fault.page)) (act_frames (destination_act node fault) node) (destination_acted node fault))
 act_by node next is = grind arith
 
-pub act_done : (node new : Destination) (effect : Effect) (frames : List Frame) (fault : Fault) (act_made : machine.Act) → next_fault node ≡ Ok fault → act_made ≡ destination_act node fault → effect ≡ act_effect act_made (4096 * fault.page) →
+pub act_done : (node new : Destination) (effect : Effect) (frames : List Frame) (fault : Fault) (act_made : Act) → next_fault node ≡ Ok fault → act_made ≡ destination_act node fault → effect ≡ act_effect act_made (4096 * fault.page) →
     frames ≡ act_frames act_made node → new ≡ destination_acted_by act_made node fault.page → act node ≡ sent effect frames new
 act_done node new effect frames fault act_made next same reported sends is = rw (reported, sends, is, same) (act_by node (Ok fault) next)
 
@@ -144,15 +145,15 @@ pub record IsMissing (space : Space) (owed : Owed) (page : ℕ) : Type 0 where
   pub missing : is_present space page ≡ false
   pub nothing : get owed page ≡ None
 
-zeroed_missing : (space : Space) (owed : Owed) (page : ℕ) → destination_act_by (is_forgotten space page) (is_present space page) (get owed page) ≡ machine.Act.Zeroed → IsMissing space owed page
+zeroed_missing : (space : Space) (owed : Owed) (page : ℕ) → destination_act_by (is_forgotten space page) (is_present space page) (get owed page) ≡ Act.Zeroed → IsMissing space owed page
 zeroed_missing space owed page is =
     let all = by (is_forgotten space page) (is_present space page) (get owed page) is in
     record { watched = all.0; missing = all.1.0; nothing = all.1.1 }
   where
-    by : (forgotten present : Bool) (o : Option ℕ) → destination_act_by forgotten present o ≡ machine.Act.Zeroed → (forgotten ≡ false) × ((present ≡ false) × (o ≡ None))
-    by true present o h = absurd (let other : machine.Act.Forgot ≡ machine.Act.Zeroed = h in cc)
-    by false true o h = absurd (let other : machine.Act.Woke ≡ machine.Act.Zeroed = h in cc)
-    by false false (Some origin) h = absurd (let other : machine.Act.Requested origin ≡ machine.Act.Zeroed = h in cc)
+    by : (forgotten present : Bool) (o : Option ℕ) → destination_act_by forgotten present o ≡ Act.Zeroed → (forgotten ≡ false) × ((present ≡ false) × (o ≡ None))
+    by true present o h = absurd (let other : Act.Forgot ≡ Act.Zeroed = h in cc)
+    by false true o h = absurd (let other : Act.Woke ≡ Act.Zeroed = h in cc)
+    by false false (Some origin) h = absurd (let other : Act.Requested origin ≡ Act.Zeroed = h in cc)
     by false false None h = (refl, (refl, refl))
 
 -- The destination after a fault
@@ -163,20 +164,21 @@ rest_is (fault ∷ rest) = refl
 
 -- the page has become zeros
 pub zeroed_is : (node was : Destination) (space : Space) (cpus : Cpus) (held : List Fault) (number page : ℕ) → was ≡ record node { guest = record node.guest { space = space } } → number ≡ page → space ≡ zero_installed node.guest.space page →
-    cpus ≡ all_woken (λ q. eqb q number) was.guest.cpus → held ≡ drop 1 was.held → record was { guest = record { space = was.guest.space; cpus = cpus }; held = held } ≡ destination_acted_by machine.Act.Zeroed node page
+    cpus ≡ all_woken (λ q. eqb q number) was.guest.cpus → held ≡ drop 1 was.held → record was { guest = record { space = was.guest.space; cpus = cpus }; held = held } ≡ destination_acted_by Act.Zeroed node page
 zeroed_is node was space cpus held number page same at is woken rest = rw (woken, rest, same, is, rest_is, at) refl
 
 -- its sleepers are woken
-pub woken_is : (node was : Destination) (cpus : Cpus) (held : List Fault) (number page : ℕ) (act : machine.Act) → was ≡ node → number ≡ page → cpus ≡ all_woken (λ q. eqb q number) was.guest.cpus → held ≡ drop 1 was.held →
-    (act ≡ machine.Act.Woke) ⊎ (act ≡ machine.Act.Forgot) → record was { guest = record { space = was.guest.space; cpus = cpus }; held = held } ≡ destination_acted_by act node page
+pub woken_is : (node was : Destination) (cpus : Cpus) (held : List Fault) (number page : ℕ) (act : Act) → was ≡ node → number ≡ page → cpus ≡ all_woken (λ q. eqb q number) was.guest.cpus → held ≡ drop 1 was.held →
+    (act ≡ Act.Woke) ⊎ ((act ≡ Act.Forgot) ⊎ (act ≡ Act.Unprotected)) → record was { guest = record { space = was.guest.space; cpus = cpus }; held = held } ≡ destination_acted_by act node page
 woken_is node was cpus held number page act same at woken rest (inl is) = rw (is, woken, rest, rest_is, at, same) refl
-woken_is node was cpus held number page act same at woken rest (inr is) = rw (is, woken, rest, rest_is, at, same) refl
+woken_is node was cpus held number page act same at woken rest (inr (inl is)) = rw (is, woken, rest, rest_is, at, same) refl
+woken_is node was cpus held number page act same at woken rest (inr (inr is)) = rw (is, woken, rest, rest_is, at, same) refl
 
 -- a destination whose page has become zeros is in order
 pub zeroed_order : (has_run : Bool) (space new : Space) (owed : Owed) (page : ℕ) → changing space.object ≡ 0 → get owed page ≡ None → new ≡ zero_installed space page → IsInOrder has_run space owed → IsInOrder has_run new owed
 zeroed_order has_run space new owed page quiet nothing is old = record { ready = λ run. rw is (ready_zeroed space owed page quiet nothing (old.ready run)) }
 
-pub missing_at : (node was : Destination) (fault : Fault) → was ≡ node → destination_act node fault ≡ machine.Act.Zeroed → IsMissing was.guest.space was.owed fault.page
+pub missing_at : (node was : Destination) (fault : Fault) → was ≡ node → destination_act node fault ≡ Act.Zeroed → IsMissing was.guest.space was.owed fault.page
 missing_at node was fault same is = zeroed_missing was.guest.space was.owed fault.page (ap (λ (n : Destination). destination_act n fault) same ∙ is)
 
 -- the effect that reports a page of zeros: the page was owed nothing, and was missing
@@ -188,9 +190,9 @@ zeroed_tells node fault effect page quiet is zeroed =
     let missing = subst (λ q. IsMissing node.guest.space node.owed q) same (zeroed_missing node.guest.space node.owed fault.page both.0) in
     (settled_now node.guest.space.object.events (get node.owed) page quiet ∙ missing.nothing, missing.missing)
   where
-    by : (act : machine.Act) (addr : ℕ) → act_effect act addr ≡ Effect.Zeroed (4096 * page) → (act ≡ machine.Act.Zeroed) × (addr ≡ 4096 * page)
-    by machine.Act.Unprotected addr h = absurd (let other : Effect.Unprotected addr ≡ Effect.Zeroed (4096 * page) = h in cc)
-    by machine.Act.Zeroed addr h = (refl, let same : Effect.Zeroed addr ≡ Effect.Zeroed (4096 * page) = h in cc)
-    by machine.Act.Woke addr h = absurd (let other : Effect.Woke addr ≡ Effect.Zeroed (4096 * page) = h in cc)
-    by machine.Act.Forgot addr h = absurd (let other : Effect.Forgot addr ≡ Effect.Zeroed (4096 * page) = h in cc)
-    by (machine.Act.Requested origin) addr h = absurd (let other : Effect.Requested (4096 * origin) addr ≡ Effect.Zeroed (4096 * page) = h in cc)
+    by : (act : Act) (addr : ℕ) → act_effect act addr ≡ Effect.Zeroed (4096 * page) → (act ≡ Act.Zeroed) × (addr ≡ 4096 * page)
+    by Act.Unprotected addr h = absurd (let other : Effect.Unprotected addr ≡ Effect.Zeroed (4096 * page) = h in cc)
+    by Act.Zeroed addr h = (refl, let same : Effect.Zeroed addr ≡ Effect.Zeroed (4096 * page) = h in cc)
+    by Act.Woke addr h = absurd (let other : Effect.Woke addr ≡ Effect.Zeroed (4096 * page) = h in cc)
+    by Act.Forgot addr h = absurd (let other : Effect.Forgot addr ≡ Effect.Zeroed (4096 * page) = h in cc)
+    by (Act.Requested origin) addr h = absurd (let other : Effect.Requested (4096 * origin) addr ≡ Effect.Zeroed (4096 * page) = h in cc)

@@ -12,7 +12,7 @@ use Rattle.mig_base.specs.declared.TheConstants.{HIGH_PAGE}
 use Rattle.mig_base.specs.declared.message.Message.{Message}
 use Rattle.mig_model.specs.Bounds.{AreFewPages, IsPage, AreListed}
 use Rattle.mig_model.specs.Destination.{destination_act_by}
-use Rattle.mig_model.specs.Guest.{Act}
+use Rattle.mig_base.specs.declared.act.Act.{Act}
 use Rattle.mig_model.specs.Log.{no_pages}
 use Rattle.mig_model.specs.Owed.{Owed, is_requested, origins, own_places, owed_table_after, requesting, without_request}
 use Rattle.mig_model.proofs.invariant.Delivery.{pair-origins}

@@ -6,12 +6,11 @@ use Rattle.mig_base.specs.declared.schedule.Side.{Side}
 use Rattle.mig_base.specs.declared.schedule.Step.{Step}
 use Rattle.mig_model.specs.Destination.{Destination}
 use Rattle.mig_model.specs.DestinationSteps.{act, install, pause}
-use Rattle.mig_model.specs.Effects.{act_effect, install_effect}
+use Rattle.mig_base.specs.Acts.{act_effect}
+use Rattle.mig_model.specs.Effects.{install_effect}
 use Rattle.mig_model.specs.Migration.{World, answer, destination_acts}
 use Rattle.mig_model.specs.NodeSteps.{and_then}
 use Rattle.mig_model.specs.Source.{is_under_way}
-use Rattle.fault_handler.specs.Acts.{act_is}
-use Rattle.fault_handler.specs.declared.act.Act.{Act}
 
 -- the effect of the next act, or why it would be refused
 abbrev pub next_act_effect : Destination → Result Effect Refusal
@@ -23,7 +22,7 @@ next_install_effect node = and_then (install node) (λ made. Ok made.effect)
 
 -- the effect of this act at this address
 abbrev pub effect_at : Result (Act × ℕ) Refusal → Result Effect Refusal
-effect_at next = and_then next (λ next. Ok (act_effect (act_is next.0) next.1))
+effect_at next = and_then next (λ next. Ok (act_effect next.0 next.1))
 
 -- the effect of an install of the copy of this page of the source, at this page if any
 abbrev pub effect_of_copy : Result (ℕ × Option ℕ) Refusal → Result Effect Refusal

@@ -1,4 +1,3 @@
-pub mod Acts
 pub mod Arrivals
 pub mod Asking
 pub mod Codes

@@ -19,5 +19,4 @@ pub mod laws;
 mod messages;
 mod requests;
 
-pub use crate::act::Act;
 pub use crate::destination::Destination;

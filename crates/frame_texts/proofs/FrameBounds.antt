@@ -12,8 +12,9 @@ use Rattle.mig_base.specs.declared.phase.Received.{Received}
 use Rattle.mig_base.proofs.PageLemmas.{count_below-contains_key}
 use Rattle.mig_base.proofs.SetLemmas.{member_below}
 use Rattle.mig_model.specs.Host.{Host, IsSound}
-use Rattle.mig_model.specs.Guest.{Act, is_present}
-use Rattle.mig_model.specs.Guest.Act.{Requested}
+use Rattle.mig_base.specs.declared.act.Act.{Act}
+use Rattle.mig_model.specs.Guest.{is_present}
+use Rattle.mig_base.specs.declared.act.Act.TheVariants.{Requested}
 use Rattle.mig_model.specs.Log.{less, no_pages, present}
 use Rattle.mig_model.specs.Owed.{origins}
 use Rattle.mig_model.specs.Space.{Space}

@@ -19,8 +19,9 @@ use Rattle.mig_base.proofs.SetLemmas.{member_inserted, member_run, member_with_r
 use Rattle.mig_base.specs.Ranges.{in_range}
 use Rattle.mig_base.specs.Sets.{run_length, with_range}
 use Rattle.mig_model.specs.Host.{Host, bare_host}
-use Rattle.mig_model.specs.Guest.{Act, Fault, Guest, is_forgotten, is_present, tried, is_changing}
-use Rattle.mig_model.specs.Guest.Act.{Requested}
+use Rattle.mig_base.specs.declared.act.Act.{Act}
+use Rattle.mig_model.specs.Guest.{Fault, Guest, is_forgotten, is_present, tried, is_changing}
+use Rattle.mig_base.specs.declared.act.Act.TheVariants.{Requested}
 use Rattle.mig_base.specs.Userfault.{Noted}
 use Rattle.mig_model.specs.Log.{least_of, no_pages}
 use Rattle.mig_model.specs.Owed.{home}

@@ -5,7 +5,8 @@ ghost use Rattle.mig_base.specs.Commands.{is_access};
 ghost use Rattle.uffd_ioctl.specs.Lent.{IsLent};
 
 use crate::lent::{new_cpus, opened};
-use dirty_log::{Act, DirtyLog, Sent};
+use dirty_log::{DirtyLog, PageContent};
+use mig_base::act::Act;
 use mig_base::cpu_state::CpuState;
 use mig_base::effect::Effect;
 use mig_base::refusal::Refusal;
@@ -106,8 +107,8 @@ fn send(
 {
     assert!(rt; page < HIGH_PAGE);
     match DirtyLog::send_page(space, log, page)? {
-        Sent::Page(bytes) => Ok(Answer::Sent(page, Some(bytes[0]))),
-        Sent::Zero => Ok(Answer::Sent(page, None)),
+        PageContent::Page(bytes) => Ok(Answer::Sent(page, Some(bytes[0]))),
+        PageContent::Zero => Ok(Answer::Sent(page, None)),
     }
 }
 

@@ -16,13 +16,15 @@ use Rattle.mig_base.specs.Ranges.{in_range}
 use Rattle.mig_base.proofs.RangeLemmas.{in_range-true, least_below_tells}
 use Rattle.mig_base.proofs.SetLemmas.{member_run}
 use Rattle.mig_model.specs.Destination.{Destination, copy_came, destination_act, destination_act_by, destination_acted_by, destination_took, install_by, received_of, resumed_by}
-use Rattle.mig_model.specs.Guest.{Act, Guest, is_present}
-use Rattle.mig_model.specs.Guest.Act.{Unprotected, Zeroed, Woke, Forgot, Requested}
+use Rattle.mig_base.specs.declared.act.Act.{Act}
+use Rattle.mig_model.specs.Guest.{Guest, is_present}
+use Rattle.mig_base.specs.declared.act.Act.TheVariants.{Unprotected, Zeroed, Woke, Forgot, Requested}
 use Rattle.mig_model.specs.Handlers.{MayRegister, AreRegistered, IsCopy, registered_in_turn}
 use Rattle.mig_model.specs.Invariant.{IsSoundWorld}
 use Rattle.mig_model.specs.Ioctls.{event_features, handshaken, registered}
 use Rattle.mig_model.specs.Migration.{World, guest_by, next, outcome}
-use Rattle.mig_model.specs.Effects.{act_effect, frame_effect, install_effect, page_effect}
+use Rattle.mig_base.specs.Acts.{act_effect}
+use Rattle.mig_model.specs.Effects.{frame_effect, install_effect, page_effect}
 use Rattle.mig_model.proofs.steps.StepWorlds.{after_send}
 use Rattle.mig_model.specs.Owed.{home}
 use Rattle.mig_model.specs.Source.{bytes_of, is_precopy, source_act, source_act_by, space_of}

@@ -14,3 +14,4 @@ pub mod Messages
 pub mod Texts
 pub mod Tails
 pub mod Userfault
+pub mod Acts

@@ -1,7 +1,8 @@
 //! The types that every crate of the migration shares.
 //!
 //! Addresses, pages and protections; the commands of processors and the replies to them; the steps of a world and their
-//! outcomes, in [`schedule`], [`effect`], [`refusal`], [`fault`], [`phase`], [`cpu_state`] and [`counts`]; [`Message`], which a
+//! outcomes, in [`schedule`], [`effect`], [`refusal`], [`fault`], [`phase`], [`cpu_state`] and [`counts`]; [`act::Act`], how a handler
+//! resolves a page fault; [`Message`], which a
 //! userfault object reports, [`Wake`], the processors that its calls wake, and [`flags`], the numbers of these calls; [`PageSet`], a set
 //! of pages, with its iterators in [`iter`], and [`PageBytes`], the bytes of one page. Refusals, effects, replies and messages are
 //! `Display`: `specs/Texts.antt` defines their texts.
@@ -13,6 +14,7 @@ ghost use Rattle.std.specs.Prelude.{◌≡◌, ◌+◌, ◌*◌, ◌/◌};
 ghost use Rattle.mig_base.specs.Flat as flat;
 ghost use Rattle.mig_base.specs.declared.TheConstants.{PAGE_SIZE};
 
+pub mod act;
 pub mod chunk;
 mod chunks;
 pub mod command;

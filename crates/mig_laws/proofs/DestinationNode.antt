@@ -20,10 +20,12 @@ use Rattle.mig_base.specs.Userfault.{Noted, next_message}
 use Rattle.mig_model.specs.Cpus.{taken_over}
 use Rattle.mig_model.specs.Destination.{Destination, act_frames, copy_came, destination_act, destination_act_by, destination_acted, destination_acted_by, destination_answers, destination_paused, destination_ran, destination_read, destination_took, install_by, is_dest_paused, recv_by, received_of, resumed_by, urgent_came, urgent_took}
 use Rattle.mig_model.specs.DestinationSteps as destination
-use Rattle.mig_model.specs.Effects.{act_effect, frame_effect, install_effect, read_effect}
+use Rattle.mig_base.specs.Acts.{act_effect}
+use Rattle.mig_model.specs.Effects.{frame_effect, install_effect, read_effect}
 use Rattle.mig_model.specs.Faults.{is_early, is_end}
-use Rattle.mig_model.specs.Guest.{Act, Fault, Guest, is_forgotten}
-use Rattle.mig_model.specs.Guest.Act.{Unprotected, Zeroed, Woke, Forgot, Requested}
+use Rattle.mig_base.specs.declared.act.Act.{Act}
+use Rattle.mig_model.specs.Guest.{Fault, Guest, is_forgotten}
+use Rattle.mig_base.specs.declared.act.Act.TheVariants.{Unprotected, Zeroed, Woke, Forgot, Requested}
 use Rattle.mig_model.specs.GuestSteps.{when_quiet}
 use Rattle.mig_model.specs.NodeSteps.{acted, and_then, first_of, rest_of, sent, unless}
 use Rattle.mig_model.specs.Owed.{home, origins}

@@ -15,10 +15,12 @@ use Rattle.mig_base.specs.declared.schedule.Ticket.{Ticket}
 use Rattle.mig_base.specs.Sets.{pages_where, run_length}
 use Rattle.mig_base.specs.Userfault.{Noted, next_message}
 use Rattle.mig_model.specs.Cpus.{outstanding}
-use Rattle.mig_model.specs.Effects.{act_effect, page_effect, read_effect}
+use Rattle.mig_base.specs.Acts.{act_effect}
+use Rattle.mig_model.specs.Effects.{page_effect, read_effect}
 use Rattle.mig_model.specs.Host.{bare_host}
-use Rattle.mig_model.specs.Guest.{Act, Fault, Guest, is_forgotten}
-use Rattle.mig_model.specs.Guest.Act.{Unprotected, Zeroed, Woke, Forgot, Requested}
+use Rattle.mig_base.specs.declared.act.Act.{Act}
+use Rattle.mig_model.specs.Guest.{Fault, Guest, is_forgotten}
+use Rattle.mig_base.specs.declared.act.Act.TheVariants.{Unprotected, Zeroed, Woke, Forgot, Requested}
 use Rattle.mig_model.specs.GuestSteps.{when_quiet}
 use Rattle.mig_model.specs.Log.{forgotten, less, no_pages, present}
 use Rattle.mig_model.specs.NodeSteps.{acted, and_then, first_of, rest_of, sent, unless}

@@ -14,8 +14,9 @@ use Rattle.mig_base.specs.declared.schedule.Step.{Step}
 use Rattle.mig_model.specs.Bounds.{ArePageBytes, IsPageBytes}
 use Rattle.mig_model.specs.Cpus.{entries_of}
 use Rattle.mig_model.specs.Destination.{Destination, act_frames, copy_came, destination_act, destination_acted_by, destination_answers, destination_took, install_by, recv_by, received_of, resumed_by, urgent_took}
-use Rattle.mig_model.specs.Guest.{Act, Guest, took_by, tried}
-use Rattle.mig_model.specs.Guest.Act.{Unprotected, Zeroed, Woke, Forgot, Requested}
+use Rattle.mig_base.specs.declared.act.Act.{Act}
+use Rattle.mig_model.specs.Guest.{Guest, took_by, tried}
+use Rattle.mig_base.specs.declared.act.Act.TheVariants.{Unprotected, Zeroed, Woke, Forgot, Requested}
 use Rattle.mig_model.specs.Log.{no_pages, present}
 use Rattle.mig_model.specs.Migration.{World, after_steps, first_world_with, guest_by, guest_of, next, with_guest_by}
 use Rattle.mig_model.specs.Owed.{home}

@@ -8,8 +8,6 @@ use Rattle.mig_base.specs.declared.message.Message.{Message}
 use Rattle.mig_base.specs.declared.message.Message.TheVariants.{PageFault}
 use Rattle.mig_model.specs.Cpus.{Cpus, Took, handed_over, processor_at}
 use Rattle.mig_model.specs.Cpus.Took.{Sleep, Call}
-use Rattle.mig_model.specs.Guest.{Act}
-use Rattle.mig_model.specs.Guest.Act.{Unprotected, Zeroed, Woke, Forgot, Requested}
 use Rattle.mig_model.specs.Wire.{Frame, is_zeros}
 use Rattle.mig_model.specs.Wire.Frame.{Advise, Page, Zero, Run, Discard, Package, End, Resume, Request, Recv, Done}
 
@@ -32,14 +30,6 @@ event_effect event cpu (Some reply) = Effect.ReadLast event cpu reply
 abbrev pub read_effect : Cpus → ℕ → Message → Effect
 read_effect cpus cpu (PageFault addr write wp tid) = Effect.ReadFault addr wp
 read_effect cpus cpu message = event_effect message cpu (handed_over (processor_at cpus cpu))
-
--- the effect of resolving a fault at an address
-abbrev pub act_effect : Act → ℕ → Effect
-act_effect Unprotected addr = Effect.Unprotected addr
-act_effect Zeroed addr = Effect.Zeroed addr
-act_effect Woke addr = Effect.Woke addr
-act_effect Forgot addr = Effect.Forgot addr
-act_effect (Requested origin) addr = Effect.Requested (PAGE_SIZE * origin) addr
 
 -- the effect of taking a frame, with the page's address or the number of pages
 abbrev pub frame_effect : Frame → Effect

@@ -97,19 +97,6 @@ abbrev pub fault_count : Message → ℕ
 fault_count (PageFault addr write wp tid) = 1
 fault_count message = 0
 
--- how a handler resolves a fault
-pub data Act : Type 0 where
-  -- the protection of the page is cleared
-  Unprotected : Act
-  -- the missing page becomes zeros
-  Zeroed : Act
-  -- the page is present, and needs nothing: its sleepers are woken
-  Woke : Act
-  -- the page is no longer mapped or no longer registered: its sleepers are woken
-  Forgot : Act
-  -- the page is owed: its origin is requested from the source
-  Requested : (origin : ℕ) → Act
-
 -- the guest once a fault is resolved: it has this space, and those that sleep on the page are woken
 abbrev pub resolved : Guest → ℕ → Space → Guest
 resolved guest page space = record { space = space; cpus = all_woken (λ q. q == page) guest.cpus }

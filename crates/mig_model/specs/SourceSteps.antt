@@ -10,7 +10,8 @@ use Rattle.mig_base.specs.declared.effect.Effect.{Effect}
 use Rattle.mig_base.specs.declared.refusal.Refusal.{Refusal}
 use Rattle.mig_base.specs.declared.schedule.Side.{Side}
 use Rattle.mig_base.specs.declared.schedule.Ticket.{Ticket}
-use Rattle.mig_model.specs.Effects.{act_effect, frame_effect, page_effect, read_effect}
+use Rattle.mig_base.specs.Acts.{act_effect}
+use Rattle.mig_model.specs.Effects.{frame_effect, page_effect, read_effect}
 use Rattle.mig_model.specs.Guest.{is_changing, is_present}
 use Rattle.mig_model.specs.GuestSteps.{when_quiet}
 use Rattle.mig_model.specs.Log.{least_of, less}

@@ -13,7 +13,6 @@ use crate::handle::{Content, Handle};
 use crate::refusals::refusal_status;
 use crate::status::{DONE, NO_PAGE, NOT_OPEN};
 use crate::told::told;
-use dirty_log::Act;
 use mig_base::effect::Effect;
 use mig_base::refusal::Refusal;
 use mig_base::{PageNo, page_address};
@@ -65,12 +64,7 @@ fn source_act(node: &SourceNode) -> Result<Effect, Refusal>
     ensures { result ≡ effect_of (sources.act node.now.node) }
 {
     let (act, addr) = node.node().next_act()?;
-    Ok(match act {
-        Act::Unprotected => Effect::Unprotected { addr },
-        Act::Zeroed => Effect::Zeroed { addr },
-        Act::Woke => Effect::Woke { addr },
-        Act::Forgot => Effect::Forgot { addr },
-    })
+    Ok(act.effect(addr))
 }
 
 /// Says what effect `postmig_source_act` would have.

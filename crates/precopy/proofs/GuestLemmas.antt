@@ -18,6 +18,7 @@ use Rattle.mig_base.specs.declared.message.Message.TheVariants.{PageFault}
 use Rattle.mig_model.specs.Bounds.{AreFewPages, AreRightAccesses, IsCpuCount, IsFrame, IsMapping}
 use Rattle.mig_model.specs.Cpus.{Cpus, Took, all_woken, idle_processors, message_less, outstanding, processor_after, processor_at, woken_if}
 use Rattle.mig_model.specs.Cpus.Took.{Answer, Call, Sleep}
+use Rattle.mig_base.specs.declared.act.Act.{Act}
 use Rattle.mig_model.specs.Guest as machine
 use Rattle.mig_model.specs.Guest.{Fault, Guest, is_left_by, is_present, read_guest, took_by, tried}
 use Rattle.mig_model.specs.Host.{bare_host, memory}
@@ -124,17 +125,17 @@ zeroed_memory space page none =
     memory-reads space.host.areas space.host.bytes (machine.zero_installed space page).host.bytes
     (λ q i. ap (λ o. byte_of o i) (get-put_one space.host.bytes page q zero_page) ∙ zeros_read (eqb q page) (get space.host.bytes q) i (λ e. ap (get space.host.bytes) (eqb-true q page e) ∙ none))
 
-acted_by : (act : machine.Act) (node : Source) (page : ℕ) → (act ≡ machine.Act.Zeroed → get (space_of node).host.bytes page ≡ None) → HasRightGuest (space_of node).host node.guest.cpus →
+acted_by : (act : Act) (node : Source) (page : ℕ) → (act ≡ Act.Zeroed → get (space_of node).host.bytes page ≡ None) → HasRightGuest (space_of node).host node.guest.cpus →
     HasRightGuest (space_of (source_acted_by act node page)).host (source_acted_by act node page).guest.cpus
-acted_by machine.Act.Zeroed node page missing old =
+acted_by Act.Zeroed node page missing old =
     record { entries = old.entries; holds = zeroed_memory (space_of node) page (missing refl) ∙ old.holds; right = right_woken (λ q. eqb q page) node.guest.cpus old.right }
-acted_by machine.Act.Unprotected node page missing old = record { entries = old.entries; holds = old.holds; right = right_woken (λ q. eqb q page) node.guest.cpus old.right }
-acted_by machine.Act.Woke node page missing old = record { entries = old.entries; holds = old.holds; right = right_woken (λ q. eqb q page) node.guest.cpus old.right }
-acted_by machine.Act.Forgot node page missing old = record { entries = old.entries; holds = old.holds; right = right_woken (λ q. eqb q page) node.guest.cpus old.right }
-acted_by (machine.Act.Requested origin) node page missing old = record { entries = old.entries; holds = old.holds; right = right_woken (λ q. eqb q page) node.guest.cpus old.right }
+acted_by Act.Unprotected node page missing old = record { entries = old.entries; holds = old.holds; right = right_woken (λ q. eqb q page) node.guest.cpus old.right }
+acted_by Act.Woke node page missing old = record { entries = old.entries; holds = old.holds; right = right_woken (λ q. eqb q page) node.guest.cpus old.right }
+acted_by Act.Forgot node page missing old = record { entries = old.entries; holds = old.holds; right = right_woken (λ q. eqb q page) node.guest.cpus old.right }
+acted_by (Act.Requested origin) node page missing old = record { entries = old.entries; holds = old.holds; right = right_woken (λ q. eqb q page) node.guest.cpus old.right }
 
 -- only a missing page becomes zeros
-missing_by : (gone protected : Bool) (o : Option (List ℕ)) → source_act_by gone (is_some o) protected ≡ machine.Act.Zeroed → o ≡ None
+missing_by : (gone protected : Bool) (o : Option (List ℕ)) → source_act_by gone (is_some o) protected ≡ Act.Zeroed → o ≡ None
 missing_by gone protected o h = grind (arith, nat_tests)
 
 pub acted_guest : (node new : Source) (fault : Fault) → new ≡ source_acted node fault → HasRightGuest (space_of node).host node.guest.cpus → HasRightGuest (space_of new).host new.guest.cpus

@@ -7,20 +7,19 @@ use Rattle.mig_base.specs.Tests.{first_holding, is_empty}
 use Rattle.mig_base.specs.declared.effect.Effect.{Effect}
 use Rattle.mig_base.specs.declared.refusal.Refusal.{Refusal}
 use Rattle.mig_base.specs.Userfault.{Noted, changing}
-use Rattle.mig_model.specs.Guest as machine
+use Rattle.mig_base.specs.declared.act.Act.{Act}
 use Rattle.mig_model.specs.Guest.{Fault, Guest, fault_count, is_changing}
 use Rattle.mig_model.specs.Log.{Log}
 use Rattle.mig_model.specs.Space.{Space}
-use Rattle.mig_model.specs.Effects.{act_effect, read_effect}
+use Rattle.mig_base.specs.Acts.{act_effect}
+use Rattle.mig_model.specs.Effects.{read_effect}
 use Rattle.mig_model.specs.GuestSteps.{when_quiet}
 use Rattle.mig_model.specs.NodeSteps.{acted, and_then, first_of, unless}
 use Rattle.mig_model.specs.SourceSteps.{act}
 use Rattle.mig_model.proofs.steps.StepLemmas.{goes_on, in-phase, is-quiet}
 use Rattle.mig_model.specs.Source.{Source, is_handling, source_act, source_acted, source_acted_by, space_of}
-use Rattle.dirty_log.specs.Acts.{act_is}
 use Rattle.dirty_log.specs.Answers.{act_refusal, read_answer}
 use Rattle.dirty_log.specs.Spaces.{source_of}
-use Rattle.dirty_log.specs.declared.act.Act.{Act}
 use Rattle.precopy.proofs.StepLemmas.{stops}
 
 -- the message that was read
@@ -54,13 +53,13 @@ some_held log space [] is h = absurd (let other : first_holding ((is_empty log.h
 some_held log space (fault ∷ rest) is h = record { fault = fault; rest = rest; is = is; quiet = grind arith }
 
 -- resolving a fault changes the log and the guest of a source independently of its other parts
-acted_parts : (act : machine.Act) (node : Source) (page : ℕ) → source_acted_by act node page ≡
+acted_parts : (act : Act) (node : Source) (page : ℕ) → source_acted_by act node page ≡
     record node { guest = (source_acted_by act (source_of node.log (space_of node) node.guest.cpus) page).guest; log = (source_acted_by act (source_of node.log (space_of node) node.guest.cpus) page).log }
-acted_parts machine.Act.Unprotected node page = refl
-acted_parts machine.Act.Zeroed node page = refl
-acted_parts machine.Act.Woke node page = refl
-acted_parts machine.Act.Forgot node page = refl
-acted_parts (machine.Act.Requested origin) node page = refl
+acted_parts Act.Unprotected node page = refl
+acted_parts Act.Zeroed node page = refl
+acted_parts Act.Woke node page = refl
+acted_parts Act.Forgot node page = refl
+acted_parts (Act.Requested origin) node page = refl
 
 pub acted_is : (node : Source) (space : Space) (cpus : Cpus) (log : Log) (fault : Fault) → source_of log space cpus ≡ source_acted (source_of node.log (space_of node) node.guest.cpus) fault →
     record node { guest = record { space = space; cpus = cpus }; log = log } ≡ source_acted node fault
@@ -82,8 +81,8 @@ same_page : (page : ℕ) → 4096 * page / 4096 ≡ page
 same_page page = omega arith
 
 pub next_told : (node : Source) (found : Result (Act × ℕ) Refusal) → is_handling node ≡ true → OnOk found (act_refusal node.log (space_of node) ≡ None) → IfErr found (λ refusal. act_refusal node.log (space_of node) ≡ Some refusal) →
-    ((fault : Fault) (rest : List Fault) → node.log.held ≡ fault ∷ rest → IfOk found (λ next. (act_is next.0 ≡ source_act node fault) × (next.1 ≡ 4096 * fault.page))) →
-    act node ≡ and_then found (λ next. acted (act_effect (act_is next.0) next.1) (source_acted_by (act_is next.0) node (next.1 / 4096)))
+    ((fault : Fault) (rest : List Fault) → node.log.held ≡ fault ∷ rest → IfOk found (λ next. (next.0 ≡ source_act node fault) × (next.1 ≡ 4096 * fault.page))) →
+    act node ≡ and_then found (λ next. acted (act_effect next.0 next.1) (source_acted_by next.0 node (next.1 / 4096)))
 next_told node (Ok next) runs accepted refused told =
     let held = some_held node.log (space_of node) node.log.held refl accepted in
     let is = told held.fault held.rest held.is in

@@ -12,7 +12,7 @@ use Rattle.mig_base.proofs.SetLemmas.{member_without}
 use Rattle.mig_model.specs.Host.{memory}
 use Rattle.mig_base.specs.Userfault.{Noted, Object, next_message, read_by, waits_fault}
 use Rattle.mig_model.specs.Space.{Space, IsSoundSpace, accessed_by, all_queued, call_messages, called, modes_after}
-use Rattle.mig_model.specs.Guest as machine
+use Rattle.mig_base.specs.declared.act.Act.{Act}
 use Rattle.mig_model.specs.Guest.{Guest, is_changed_by, is_present, read_guest, zero_installed}
 use Rattle.mig_model.specs.Whereabouts.{is_unread}
 use Rattle.mig_model.specs.Ioctls.{protected_in}
@@ -68,12 +68,12 @@ read_todo log guest noted next kept page h u =
 zeroed_sendable : (space : Space) (page q : ℕ) → is_sendable space q ≡ true → is_sendable (zero_installed space page) q ≡ true
 zeroed_sendable space page q h = grind (arith, nat_tests, get-put_pages)
 
-pub acted_todo : (act : machine.Act) (node : Source) (page : ℕ) → AreSendable node.log (space_of node) → AreSendable (source_acted_by act node page).log (space_of (source_acted_by act node page))
-acted_todo machine.Act.Unprotected node page kept = kept
-acted_todo machine.Act.Zeroed node page kept = λ q h u. zeroed_sendable (space_of node) page q (kept q h u)
-acted_todo machine.Act.Woke node page kept = kept
-acted_todo machine.Act.Forgot node page kept = kept
-acted_todo (machine.Act.Requested origin) node page kept = kept
+pub acted_todo : (act : Act) (node : Source) (page : ℕ) → AreSendable node.log (space_of node) → AreSendable (source_acted_by act node page).log (space_of (source_acted_by act node page))
+acted_todo Act.Unprotected node page kept = kept
+acted_todo Act.Zeroed node page kept = λ q h u. zeroed_sendable (space_of node) page q (kept q h u)
+acted_todo Act.Woke node page kept = kept
+acted_todo Act.Forgot node page kept = kept
+acted_todo (Act.Requested origin) node page kept = kept
 
 -- Commands of processors
 

@@ -2,7 +2,7 @@
 
 use crate::course::Course;
 use crate::processor::{calls_with, make_calls};
-use crate::sending::{Sent, send_pages};
+use crate::sending::{EpochClaims, send_pages};
 use mig_base::WorldPhase;
 use mig_base::refusal::Refusal;
 use rig::{CpuSeat, Rig};
@@ -40,7 +40,7 @@ pub(crate) fn run_all<R: Threads + Wait + Sync>(
     course: &Course,
     seats: Vec<CpuSeat>,
     plan: Plan,
-) -> Option<(Vec<CpuSeat>, Option<Sent>)> {
+) -> Option<(Vec<CpuSeat>, Option<EpochClaims>)> {
     thread::scope(thread::scope_env(), rt, move |scope| {
         let cpus = seats.len();
         let mut back = Vec::with_capacity(alloc, cpus).ok()?;

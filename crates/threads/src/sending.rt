@@ -12,7 +12,7 @@ use std::thread::{Promise, Threads};
 
 /// The claims of an epoch, with a seat that has every claim.
 #[derive(Drop)]
-pub(crate) struct Sent {
+pub(crate) struct EpochClaims {
     pub claims: Claims,
     pub seat: ClaimSeat,
     ghost fits: { IsSeatOf claims seat },
@@ -33,7 +33,7 @@ pub(crate) fn send_pages<R: Threads + Wait + Sync>(
     alloc: Global,
     rig: &Rig,
     course: &Course,
-) -> Option<Sent> {
+) -> Option<EpochClaims> {
     let mut last = None;
     for _ in rt.forever() {
         if course.is_over() {
@@ -56,7 +56,7 @@ fn send_epoch<R: Threads + Wait + Sync>(
     course: &Course,
     claims: Claims,
     mut seat: ClaimSeat,
-) -> Sent
+) -> EpochClaims
     requires { IsSeatOf claims seat }
 {
     let seat = match claims.split(alloc, &mut seat) {
@@ -66,7 +66,7 @@ fn send_epoch<R: Threads + Wait + Sync>(
             rig.push_worker(rt, &claims, seat, course)
         }
     };
-    Sent { claims, seat }
+    EpochClaims { claims, seat }
 }
 
 /// Sends with two seats, and joins them.

@@ -6,7 +6,7 @@ ghost use Rattle.pusher.specs.Seats.{IsSeatOf};
 ghost use Rattle.threads.specs.Report.{seat_line, seat_lines, count_line, agreed_line, fault_name, fault_line, report_lines, AreFrom};
 
 use crate::run::Run;
-use crate::sending::Sent;
+use crate::sending::EpochClaims;
 use engine::RunFault;
 use pusher::{ClaimSeat, Claims};
 use rig::{CloseFault, CpuSeat};
@@ -109,11 +109,11 @@ fn print_count(text: &mut String, entries: usize) -> Result<(), RunFault>
 }
 
 /// The claims, and the seat that has every claim.
-pub(crate) fn claims_in(sent: Option<Sent>) -> Option<(Claims, ClaimSeat)>
+pub(crate) fn claims_in(sent: Option<EpochClaims>) -> Option<(Claims, ClaimSeat)>
     ensures { IfSome result (λ c. IsSeatOf c.0 c.1) }
 {
     match sent {
-        Some(Sent { claims, seat, .. }) => Some((claims, seat)),
+        Some(EpochClaims { claims, seat, .. }) => Some((claims, seat)),
         None => None,
     }
 }

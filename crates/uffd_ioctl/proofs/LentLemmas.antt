@@ -16,7 +16,7 @@ use Rattle.mig_base.proofs.BoundLemmas.{IsBounded, changed_bounded}
 use Rattle.mig_model.specs.Host.{Host, host_after, host_changed, memory}
 use Rattle.mig_base.specs.Userfault.{Noted, Object, message_read, read_by, waits_fault}
 use Rattle.mig_model.specs.Space.{Space, IsSoundSpace, access_of, accessed_by, all_queued, call_messages, called, modes_after}
-use Rattle.mig_model.specs.Guest as machine
+use Rattle.mig_base.specs.declared.act.Act.{Act}
 use Rattle.mig_model.specs.Guest.{Guest, read_guest, space_by}
 use Rattle.mig_base.specs.declared.command.Errno.{Errno}
 use Rattle.mig_model.specs.Ioctls as ioctls
@@ -63,12 +63,12 @@ read_space_lent space lent =
     left_lent (ioctls.read_error space) space (record space { object = message_read space.object }) lent
     (still_lent space (record space { object = message_read space.object }) lent (same_read space.object.faults space.object) lent.low)
 
-pub acted_lent : (act : machine.Act) (node : Source) (page : ℕ) → IsLent (space_of node) → IsLent (space_of (source_acted_by act node page))
-acted_lent machine.Act.Unprotected node page lent = record { enabled = lent.enabled; events = lent.events; low = lent.low }
-acted_lent machine.Act.Zeroed node page lent = record { enabled = lent.enabled; events = lent.events; low = lent.low }
-acted_lent machine.Act.Woke node page lent = lent
-acted_lent machine.Act.Forgot node page lent = lent
-acted_lent (machine.Act.Requested origin) node page lent = lent
+pub acted_lent : (act : Act) (node : Source) (page : ℕ) → IsLent (space_of node) → IsLent (space_of (source_acted_by act node page))
+acted_lent Act.Unprotected node page lent = record { enabled = lent.enabled; events = lent.events; low = lent.low }
+acted_lent Act.Zeroed node page lent = record { enabled = lent.enabled; events = lent.events; low = lent.low }
+acted_lent Act.Woke node page lent = lent
+acted_lent Act.Forgot node page lent = lent
+acted_lent (Act.Requested origin) node page lent = lent
 
 -- Loads and stores
 

@@ -8,14 +8,13 @@ ghost use Rattle.mig_model.specs.Log as machine;
 ghost use Rattle.mig_model.specs.NodeSteps.{first_of};
 ghost use Rattle.mig_model.specs.Source.{Source, source_act, source_acted, space_of};
 ghost use Rattle.uffd_ioctl.specs.Lent.{IsLent};
-ghost use Rattle.dirty_log.specs.Acts.{act_is};
 ghost use Rattle.dirty_log.specs.Answers.{IsRefusedAs, act_refusal, read_answer};
 ghost use Rattle.dirty_log.specs.Spaces.{source_of};
 
 use super::DirtyLog;
-use crate::act::Act;
 use crate::sets::remove_changed;
 use crate::spaces::{act_of, unprotect};
+use mig_base::act::Act;
 use mig_base::effect::Effect;
 use mig_base::refusal::Refusal;
 use mig_base::{Addr, Message, NoMemory, PageNo};
@@ -82,7 +81,7 @@ impl DirtyLog {
         ensures act { (node : Source) (fault : guest.Fault) (rest : List guest.Fault) →
             space_of node ≡ space.now → self.now.held ≡ fault ∷ rest →
             IfOk result (λ next.
-            (act_is next.0 ≡ source_act node fault) × (next.1 ≡ 4096 * fault.page)) }
+            (next.0 ≡ source_act node fault) × (next.1 ≡ 4096 * fault.page)) }
     {
         let fault = self.next_fault(space)?;
         Ok((act_of(space, &fault), fault.addr()))
@@ -114,7 +113,7 @@ impl DirtyLog {
         ensures act { (fault : guest.Fault) (rest : List guest.Fault) →
             self.old.held ≡ fault ∷ rest →
             IfOk result (λ done.
-            (act_is done.0 ≡ source_act (source_of self.old space.old cpus.old) fault) ×
+            (done.0 ≡ source_act (source_of self.old space.old cpus.old) fault) ×
             (done.1 ≡ 4096 * fault.page)) }
         ensures acted { (fault : guest.Fault) (rest : List guest.Fault) →
             self.old.held ≡ fault ∷ rest →
@@ -122,7 +121,7 @@ impl DirtyLog {
             source_acted (source_of self.old space.old cpus.old) fault) }
         ensures memory { (fault : guest.Fault) (rest : List guest.Fault) →
             self.old.held ≡ fault ∷ rest → result ≡ Err Refusal.NoMemory →
-            source_act (source_of self.old space.old cpus.old) fault ≡ guest.Act.Zeroed }
+            source_act (source_of self.old space.old cpus.old) fault ≡ Act.Zeroed }
         ensures err { OnErr result ((self.new ≡ self.old) × (space.new ≡ space.old) ×
             (cpus.new ≡ cpus.old)) }
         ensures lent { IsLent space.new }
@@ -136,7 +135,7 @@ impl DirtyLog {
                 self.clean.remove(page as PageNo);
             }
             Act::Zeroed => make_zeros(space, page as PageNo)?,
-            Act::Woke | Act::Forgot => {}
+            Act::Woke | Act::Forgot | Act::Requested(_) => {}
         }
         self.held.pop_front();
         cpus.wake_page(page);

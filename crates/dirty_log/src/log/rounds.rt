@@ -18,11 +18,11 @@ ghost use Rattle.dirty_log.specs.Answers.{IsRefusedAs, send_refusal};
 ghost use Rattle.mig_model.specs.Wire.{page_frame};
 ghost use Rattle.dirty_log.specs.Lending.{LeavesSpace};
 ghost use Rattle.dirty_log.specs.Sending.{frame_sent};
-ghost use Rattle.dirty_log.specs.declared.sent.Sent.{Sent};
+ghost use Rattle.dirty_log.specs.declared.page_content.PageContent.{PageContent};
 
 use super::DirtyLog;
-use crate::content::{blank_pages, read_pages};
-use crate::sent::Sent;
+use crate::bytes::{blank_pages, read_pages};
+use crate::page_content::PageContent;
 use crate::sets::subtract;
 use crate::spaces::{are_sendable, protect, register_mapped};
 use mig_base::refusal::Refusal;
@@ -110,7 +110,7 @@ impl DirtyLog {
         space: &'a mut Space,
         log: &mut DirtyLog,
         page: PageNo,
-    ) -> Result<Sent<'a>, Refusal>
+    ) -> Result<PageContent<'a>, Refusal>
         requires lent { IsLent space.old }
         requires page { page < HIGH_PAGE }
         ensures* space { sem 𝓛 (LeavesSpace space.entry result (λ last.
@@ -126,11 +126,11 @@ impl DirtyLog {
 
         // The same for a reader: `Zero` is returned exactly if all bytes of the page are zero.
         ensures zero { IfOk result (λ sent.
-            (sent ≡ Sent.Zero) ↔ (contents space.old.host.bytes page ≡ zero_page)) }
+            (sent ≡ PageContent.Zero) ↔ (contents space.old.host.bytes page ≡ zero_page)) }
     {
         space.is_in_order();
         log.protect_page(space, page)?;
-        Ok(Sent::read(space, page))
+        Ok(PageContent::read(space, page))
     }
 
     /// Write-protects the `count` pages from `first` on, which are clean from then on: the caller has to send their bytes before a page

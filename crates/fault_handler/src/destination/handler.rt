@@ -20,8 +20,9 @@ ghost use Rattle.fault_handler.specs.Memory.{act_grows, read_grows};
 ghost use Rattle.fault_handler.specs.Order.{LiesInside};
 
 use super::Destination;
-use crate::act::Act;
+use crate::act::act_of;
 use crate::messages::read;
+use mig_base::act::Act;
 use mig_base::effect::Effect;
 use mig_base::phase::DestPhase;
 use mig_base::refusal::Refusal;
@@ -96,7 +97,7 @@ impl Destination {
             (settled self.old page ≡ None) × (is_present self.old.guest.space page ≡ false)) }
     {
         let fault = self.next_fault()?;
-        let act = Act::of(&self.space, &self.owed, &fault);
+        let act = act_of(&self.space, &self.owed, &fault);
         let page = fault.page();
         let addr = fault.addr();
         match act {
@@ -110,7 +111,7 @@ impl Destination {
                     return Err(Refusal::NoMemory);
                 };
             }
-            Act::Woke | Act::Forgot => {}
+            Act::Woke | Act::Forgot | Act::Unprotected => {}
         }
         self.held.pop_front();
         self.cpus.wake_page(page);
@@ -126,7 +127,7 @@ impl Destination {
         ensures { effect_at result ≡ next_act_effect self.now }
     {
         let fault = self.next_fault()?;
-        Ok((Act::of(&self.space, &self.owed, &fault), fault.addr()))
+        Ok((act_of(&self.space, &self.owed, &fault), fault.addr()))
     }
 
     /// Whether [`Destination::act`] would resolve a fault, or how it would be refused; memory is not considered.
@@ -159,7 +160,7 @@ impl Destination {
         requires page { IsPage origin }
         ensures frame { IfOk result (λ frame.
             map frame_of (option_to_list frame) ≡
-            act_frames (machine.Act.Requested origin) self.old) }
+            act_frames (Act.Requested origin) self.old) }
         ensures well_formed { IfOk result (λ frame.
             IfSome frame (λ frame. IsFrame (frame_of frame))) }
         ensures ok { OnOk result (self.new ≡

@@ -43,7 +43,7 @@ use Rattle.mig_base.specs.Bytes.{zero_page}
 use Rattle.mig_base.proofs.ByteLemmas.{length-zero_page, get_or-zero_page}
 use Rattle.mig_base.proofs.PageLemmas.{get-map_below}
 use Rattle.mig_model.specs.Wire.Frame.{Request}
-use Rattle.mig_model.specs.Guest.Act.{Zeroed, Woke, Forgot, Requested}
+use Rattle.mig_base.specs.declared.act.Act.TheVariants.{Zeroed, Woke, Forgot, Requested}
 use Rattle.mig_model.proofs.memory.HostLemmas.{memory-at}
 use Rattle.mig_model.specs.Log.{present}
 use Rattle.mig_model.proofs.invariant.WireLemmas.{AreOf-append, are_requests-append}

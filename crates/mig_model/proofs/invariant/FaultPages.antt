@@ -13,7 +13,8 @@ use Rattle.mig_base.specs.Commands.{is_access, page_of}
 use Rattle.mig_base.specs.Userfault.{Noted, Object, fault_queued, next_message, next_of}
 use Rattle.mig_model.specs.Space.{Space, access_of, accessed_by}
 use Rattle.mig_model.specs.Cpus.{access_took}
-use Rattle.mig_model.specs.Guest.{Act, Fault, held_after, space_by, tried}
+use Rattle.mig_base.specs.declared.act.Act.{Act}
+use Rattle.mig_model.specs.Guest.{Fault, held_after, space_by, tried}
 use Rattle.mig_model.specs.Owed.{home}
 use Rattle.mig_model.specs.Wire.{Copy, Frame}
 use Rattle.mig_model.specs.Source.{source_act, source_acted_by, source_took, space_of}

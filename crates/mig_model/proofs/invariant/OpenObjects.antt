@@ -15,7 +15,8 @@ use Rattle.mig_model.specs.Host.{memory}
 use Rattle.mig_base.specs.Userfault.{Object, event_queued}
 use Rattle.mig_model.specs.Space.{Space, access_of, accessed_by, all_queued, call_messages, modes_after}
 use Rattle.mig_model.specs.Ioctls.{all_features, event_features}
-use Rattle.mig_model.specs.Guest.{Act, Guest, read_guest, space_by, tried}
+use Rattle.mig_base.specs.declared.act.Act.{Act}
+use Rattle.mig_model.specs.Guest.{Guest, read_guest, space_by, tried}
 use Rattle.mig_model.specs.Owed.{home}
 use Rattle.mig_model.specs.Wire.{Copy, Frame}
 use Rattle.mig_model.specs.Source.{is_precopy, is_released, is_source_idle, source_act, source_acted_by, source_took, space_of}

@@ -10,7 +10,8 @@ use Rattle.mig_base.specs.declared.command.Entry.{Entry}
 use Rattle.mig_base.specs.Flat.{IsFlatRun, memory_of}
 use Rattle.mig_model.specs.Host.{Host, memory}
 use Rattle.mig_model.specs.Space.{Space, IsSoundSpace, fresh_space}
-use Rattle.mig_model.specs.Guest.{Guest, is_present, Fault, is_changed_by, read_guest, zero_installed, is_forgotten, Act}
+use Rattle.mig_base.specs.declared.act.Act.{Act}
+use Rattle.mig_model.specs.Guest.{Guest, is_present, Fault, is_changed_by, read_guest, zero_installed, is_forgotten}
 use Rattle.mig_model.specs.Wire.{Sent}
 use Rattle.mig_model.specs.Migration.{World, next}
 use Rattle.mig_model.proofs.steps.StepWorlds.{after_source_act, after_source_read}
@@ -32,7 +33,7 @@ use Rattle.mig_base.proofs.ByteLemmas.{length-zero_page, get_or-zero_page}
 use Rattle.mig_base.proofs.SetLemmas.{member_below, member_removed}
 use Rattle.mig_base.specs.Userfault.{Noted, Object, next_message, message_read}
 use Rattle.mig_model.specs.Ioctls.{protected_in}
-use Rattle.mig_model.specs.Guest.Act.{Unprotected, Zeroed}
+use Rattle.mig_base.specs.declared.act.Act.TheVariants.{Unprotected, Zeroed}
 use Rattle.mig_model.proofs.memory.IoctlLemmas.{IsSoundSpace-read, IsSoundSpace-protected, IsSoundSpace-installed, get-put_pages}
 use Rattle.mig_model.proofs.invariant.DestinationAct.{get-put_one, byte_of, memory-reads}
 

@@ -6,7 +6,8 @@ use Rattle.mig_base.specs.declared.message.Message.{Message}
 use Rattle.mig_base.specs.declared.schedule.Side.{Side}
 use Rattle.mig_base.specs.declared.schedule.Step.{Step}
 use Rattle.mig_base.specs.Commands.{is_access}
-use Rattle.mig_model.specs.Guest.{Act, Guest, read_guest, tried}
+use Rattle.mig_base.specs.declared.act.Act.{Act}
+use Rattle.mig_model.specs.Guest.{Guest, read_guest, tried}
 use Rattle.mig_model.specs.Wire.{Frame}
 use Rattle.mig_model.specs.Source.{Source, source_acted_by, source_took, space_of}
 use Rattle.mig_model.specs.Migration.{World, guest_by, next, with_guest_by}

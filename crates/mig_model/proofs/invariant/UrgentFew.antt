@@ -12,7 +12,8 @@ use Rattle.mig_base.specs.declared.command.Command.{Command}
 use Rattle.mig_base.proofs.SetLemmas.{member_below}
 use Rattle.mig_model.specs.Host.{IsSound}
 use Rattle.mig_model.specs.Space.{Space}
-use Rattle.mig_model.specs.Guest.{Act, is_present}
+use Rattle.mig_base.specs.declared.act.Act.{Act}
+use Rattle.mig_model.specs.Guest.{is_present}
 use Rattle.mig_model.specs.Log.{present}
 use Rattle.mig_model.specs.Wire.{Frame, Sent}
 use Rattle.mig_model.specs.Migration.{World, first_world_with, next, runs}

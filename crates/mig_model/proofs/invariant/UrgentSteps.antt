@@ -16,7 +16,8 @@ use Rattle.mig_model.specs.Migration.{World, first_world_with, is_short, next, r
 use Rattle.mig_model.proofs.steps.StepWorlds.{after_break, after_command, after_deliver, after_deliver_back, after_deliver_urgent, after_end, after_notice, after_push_urgent, after_resume, after_start, after_switch}
 use Rattle.mig_model.specs.Promises.{after_move_urgent}
 use Rattle.mig_model.specs.Faults.{is_early}
-use Rattle.mig_model.specs.Guest.{Act, is_present}
+use Rattle.mig_base.specs.declared.act.Act.{Act}
+use Rattle.mig_model.specs.Guest.{is_present}
 use Rattle.mig_model.specs.Source.{Source, is_stopped, bytes_of, is_precopy, is_source_idle, source_acted_by, space_of, switch_frames, run_of}
 use Rattle.mig_model.specs.Destination.{Destination, destination_act, destination_acted_by, install_by, is_dest_paused}
 use Rattle.mig_model.specs.Whereabouts.{AreFaithful, copies_of}

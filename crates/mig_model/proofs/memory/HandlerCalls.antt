@@ -23,15 +23,17 @@ use Rattle.mig_model.specs.Host.{Host, IsSound}
 use Rattle.mig_base.specs.Userfault.{Object, enabled_with, fresh_object, has_modes, is_registered}
 use Rattle.mig_model.specs.Space.{Space, IsSoundSpace, fresh_space}
 use Rattle.mig_model.specs.Ioctls.{all_features, event_features, handshake_error, handshaken, has_unknown, installed, is_feature, mode_of, protected_in, registered_in}
-use Rattle.mig_model.specs.Guest.{Act, is_forgotten, is_present, Guest, resolved, Fault}
-use Rattle.mig_model.specs.Guest.Act.{Unprotected, Zeroed, Woke, Forgot}
+use Rattle.mig_base.specs.declared.act.Act.{Act}
+use Rattle.mig_model.specs.Guest.{is_forgotten, is_present, Guest, resolved, Fault}
+use Rattle.mig_base.specs.declared.act.Act.TheVariants.{Unprotected, Zeroed, Woke, Forgot}
 use Rattle.mig_model.specs.Log.{least_of, no_pages}
 use Rattle.mig_model.specs.Owed.{home, settled_by}
 use Rattle.mig_model.specs.Wire.{Copy, Frame, Sent, is_zeros}
 use Rattle.mig_model.specs.Source.{bytes_of, for_both, is_precopy, source_act, source_act_by, source_acted_by, space_of}
 use Rattle.mig_model.specs.Destination.{assembled, destination_act, destination_act_by, destination_acted_by, for_missing, install_by}
 use Rattle.mig_model.specs.Migration.{World, next, outcome}
-use Rattle.mig_model.specs.Effects.{act_effect, frame_effect, install_effect}
+use Rattle.mig_base.specs.Acts.{act_effect}
+use Rattle.mig_model.specs.Effects.{frame_effect, install_effect}
 use Rattle.mig_model.proofs.steps.StepWorlds.{after_deliver, after_install, after_source_act}
 use Rattle.mig_model.specs.SourceSteps.{run_bound}
 use Rattle.mig_model.specs.Whereabouts.{AreFaithful, is_unread}

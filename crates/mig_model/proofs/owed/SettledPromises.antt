@@ -18,7 +18,8 @@ use Rattle.mig_base.specs.Commands.{is_access}
 use Rattle.mig_model.specs.Host.{memory}
 use Rattle.mig_base.specs.Userfault.{Noted, next_of}
 use Rattle.mig_model.specs.Space.{Space, accessed_by}
-use Rattle.mig_model.specs.Guest.{tried, Act}
+use Rattle.mig_base.specs.declared.act.Act.{Act}
+use Rattle.mig_model.specs.Guest.{tried}
 use Rattle.mig_model.specs.Wire.{Frame, Sent, Copy}
 use Rattle.mig_model.specs.Migration.{World, with_guest_by, guest_by, next, outcome, guest_of, runs}
 use Rattle.mig_model.specs.Effects.{install_effect}

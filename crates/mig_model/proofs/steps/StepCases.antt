@@ -26,7 +26,8 @@ use Rattle.mig_base.specs.Userfault.{Noted, next_message}
 use Rattle.mig_model.specs.Guest.{Fault, is_present, took_by, is_changing}
 use Rattle.mig_model.specs.Migration.{World, Made, answer, next, outcome, guest_of, runs, has_started, is_short}
 use Rattle.mig_model.specs.Faults.{is_end, is_early}
-use Rattle.mig_model.specs.Effects.{try_effect, page_effect, read_effect, act_effect, frame_effect, install_effect}
+use Rattle.mig_base.specs.Acts.{act_effect}
+use Rattle.mig_model.specs.Effects.{try_effect, page_effect, read_effect, frame_effect, install_effect}
 use Rattle.mig_model.proofs.steps.StepWorlds.{after_run, after_command, after_start, after_round, after_send, after_source_read, after_source_act, after_switch, after_deliver, after_deliver_back, after_dest_read, after_dest_act, after_install, after_push, after_serve, after_end, after_break, after_notice, after_resume, has_no_cpu, after_deliver_urgent, after_push_urgent}
 use Rattle.mig_model.specs.Promises.{after_move, after_move_back, after_move_urgent}
 use Rattle.mig_model.specs.Log.{least_of, less}

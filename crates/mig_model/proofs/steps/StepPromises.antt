@@ -12,10 +12,11 @@ use Rattle.mig_base.specs.Bytes.{zero_page}
 use Rattle.mig_base.proofs.SetLemmas.{member_removed}
 use Rattle.mig_base.specs.Commands.{is_access}
 use Rattle.mig_model.specs.Space.{Space}
-use Rattle.mig_model.specs.Guest.{took_by, zero_installed, Act}
-use Rattle.mig_model.specs.Guest.Act.{Zeroed}
+use Rattle.mig_base.specs.declared.act.Act.{Act}
+use Rattle.mig_model.specs.Guest.{took_by, zero_installed}
+use Rattle.mig_base.specs.declared.act.Act.TheVariants.{Zeroed}
 use Rattle.mig_model.specs.Migration.{World, next, outcome, guest_of}
-use Rattle.mig_model.specs.Effects.{act_effect, act_effect}
+use Rattle.mig_base.specs.Acts.{act_effect}
 use Rattle.mig_model.proofs.steps.StepWorlds.{after_dest_act, after_source_act}
 use Rattle.mig_model.specs.Promises.{IsZeroed, keeps_remaining}
 use Rattle.mig_model.proofs.memory.IoctlLemmas.{get-put_pages}

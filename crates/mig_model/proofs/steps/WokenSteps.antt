@@ -10,14 +10,16 @@ use Rattle.mig_base.specs.declared.phase.SourcePhase.{SourcePhase}
 use Rattle.mig_base.specs.declared.schedule.Side.{Side}
 use Rattle.mig_base.specs.declared.schedule.Step.{Step}
 use Rattle.mig_model.specs.Cpus.{all_woken, woken_if}
-use Rattle.mig_model.specs.Guest.{Act, Guest}
-use Rattle.mig_model.specs.Guest.Act.{Unprotected, Requested}
+use Rattle.mig_base.specs.declared.act.Act.{Act}
+use Rattle.mig_model.specs.Guest.{Guest}
+use Rattle.mig_base.specs.declared.act.Act.TheVariants.{Unprotected, Requested}
 use Rattle.mig_model.specs.Wire.{Copy, Frame, Sent, is_zeros}
 use Rattle.mig_model.specs.Owed.{home}
 use Rattle.mig_model.specs.Source.{Source, bytes_of, is_stopped, source_act, source_acted_by, source_took, space_of}
 use Rattle.mig_model.specs.Destination.{Destination, destination_act, destination_acted_by, destination_took, install_by, urgent_took}
 use Rattle.mig_model.specs.Migration.{Made, World, answer, guest_of, next}
-use Rattle.mig_model.specs.Effects.{act_effect, frame_effect, install_effect}
+use Rattle.mig_base.specs.Acts.{act_effect}
+use Rattle.mig_model.specs.Effects.{frame_effect, install_effect}
 use Rattle.mig_model.proofs.steps.StepWorlds.{after_deliver}
 use Rattle.mig_model.specs.Whereabouts.{is_package}
 use Rattle.mig_model.specs.Promises.{AreFaults}

@@ -14,7 +14,7 @@ use Rattle.mig_base.specs.Pages.{map_below}
 use Rattle.mig_base.proofs.PageLemmas.{same_pages, get-map_below}
 use Rattle.mig_model.specs.Host.{Host, memory, IsSound}
 use Rattle.mig_model.specs.Guest.{Fault, is_present}
-use Rattle.mig_model.specs.Guest.Act.{Zeroed}
+use Rattle.mig_base.specs.declared.act.Act.TheVariants.{Zeroed}
 use Rattle.mig_model.specs.Migration.{World, runs}
 use Rattle.mig_model.specs.Whereabouts.{IsPrecopying, IsSwitching, IsReceiving, seen_bytes, seen_host, current_by, copies_of, has_copy, is_urgent_or_left}
 use Rattle.mig_model.specs.Invariant.{IsSoundWorld, AreSoundUrgent}

@@ -1,8 +1,9 @@
 //! Calls of a destination, and what they answer.
 
 use crate::frames::{Brief, Sending, frame_of};
-use fault_handler::{Act, Destination};
+use fault_handler::Destination;
 use guest::Tried;
+use mig_base::act::Act;
 use mig_base::cpu_state::CpuState;
 use mig_base::effect::Effect;
 use mig_base::fault::TakeFault;

@@ -15,7 +15,7 @@ use super::play::{
 };
 use crate::frames::Sending::{Advise, Discard, End, Package, Page, Run, Zero};
 use crate::frames::{Brief, NONE};
-use fault_handler::Act as Resolving;
+use mig_base::act::Act as Resolving;
 use mig_base::cpu_state::CpuState;
 use mig_base::effect::Effect;
 use mig_base::phase::{DestPhase, Received};

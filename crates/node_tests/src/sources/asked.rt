@@ -7,7 +7,7 @@ use super::calls::Call::{
     RunSent, Send, Start, Store, Switch,
 };
 use super::play::{AT_10, DONE_0, PAGE_10, STARTED, Steps, play};
-use dirty_log::Act::{Unprotected, Woke, Zeroed};
+use mig_base::act::Act::{Unprotected, Woke, Zeroed};
 use mig_base::effect::Effect;
 use mig_base::refusal::Refusal;
 use mig_base::{Command, Message, Reply};

@@ -4,8 +4,9 @@ ghost use Rattle.std.specs.Prelude.{◌≡◌, false};
 ghost use Rattle.mig_model.specs.Source.{is_released};
 
 use crate::frames::set_of;
-use dirty_log::{DirtyLog, Sent};
+use dirty_log::{DirtyLog, PageContent};
 use guest::Tried;
+use mig_base::act::Act as Resolving;
 use mig_base::cpu_state::CpuState;
 use mig_base::effect::Effect;
 use mig_base::fault::BackFault;
@@ -116,7 +117,7 @@ pub(super) enum Answer {
     /// A first page, and how many they are.
     Finds(PageNo, u32),
     Marks(Effect, PageNo, u32),
-    WouldAct(dirty_log::Act, Addr),
+    WouldAct(Resolving, Addr),
     Remains(Option<PageNo>),
     NotTaken(BackFault),
     /// The phase, whether the source has switched, and its epoch.
@@ -185,10 +186,10 @@ fn sent(answer: Result<(Effect, Frame), Refusal>) -> Result<Answer, Refusal> {
 }
 
 /// What goes on the wire of a page.
-fn page_sent(page: PageNo, sent: Sent) -> Brief {
+fn page_sent(page: PageNo, sent: PageContent) -> Brief {
     match sent {
-        Sent::Page(bytes) => Brief::Page(page, bytes[0]),
-        Sent::Zero => Brief::Zero(page),
+        PageContent::Page(bytes) => Brief::Page(page, bytes[0]),
+        PageContent::Zero => Brief::Zero(page),
     }
 }
 

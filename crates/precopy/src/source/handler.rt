@@ -3,19 +3,18 @@
 ghost use Rattle.std.specs.Prelude.{◌≡◌, ◌/◌, ℕ, List, ◌∷◌, Some, Err, IfOk, IfErr, OnErr};
 ghost use Rattle.mig_base.specs.declared.message.Message.{Message};
 ghost use Rattle.mig_base.specs.declared.refusal.Refusal.{Refusal};
-ghost use Rattle.mig_model.specs.Effects.{act_effect, read_effect};
-ghost use Rattle.mig_model.specs.Guest as guest;
+ghost use Rattle.mig_base.specs.Acts.{act_effect};
+ghost use Rattle.mig_model.specs.Effects.{read_effect};
 ghost use Rattle.mig_model.specs.Guest.{Fault, Guest, fault_count};
 ghost use Rattle.mig_base.specs.declared.TheConstants.{PAGE_SIZE};
 ghost use Rattle.mig_model.specs.NodeSteps.{IsRefusedFor, acted, and_then};
 ghost use Rattle.mig_model.specs.Source.{is_handling, source_act, source_acted_by};
 ghost use Rattle.mig_model.specs.SourceSteps.{act, read};
 ghost use Rattle.mig_base.specs.Userfault.{Noted, next_message};
-ghost use Rattle.dirty_log.specs.Acts.{act_is};
 
 use super::Source;
-use dirty_log::Act;
 use mig_base::Addr;
+use mig_base::act::Act;
 use mig_base::effect::Effect;
 use mig_base::phase::SourcePhase;
 use mig_base::refusal::Refusal;
@@ -46,8 +45,8 @@ impl Source {
     pub fn next_act(&self) -> Result<(Act, Addr), Refusal>
         ensures { act self.now ≡
             and_then result (λ next.
-            acted (act_effect (act_is next.0) next.1)
-            (source_acted_by (act_is next.0) self.now (next.1 / PAGE_SIZE))) }
+            acted (act_effect next.0 next.1)
+            (source_acted_by next.0 self.now (next.1 / PAGE_SIZE))) }
     {
         if !self.is_handling() {
             return Err(Refusal::Phase);
@@ -62,7 +61,7 @@ impl Source {
         ensures made { IfOk result (λ effect. act self.old ≡ acted effect self.new) }
         ensures refused { IfErr result (λ refusal. IsRefusedFor (act self.old) refusal) }
         ensures memory { (fault : Fault) (rest : List Fault) → self.old.log.held ≡ fault ∷ rest →
-            result ≡ Err Refusal.NoMemory → source_act self.old fault ≡ guest.Act.Zeroed }
+            result ≡ Err Refusal.NoMemory → source_act self.old fault ≡ Act.Zeroed }
         ensures err { OnErr result (self.new ≡ self.old) }
     {
         if !self.is_handling() {
@@ -70,7 +69,7 @@ impl Source {
         }
         self.space.is_in_order();
         let (act, addr) = self.log.act(&mut self.space, &mut self.cpus)?;
-        Ok(act_effect(act, addr))
+        Ok(act.effect(addr))
     }
 
     /// Whether the source runs the processors in a migration.
@@ -89,17 +88,5 @@ fn faults_in(effect: Effect) -> u64
     match effect {
         Effect::ReadFault { .. } => 1,
         _ => 0,
-    }
-}
-
-/// The effect of resolving a fault at an address.
-fn act_effect(act: Act, addr: Addr) -> Effect
-    ensures { result ≡ act_effect (act_is act) addr }
-{
-    match act {
-        Act::Unprotected => Effect::Unprotected { addr },
-        Act::Zeroed => Effect::Zeroed { addr },
-        Act::Woke => Effect::Woke { addr },
-        Act::Forgot => Effect::Forgot { addr },
     }
 }

@@ -19,7 +19,7 @@ ghost use Rattle.precopy.specs.Sending.{IsPushed, IsPushedUrgently};
 
 use super::Source;
 use super::rounds::page_effect;
-use dirty_log::Sent;
+use dirty_log::PageContent;
 use mig_base::effect::Effect;
 use mig_base::phase::SourcePhase;
 use mig_base::refusal::Refusal;
@@ -99,7 +99,7 @@ impl Source {
     /// Sends an owed page, which then no longer remains. Its bytes are borrowed, so that nothing changes until they are written.
     /// Refused with `Phase` unless the source is stopped, with `StaleEpoch` if the ticket names another epoch, with `PageNotSendable`
     /// if the page is not present here, and with `NotRemaining` if it is not owed or was sent in this epoch. It takes no memory.
-    pub fn push(&mut self, ticket: Ticket) -> Result<(Effect, Sent<'_>), Refusal>
+    pub fn push(&mut self, ticket: Ticket) -> Result<(Effect, PageContent<'_>), Refusal>
         ensures* made { sem 𝓛 (LeavesSource self.entry result (λ made last.
             IsPushed self.old ticket made.0 (frame_sent ticket.page made.1) last)) }
         ensures sent { IfOk result (λ made.
@@ -112,14 +112,14 @@ impl Source {
         self.check_push(ticket)?;
         self.take_owed(ticket.page);
         self.space.is_in_order();
-        let sent = Sent::read(&self.space, ticket.page);
+        let sent = PageContent::read(&self.space, ticket.page);
         Ok((page_effect(ticket.page, sent), sent))
     }
 
     /// Like [`Source::push`], but for the urgent wire: the page goes there, and is counted. Refused like that call, and last with
     /// `CountUsed` if the count of the epoch is at its greatest value. No source of a world reaches that value, because it sends each
     /// page at most once in an epoch.
-    pub fn push_urgent(&mut self, ticket: Ticket) -> Result<(Effect, Sent<'_>), Refusal>
+    pub fn push_urgent(&mut self, ticket: Ticket) -> Result<(Effect, PageContent<'_>), Refusal>
         ensures* made { sem 𝓛 (LeavesSource self.entry result (λ made last.
             IsPushedUrgently self.old ticket made.0 (frame_sent ticket.page made.1) last)) }
         ensures sent { IfOk result (λ made.
@@ -139,7 +139,7 @@ impl Source {
         self.take_owed(ticket.page);
         self.urgent_sent += 1;
         self.space.is_in_order();
-        let sent = Sent::read(&self.space, ticket.page);
+        let sent = PageContent::read(&self.space, ticket.page);
         Ok((page_effect(ticket.page, sent), sent))
     }
 

@@ -10,14 +10,14 @@ ghost use Rattle.mig_model.specs.Source.{bytes_of};
 ghost use Rattle.mig_model.specs.SourceSteps.{next_to_send, round, send, start};
 ghost use Rattle.mig_model.specs.Wire.{page_frame};
 ghost use Rattle.dirty_log.specs.Sending.{frame_sent};
-ghost use Rattle.dirty_log.specs.declared.sent.Sent.{Sent};
+ghost use Rattle.dirty_log.specs.declared.page_content.PageContent.{PageContent};
 ghost use Rattle.mig_base.specs.declared.TheConstants.{HIGH_PAGE};
 ghost use Rattle.page_stream.specs.Frames.{frame_of};
 ghost use Rattle.precopy.specs.Lending.{LeavesSource};
 ghost use Rattle.precopy.specs.Sending.{IsPageSent};
 
 use super::Source;
-use dirty_log::Sent;
+use dirty_log::PageContent;
 use mig_base::effect::Effect;
 use mig_base::phase::SourcePhase;
 use mig_base::refusal::Refusal;
@@ -69,7 +69,7 @@ impl Source {
     /// zero is sent as a page of zeros. Its bytes are borrowed, so that nothing changes until they are written. Refused with `Phase`
     /// outside pre-copy, with `NothingThere` if the round has sent all its pages, with `Changing` while an event is unread, and last
     /// with `NoMemory`.
-    pub fn send_next(&mut self) -> Result<(Effect, PageNo, Sent<'_>), Refusal>
+    pub fn send_next(&mut self) -> Result<(Effect, PageNo, PageContent<'_>), Refusal>
         ensures* made { sem 𝓛 (LeavesSource self.entry result (λ made last.
             IsPageSent self.old made.0 made.1 (frame_sent made.1 made.2) last)) }
         ensures sent { IfOk result (λ made.
@@ -79,13 +79,13 @@ impl Source {
 
         // The same for a reader: `Zero` is returned exactly if all bytes of the page are zero.
         ensures zero { IfOk result (λ made.
-            (made.2 ≡ Sent.Zero) ↔ (bytes_of self.old made.1 ≡ zero_page)) }
+            (made.2 ≡ PageContent.Zero) ↔ (bytes_of self.old made.1 ≡ zero_page)) }
     {
         let page = self.next_to_send()?;
         self.space.is_in_order();
         self.log.protect_page(&mut self.space, page)?;
         self.pages_sent = self.pages_sent.saturating_add(1);
-        let sent = Sent::read(&self.space, page);
+        let sent = PageContent::read(&self.space, page);
         Ok((page_effect(page, sent), page, sent))
     }
 
@@ -108,13 +108,13 @@ impl Source {
 }
 
 /// The effect of sending a page.
-pub(super) fn page_effect(page: PageNo, sent: Sent) -> Effect
+pub(super) fn page_effect(page: PageNo, sent: PageContent) -> Effect
     ensures { (bytes : List ℕ) → frame_sent page sent.entry ≡ page_frame page bytes →
         result ≡ page_effect page bytes }
 {
     let addr = page_address(page);
     match sent {
-        Sent::Page(_) => Effect::SentPage { addr },
-        Sent::Zero => Effect::SentZero { addr },
+        PageContent::Page(_) => Effect::SentPage { addr },
+        PageContent::Zero => Effect::SentZero { addr },
     }
 }

@@ -9,7 +9,7 @@ ghost use Rattle.dirty_log.specs.Sending.{frame_sent};
 ghost use Rattle.world.specs.Worlds.{IsWorld, world_of};
 
 use super::Parts;
-use dirty_log::Sent;
+use dirty_log::PageContent;
 use mig_base::PageNo;
 use mig_base::effect::Effect;
 use mig_base::refusal::Refusal;
@@ -72,13 +72,13 @@ impl Parts {
 }
 
 /// Puts a page that the source sends on a wire that has room for it. Its bytes are written from where they stand.
-pub(super) fn send_page(wire: &mut Wire, epoch: u32, page: PageNo, sent: Sent)
+pub(super) fn send_page(wire: &mut Wire, epoch: u32, page: PageNo, sent: PageContent)
     requires well_formed { IsFrame (frame_sent page sent) }
     requires room { 0 < wire.old.room }
     ensures { wire.new.wire ≡ wire_with wire.old.wire epoch (frame_sent page sent.entry ∷ []) }
 {
     match sent {
-        Sent::Zero => wire.push(epoch, Frame::Zero { page }),
-        Sent::Page(bytes) => wire.push_page(epoch, page, bytes),
+        PageContent::Zero => wire.push(epoch, Frame::Zero { page }),
+        PageContent::Page(bytes) => wire.push_page(epoch, page, bytes),
     }
 }

@@ -6,7 +6,7 @@ use Rattle.mig_model.specs.Source.{Source, bytes_of}
 use Rattle.mig_model.specs.Wire.{page_frame}
 use Rattle.mig_model.proofs.memory.Facts.{counted_is}
 use Rattle.dirty_log.specs.Answers.{IsRefusedAs, send_refusal}
-use Rattle.dirty_log.specs.declared.sent.Sent.{Sent}
+use Rattle.dirty_log.specs.declared.page_content.PageContent.{PageContent}
 use Rattle.dirty_log.proofs.SendLemmas.{one_sent, zero_shown}
 use Rattle.mig_model.specs.SourceSteps.{next_to_send}
 use Rattle.precopy.proofs.OrderLemmas.{sent_order}
@@ -62,6 +62,6 @@ returns c =
         sent = sent;
         frame = c.read-sent.ensures.frame done.present.1;
         refused = tt;
-        zero = subst (λ (n : Source). (c.read-sent.result ≡ Sent.Zero) ↔ (bytes_of n page ≡ zero_page)) c.self.view_is (zero_shown c.self.inside.space page c.read-sent.result c.is_in_order.ensures done.accepted inside);
+        zero = subst (λ (n : Source). (c.read-sent.result ≡ PageContent.Zero) ↔ (bytes_of n page ≡ zero_page)) c.self.view_is (zero_shown c.self.inside.space page c.read-sent.result c.is_in_order.ensures done.accepted inside);
       },
     )

@@ -1,6 +1,6 @@
 use Rattle.std.proofs.Common.{◌≡◌, length, take}
 use Rattle.mig_model.specs.Source.{Source, run_of, space_of}
-use Rattle.dirty_log.proofs.content.read_pages.Given as goal
+use Rattle.dirty_log.proofs.bytes.read_pages.Given as goal
 
 abbrev pub invariant-loop-i : goal.invariant-loop-i
 invariant-loop-i l = record {

@@ -7,21 +7,21 @@ ghost use Rattle.mig_model.specs.Guest.{is_present};
 ghost use Rattle.mig_model.specs.Wire.{page_frame};
 ghost use Rattle.dirty_log.specs.Sending.{frame_sent};
 
-use crate::content::{are_bytes, are_zeros, bytes_at};
+use crate::bytes::{are_bytes, are_zeros, bytes_at};
 use mig_base::{PAGE_BYTES, PageNo};
 use uffd_ioctl::Space;
 
 /// What is sent for a page. The bytes are not copied but stay borrowed until they are written, so the wire gets the bytes that this page
 /// has now.
 #[derive(Clone, Copy)]
-pub enum Sent<'a> {
+pub enum PageContent<'a> {
     /// The bytes of the page.
     Page(&'a [u8; PAGE_BYTES]),
     /// Only that all its bytes are zero.
     Zero,
 }
 
-impl<'a> Sent<'a> {
+impl<'a> PageContent<'a> {
     /// What is sent for a present page.
     pub fn read(space: &'a Space, page: PageNo) -> Self
         requires { is_present space.now page ≡ true }
@@ -32,9 +32,9 @@ impl<'a> Sent<'a> {
         let bytes = bytes_at(space, page);
         are_bytes(bytes);
         if are_zeros(bytes) {
-            Sent::Zero
+            PageContent::Zero
         } else {
-            Sent::Page(bytes)
+            PageContent::Page(bytes)
         }
     }
 }

@@ -2,7 +2,7 @@ use Rattle.std.proofs.Common.{◌+◌, ◌∙◌, ap, sym, arith}
 use Rattle.mig_base.specs.Bytes.{contents}
 use Rattle.std.proofs.lemmas.List.{length-set}
 use Rattle.dirty_log.proofs.SendLemmas.{run_read}
-use Rattle.dirty_log.proofs.content.read_pages.Goals as goal
+use Rattle.dirty_log.proofs.bytes.read_pages.Goals as goal
 
 pub loop-i-preserved : goal.loop-i-preserved
 loop-i-preserved c = record {
