@@ -47,7 +47,7 @@ abbrev pub IsBeyond : Option ℕ → List ℕ → Type 0
 IsBeyond None input = ⊥
 IsBeyond (Some count) input = HasFewer count input
 
--- the lines of an input that are run: as many as asked for, or all
+-- the lines of an input that are run: the number asked for, or all
 abbrev pub IsRun : Option ℕ → List ℕ → List ℕ → Type 0
 IsRun None input front = front ≡ input
 IsRun (Some count) input front = AreFirst count input front

@@ -5,7 +5,7 @@ ghost use Rattle.show.specs.Shown.{AreFirst, HasFewer, IsBeyond, IsRun};
 
 use engine::script_reader::split_line;
 
-/// The first lines of some bytes with their line feeds, as many as `count` says. `None` if there are fewer. What comes after the last line
+/// The first `count` lines of some bytes, with their line feeds. `None` if there are fewer. What comes after the last line
 /// feed is a line too, unless nothing does.
 fn first_lines(bytes: &[u8], count: u64) -> Option<&[u8]>
     ensures some { IfSome result (λ front. AreFirst count bytes.now front.now) }
@@ -26,7 +26,7 @@ fn first_lines(bytes: &[u8], count: u64) -> Option<&[u8]>
     Some(&bytes[..bytes.len() - rest.len()])
 }
 
-/// The lines of an input that are run: as many as asked for, or all. `None` if there are fewer.
+/// The lines of an input that are run: the number asked for, or all. `None` if there are fewer.
 pub(crate) fn run_lines(input: &[u8], at: Option<u64>) -> Option<&[u8]>
     ensures some { IfSome result (λ front. IsRun at input.now front.now) }
     ensures none { IfNone result (IsBeyond at input.now) }

@@ -106,10 +106,7 @@ pub fn answered(
 }
 
 /// How the writing of a script with its outputs beside it ends, and what it wrote. It is made again if memory is refused.
-pub fn echoed(
-    alloc: Global,
-    script: &[u8],
-) -> Result<(Result<(), RunFault>, Vec<u8>), AllocError> {
+pub fn echoed(alloc: Global, script: &[u8]) -> Result<(Result<(), RunFault>, Vec<u8>), AllocError> {
     let mut text = room(alloc)?;
     let mut outcome = Err(RunFault::NoMemory);
     for _ in 0..2 {
