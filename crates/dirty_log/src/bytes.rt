@@ -1,7 +1,7 @@
 //! The bytes of pages.
 
-ghost use Rattle.std.specs.Prelude.{◌≡◌, ℕ, ◌+◌, ◌<◌, ◌≤◌, ◌==◌, length, true, IfOk};
-ghost use Rattle.std.specs.List.{All, list_all};
+ghost use Rattle.std.specs.Prelude.{◌≡◌, ℕ, ◌+◌, ◌<◌, ◌≤◌, length, true, IfOk};
+ghost use Rattle.std.specs.List.{All};
 ghost use Rattle.mig_base.specs.Bytes.{contents};
 ghost use Rattle.mig_model.specs.Guest.{is_present};
 ghost use Rattle.mig_base.specs.declared.TheConstants.{HIGH_PAGE};
@@ -10,13 +10,6 @@ ghost use Rattle.mig_model.specs.Source.{Source, run_of, space_of};
 use mig_base::{NoMemory, PAGE_BYTES, PageBytes, PageNo};
 use std::alloc::Global;
 use uffd_ioctl::Space;
-
-/// Whether all bytes are zero.
-pub fn are_zeros(bytes: &[u8]) -> bool
-    ensures { result ≡ list_all (λ byte. byte == 0) bytes.now }
-{
-    bytes.iter().all(|byte| *byte == 0)
-}
 
 /// `count` pages of zeros, into which bytes can be read. `NoMemory` if they cannot be allocated.
 pub fn blank_pages(alloc: Global, count: u32) -> Result<Vec<PageBytes>, NoMemory>

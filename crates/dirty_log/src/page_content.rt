@@ -7,7 +7,8 @@ ghost use Rattle.mig_model.specs.Guest.{is_present};
 ghost use Rattle.mig_model.specs.Wire.{page_frame};
 ghost use Rattle.dirty_log.specs.Sending.{frame_sent};
 
-use crate::bytes::{are_bytes, are_zeros, bytes_at};
+use crate::bytes::{are_bytes, bytes_at};
+use mig_base::zeros::are_zeros;
 use mig_base::{PAGE_BYTES, PageNo};
 use uffd_ioctl::Space;
 

@@ -1,12 +1,13 @@
 -- What a destination says before it makes a step, and when a Notice is its own.
 use Rattle.std.specs.Prelude.{◌≡◌, ℕ, Bool, true, false, Option, Result, Ok}
+use Rattle.mig_base.specs.Acts.{act_effect}
+use Rattle.mig_base.specs.declared.act.Act.{Act}
 use Rattle.mig_base.specs.declared.effect.Effect.{Effect}
 use Rattle.mig_base.specs.declared.refusal.Refusal.{Refusal}
 use Rattle.mig_base.specs.declared.schedule.Side.{Side}
 use Rattle.mig_base.specs.declared.schedule.Step.{Step}
 use Rattle.mig_model.specs.Destination.{Destination}
 use Rattle.mig_model.specs.DestinationSteps.{act, install, pause}
-use Rattle.mig_base.specs.Acts.{act_effect}
 use Rattle.mig_model.specs.Effects.{install_effect}
 use Rattle.mig_model.specs.Migration.{World, answer, destination_acts}
 use Rattle.mig_model.specs.NodeSteps.{and_then}

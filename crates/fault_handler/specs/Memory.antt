@@ -1,9 +1,9 @@
 -- The calls of a destination that may need memory.
 use Rattle.std.specs.Prelude.{not, Bool, true, false}
+use Rattle.mig_base.specs.declared.act.Act.{Act}
 use Rattle.mig_base.specs.declared.message.Message.{Message}
 use Rattle.mig_base.specs.declared.message.Message.TheVariants.{PageFault, Remap, Remove, Unmap}
 use Rattle.mig_model.specs.Destination.{Destination}
-use Rattle.mig_base.specs.declared.act.Act.{Act}
 use Rattle.mig_model.specs.Owed.{is_requested}
 
 -- whether reading a message may need memory: a page fault is held, and pairs that move may need room at their new pages

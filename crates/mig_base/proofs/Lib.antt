@@ -17,3 +17,4 @@ pub mod ChunkSets
 pub mod PageSetLemmas
 pub mod PageSetViews
 pub mod RunLemmas
+pub mod ZeroLemmas

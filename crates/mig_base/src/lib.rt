@@ -35,6 +35,7 @@ mod slots;
 mod texts;
 pub mod wake;
 mod words;
+pub mod zeros;
 
 pub use crate::command::{Access, Command, Entry, Errno, Place, Reply};
 pub use crate::message::Message;

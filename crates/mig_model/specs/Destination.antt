@@ -5,6 +5,8 @@ use Rattle.std.specs.Ordering.{nat_cmp}
 use Rattle.std.specs.FinMap as finmap
 use Rattle.std.specs.FinMap.{FinMap, get, contains_key}
 use Rattle.std.specs.FinSet.{FinSet}
+use Rattle.mig_base.specs.declared.act.Act.{Act}
+use Rattle.mig_base.specs.declared.act.Act.TheVariants.{Zeroed, Woke, Forgot, Requested}
 use Rattle.mig_base.specs.declared.TheConstants.{HIGH_PAGE}
 use Rattle.mig_base.specs.declared.Prot.{Prot}
 use Rattle.mig_base.specs.declared.command.Command.{Command}
@@ -15,9 +17,7 @@ use Rattle.mig_base.specs.Userfault.{Noted, Mode, fresh_object, enabled_with, re
 use Rattle.mig_model.specs.Space.{Space, fresh_space}
 use Rattle.mig_model.specs.Ioctls.{event_features, installed as pages_installed}
 use Rattle.mig_model.specs.Cpus.{idle_processors, taken_over}
-use Rattle.mig_base.specs.declared.act.Act.{Act}
 use Rattle.mig_model.specs.Guest.{Guest, Fault, counted, fault_count, read_guest, resolved, held_after, rest_held, zero_installed, is_forgotten, is_present}
-use Rattle.mig_base.specs.declared.act.Act.TheVariants.{Zeroed, Woke, Forgot, Requested}
 use Rattle.mig_model.specs.Log.{no_pages}
 use Rattle.mig_model.specs.Owed.{Owed, owed_table_after, settled_by, origins, own_places, is_requested, requesting, without_request}
 use Rattle.mig_model.specs.Wire.{Frame, Copy, kept_after}

@@ -2,12 +2,12 @@
 -- applies is given.
 use Rattle.std.specs.Prelude.{ℕ, ◌*◌, ◌&&◌, not, ok_or, Result, [], ◌∷◌}
 use Rattle.mig_base.specs.Tests.{is_empty}
+use Rattle.mig_base.specs.Acts.{act_effect}
 use Rattle.mig_base.specs.declared.TheConstants.{PAGE_SIZE}
 use Rattle.mig_base.specs.declared.effect.Effect.{Effect}
 use Rattle.mig_base.specs.declared.refusal.Refusal.{Refusal}
 use Rattle.mig_base.specs.declared.schedule.Side.{Side}
 use Rattle.mig_model.specs.Destination.{Destination, act_frames, destination_act, destination_acted, destination_answers, destination_paused, destination_read, destination_took, install_by, is_dest_paused, urgent_took}
-use Rattle.mig_base.specs.Acts.{act_effect}
 use Rattle.mig_model.specs.Effects.{frame_effect, install_effect, read_effect}
 use Rattle.mig_model.specs.Faults.{is_early, is_end}
 use Rattle.mig_model.specs.GuestSteps.{when_quiet}

@@ -4,6 +4,8 @@ use Rattle.std.specs.Prelude.{ℕ, zero, suc, ◌+◌, ◌&&◌, not, Bool, true
 use Rattle.std.specs.Ordering.{nat_cmp}
 use Rattle.std.specs.FinSet as finset
 use Rattle.std.specs.FinSet.{FinSet, contains}
+use Rattle.mig_base.specs.declared.act.Act.{Act}
+use Rattle.mig_base.specs.declared.act.Act.TheVariants.{Unprotected, Zeroed, Woke, Forgot}
 use Rattle.mig_base.specs.declared.TheConstants.{HIGH_PAGE}
 use Rattle.mig_base.specs.declared.command.Command.{Command}
 use Rattle.mig_base.specs.declared.phase.Received.{Received}
@@ -13,9 +15,7 @@ use Rattle.mig_base.specs.Userfault.{Noted, Mode, fresh_object, enabled_with}
 use Rattle.mig_model.specs.Space.{Space, fresh_space}
 use Rattle.mig_model.specs.Ioctls.{all_features, registered_in, protected_in}
 use Rattle.mig_model.specs.Cpus.{Cpus, idle_processors, outstanding}
-use Rattle.mig_base.specs.declared.act.Act.{Act}
 use Rattle.mig_model.specs.Guest.{Guest, Fault, counted, fault_count, read_guest, resolved, zero_installed, is_forgotten, is_present}
-use Rattle.mig_base.specs.declared.act.Act.TheVariants.{Unprotected, Zeroed, Woke, Forgot}
 use Rattle.mig_model.specs.Log.{Log, empty_log, forgotten, dirty, log_sent, log_run_sent, log_read, log_resolved, log_written, no_pages, less, present}
 use Rattle.mig_model.specs.Wire.{Frame}
 use Rattle.mig_model.specs.Wire.Frame.{Discard, Package, Request, Recv, Done}

@@ -5,12 +5,12 @@ use Rattle.std.specs.FinSet as finset
 use Rattle.std.specs.FinSet.{contains}
 use Rattle.mig_base.specs.Ranges.{lesser}
 use Rattle.mig_base.specs.Sets.{run_length}
+use Rattle.mig_base.specs.Acts.{act_effect}
 use Rattle.mig_base.specs.declared.TheConstants.{PAGE_SIZE, MAX_RUN}
 use Rattle.mig_base.specs.declared.effect.Effect.{Effect}
 use Rattle.mig_base.specs.declared.refusal.Refusal.{Refusal}
 use Rattle.mig_base.specs.declared.schedule.Side.{Side}
 use Rattle.mig_base.specs.declared.schedule.Ticket.{Ticket}
-use Rattle.mig_base.specs.Acts.{act_effect}
 use Rattle.mig_model.specs.Effects.{frame_effect, page_effect, read_effect}
 use Rattle.mig_model.specs.Guest.{is_changing, is_present}
 use Rattle.mig_model.specs.GuestSteps.{when_quiet}

@@ -1,20 +1,17 @@
 //! One page of a leaf. A page of zeros takes no memory until another byte is stored to it.
 
-ghost use Rattle.std.specs.Prelude.{◌≡◌, ℕ, ◌+◌, ◌≤◌, ◌==◌, is_some, None, Some, IfOk, OnErr, unwrap_or, length};
-ghost use Rattle.std.specs.List.{list_all};
+ghost use Rattle.std.specs.Prelude.{◌≡◌, ℕ, ◌+◌, ◌≤◌, is_some, None, Some, IfOk, OnErr, unwrap_or, length};
 ghost use Rattle.std.specs.Option.{option_copied};
 ghost use Rattle.mig_base.specs.Bytes.{overwrite, zero_page};
 ghost use Rattle.mig_base.specs.declared.TheConstants.{PAGE_SIZE};
 ghost use Rattle.page_table.specs.Bytes.{stored_page};
 ghost use Rattle.page_table.specs.Contents.{bytes_in};
 
+use mig_base::zeros::{are_zeros, zero_bytes};
 use mig_base::{NoMemory, PAGE_BYTES, PageBytes};
 use std::alloc::Global;
 use std::marker::Model;
 use std::mem::replace;
-
-/// The bytes of every page of zeros that has none of its own.
-static ZEROS: [u8; PAGE_BYTES] = [0; PAGE_BYTES];
 
 /// What a page has.
 #[derive(Drop)]
@@ -143,18 +140,4 @@ fn written(alloc: Global, offset: usize, bytes: &[u8]) -> Result<Content, NoMemo
     let mut held = PageBytes::zeros(alloc)?;
     held.write(offset, bytes);
     Ok(Content::Bytes(held))
-}
-
-/// The bytes of a page of zeros.
-fn zero_bytes() -> &'static [u8; PAGE_BYTES]
-    ensures { result.now ≡ zero_page }
-{
-    &ZEROS
-}
-
-/// Whether all bytes are zero.
-fn are_zeros(bytes: &[u8]) -> bool
-    ensures { result ≡ list_all (λ byte. byte == 0) bytes.now }
-{
-    bytes.iter().all(|byte| *byte == 0)
 }
