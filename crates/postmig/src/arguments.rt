@@ -1,6 +1,6 @@
 //! The command line: its subcommands and their arguments.
 
-use crate::show::show_command;
+use crate::showing::show_command;
 use clap::{Arg, ArgAction, Command, value_parser};
 use std::alloc::{AllocError, Global};
 

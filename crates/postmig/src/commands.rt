@@ -5,7 +5,7 @@ ghost use Rattle.std.specs.Prelude.{◌≤◌};
 use crate::arguments::command_line;
 use crate::input::Input;
 use crate::reasons::{say_wrong_line, say_wrong_lines};
-use crate::show::show;
+use crate::showing::show;
 use crate::status::{
     ALL_DONE, BAD_COMMAND_OR_SCRIPT, NO_MEMORY, READ_OR_WRITE_FAULT, strict_status_of,
 };

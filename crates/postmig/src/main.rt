@@ -26,7 +26,7 @@ mod commands;
 mod input;
 mod reasons;
 mod renewal;
-mod show;
+mod showing;
 mod status;
 mod streams;
 mod tally;

@@ -3,13 +3,13 @@
 ghost use Rattle.std.specs.Prelude.{IfOk, string_bytes};
 ghost use Rattle.show.specs.Shown.{IsOf};
 
+use crate::channel::write_wires;
 use crate::cpus::write_cpus;
 use crate::owed::write_owed;
 use crate::pages::write_pages;
 use crate::queues::write_queues;
 use crate::survey::Survey;
 use crate::what::{Span, What};
-use crate::wires::write_wires;
 use engine::progress;
 use grammar::print_progress;
 use mig_base::NoMemory;

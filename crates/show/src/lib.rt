@@ -8,6 +8,7 @@
 //! The crate names no file, no command line and no exit status: readers and writers are its callers'.
 #![tactic(auto)]
 
+mod channel;
 mod cpus;
 mod cut;
 mod facts;
@@ -18,7 +19,6 @@ mod queues;
 mod run;
 mod survey;
 mod what;
-mod wires;
 
 pub use crate::run::show_script;
 pub use crate::what::{Asked, Span, What};

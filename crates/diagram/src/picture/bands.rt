@@ -104,10 +104,12 @@ fn hides(plan: &Plan, wait: &Wait, later: &[Wait], end: u64) -> bool {
 fn wait_label(pen: &mut Pen, plan: &Plan, wait: &Wait, later: &[Wait], free: u64) -> u64 {
     let steps = wait.columns().saturating_mul(plan.columns.per);
     let words = [Page(wait.page), Words(": "), Number(steps)];
-    let x = plan.x_of(wait.from);
-    let end = x.saturating_add(pen.width(&words, 90)).saturating_add(40);
-    let outside = end > plan.right().saturating_add(300);
-    if x < free || outside || hides(plan, wait, later, end) {
+    let width = pen.width(&words, 90).saturating_add(40);
+    // On the right of the columns are the counts.
+    let last = plan.right().saturating_add(80).saturating_sub(width);
+    let x = plan.x_of(wait.from).min(last);
+    let end = x.saturating_add(width);
+    if x < free || hides(plan, wait, later, end) {
         return free;
     }
     let top = plan.processors.top_of(wait.cpu);

@@ -150,14 +150,18 @@ impl Kinds {
     }
 }
 
-/// Whether a mark of this kind is among the marks.
-fn has_mark(record: &Record, is_one: fn(Event) -> bool) -> bool {
+/// Whether a switch, and whether a break, is among the marks.
+fn grounds_in(record: &Record) -> (bool, bool) {
+    let mut switches = false;
+    let mut breaks = false;
     for mark in &record.marks {
-        if is_one(mark.event) {
-            return true;
+        match mark.event {
+            Event::Switch => switches = true,
+            Event::Break => breaks = true,
+            _ => {}
         }
     }
-    false
+    (switches, breaks)
 }
 
 /// Whether a bar has the number of steps after which its page was installed.
@@ -189,8 +193,7 @@ pub(super) fn find_items(memory: &mut Memory, plan: &Plan, record: &Record) -> I
     let urgent = Kinds::of(&record.urgent.flights);
     let back = Kinds::of(&record.back.flights);
     let lost = forward.lost || urgent.lost || back.lost;
-    let switches = has_mark(record, |event| matches!(event, Event::Switch));
-    let breaks = has_mark(record, |event| matches!(event, Event::Break));
+    let (switches, breaks) = grounds_in(record);
     let signs = [
         (Sign::NobodyRuns, switches),
         (Sign::NoLink, breaks),
