@@ -1,5 +1,5 @@
 -- What is written of a script: the progress of the world to which its first lines lead, and then more facts of it.
-use Rattle.std.specs.Prelude.{◌≡◌, ℕ, ◌+◌, ◌<◌, ◌⊎◌, Bool, true, false, List, [], ◌∷◌, ◌++◌, length, All, Option, Some, None, ⊤}
+use Rattle.std.specs.Prelude.{◌≡◌, ℕ, ◌+◌, ◌<◌, ◌⊎◌, Bool, true, false, List, [], ◌∷◌, ◌++◌, length, Option, Some, None, ⊤}
 use Rattle.std.specs.Io.KnownBytes.{Appends}
 use Rattle.grammar.specs.declared.line.Language.TheVariants.{Script}
 use Rattle.grammar.specs.declared.line.Line.{Line}
@@ -21,12 +21,17 @@ abbrev pub lines_of : List ℕ → ℕ
 lines_of [] = 0
 lines_of (byte ∷ bytes) = 1
 
+-- none of the lines has a line feed
+abbrev pub HaveNoFeed : List (List ℕ) → Type 0
+HaveNoFeed [] = ⊤
+HaveNoFeed (raw ∷ raws) = HasNoFeed raw × HaveNoFeed raws
+
 -- an input begins with this many lines: each has a line feed, but the last line of the input may lack it
 pub record AreFirst (count : ℕ) (input front : List ℕ) : Type 0 where
   pub raws : List (List ℕ)
   pub last : List ℕ
   pub rest : List ℕ
-  pub each : All HasNoFeed raws
+  pub each : HaveNoFeed raws
   pub one : HasNoFeed last
   pub parts : front ≡ joined raws ++ last
   pub whole : input ≡ front ++ rest
@@ -37,7 +42,7 @@ pub record AreFirst (count : ℕ) (input front : List ℕ) : Type 0 where
 pub record HasFewer (count : ℕ) (input : List ℕ) : Type 0 where
   pub raws : List (List ℕ)
   pub last : List ℕ
-  pub each : All HasNoFeed raws
+  pub each : HaveNoFeed raws
   pub one : HasNoFeed last
   pub whole : input ≡ joined raws ++ last
   pub counts : length raws + lines_of last < count
