@@ -45,7 +45,9 @@ struct Thread {
     /// The last state of [`State::ALL`] that a page has now, and that one had in this column.
     now: State,
     peak: State,
+    /// What each of the two is about.
     about: u32,
+    peak_about: u32,
     /// The stretch that continues.
     open: Stretch,
 }
@@ -56,6 +58,7 @@ const STILL: Thread = Thread {
     now: State::Blank,
     peak: State::Blank,
     about: 0,
+    peak_about: 0,
     open: Stretch {
         row: 0,
         from: 0,
@@ -68,7 +71,13 @@ const STILL: Thread = Thread {
 impl Thread {
     /// Ends the open stretch before a column if another state is shown there. Returns it if it is drawn.
     fn cut(&mut self, column: u32, shown: State) -> Option<Stretch> {
+        let about = if shown == self.now {
+            self.about
+        } else {
+            self.peak_about
+        };
         self.peak = self.now;
+        self.peak_about = self.about;
         if self.open.state == shown {
             return None;
         }
@@ -76,7 +85,7 @@ impl Thread {
         ended.to = column;
         self.open.from = column;
         self.open.state = shown;
-        self.open.about = self.about;
+        self.open.about = about;
         match ended.state {
             State::Blank => None,
             _ => Some(ended),
@@ -110,6 +119,7 @@ impl Band {
             thread.now = thread.counts.highest();
             if thread.now as usize > thread.peak as usize {
                 thread.peak = thread.now;
+                thread.peak_about = thread.about;
             }
         }
     }

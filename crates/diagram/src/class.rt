@@ -53,14 +53,13 @@ pub(crate) enum Class {
     Heading,
     Small,
     Fixed,
+    Gray,
     White,
     // Words that end at their place.
     Ending,
     SmallEnding,
     FixedEnding,
-    GrayEnding,
     // Words with their middle at their place.
-    Middle,
     SmallMiddle,
     BlackMiddle,
     WhiteMiddle,
@@ -71,6 +70,7 @@ pub(crate) enum Class {
     FixedEdged,
     FixedMiddleEdged,
     BlackMiddleEdged,
+    MiddleEdged,
 }
 
 /// The number of classes.
@@ -80,8 +80,8 @@ const CLASSES: usize = 59;
 const NAMES: [&str; CLASSES] = [
     "z", "e", "c", "p", "u", "d", "o", "i", "m", "a", "h", "k", "w", "f", "r", "s", "n", "bg",
     "st", "nl", "o1", "o2", "t2", "t1", "g6", "g1", "g2", "g3", "g4", "g5", "lf", "lu", "lq", "lo",
-    "ls", "lx", "do", "dd", "", "n1", "n2", "n3", "sm", "mo", "wl", "en", "sm en", "mo en",
-    "gm en", "mi", "sm mi", "bl", "wh", "ha", "sm ha", "n4 ha", "mo ha", "mo mi ha", "bl ha",
+    "ls", "lx", "do", "dd", "", "n1", "n2", "n3", "sm", "mo", "gm", "wl", "en", "sm en", "mo en",
+    "sm mi", "bl", "wh", "ha", "sm ha", "n4 ha", "mo ha", "mo mi ha", "bl ha", "mi ha",
 ];
 
 impl Class {

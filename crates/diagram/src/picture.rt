@@ -196,13 +196,17 @@ fn draw(pen: &mut Pen, layout: &Layout, record: &Record, name: &str) {
     ground(pen, name, layout.width, layout.height);
     head::head(pen, plan, record, name);
     marks::grounds(pen, plan, record);
-    marks::phases(pen, plan, record);
     bands::processors(pen, plan, record);
     bands::nodes(pen, plan, record);
     strands::wires(pen, plan, record);
+    marks::marks(pen, plan, &layout.labels);
+    // Words come after the lines that would cross them.
+    marks::phases(pen, plan, record);
+    bands::wait_labels(pen, plan);
+    bands::move_labels(pen, plan, record);
+    strands::wire_labels(pen, plan, record);
     notes::write_notes(pen, plan, record);
     ruler::ruler(pen, plan, record, &layout.texts);
-    marks::marks(pen, plan, &layout.labels);
     legend::legend(pen, &layout.items, layout.foot);
     longest::longest(pen, plan, record, &layout.waits, layout.list);
 }

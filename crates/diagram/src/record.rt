@@ -7,8 +7,8 @@ use mig_base::schedule::Side;
 /// The number of lines that a picture shows in words, if it has no more.
 pub const FEW: u32 = 76;
 
-/// The most bytes of a line that are shown.
-pub const SHOWN: usize = 34;
+/// The most bytes of a line that are shown: more than an order has without blanks.
+pub const SHOWN: usize = 76;
 
 /// A change of the state of a row: a page at one node, or a processor.
 #[derive(Clone, Copy)]
@@ -146,7 +146,8 @@ pub struct Move {
 pub struct Record {
     /// The line of the file of each order.
     pub lines: Vec<u32>,
-    /// The lines of the first [`FEW`] orders, without the blanks around them: the first [`SHOWN`] bytes of each.
+    /// The lines of the first [`FEW`] orders, without the blanks around them: the first [`SHOWN`] bytes of each,
+    /// and three dots where there are more.
     pub texts: Vec<String>,
     pub source: Track,
     pub destination: Track,

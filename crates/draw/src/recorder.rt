@@ -182,7 +182,11 @@ impl Recorder {
         let text = text.trim_ascii();
         let shown = text.get(..SHOWN).unwrap_or(text);
         let kept = match String::from_utf8_lossy(self.alloc, shown) {
-            Ok(words) => self.record.texts.push(words).is_ok(),
+            Ok(mut words) => {
+                let is_cut = shown.len() < text.len();
+                let dots = if is_cut { "..." } else { "" };
+                words.push_str(dots).is_ok() && self.record.texts.push(words).is_ok()
+            }
             Err(_) => false,
         };
         self.keep(kept);

@@ -14,6 +14,9 @@ use mig_base::NoMemory;
 use std::alloc::Global;
 use std::io::{Read, Write};
 
+/// Where an output begins that stands beside its order: after the longest store.
+const COLUMN: usize = 44;
+
 /// Reads a script, or a test, on a new world, and writes it as a test: each order with ` => ` and its output after it. An answer that
 /// is there already is replaced. Other lines stay as they are, and so does an order that would be longer than 256 bytes with its
 /// answer. Each line is written with a line feed. The world has as many processors as the first line says, and otherwise `cpus`, 1 to 16.
@@ -29,7 +32,34 @@ pub fn answer_script<R: Read, W: Write>(
     requires low { 1 ≤ cpus }
     requires high { cpus ≤ 16 }
 {
-    let mut answerer = Answerer::new(alloc, cpus, Places::Every)?;
+    write_answers(alloc, reader, writer, cpus, Places::Every)
+}
+
+/// The same for a reader: the output of each order stands beside it, in a column of its own, however long the line is.
+pub fn echo_script<R: Read, W: Write>(
+    alloc: Global,
+    reader: &mut R,
+    writer: &mut W,
+    cpus: u8,
+) -> Result<(), RunFault>
+    requires low { 1 ≤ cpus }
+    requires high { cpus ≤ 16 }
+{
+    write_answers(alloc, reader, writer, cpus, Places::Beside)
+}
+
+/// Reads a script, or a test, and writes it with the output of each order in these places.
+fn write_answers<R: Read, W: Write>(
+    alloc: Global,
+    reader: &mut R,
+    writer: &mut W,
+    cpus: u8,
+    places: Places,
+) -> Result<(), RunFault>
+    requires low { 1 ≤ cpus }
+    requires high { cpus ≤ 16 }
+{
+    let mut answerer = Answerer::new(alloc, cpus, places)?;
     let answered = answerer.answer_input(reader);
     match answered {
         Ok(()) | Err(RunFault::Line(_)) => write_out(writer, &answerer.output)?,
@@ -85,6 +115,8 @@ fn without_answer<'a>(
 enum Places {
     /// Each order.
     Every,
+    /// Each order, beside it.
+    Beside,
     /// Those that have one.
     Given,
 }
@@ -93,10 +125,22 @@ impl Places {
     /// What is written after a line that ends so.
     fn ending(self, end: &'static [u8]) -> &'static [u8] {
         match self {
-            Places::Every => b"\n".as_slice(),
+            Places::Every | Places::Beside => b"\n".as_slice(),
             Places::Given => end,
         }
     }
+}
+
+/// Appends an output without its line feed, in the column of outputs, to a line of this length. An empty one leaves the line as it is.
+fn write_beside(line: &mut Vec<u8>, len: usize, out: &[u8]) -> Result<(), NoMemory> {
+    let [answer @ .., b'\n'] = out else {
+        return Ok(());
+    };
+    for _ in len..COLUMN.max(len.saturating_add(2)) {
+        line.push(b' ')?;
+    }
+    line.extend_from_slice(answer)?;
+    Ok(())
 }
 
 /// Does the lines of a script, and gathers them with their answers.
@@ -138,6 +182,10 @@ impl Answerer {
             return Err(RunFault::Line(number));
         }
         self.output.extend_from_slice(line)?;
+        if self.places == Places::Beside {
+            write_beside(&mut self.output, line.len(), out)?;
+            return Ok(());
+        }
         let room = MAX_LINE
             .saturating_sub(line.len())
             .saturating_sub(ARROW.len());

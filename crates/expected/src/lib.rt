@@ -17,7 +17,7 @@ mod player;
 mod run;
 mod tester;
 
-pub use crate::answer::{Renewed, answer_script, renew_answers};
+pub use crate::answer::{Renewed, answer_script, echo_script, renew_answers};
 pub use crate::cut::order_part;
 pub use crate::listing::list_differences;
 pub use crate::outcome::{Outcome, Tested};

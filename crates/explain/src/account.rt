@@ -48,7 +48,12 @@ impl<'a> Account<'a> {
         self.answered.get(..index).unwrap_or(&[])
     }
 
-    /// Appends the number of an entry's line and its text to a text, in a line of its own.
+    /// All entries, with the replies of the flat memory.
+    pub(crate) fn answered(&self) -> &[Entry] {
+        &self.answered
+    }
+
+    /// Appends the number of an entry's line, its own number and its text to a text, in a line of its own.
     pub(crate) fn cite(
         &self,
         text: &mut String,
@@ -57,7 +62,7 @@ impl<'a> Account<'a> {
     ) -> Result<(), NoMemory> {
         if let (Some(entry), Some(number)) = (self.entries.get(index), self.lines.get(index)) {
             let entry = EntryText(*entry);
-            write!(text, "{indent}line {number}: {entry}\n")?;
+            write!(text, "{indent}line {number}, entry {index}: {entry}\n")?;
         }
         Ok(())
     }

@@ -14,6 +14,7 @@ mod explain;
 mod noting;
 mod reason;
 mod span;
+mod stored;
 mod stretches;
 mod touch;
 mod wrong;

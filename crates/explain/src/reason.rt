@@ -3,6 +3,7 @@
 use crate::account::Account;
 use crate::differing::differing_parts;
 use crate::span::Span;
+use crate::stored::{MAX_STORES, stores_of};
 use crate::stretches::{Fate, Stretch, stretches};
 use crate::touch::{has_unmapped, mappers};
 use crate::wrong::Wrong;
@@ -28,6 +29,7 @@ pub(crate) fn reason_of(
     let reason = Reason {
         alloc,
         account,
+        index: wrong.index,
         past: account.before(wrong.index),
         given: entry.reply,
         expected: wrong.expected,
@@ -41,6 +43,7 @@ pub(crate) fn reason_of(
 struct Reason<'a> {
     alloc: Global,
     account: &'a Account<'a>,
+    index: usize,
     past: &'a [Entry],
     given: Reply,
     expected: Reply,
@@ -99,6 +102,7 @@ impl Reason<'_> {
         )?;
         if parts.is_empty() {
             text.push_str("  the value has more bytes than the load\n")?;
+            return Ok(());
         }
         for part in parts.iter() {
             let first = part.span.start;
@@ -106,7 +110,28 @@ impl Reason<'_> {
             write!(text, "  bytes 0x{first:x} to 0x{last:x} differ:\n")?;
             self.cite_all(text, &part.holders)?;
         }
-        Ok(())
+        self.write_stores(text, given, width)
+    }
+
+    /// Which entries stored the value that a load has read, if it is not 0.
+    fn write_stores(&self, text: &mut String, value: u64, width: u8) -> Result<(), NoMemory> {
+        if value == 0 {
+            return Ok(());
+        }
+        let entries = self.account.answered();
+        let stores = stores_of(self.alloc, entries, self.index, value, width)?;
+        if stores.indexes.is_empty() {
+            write!(text, "  no entry stores 0x{value:x}\n")?;
+            return Ok(());
+        }
+        let which = match (stores.are_later, stores.indexes.len() < MAX_STORES) {
+            (false, true) => "was stored:",
+            (false, false) => "was stored, last by:",
+            (true, true) => "is stored only later:",
+            (true, false) => "is stored only later, first by:",
+        };
+        write!(text, "  0x{value:x} {which}\n")?;
+        self.cite_all(text, &stores.indexes)
     }
 
     fn cite_all(&self, text: &mut String, indexes: &[usize]) -> Result<(), NoMemory> {

@@ -91,7 +91,21 @@ fn answers_argument<'a>(alloc: Global) -> Result<Arg<'a>, AllocError> {
         .conflicts_with("urgent")
 }
 
-/// `postmig run [--cpus N] [--transcript] [--steps] [--answers] [--wire FILE] [--back FILE] [--urgent FILE] [--explain] [FILE]`.
+/// `--echo`, for which a run has to write the lines of its steps alone.
+fn echo_argument<'a>(alloc: Global) -> Result<Arg<'a>, AllocError> {
+    Arg::new(alloc, "echo")
+        .long("echo")
+        .help("Writes the script with the answer of each line beside it")
+        .action(ArgAction::SetTrue)
+        .conflicts_with("transcript")?
+        .conflicts_with("steps")?
+        .conflicts_with("answers")?
+        .conflicts_with("wire")?
+        .conflicts_with("back")?
+        .conflicts_with("urgent")
+}
+
+/// `postmig run [--cpus N] [--transcript] [--steps] [--answers] [--echo] [--wire FILE] [--back FILE] [--urgent FILE] [--explain] [FILE]`.
 fn run_command<'a>(alloc: Global) -> Result<Command<'a>, AllocError> {
     let transcript = Arg::new(alloc, "transcript")
         .long("transcript")
@@ -103,6 +117,7 @@ fn run_command<'a>(alloc: Global) -> Result<Command<'a>, AllocError> {
         .arg(transcript)?
         .arg(calls_argument(alloc)?)?
         .arg(answers_argument(alloc)?)?
+        .arg(echo_argument(alloc)?)?
         .arg(wire_argument(
             alloc,
             "wire",

@@ -16,7 +16,7 @@ use clap::ArgMatches;
 use clap::error::ErrorKind;
 use draw::run_draw;
 use engine::{Mode, RunFault, check_script, run_script};
-use expected::answer_script;
+use expected::{answer_script, echo_script};
 use explain::{Asks, Noting, explain_script};
 use explore::{Plan, Profile, run_explore};
 use finishing::{Ending, finish_script};
@@ -53,7 +53,7 @@ fn run(rt: &HostRuntime, matches: &ArgMatches) -> u8 {
     if has_taps(matches) {
         return run_with_taps(rt, matches, &mut input, &mut output, cpus, mode);
     }
-    if matches.get_flag("answers") {
+    if matches.get_flag("answers") || matches.get_flag("echo") {
         return run_with_answers(rt, matches, &mut input, &mut output, cpus);
     }
     let ran = if matches.get_flag("steps") {
@@ -67,7 +67,7 @@ fn run(rt: &HostRuntime, matches: &ArgMatches) -> u8 {
     status
 }
 
-/// Runs a script, and writes it with the answer of each line.
+/// Runs a script, and writes it with the answer of each line: as a test, or in a column beside it.
 fn run_with_answers(
     rt: &HostRuntime,
     matches: &ArgMatches,
@@ -78,7 +78,12 @@ fn run_with_answers(
     requires low { 1 ≤ cpus }
     requires high { cpus ≤ 16 }
 {
-    let outcome = answer_script(rt.alloc(), input, output, cpus).map(|()| true);
+    let answered = if matches.get_flag("echo") {
+        echo_script(rt.alloc(), input, output, cpus)
+    } else {
+        answer_script(rt.alloc(), input, output, cpus)
+    };
+    let outcome = answered.map(|()| true);
     let status = end(rt, matches, input, output, outcome);
     if let Err(RunFault::Line(number)) = outcome
         && let Some(name) = matches.get_str("file")

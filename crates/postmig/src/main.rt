@@ -1,7 +1,7 @@
 //! `postmig` runs, checks, draws and explores scripts of steps on a model of post-copy live migration.
 //!
 //! - `postmig run` reads a script and writes one line for each step, or with `--transcript` one for each command that took effect. With
-//!   `--answers` it writes the script with these lines after its own. With `--wire`, `--back` and `--urgent` files get what is put on
+//!   `--answers` it writes the script with these lines after its own, and with `--echo` beside them. With `--wire`, `--back` and `--urgent` files get what is put on
 //!   the wires.
 //! - `postmig finish` reads a script, and writes the lines that complete its migration.
 //! - `postmig check` reads such a transcript, and says whether it is that of one flat memory, or with `--explain` or `--all` what is

@@ -21,7 +21,8 @@ static WORDS: &[&[u8]] = &[
     b"<title>0x10000: installed, lines 12 to 16</title>",
     b"<title>cpu 1, page 0x10000: handler, lines 8 to 9</title>",
     b"<title>page 0x10000: sent at line 9, taken at line 11</title>",
-    b"round: Phase  10",
+    b">10</text>",
+    b">round: Phase</text>",
     b"switch: 1 owed",
 ];
 

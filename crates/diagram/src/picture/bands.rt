@@ -1,5 +1,6 @@
 //! The bands of processors and of pages.
 
+use super::strands::{Label, is_free};
 use crate::band::Stretch;
 use crate::class::Class;
 use crate::pen::{Frame, Pen};
@@ -13,6 +14,9 @@ use mig_base::schedule::Side;
 
 /// The most dots and the most crosses that are drawn.
 const MOST_DOTS: usize = 3000;
+
+/// The most moves that have a word.
+const MOST_MOVES: usize = 40;
 
 /// The height of a processor's bar, and where its line stands in its lane.
 const BAR: u64 = 110;
@@ -61,16 +65,20 @@ fn word_class(state: State) -> Class {
     }
 }
 
+/// The page for which a processor waits, after a comma; nothing of a map call, which waits for none.
+fn about(page: u32) -> [Part<'static>; 2] {
+    match page {
+        0 => [Nothing, Nothing],
+        page => [Words(", page "), Page(page)],
+    }
+}
+
 /// Draws a part of a wait.
 fn bar(pen: &mut Pen, plan: &Plan, record: &Record, stretch: &Stretch) {
     let top = plan.processors.top_of(stretch.row);
     let extent = (top.saturating_add(AXLE - BAR / 2), BAR);
-    let whose = [
-        Words("cpu "),
-        Number(stretch.row),
-        Words(", page "),
-        Page(stretch.about),
-    ];
+    let [before, page] = about(stretch.about);
+    let whose = [Words("cpu "), Number(stretch.row), before, page];
     let word = stretch.state.look().part;
     let frame = cell(pen, plan, record, stretch, extent, whose, word);
     if width_of(word.len(), 80).saturating_add(20) <= frame.width {
@@ -96,10 +104,12 @@ fn hides(plan: &Plan, wait: &Wait, later: &[Wait], end: u64) -> bool {
 fn wait_label(pen: &mut Pen, plan: &Plan, wait: &Wait, later: &[Wait], free: u64) -> u64 {
     let steps = wait.columns().saturating_mul(plan.columns.per);
     let words = [Page(wait.page), Words(": "), Number(steps)];
-    let x = plan.x_of(wait.from);
-    let end = x.saturating_add(pen.width(&words, 90)).saturating_add(40);
-    let outside = end > plan.right().saturating_add(300);
-    if x < free || outside || hides(plan, wait, later, end) {
+    let width = pen.width(&words, 90).saturating_add(40);
+    // On the right of the columns are the counts.
+    let last = plan.right().saturating_add(80).saturating_sub(width);
+    let x = plan.x_of(wait.from).min(last);
+    let end = x.saturating_add(width);
+    if x < free || hides(plan, wait, later, end) {
         return free;
     }
     let top = plan.processors.top_of(wait.cpu);
@@ -112,7 +122,7 @@ fn wait_label(pen: &mut Pen, plan: &Plan, wait: &Wait, later: &[Wait], free: u64
 }
 
 /// Writes for which pages and how long the processors wait, where there is room.
-fn wait_labels(pen: &mut Pen, plan: &Plan) {
+pub(super) fn wait_labels(pen: &mut Pen, plan: &Plan) {
     let mut free = 0u64;
     let mut cpu = 0u32;
     let mut at = 0usize;
@@ -145,15 +155,14 @@ fn lane(pen: &mut Pen, plan: &Plan, cpu: u32) {
     let sum = [
         Count(total.waits, "wait"),
         Words(", "),
-        Number(total.columns.saturating_mul(per)),
-        Words(" steps"),
+        Count(total.columns.saturating_mul(per), "step"),
     ];
     pen.words(Class::Plain, (x, y), &sum);
     let most = [
-        Words("most: "),
+        Words("mostly "),
         Words(state.look().part),
-        Words(" "),
-        Number(most.saturating_mul(per)),
+        Words(": "),
+        Count(most.saturating_mul(per), "step"),
     ];
     pen.words(Class::Small, (x, y.saturating_add(105)), &most);
 }
@@ -168,7 +177,6 @@ pub(super) fn processors(pen: &mut Pen, plan: &Plan, record: &Record) {
     for stretch in &plan.processors.stretches {
         bar(pen, plan, record, stretch);
     }
-    wait_labels(pen, plan);
 }
 
 /// Draws what the pages of a node are, and writes the names of the rows where there is room.
@@ -214,8 +222,35 @@ fn moved(pen: &mut Pen, plan: &Plan, band: &Band, one: &Move) {
     };
     let x = plan.x_at(one.line);
     pen.arrow(Class::Move, (x, from), (x, to));
-    let y = from.saturating_add(to) / 2;
-    pen.word(Class::SmallEdged, (x.saturating_add(40), y), "moved");
+}
+
+/// Writes beside the arrow of a move what it is, where there is room.
+fn move_label(pen: &mut Pen, plan: &Plan, band: &Band, one: &Move, written: &mut Vec<Label>) {
+    let (Some(from), Some(to)) = (band.middle_of(one.from), band.middle_of(one.to)) else {
+        return;
+    };
+    let left = plan.x_at(one.line).saturating_add(40);
+    let label = Label {
+        left,
+        right: left.saturating_add(width_of("moved".len(), 85)),
+        y: from.saturating_add(to) / 2,
+    };
+    if is_free(label, written) {
+        pen.word(Class::SmallEdged, (left, label.y), "moved");
+        pen.memory.push(written, label);
+    }
+}
+
+/// Writes beside the arrows of moves what they are, where there is room.
+pub(super) fn move_labels(pen: &mut Pen, plan: &Plan, record: &Record) {
+    let mut written = Vec::new(pen.memory.alloc);
+    for one in record.moves.get(..MOST_MOVES).unwrap_or(&record.moves) {
+        let band = match one.side {
+            Side::Source => &plan.source,
+            Side::Destination => &plan.destination,
+        };
+        move_label(pen, plan, band, one, &mut written);
+    }
 }
 
 /// Draws the sleeps and the moves of mappings in a band.
@@ -245,6 +280,20 @@ pub(super) fn run_of(plan: &Plan, record: &Record) -> Option<u32> {
     None
 }
 
+/// How many steps after the run a page was installed, if this is the bar of such a page and has room for the number.
+pub(super) fn age_of(plan: &Plan, run: u32, stretch: &Stretch) -> Option<u32> {
+    if !matches!(stretch.state, State::Installed) {
+        return None;
+    }
+    let age = stretch.from.saturating_sub(run);
+    let digits = if age < 10 { 1 } else { 2 };
+    let width = width_of(digits + 1, 80).saturating_add(30);
+    let room = plan
+        .x_of(stretch.to)
+        .saturating_sub(plan.x_of(stretch.from));
+    (width <= room).then_some(age)
+}
+
 /// Writes how many steps after the run each page was installed, in a picture with words and where there is room.
 fn ages(pen: &mut Pen, plan: &Plan, record: &Record) {
     let Some(run) = run_of(plan, record) else {
@@ -252,13 +301,11 @@ fn ages(pen: &mut Pen, plan: &Plan, record: &Record) {
     };
     let band = &plan.destination;
     for stretch in &band.stretches {
-        if matches!(stretch.state, State::Installed) {
-            let words = [Words("+"), Number(stretch.from.saturating_sub(run))];
+        if let Some(age) = age_of(plan, run, stretch) {
             let x = plan.x_of(stretch.from).saturating_add(30);
-            if x.saturating_add(pen.width(&words, 80)) <= plan.x_of(stretch.to) {
-                let middle = band.top_of(stretch.row).saturating_add(band.height / 2);
-                pen.words(Class::White, (x, middle.saturating_add(22)), &words);
-            }
+            let middle = band.top_of(stretch.row).saturating_add(band.height / 2);
+            let words = [Words("+"), Number(age)];
+            pen.words(Class::White, (x, middle.saturating_add(22)), &words);
         }
     }
 }

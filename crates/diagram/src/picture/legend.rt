@@ -1,11 +1,11 @@
 //! What the colours and the signs mean: those that the picture has.
 
-use super::bands::run_of;
+use super::bands::{age_of, run_of};
 use crate::class::Class;
 use crate::memory::Memory;
 use crate::pen::{Frame, Pen};
 use crate::plan::{Band, Plan};
-use crate::record::{End, Flight, Record};
+use crate::record::{End, Event, Flight, Record};
 use crate::state::State;
 use crate::text::Place;
 
@@ -30,6 +30,7 @@ enum Line {
     Urgent,
     Other,
     Lost,
+    Break,
     Move,
 }
 
@@ -45,6 +46,9 @@ enum Sign {
     Dot,
     Cross,
     Age,
+    /// The ground while nobody runs the processors, and while there is no link.
+    NobodyRuns,
+    NoLink,
 }
 
 /// The name of a column.
@@ -64,6 +68,7 @@ fn line_of(line: Line) -> (Class, &'static str) {
         Line::Urgent => (Class::UrgentFrame, "a page on the urgent wire"),
         Line::Other => (Class::OtherFrame, "another frame"),
         Line::Lost => (Class::LostFrame, "lost in a break"),
+        Line::Break => (Class::BreakMark, "a break"),
         Line::Move => (Class::Move, "a mapping moves"),
     }
 }
@@ -118,10 +123,54 @@ fn has_state(band: &Band, state: State) -> bool {
     false
 }
 
-/// Whether a frame was lost.
-fn has_lost(flights: &[Flight]) -> bool {
-    for flight in flights {
-        if matches!(flight.end, End::Lost) {
+/// Which lines of frames a wire has.
+#[derive(Clone, Copy)]
+struct Kinds {
+    pages: bool,
+    others: bool,
+    lost: bool,
+}
+
+impl Kinds {
+    /// Those of frames.
+    fn of(flights: &[Flight]) -> Kinds {
+        let mut kinds = Kinds {
+            pages: false,
+            others: false,
+            lost: false,
+        };
+        for flight in flights {
+            match flight.end {
+                End::Lost => kinds.lost = true,
+                _ if flight.kind.has_page() => kinds.pages = true,
+                _ => kinds.others = true,
+            }
+        }
+        kinds
+    }
+}
+
+/// Whether a switch, and whether a break, is among the marks.
+fn grounds_in(record: &Record) -> (bool, bool) {
+    let mut switches = false;
+    let mut breaks = false;
+    for mark in &record.marks {
+        match mark.event {
+            Event::Switch => switches = true,
+            Event::Break => breaks = true,
+            _ => {}
+        }
+    }
+    (switches, breaks)
+}
+
+/// Whether a bar has the number of steps after which its page was installed.
+fn has_age(plan: &Plan, record: &Record) -> bool {
+    let Some(run) = run_of(plan, record) else {
+        return false;
+    };
+    for stretch in &plan.destination.stretches {
+        if age_of(plan, run, stretch).is_some() {
             return true;
         }
     }
@@ -140,19 +189,23 @@ pub(super) fn find_items(memory: &mut Memory, plan: &Plan, record: &Record) -> I
     items.add_states(memory, Column::Destination, &plan.destination);
     items.add_states(memory, Column::Processors, &plan.processors);
     items.is_first = true;
-    let migrates = !record.marks.is_empty();
-    let lost = has_lost(&record.forward.flights)
-        || has_lost(&record.urgent.flights)
-        || has_lost(&record.back.flights);
+    let forward = Kinds::of(&record.forward.flights);
+    let urgent = Kinds::of(&record.urgent.flights);
+    let back = Kinds::of(&record.back.flights);
+    let lost = forward.lost || urgent.lost || back.lost;
+    let (switches, breaks) = grounds_in(record);
     let signs = [
-        (Sign::Line(Line::Page), migrates),
-        (Sign::Line(Line::Urgent), !record.urgent.flights.is_empty()),
-        (Sign::Line(Line::Other), migrates),
+        (Sign::NobodyRuns, switches),
+        (Sign::NoLink, breaks),
+        (Sign::Line(Line::Break), breaks),
+        (Sign::Line(Line::Page), forward.pages || back.pages),
+        (Sign::Line(Line::Urgent), urgent.pages),
+        (Sign::Line(Line::Other), forward.others || back.others),
         (Sign::Line(Line::Lost), lost),
         (Sign::Dot, !record.dots.is_empty()),
         (Sign::Cross, !record.drops.is_empty()),
         (Sign::Line(Line::Move), !record.moves.is_empty()),
-        (Sign::Age, run_of(plan, record).is_some()),
+        (Sign::Age, has_age(plan, record)),
     ];
     for (sign, is_there) in signs {
         if is_there {
@@ -194,6 +247,14 @@ fn draw_item(pen: &mut Pen, sign: Sign, x: u64, y: u64) {
         Sign::Cross => {
             pen.cross(Class::Cross, middle, 32);
             "a copy is dropped"
+        }
+        Sign::NobodyRuns => {
+            pen.rectangle(Class::NobodyRuns, frame);
+            "nobody runs the processors"
+        }
+        Sign::NoLink => {
+            pen.rectangle(Class::NoLink, frame);
+            "no link"
         }
         Sign::Age => {
             pen.rectangle(Class::Installed, frame);

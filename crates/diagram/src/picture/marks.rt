@@ -30,13 +30,15 @@ pub(super) struct Label {
 #[derive(Drop)]
 pub(super) struct Labels {
     labels: Vec<Label>,
+    wording: Wording,
     pub height: u64,
 }
 
 /// How much a mark matters.
 fn rank_of(event: Event) -> u8 {
     match event {
-        Event::Switch | Event::Package | Event::Complete | Event::Break => 4,
+        Event::Switch | Event::Package | Event::Complete => 5,
+        Event::Break => 4,
         Event::Start | Event::Resume => 3,
         Event::Round | Event::End => 2,
         Event::SourceNotice | Event::DestinationNotice => 1,
@@ -67,6 +69,37 @@ fn word_of(event: Event) -> &'static str {
     }
 }
 
+/// Which words there are: those of marks of at least a rank, and of a break all or the first alone.
+#[derive(Clone, Copy)]
+struct Wording {
+    least: u8,
+    is_short: bool,
+}
+
+impl Wording {
+    /// The words that are always there: of the switch, the package and the completion.
+    const FEWEST: Wording = Wording {
+        least: 5,
+        is_short: false,
+    };
+
+    /// The `number`th that is tried: words are left out where they would need too many rows, those that matter least first.
+    fn tried(number: u8) -> Wording {
+        Wording {
+            least: number.min(4),
+            is_short: number > 4,
+        }
+    }
+
+    /// The words above a mark.
+    fn words_of(self, mark: &Mark) -> [Part<'static>; 4] {
+        match mark.event {
+            Event::Break if self.is_short => [Words("break"), Nothing, Nothing, Nothing],
+            _ => words_of(mark),
+        }
+    }
+}
+
 /// The words of a mark.
 fn words_of(mark: &Mark) -> [Part<'static>; 4] {
     let (first, second) = (Number(mark.first), Number(mark.second));
@@ -93,15 +126,15 @@ fn row_above(labels: &[Label], x: u64, width: u64) -> u64 {
     row
 }
 
-/// The marks of at least a rank with their rows, and the others without words.
-fn staircase(memory: &mut Memory, plan: &Plan, record: &Record, least: u8) -> Labels {
+/// The marks that have words with their rows, and the others.
+fn staircase(memory: &mut Memory, plan: &Plan, record: &Record, wording: Wording) -> Labels {
     let mut labels = Vec::new(memory.alloc);
     let mut rows = 0u64;
     for mark in record.marks.iter().rev() {
         let x = plan.x_at(mark.line);
         let mut row = None;
-        if rank_of(mark.event) >= least {
-            let words = memory.text(&words_of(mark));
+        if rank_of(mark.event) >= wording.least {
+            let words = memory.text(&wording.words_of(mark));
             let above = row_above(&labels, x, width_of(words.len(), 100).saturating_add(60));
             rows = rows.max(above.saturating_add(1));
             row = Some(above);
@@ -111,21 +144,35 @@ fn staircase(memory: &mut Memory, plan: &Plan, record: &Record, least: u8) -> La
     }
     Labels {
         labels,
+        wording,
         height: rows.saturating_mul(ROW),
     }
 }
 
-/// The marks as they are drawn: words that would need too many rows are left out, those that matter least first.
+/// How many marks have words.
+fn words_in(record: &Record, wording: Wording) -> usize {
+    let mut count = 0usize;
+    for mark in &record.marks {
+        if rank_of(mark.event) >= wording.least {
+            count = count.saturating_add(1);
+        }
+    }
+    count
+}
+
+/// The marks as they are drawn: words that would need too many rows are left out, those that matter least first. Those of the switch, the
+/// package and the completion stay.
 pub(super) fn find_labels(memory: &mut Memory, plan: &Plan, record: &Record) -> Labels {
-    if record.marks.len() <= MOST_WORDS {
-        for least in 1..5 {
-            let labels = staircase(memory, plan, record, least);
+    for number in 1..6 {
+        let wording = Wording::tried(number);
+        if words_in(record, wording) <= MOST_WORDS {
+            let labels = staircase(memory, plan, record, wording);
             if labels.height <= MOST_ROWS * ROW {
                 return labels;
             }
         }
     }
-    staircase(memory, plan, record, 5)
+    staircase(memory, plan, record, Wording::FEWEST)
 }
 
 /// The class of the line of a mark, and of its words.
@@ -149,7 +196,8 @@ pub(super) fn marks(pen: &mut Pen, plan: &Plan, labels: &Labels) {
             let y = plan.top.saturating_sub(row.saturating_mul(ROW));
             pen.name(&words);
             pen.line(line, (label.x, y.saturating_sub(90)), foot);
-            pen.words(class, (label.x.saturating_add(30), y), &words);
+            let above = labels.wording.words_of(&label.mark);
+            pen.words(class, (label.x.saturating_add(30), y), &above);
         } else if label.x != before {
             pen.name(&words);
             pen.line(line, (label.x, plan.top), foot);
@@ -225,7 +273,7 @@ fn phase(pen: &mut Pen, plan: &Plan, word: &str, lines: (u32, u32)) {
     let y = plan.top.saturating_add(150);
     pen.line(Class::Mark, (left, y), (middle.saturating_sub(half), y));
     pen.line(Class::Mark, (middle.saturating_add(half), y), (right, y));
-    pen.words(Class::Middle, (middle, y.saturating_add(35)), &words);
+    pen.words(Class::MiddleEdged, (middle, y.saturating_add(35)), &words);
 }
 
 /// What follows a mark, if the migration is in another part then.

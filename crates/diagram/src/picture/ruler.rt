@@ -6,11 +6,16 @@ use crate::pen::Pen;
 use crate::plan::{LEFT, Plan};
 use crate::record::Record;
 use crate::text::Part::{Number, Refused, Words};
+use crate::text::width_of;
 use mig_base::refusal::Refusal;
 
-/// A line of the script as it stands below its column.
+/// The turn of what stands below the columns: it is read downwards.
+const TURN: &str = "rotate(90)";
+
+/// A line of the script as it stands below its column: its number, and after that what it is.
 #[derive(Drop)]
 pub(super) struct Text {
+    line: u32,
     words: String,
     class: Class,
 }
@@ -25,22 +30,18 @@ fn refusal(record: &Record, column: u32) -> Option<Refusal> {
     None
 }
 
-/// What stands below a column: its line, why that was refused, and its number.
+/// What stands below a column: its line, and why that was refused.
 fn text_of(memory: &mut Memory, record: &Record, column: u32, line: u32, text: &str) -> Text {
     match refusal(record, column) {
         Some(reason) => Text {
-            words: memory.text(&[
-                Words(text),
-                Words(": "),
-                Refused(reason),
-                Words("  "),
-                Number(line),
-            ]),
-            class: Class::GrayEnding,
+            line,
+            words: memory.text(&[Words(text), Words(": "), Refused(reason)]),
+            class: Class::Gray,
         },
         None => Text {
-            words: memory.text(&[Words(text), Words("  "), Number(line)]),
-            class: Class::FixedEnding,
+            line,
+            words: memory.text(&[Words(text)]),
+            class: Class::Fixed,
         },
     }
 }
@@ -67,7 +68,19 @@ pub(super) fn height(texts: &[Text]) -> u64 {
     for text in texts {
         longest = longest.max(text.words.len());
     }
-    (longest as u64).saturating_mul(55).saturating_add(200)
+    width_of(longest, 90)
+        .saturating_add(numbers_width(texts))
+        .saturating_add(200)
+}
+
+/// How much room the numbers of lines take, with a gap after them.
+fn numbers_width(texts: &[Text]) -> u64 {
+    let digits = match texts.last() {
+        Some(Text { line: 1000.., .. }) => 6,
+        Some(Text { line: 100.., .. }) => 3,
+        _ => 2,
+    };
+    width_of(digits, 85).saturating_add(60)
 }
 
 /// Whether two numbers have room beside each other, if `lines` lie between the two.
@@ -125,9 +138,13 @@ pub(super) fn ruler(pen: &mut Pen, plan: &Plan, record: &Record, texts: &[Text])
         return numbers(pen, plan, record);
     }
     let mut column = 0u32;
+    let room = numbers_width(texts);
     for text in texts {
-        let place = (plan.x_of(column).saturating_add(30), y.saturating_add(60));
-        pen.turned(text.class, place, "rotate(-90)", &text.words);
+        let x = plan.x_of(column).saturating_sub(30);
+        let top = y.saturating_add(60);
+        let line = pen.memory.text(&[Number(text.line)]);
+        pen.turned(Class::Gray, (x, top), TURN, &line);
+        pen.turned(text.class, (x, top.saturating_add(room)), TURN, &text.words);
         column = column.saturating_add(1);
     }
 }

@@ -144,16 +144,16 @@ fn frames(pen: &mut Pen, plan: &Plan, record: &Record, strand: Strand, routes: &
     }
 }
 
-/// Words on a wire: where they begin and end, and how far down they stand.
+/// Words in a band: where they begin and end, and how far down they stand.
 #[derive(Clone, Copy)]
-struct Label {
-    left: u64,
-    right: u64,
-    y: u64,
+pub(super) struct Label {
+    pub(super) left: u64,
+    pub(super) right: u64,
+    pub(super) y: u64,
 }
 
 /// Whether words touch no others.
-fn is_free(label: Label, others: &[Label]) -> bool {
+pub(super) fn is_free(label: Label, others: &[Label]) -> bool {
     for other in others {
         let beside = label.left > other.right || other.left > label.right;
         if !beside && label.y.abs_diff(other.y) < 85 {
@@ -247,8 +247,8 @@ fn rails(pen: &mut Pen, plan: &Plan) {
     pen.word(Class::Ending, (LEFT - 60, middle), "back");
 }
 
-/// Draws the frames to the destination.
-fn forward(pen: &mut Pen, plan: &Plan, record: &Record) {
+/// The three wires as they are drawn: that to the destination, the urgent one, and that back.
+fn strands_of(plan: &Plan) -> [Strand; 3] {
     let (from, to) = plan.forward;
     let down = Strand {
         from,
@@ -260,34 +260,43 @@ fn forward(pen: &mut Pen, plan: &Plan, record: &Record) {
         to,
         class: Class::UrgentFrame,
     };
-    let slow = routes_of(&mut pen.memory, plan, down, &record.forward.flights);
-    let fast = routes_of(&mut pen.memory, plan, urgent, &record.urgent.flights);
-    let small = plan.is_small();
-    if small {
-        departures(pen, plan, &slow);
-        departures(pen, plan, &fast);
-        arrivals(pen, plan, record);
-    }
-    frames(pen, plan, record, down, &slow);
-    frames(pen, plan, record, urgent, &fast);
-    let mut written = Vec::new(pen.memory.alloc);
-    frame_labels(pen, &fast, small || fast.len() <= MOST_FRAMES, &mut written);
-    frame_labels(pen, &slow, small, &mut written);
-}
-
-/// Draws the wires.
-pub(super) fn wires(pen: &mut Pen, plan: &Plan, record: &Record) {
-    rails(pen, plan);
-    forward(pen, plan, record);
     let (from, to) = plan.back;
     let up = Strand {
         from,
         to,
         class: Class::RequestFrame,
     };
-    let routes = routes_of(&mut pen.memory, plan, up, &record.back.flights);
-    frames(pen, plan, record, up, &routes);
-    let few = plan.is_small() || routes.len() <= MOST_FRAMES;
+    [down, urgent, up]
+}
+
+/// Draws the wires.
+pub(super) fn wires(pen: &mut Pen, plan: &Plan, record: &Record) {
+    rails(pen, plan);
+    let [down, urgent, up] = strands_of(plan);
+    let slow = routes_of(&mut pen.memory, plan, down, &record.forward.flights);
+    let fast = routes_of(&mut pen.memory, plan, urgent, &record.urgent.flights);
+    let returns = routes_of(&mut pen.memory, plan, up, &record.back.flights);
+    if plan.is_small() {
+        departures(pen, plan, &slow);
+        departures(pen, plan, &fast);
+        arrivals(pen, plan, record);
+    }
+    frames(pen, plan, record, down, &slow);
+    frames(pen, plan, record, urgent, &fast);
+    frames(pen, plan, record, up, &returns);
+}
+
+/// Writes what the frames are.
+pub(super) fn wire_labels(pen: &mut Pen, plan: &Plan, record: &Record) {
+    let small = plan.is_small();
+    let [down, urgent, up] = strands_of(plan);
+    let slow = routes_of(&mut pen.memory, plan, down, &record.forward.flights);
+    let fast = routes_of(&mut pen.memory, plan, urgent, &record.urgent.flights);
     let mut written = Vec::new(pen.memory.alloc);
-    frame_labels(pen, &routes, few, &mut written);
+    frame_labels(pen, &fast, small || fast.len() <= MOST_FRAMES, &mut written);
+    frame_labels(pen, &slow, small, &mut written);
+    let returns = routes_of(&mut pen.memory, plan, up, &record.back.flights);
+    let few = small || returns.len() <= MOST_FRAMES;
+    let mut written = Vec::new(pen.memory.alloc);
+    frame_labels(pen, &returns, few, &mut written);
 }

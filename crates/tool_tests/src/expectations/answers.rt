@@ -1,6 +1,6 @@
-//! Tests that `answer_script` writes, and those whose answers `renew_answers` replaces.
+//! Tests that `answer_script` writes, those whose answers `renew_answers` replaces, and scripts that `echo_script` writes.
 
-use super::play::{WHOLE, answered, look, renewed};
+use super::play::{WHOLE, answered, echoed, look, renewed};
 use engine::RunFault;
 use expected::Outcome;
 use std::test::Fail;
@@ -29,6 +29,21 @@ static MADE: &[(&[u8], &[u8], u64)] = &[
         1,
     ),
     (LONG, LONG, 0),
+];
+
+/// Scripts, how they end, and what is written: the outputs stand in column 45, or after two blanks where the line is longer.
+static ECHOED: &[(&[u8], Result<(), RunFault>, &[u8])] = &[
+    (b"", Ok(()), b""),
+    (
+        b"# a\n\nstart\r\n  round  => old",
+        Ok(()),
+        b"# a\n\nstart                                       started epoch 1\n  round                                     round 1 todo 0\n",
+    ),
+    (
+        b"cpu 0 mremap 0x10000 4096 4096 maymove fixed 0x20000\ngo\nstart\n",
+        Err(RunFault::Line(2)),
+        b"cpu 0 mremap 0x10000 4096 4096 maymove fixed 0x20000  cpu 0 refused EFAULT\n",
+    ),
 ];
 
 /// Tests, what they are with new answers, how many answers they have, and how many of these are new.
@@ -96,6 +111,16 @@ fn wrong(rt: HostRuntime) -> Result<(), Fail> {
         let (outcome, text) = answered(rt.alloc(), script, WHOLE)?;
         assert_eq!(rt; outcome, Err(RunFault::Line(*number)));
         assert_eq!(rt; text.as_slice(), *wanted);
+    }
+    Ok(())
+}
+
+#[test]
+fn echo(rt: HostRuntime) -> Result<(), Fail> {
+    for (script, wanted, text) in ECHOED {
+        let (outcome, written) = echoed(rt.alloc(), script)?;
+        assert_eq!(rt; outcome, *wanted);
+        assert_eq!(rt; written.as_slice(), *text);
     }
     Ok(())
 }

@@ -1,7 +1,7 @@
 //! Playing a test in pieces: how it ends, and what it wrote.
 
 use engine::RunFault;
-use expected::{Outcome, Renewed, answer_script, renew_answers, test_script};
+use expected::{Outcome, Renewed, answer_script, echo_script, renew_answers, test_script};
 use std::alloc::{AllocError, Global};
 use std::process::Abort;
 use std::test::Fail;
@@ -103,6 +103,20 @@ pub fn answered(
         outcome = answer_script(alloc, &mut reader, &mut writer, 2);
     }
     Ok((outcome, writer.bytes))
+}
+
+/// How the writing of a script with its outputs beside it ends, and what it wrote. It is made again if memory is refused.
+pub fn echoed(alloc: Global, script: &[u8]) -> Result<(Result<(), RunFault>, Vec<u8>), AllocError> {
+    let mut text = room(alloc)?;
+    let mut outcome = Err(RunFault::NoMemory);
+    for _ in 0..2 {
+        let mut reader = script;
+        outcome = echo_script(alloc, &mut reader, &mut text, 2);
+        if outcome != Err(RunFault::NoMemory) {
+            break;
+        }
+    }
+    Ok((outcome, text))
 }
 
 /// A test with new answers, or why there is none. It is made again if memory is refused.
