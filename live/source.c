@@ -42,7 +42,9 @@ struct source {
     uint64_t sent_before;  /* and those sent before it */
     uint32_t rounds;       /* made since pre-copy has begun, or begun again */
     bool package_is_sent, end_is_sent;
-    uint32_t cursor;       /* background push continues from this page */
+    uint32_t cursor;       /* background push continues from this page; */
+    bool has_pushed;       /* it has pushed a page since it was at the first one; */
+    bool zeros_are_due;    /* and only pages of zeros remain */
     uint32_t held, calm;   /* turns in which faults wait: pages could not be protected, and runs that are sent once they could */
     struct {
         uint64_t start, stop, stopped, sent, released;
@@ -274,7 +276,7 @@ static void take_back(struct source *source, size_t length)
     uint32_t status = postmig_source_back(&source->node.handle, stream_front(&source->main), length, &effect);
 
     if (status != POSTMIG_OK) {
-        give_up(source, node_fault(status, stream_front(&source->main), length));
+        give_up(source, node_fault(status, &(struct frame){ .head = stream_front(&source->main), .head_bytes = length }));
         return;
     }
     stream_take(&source->main, length);
@@ -289,6 +291,7 @@ static void take_back(struct source *source, size_t length)
     source->round_pages = 0;
     source->package_is_sent = false;
     source->cursor = LOW_PAGE;
+    source->has_pushed = source->zeros_are_due = false;
 }
 
 /* What came before the end of a connection is taken too: Done, for one. */
@@ -487,26 +490,34 @@ static uint32_t pushes_now(const struct source *source)
     return due <= pushed ? 0 : due - pushed < PUSHES_AT_A_TIME ? (uint32_t)(due - pushed) : PUSHES_AT_A_TIME;
 }
 
-/* The next page that remains, from the cursor on, and again from the first. */
+/* The next page that remains, from the cursor on, and again from the first. Once a whole pass has met zeros alone, these are due. */
 static bool next_page(struct source *source, uint32_t *page)
 {
     uint32_t status = postmig_source_next_remaining(&source->node.handle, source->cursor, page);
 
-    if (status == POSTMIG_NO_PAGE)
+    if (status == POSTMIG_NO_PAGE) {
+        source->zeros_are_due = !source->has_pushed;
+        source->has_pushed = false;
         status = postmig_source_next_remaining(&source->node.handle, LOW_PAGE, page);
+    }
     if (status != POSTMIG_NO_PAGE)
         node_expect(status, "postmig_source_next_remaining");
     return status == POSTMIG_OK;
 }
 
+/* Pages of zeros come last, so that the others arrive side by side. Returns the number of pages that were pushed, or left for later. */
 static uint32_t push_in_background(struct source *source)
 {
     uint32_t count = 0, page, most = pushes_now(source);
 
-    while (count < most && stream_unsent(&source->main) < MOST_UNSENT && next_page(source, &page)) {
+    for (; count < most && stream_unsent(&source->main) < MOST_UNSENT && next_page(source, &page); count++) {
+        if (!source->zeros_are_due && is_zero(page_of(source, page))) {
+            source->cursor = page + 1;
+            continue;
+        }
         if (!push(source, page, false))
             refuse("page 0x%x remains, and is not to be pushed", page);
-        count++;
+        source->has_pushed = true;
     }
     return count;
 }

@@ -224,6 +224,7 @@ static void bytes_drop(struct bytes *bytes, size_t length)
 void stream_open(struct stream *stream, int file, const struct cut *cut)
 {
     stream->file = file;
+    stream->is_ready = true;
     stream->cut = *cut;
     stream->sent = 0;
     stream->in.begin = stream->in.end = 0;
@@ -304,23 +305,53 @@ bool stream_send(struct stream *stream)
     return true;
 }
 
+/* Leaves the first `length` bytes of the parts. Returns the number of parts that have some. */
+static size_t shorten(struct iovec *parts, size_t count, uint64_t length)
+{
+    size_t left = 0;
+
+    for (; left < count && length; left++) {
+        parts[left].iov_len = parts[left].iov_len < length ? parts[left].iov_len : length;
+        length -= parts[left].iov_len;
+    }
+    return left;
+}
+
+bool stream_receive_parts(struct stream *stream, struct iovec *parts, size_t count, size_t *got)
+{
+    struct msghdr message = { .msg_iov = parts, .msg_iovlen = shorten(parts, count, stream->cut.in) };
+    ssize_t received;
+
+    *got = 0;
+    if (!message.msg_iovlen)
+        return cut_off(stream);
+    received = recvmsg(stream->file, &message, MSG_DONTWAIT);
+    if (received < 0)
+        return is_wait(errno);
+    *got = (size_t)received;
+    if (stream->cut.in != NEVER)
+        stream->cut.in -= *got;
+    return received > 0;
+}
+
 bool stream_receive(struct stream *stream, size_t least)
 {
-    size_t room = least > MOST_RECEIVED ? least : MOST_RECEIVED;
-    uint8_t *at = bytes_room(&stream->in, room);
-    ssize_t got;
+    size_t room = least > MOST_RECEIVED ? least : MOST_RECEIVED, got = 0;
+    struct iovec part = { stream_space(stream, room), room };
+    bool is_whole = stream_receive_parts(stream, &part, 1, &got);
 
-    if (room > stream->cut.in)
-        room = stream->cut.in;
-    if (!room)
-        return cut_off(stream);
-    got = recv(stream->file, at, room, MSG_DONTWAIT);
-    if (got < 0)
-        return is_wait(errno);
-    stream->in.end += (size_t)got;
-    if (stream->cut.in != NEVER)
-        stream->cut.in -= (size_t)got;
-    return got > 0;
+    stream_fill(stream, got);
+    return is_whole;
+}
+
+uint8_t *stream_space(struct stream *stream, size_t length)
+{
+    return bytes_room(&stream->in, length);
+}
+
+void stream_fill(struct stream *stream, size_t length)
+{
+    stream->in.end += length;
 }
 
 size_t stream_length(const struct stream *stream)

@@ -8,6 +8,7 @@
 #include <stddef.h>
 #include <stdint.h>
 #include <sys/socket.h>
+#include <sys/uio.h>
 
 struct address {
     const char *text;
@@ -49,6 +50,7 @@ struct bytes {
 /* One connection. Without one `file` is -1. */
 struct stream {
     int file;
+    bool is_ready; /* something may have come since the last receive: the caller takes it from poll(2) */
     struct bytes in, out;
     struct cut cut;
     uint64_t sent; /* bytes that the kernel has taken: the connection is made */
@@ -80,6 +82,13 @@ size_t stream_under_way(const struct stream *stream);
    where that is more, are received. */
 bool stream_send(struct stream *stream);
 bool stream_receive(struct stream *stream, size_t least);
+
+/* Receives into these parts, one after the other, which it may shorten. `got` is the number of bytes. */
+bool stream_receive_parts(struct stream *stream, struct iovec *parts, size_t count, size_t *got);
+
+/* Room for `length` more bytes after those that were received; and some of them are there now. */
+uint8_t *stream_space(struct stream *stream, size_t length);
+void stream_fill(struct stream *stream, size_t length);
 
 /* What was received and not taken. */
 size_t stream_length(const struct stream *stream);
