@@ -86,7 +86,7 @@ static void open_door(struct dest *dest, const struct options *options)
 {
     if (options->feed) {
         door_none(&dest->door);
-        stream_open(&dest->main, feed_start(options->feed), &(struct cut)NO_CUT);
+        stream_open(&dest->main, feed_start(options->feed), NULL, &(struct cut)NO_CUT);
         return;
     }
     door_open(&dest->door, &options->address, options->buffer);
@@ -429,7 +429,6 @@ static bool receive(struct dest *dest, struct stream *stream, size_t missing)
 
     if (!stream->is_ready)
         return true;
-    stream->is_ready = false;
     if (stream == &dest->main && dest->state.has_run && !dest->is_first_frame && (!length || length >= HEADER_BYTES))
         return batch_receive(&dest->batch, stream, length ? missing : 0);
     return stream_receive(stream, missing);
@@ -486,15 +485,15 @@ static void lose_channel(struct dest *dest)
     look(dest);
 }
 
-static void take_channel(struct dest *dest, int file, const struct hello *source)
+/* The connection of a source takes the place of the one that it had. */
+static void take_channel(struct dest *dest, const struct stream *fresh, const struct hello *source)
 {
-    static const struct cuts never = NO_CUTS;
     const struct options *options = dest->options;
     struct hello own = { .channel = MAIN, .epoch = source->epoch, .instance = dest->instance };
 
     if (stream_is_open(&dest->main))
         lose_channel(dest);
-    stream_open(&dest->main, file, dest->channels < options->cuts ? &options->cut[dest->channels].main : &never.main);
+    stream_open(&dest->main, fresh->file, fresh->tls, dest->channels < options->cuts ? &options->cut[dest->channels].main : &fresh->cut);
     hello_write(&own, stream_room(&dest->main, HELLO_BYTES));
     dest->main.out.end += HELLO_BYTES;
     dest->channels++;
@@ -505,30 +504,27 @@ static void take_channel(struct dest *dest, int file, const struct hello *source
 /* An urgent connection is of this epoch alone. One of a later epoch waits at the door. */
 static void take_urgent_channel(struct dest *dest)
 {
-    static const struct cut never = NO_CUT;
     const struct options *options = dest->options;
     uint32_t epoch = dest->state.epoch;
     struct wanted wanted = { .channel = URGENT, .least = epoch, .most = epoch, .instance = dest->source.instance };
     struct hello hello;
-    int file;
 
     if (stream_is_open(&dest->urgent) || dest->source.epoch != epoch || dest->is_first_frame)
         return;
-    file = door_take(&dest->door, &wanted, &hello);
-    if (file >= 0)
-        stream_open(&dest->urgent, file, dest->channels <= options->cuts ? &options->cut[dest->channels - 1].urgent : &never);
+    if (door_take(&dest->door, &wanted, &dest->urgent, &hello) && dest->channels <= options->cuts)
+        dest->urgent.cut = options->cut[dest->channels - 1].urgent;
 }
 
 /* A source that comes again has a later epoch. Another source is not let in. */
 static void look_at_door(struct dest *dest)
 {
     struct wanted wanted = { .channel = MAIN, .least = dest->source.epoch + 1, .most = UINT32_MAX, .instance = dest->source.instance };
+    struct stream fresh = NO_STREAM;
     struct hello hello;
-    int file;
 
     door_look(&dest->door);
-    if (dest->source.epoch < UINT32_MAX && (file = door_take(&dest->door, &wanted, &hello)) >= 0)
-        take_channel(dest, file, &hello);
+    if (dest->source.epoch < UINT32_MAX && door_take(&dest->door, &wanted, &fresh, &hello))
+        take_channel(dest, &fresh, &hello);
     if (stream_is_open(&dest->main))
         take_urgent_channel(dest);
 }
@@ -560,7 +556,9 @@ static bool wait_for_more(struct dest *dest)
                                         { .fd = dest->is_handed ? dest->handed.monitor : -1, .events = POLLIN } };
     uint32_t count = OWN_FILES + door_files(&dest->door, files + OWN_FILES);
 
-    if (poll(files, count, dest->has_more ? 0 : 100) < 0 && errno != EINTR)
+    bool has_more = dest->has_more || dest->main.is_ready || dest->urgent.is_ready;
+
+    if (poll(files, count, has_more ? 0 : 100) < 0 && errno != EINTR)
         refuse_errno(errno, "poll");
     dest->has_more = false;
     dest->has_messages = files[1].revents != 0;

@@ -18,7 +18,8 @@
 #define RECEIVED_ENDED 2u          /* of a Recv */
 #define PUSHES_AT_A_TIME 16u
 #define MOST_UNSENT (128u << 10)   /* bytes: more pages are not put into a stream */
-#define RETRY_NS 2000000u          /* between two tries to connect */
+#define RETRY_NS 2000000u          /* between two tries to connect; */
+#define SLOW_RETRY_NS 50000000u    /* and after a handshake of TLS has failed */
 #define SECOND_NS 1000000000u
 #define MOST_HELD 256u             /* turns in which faults wait, so that pages can be protected; */
 #define MOST_CALM 32u              /* and runs that are sent before the faults are handled, once they could be */
@@ -173,7 +174,7 @@ static bool open_stream(struct source *source, struct stream *stream, enum chann
 
     if (file < 0)
         return false;
-    stream_open(stream, file, cut);
+    stream_open(stream, file, tls_new(file, TLS_CONNECTS), cut);
     hello_write(&hello, stream_room(stream, HELLO_BYTES));
     stream->out.end += HELLO_BYTES;
     return true;
@@ -193,7 +194,7 @@ static void open_feed(struct source *source)
 {
     static const struct cut never = NO_CUT;
 
-    stream_open(&source->main, feed_start(source->options->feed), &never);
+    stream_open(&source->main, feed_start(source->options->feed), NULL, &never);
     source->is_answered = true;
     source->channels++;
 }
@@ -241,7 +242,7 @@ static void connect_again(struct source *source)
 
     if (now < source->next_try)
         return;
-    source->next_try = now + RETRY_NS;
+    source->next_try = now + (tls_last_fault() ? SLOW_RETRY_NS : RETRY_NS);
     if (source->has_to_resume)
         node_expect(postmig_source_resume(&source->node.handle, &effect), "postmig_source_resume");
     source->has_to_resume = false;
@@ -569,7 +570,9 @@ static void wait_for_more(const struct source *source)
     struct pollfd files[3] = { { .fd = source->state.switched ? -1 : source->watch.userfault, .events = POLLIN },
                                waits_for(&source->main), waits_for(&source->urgent) };
 
-    if (poll(files, 3, is_timed ? 1 : 100) < 0 && errno != EINTR)
+    bool has_more = source->main.is_ready || source->urgent.is_ready;
+
+    if (poll(files, 3, has_more ? 0 : is_timed ? 1 : 100) < 0 && errno != EINTR)
         refuse_errno(errno, "poll");
 }
 
@@ -687,8 +690,11 @@ int source_run(const struct options *options)
 
     begin(&source, options);
     while (source.state.phase != POSTMIG_SOURCE_RELEASED) {
-        if (has_lost_patience(&source))
+        if (has_lost_patience(&source)) {
+            if (tls_last_fault())
+                fprintf(stderr, "live: TLS: %s\n", tls_last_fault());
             give_up(&source, "no destination");
+        }
         if (source.is_over && !source.state.switched)
             return keep_guest(&source);
         if (source.is_over)

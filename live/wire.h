@@ -1,4 +1,4 @@
-/* Connections between the two hosts: TCP on loopback, and Unix sockets. Each begins with a hello of the source, of HELLO_BYTES, that tells
+/* Connections between the two hosts: TCP, plain on loopback alone and else by TLS, and Unix sockets. Each begins with a hello of the source, of HELLO_BYTES, that tells
    its channel, its epoch, and which source it is; frames follow it. On the main connection the destination says first, in the same form,
    which destination it is. */
 #ifndef WIRE_H
@@ -10,16 +10,21 @@
 #include <sys/socket.h>
 #include <sys/uio.h>
 
+#include "tls.h"
+
 struct address {
     const char *text;
     struct sockaddr_storage name;
     socklen_t length;
 };
 
-/* Reads `HOST:PORT`, `[HOST]:PORT` of loopback, or `unix:PATH`. Any other address is refused. */
+/* Reads `HOST:PORT` or `[HOST]:PORT` with the number of a host, or `unix:PATH`. Any other address is refused. */
 void address_read(struct address *address, const char *text);
 
 bool address_is_unix(const struct address *address);
+
+/* Whether only processes of this host are there: on loopback, or at a Unix socket. */
+bool address_is_local(const struct address *address);
 
 enum channel { MAIN, URGENT };
 
@@ -50,7 +55,8 @@ struct bytes {
 /* One connection. Without one `file` is -1. */
 struct stream {
     int file;
-    bool is_ready; /* something may have come since the last receive: the caller takes it from poll(2) */
+    struct tls *tls; /* NULL: it is plain */
+    bool is_ready; /* something may have come since the last receive: the caller sets it too, after poll(2) */
     struct bytes in, out;
     struct cut cut;
     uint64_t sent; /* bytes that the kernel has taken: the connection is made */
@@ -64,8 +70,8 @@ void socket_set_up(int file, uint32_t buffer);
 /* Begins to connect. Returns -1 where nobody listens, with errno. */
 int wire_connect(const struct address *address, uint32_t buffer);
 
-/* Has the stream use a connection. Its cuts and buffers are empty. */
-void stream_open(struct stream *stream, int file, const struct cut *cut);
+/* Has the stream use a connection, with its session or NULL. Its buffers are empty. */
+void stream_open(struct stream *stream, int file, struct tls *tls, const struct cut *cut);
 /* Closes it, and drops all that was not read or sent. */
 void stream_close(struct stream *stream);
 /* The same, with the memory of its buffers. */
@@ -95,7 +101,7 @@ size_t stream_length(const struct stream *stream);
 const uint8_t *stream_front(const struct stream *stream);
 void stream_take(struct stream *stream, size_t length);
 
-/* For poll(2): what this stream waits for. */
+/* For poll(2): what this stream waits for. Where is_ready is set, poll(2) is not to wait. */
 short stream_events(const struct stream *stream);
 
 #endif
