@@ -37,6 +37,11 @@ bool batch_receive(struct batch *batch, struct stream *stream, size_t missing)
     return is_whole;
 }
 
+bool batch_is_full(const struct batch *batch)
+{
+    return batch->length == MOST_OF_BATCH * FRAME_BYTES;
+}
+
 bool batch_frame(const struct batch *batch, uint32_t number, struct frame *frame)
 {
     if (batch->length < (number + 1) * FRAME_BYTES)

@@ -25,6 +25,9 @@ void batch_open(struct batch *batch);
    connection is broken. */
 bool batch_receive(struct batch *batch, struct stream *stream, size_t missing);
 
+/* Whether there was no room for more: more may have come. */
+bool batch_is_full(const struct batch *batch);
+
 /* The frame with this number, from 0. False if it is not there whole, or is no Page: then neither are those after it. */
 bool batch_frame(const struct batch *batch, uint32_t number, struct frame *frame);
 

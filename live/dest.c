@@ -23,6 +23,7 @@
 #define KEPT_AT_A_TIME 16u
 #define MOST_FILES (MOST_NEWCOMERS + 6u)
 #define OWN_FILES 5u /* of those, what is not of the door */
+#define MOST_UNASKED 8u /* turns without poll(2) */
 #define PATIENT_MS 10000u /* for the guest's threads to stop */
 
 struct dest {
@@ -43,6 +44,8 @@ struct dest {
     bool has_more;       /* whole frames may be there */
     bool is_at_door;     /* somebody may be */
     bool has_messages;   /* of the kernel */
+    bool is_flowing;     /* the last batch was full; */
+    uint32_t unasked;    /* and so many turns were made since poll(2) */
     bool is_over;        /* the program that takes the part of the source has ended */
     struct samples waits;
     struct {
@@ -455,6 +458,7 @@ static bool take_frames(struct dest *dest, struct stream *stream, bool (*take_on
     size_t missing = 0;
     bool is_whole = front_frame(stream, &frame, &missing) || receive(dest, stream, missing);
 
+    dest->is_flowing = batch_is_full(&dest->batch);
     dest->has_more |= take_some(dest, stream, take_one);
     if (!dest->batch.length)
         return is_whole;
@@ -547,6 +551,16 @@ static struct pollfd waits_for(const struct stream *stream)
     return (struct pollfd){ .fd = stream->file, .events = stream_events(stream) };
 }
 
+/* While pages keep coming poll(2) is called now and then: a userfaultfd and an urgent connection without anything say so in less time. */
+static bool is_still_flowing(struct dest *dest)
+{
+    if (!dest->is_flowing || dest->unasked++ == MOST_UNASKED)
+        return false;
+    dest->has_messages = dest->main.is_ready = true;
+    dest->urgent.is_ready = stream_is_open(&dest->urgent);
+    return true;
+}
+
 /* Returns whether the caller has said, by the end of the standard input, that the source is gone. */
 static bool wait_for_more(struct dest *dest)
 {
@@ -561,6 +575,7 @@ static bool wait_for_more(struct dest *dest)
     if (poll(files, count, has_more ? 0 : 100) < 0 && errno != EINTR)
         refuse_errno(errno, "poll");
     dest->has_more = false;
+    dest->unasked = 0;
     dest->has_messages = files[1].revents != 0;
     dest->main.is_ready |= files[2].revents != 0;
     dest->urgent.is_ready |= files[3].revents != 0;
@@ -597,7 +612,7 @@ static bool turn(struct dest *dest)
     if (dest->state.has_run && dest->is_handed)
         dest->has_more |= watch_put_kept(&dest->watch, KEPT_AT_A_TIME);
     show_progress(dest);
-    return dest->is_over || wait_for_more(dest);
+    return dest->is_over || (!is_still_flowing(dest) && wait_for_more(dest));
 }
 
 /* HOW IT ENDS */
