@@ -125,7 +125,7 @@ def frozen_destination(program):
 
 def strangers(program, words=(), texts=(b"", b"GET / HTTP/1.1\r\n\r\n", hello()[:9], hello(0, 9), hello(1, 0), hello(1, 5), hello(0, 0))):
     """Those that say nothing, half a hello, something else, or an epoch that is over: none of them disturbs the migration."""
-    both = Watched(program, ["--push-rate", "8000", "--rounds", "0"], memory=[*MEMORY, *words])
+    both = Watched(program, ["--push-rate", "3000", "--rounds", "0"], memory=[*MEMORY, *words])
     both.at("destination running")
     host, port = both.address.split(":")
     with contextlib.ExitStack() as stack:

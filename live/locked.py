@@ -1,10 +1,13 @@
 """Cases of TLS: a right and a wrong key, none, strangers in the handshake, connections that are cut at any byte. Each returns what is wrong, or
 None."""
 
+import contextlib
 import os
 import pathlib
 import random
+import shutil
 import socket
+import ssl
 import subprocess
 import tempfile
 
@@ -100,6 +103,30 @@ def listener_without_tls(program):
     return None
 
 
+def listener_with_a_certificate(program):
+    """It speaks TLS, and has not the key."""
+    if not shutil.which("openssl"):
+        return None
+    with folder() as name, socket.create_server(("127.0.0.1", 0)) as server:
+        files = [f"{name}/{part}.pem" for part in ("certificate", "secret")]
+        subprocess.run(["openssl", "req", "-x509", "-newkey", "ec", "-pkeyopt", "ec_paramgen_curve:P-256", "-nodes", "-subj", "/CN=live", "-days", "2",
+                        "-out", files[0], "-keyout", files[1]], check=True, capture_output=True)
+        context = ssl.SSLContext(ssl.PROTOCOL_TLS_SERVER)
+        context.load_cert_chain(*files)
+        address = f"127.0.0.1:{server.getsockname()[1]}"
+        source = pair.Side([str(program), "source", "--connect", address, *MEMORY, *SHORT, *pair.new_key(name)])
+        server.settimeout(2)
+        with contextlib.suppress(TimeoutError):
+            while True:
+                connection = server.accept()[0]
+                with connection, contextlib.suppress(ssl.SSLError, ConnectionError):
+                    connection.settimeout(2)
+                    if context.wrap_socket(connection, server_side=True).recv(1):
+                        return "it is taken for the destination"
+        found = source.end(20)
+        return hurt.expect([("source", found, pair.LOST, "TLS: "), ("source", found, pair.LOST, "its memory is right")])
+
+
 def cut_at_any_byte(program):
     """Of what is on the wire, handshakes included, in both directions."""
     choice = random.Random(7)
@@ -130,5 +157,5 @@ def keys_that_are_none(program):
     return None
 
 
-CASES = (keys_at_the_door, key_at_a_plain_door, strangers_in_the_handshake, strangers_take_no_memory, listener_without_tls, cut_at_any_byte,
-         keys_that_are_none)
+CASES = (keys_at_the_door, key_at_a_plain_door, strangers_in_the_handshake, strangers_take_no_memory, listener_without_tls,
+         listener_with_a_certificate, cut_at_any_byte, keys_that_are_none)

@@ -184,6 +184,8 @@ static bool shake_hands(struct tls *tls)
 {
     int result = tls->is_made ? GNUTLS_E_SUCCESS : gnutls_handshake(tls->session);
 
+    if (result == GNUTLS_E_SUCCESS && gnutls_auth_get_type(tls->session) != GNUTLS_CRD_PSK)
+        result = GNUTLS_E_INSUFFICIENT_CREDENTIALS;
     if (result == GNUTLS_E_SUCCESS) {
         tls->is_made = true;
         return true;
