@@ -37,6 +37,14 @@ NOTICES = {"notice source", "notice dest"}
 HEAD = 2
 # A frame whose count the trace of its sender does not tell.
 ANY = " *"
+# Answers of which a part is read here.
+READ = {
+    "start": re.compile(r"started epoch \d{1,10}$"),
+    "resume": re.compile(r"resumed epoch \d{1,10}$"),
+    "switch": re.compile(r"switched discard \d+ owed \d+$"),
+    "dact": re.compile(r"(requested 0x[0-9a-f]+ for|zeroed|woke|forgot) 0x[0-9a-f]+$"),
+}
+SAID = re.compile(r"# (cpus|epoch) (\d{1,10})$")
 DIFFERS = re.compile(r"-:(\d+): (expected .*|not a line of a test)")
 
 
@@ -68,24 +76,26 @@ class Trace:
                 raise Unreadable(f"{name}:{number}: a refused step is not a line of a trace: {line}")
             if kind in ("cpu", "retry"):
                 most = max(most, self.processor(number, order))
+            elif kind in READ and not READ[kind].match(answer):
+                raise Unreadable(f"{name}:{number}: not an answer to `{order}`: {line}")
             resumes += answer == "took resume"
             steps.append((number, kind, answer, line))
         self.least_cpus = most + 1
 
     def processor(self, number, order):
         words = order.split(" ")
-        if len(words) < 2 or not words[1].isdecimal():
+        if len(words) < 2 or not words[1].isdecimal() or len(words[1]) > 3:
             raise Unreadable(f"{self.name}:{number}: not a line of a trace: {order}")
         return int(words[1])
 
     def read_comment(self, number, line, resumes):
         if line.strip() and line[0] != "#":
             raise Unreadable(f"{self.name}:{number}: not a line `ORDER => ANSWER`: {line}")
-        words = line.split()
-        if len(words) == 3 and words[2].isdecimal() and words[1] == "cpus" and number == 1:
-            self.cpus = int(words[2])
-        elif len(words) == 3 and words[2].isdecimal() and words[1] == "epoch":
-            self.epochs[resumes] = int(words[2])
+        said = SAID.match(line)
+        if said and said[1] == "epoch":
+            self.epochs[resumes] = int(said[2])
+        elif said and number == 1:
+            self.cpus = int(said[2])
 
     def at(self, index):
         """Where a step is, and what it says."""

@@ -161,6 +161,23 @@ def plant_all(program, kept, runs):
     return missed
 
 
+def mutate_all(kept, count):
+    """Traces that are changed anywhere: merged, or named with a line. What else is raised ends this program."""
+    draw, counts = random.Random(2), collections.Counter()
+    for _ in range(count):
+        _, traces = draw.choice(kept)
+        side = draw.choice((SOURCE, DEST))
+        text = "".join(f"{line}\n" for line in planted_traces.mutated(traces[side].splitlines(), draw))
+        try:
+            merged({**traces, side: text}, draw.choice((None, 1)))
+            counts["merged"] += 1
+        except (merging.NoOrder, merging.Unreadable) as fault:
+            counts["named"] += 1
+            if not re.search(r"\.trace(:\d+)?", str(fault)):
+                raise ValueError(f"no line is named: {fault}") from fault
+    print(", ".join(f"{value:,} {name}" for name, value in counts.items()) + " of traces that are changed anywhere")
+
+
 # THE COMMAND LINE
 
 
@@ -201,6 +218,7 @@ def main():
     print(", ".join(f"{value:,} {name}" for name, value in counts.items()) + f": {len(wrong)} differ")
     for line in wrong[:20]:
         print(line)
+    mutate_all(kept, 300 if arguments.quick else 5000)
     wrong_uses = command_line(dict(kept)["lost-before-switch"])
     print(*wrong_uses, sep="\n", end="\n" if wrong_uses else "")
     missed = plant_all(arguments.program, kept, 1 if arguments.quick else 10) + len(wrong_uses)

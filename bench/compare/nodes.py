@@ -36,7 +36,7 @@ def build(folder):
     made = pathlib.Path(folder) / "play"
     # (node_trace.c, where the library has no traces of its own)
     words = written(["make", "-s", "-C", LIVE, "--eval", "traces: ; @echo $(filter node_trace.c,$(SOURCES)) $(filter -D%,$(FLAGS)) $(WRAPS)", "traces"])
-    written(["cc", "-std=gnu11", "-g", "-O1", "-Wall", "-Wextra", "-fsanitize=address,undefined", "-fno-sanitize-recover=all", "-I", LIVE, "-I",
+    written(["cc", "-std=gnu11", "-g", "-O1", "-Wall", "-Wextra", "-Wconversion", "-Werror", "-fsanitize=address,undefined", "-fno-sanitize-recover=all", "-I", LIVE, "-I",
              TOP / "crates/postmig_c/include", "-o", made, TOP / "bench/embed/play.c", *words.decode().split(), TOP / "dist/libpostmig.a"], folder=LIVE)
     return made
 

@@ -186,3 +186,31 @@ SCRIPTS = (
     ("a break is left out", left_out("^break")),
     ("there is a break more", twice("^break")),
 )
+
+
+# ANY CHANGE
+
+
+def mutated(lines, draw):
+    """A few lines are left out, repeated, swapped, cut off or changed somewhere."""
+    lines = list(lines)
+    for _ in range(draw.choice((1, 1, 1, 2, 4))):
+        at, other = draw.randrange(len(lines)), draw.randrange(len(lines))
+        words = lines[at].split(" ")
+        word = draw.randrange(len(words))
+        kind = draw.randrange(7)
+        if kind == 0:
+            lines[at : at + 1] = []
+        elif kind == 1:
+            lines.insert(at, lines[other])
+        elif kind == 2:
+            lines[at], lines[other] = lines[other], lines[at]
+        elif kind == 3:
+            lines = lines[: at + 1]
+        elif kind == 4:
+            lines[at] = f"{lines[at].partition(' => ')[0]} => {lines[other].partition(' => ')[2]}"
+        else:
+            words[word : word + 1] = [draw.choice(("0x10000", "=>", "", "7", "resume", "-1", "9" * 5000, "\u0661", "\r"))] if kind == 5 else []
+            lines[at] = " ".join(words)
+        lines = lines or [""]
+    return lines
