@@ -19,6 +19,7 @@ would fit, from the comment `# epoch N`, or else it is the earliest.
 """
 
 import itertools
+import os
 import random
 import re
 import subprocess
@@ -109,6 +110,10 @@ def read(name, side):
             return Trace(name, side, file.read())
     except (OSError, UnicodeDecodeError) as error:
         raise Unreadable(f"{name}: {getattr(error, 'strerror', None) or error}") from None
+
+
+class NoJudge(Exception):
+    """There is no proved program of these sources."""
 
 
 class Epoch:
@@ -440,10 +445,14 @@ class Script:
         return "".join(itertools.chain.from_iterable((line, "\n") for line in lines))
 
     def judged(self, program):
-        """The first line that `postmig test` finds to be wrong, as a text, or None. OSError if it cannot judge."""
-        done = subprocess.run([program, "test", "--strict"], input=self.text(), capture_output=True, text=True)
+        """The first line that `postmig test` finds to be wrong, as a text, or None. OSError if it cannot judge, NoJudge without a proved
+        program."""
+        environment = {**os.environ, "POSTMIG_PROVED_ONLY": "1"}
+        done = subprocess.run([program, "test", "--strict"], input=self.text(), capture_output=True, text=True, env=environment)
         if done.returncode == 0:
             return None
+        if "no proved build" in done.stderr:
+            raise NoJudge(done.stderr.strip())
         found = DIFFERS.search(done.stdout) or DIFFERS.search(done.stderr)
         if not found:
             raise OSError(f"postmig test: status {done.returncode}: {done.stdout.strip()} {done.stderr.strip()}")

@@ -11,6 +11,7 @@ three orders. The status is 1 where an answer differs, where no order is found, 
 import argparse
 import collections
 import itertools
+import os
 import pathlib
 import random
 import re
@@ -211,6 +212,7 @@ def main():
     given.add_argument("--orders", type=int, metavar="N", help="orders of each (10)")
     given.add_argument("--program", type=pathlib.Path, default=TOP / "postmig", metavar="PATH")
     arguments = given.parse_args()
+    os.environ["POSTMIG_PROVED_ONLY"] = "1"  # (a run of a build without proof takes a minute)
     arguments.scripts = arguments.scripts if arguments.scripts is not None else 24 if arguments.quick else 200
     arguments.orders = arguments.orders or (3 if arguments.quick else 10)
     counts = collections.Counter()

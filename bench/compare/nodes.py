@@ -133,6 +133,7 @@ def main():
     given.add_argument("--scripts", type=int, default=200, metavar="N", help="random scripts (200)")
     given.add_argument("--program", type=pathlib.Path, default=TOP / "postmig", metavar="PATH")
     arguments = given.parse_args()
+    os.environ["POSTMIG_PROVED_ONLY"] = "1"  # (a run of a build without proof takes a minute)
     counts, wrong = collections.Counter(), []
     with tempfile.TemporaryDirectory() as folder:
         program, files = build(folder), []
