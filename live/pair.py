@@ -107,7 +107,7 @@ class Migration:
                  kept=None):
         self.folder = tempfile.TemporaryDirectory(prefix="live-")
         self.traces = [f"{kept or self.folder.name}/{side}.trace" for side in ("source", "dest")] if is_traced else None
-        self.script = self.judged = None
+        self.script = self.judged = self.no_judge = None
         if is_traced:
             source, dest = [*source, "--trace", self.traces[0]], [*dest, "--trace", self.traces[1]]
         address = f"unix:{self.folder.name}/socket" if is_unix else "127.0.0.1:0"
@@ -148,10 +148,13 @@ class Migration:
         return hang or self.wrong() or self.judged
 
     def judge(self):
-        """Both traces in one script, which `postmig test` judges."""
+        """Both traces in one script, which `postmig test` judges if there is a proved program."""
+        differs = None
         try:
             self.script = merging.merge_files(*self.traces)
             differs = self.script.judged(POSTMIG)
+        except merging.NoJudge as none:
+            self.no_judge = str(none)
         except (merging.NoOrder, merging.Unreadable, OSError) as fault:
             differs = str(fault)
         if differs:

@@ -23,7 +23,7 @@ PICTURES = page.TOP / "docs" / "pictures"
 EXAMPLES = page.TOP / "examples"
 STORIES = ("background-push", "fault", "page-moves", "lost-after-run")
 # The processors of the scripts of docs/pictures, by name.
-SCRIPTS = {"64-pages": 4, "one-page": 2}
+SCRIPTS = {"64-pages": 4, "one-page": 2, "real-memory": 4}
 SVG = "{http://www.w3.org/2000/svg}"
 ELEMENTS = {SVG + name for name in ("svg", "title", "style", "defs", "pattern", "g", "path", "text")}
 ATTRIBUTES = {"viewBox", "width", "height", "role", "id", "class", "patternUnits", "d", "transform"}

@@ -4,13 +4,14 @@ faults into traces, and looks who names them.
 
 python3 bench/compare/merge.py [--quick] [--scripts N] [--orders N] [--program PATH]
 
-The runs are those of examples/ and N random scripts (200) of all profiles of `postmig explore`, each in ten orders. --quick: 40 scripts,
+The runs are those of examples/ and N random scripts (200) of all profiles of `postmig explore`, each in ten orders. --quick: 24 scripts,
 three orders. The status is 1 where an answer differs, where no order is found, or where a planted fault is not named.
 """
 
 import argparse
 import collections
 import itertools
+import os
 import pathlib
 import random
 import re
@@ -21,7 +22,7 @@ import tempfile
 import shared  # noqa: F401
 
 from page import TOP
-from program import PROFILES, PROGRAM, written
+from program import PROFILES, written
 
 sys.path.append(str(TOP / "live"))
 
@@ -161,6 +162,23 @@ def plant_all(program, kept, runs):
     return missed
 
 
+def mutate_all(kept, count):
+    """Traces that are changed anywhere: merged, or named with a line. What else is raised ends this program."""
+    draw, counts = random.Random(2), collections.Counter()
+    for _ in range(count):
+        _, traces = draw.choice(kept)
+        side = draw.choice((SOURCE, DEST))
+        text = "".join(f"{line}\n" for line in planted_traces.mutated(traces[side].splitlines(), draw))
+        try:
+            merged({**traces, side: text}, draw.choice((None, 1)))
+            counts["merged"] += 1
+        except (merging.NoOrder, merging.Unreadable) as fault:
+            counts["named"] += 1
+            if not re.search(r"\.trace(:\d+)?", str(fault)):
+                raise ValueError(f"no line is named: {fault}") from fault
+    print(", ".join(f"{value:,} {name}" for name, value in counts.items()) + " of traces that are changed anywhere")
+
+
 # THE COMMAND LINE
 
 
@@ -189,18 +207,20 @@ def command_line(traces):
 
 def main():
     given = argparse.ArgumentParser(description="Merges the traces of random runs, and has postmig test judge them.")
-    given.add_argument("--quick", action="store_true", help="40 scripts, three orders each")
+    given.add_argument("--quick", action="store_true", help="24 scripts, three orders each")
     given.add_argument("--scripts", type=int, metavar="N", help="random scripts (200)")
     given.add_argument("--orders", type=int, metavar="N", help="orders of each (10)")
-    given.add_argument("--program", type=pathlib.Path, default=PROGRAM if PROGRAM.exists() else TOP / "postmig", metavar="PATH")
+    given.add_argument("--program", type=pathlib.Path, default=TOP / "postmig", metavar="PATH")
     arguments = given.parse_args()
-    arguments.scripts = arguments.scripts if arguments.scripts is not None else 40 if arguments.quick else 200
+    os.environ["POSTMIG_PROVED_ONLY"] = "1"  # (a run of a build without proof takes a minute)
+    arguments.scripts = arguments.scripts if arguments.scripts is not None else 24 if arguments.quick else 200
     arguments.orders = arguments.orders or (3 if arguments.quick else 10)
     counts = collections.Counter()
     wrong, kept = merge_all(arguments.program, arguments, counts)
     print(", ".join(f"{value:,} {name}" for name, value in counts.items()) + f": {len(wrong)} differ")
     for line in wrong[:20]:
         print(line)
+    mutate_all(kept, 300 if arguments.quick else 5000)
     wrong_uses = command_line(dict(kept)["lost-before-switch"])
     print(*wrong_uses, sep="\n", end="\n" if wrong_uses else "")
     missed = plant_all(arguments.program, kept, 1 if arguments.quick else 10) + len(wrong_uses)
