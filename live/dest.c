@@ -482,6 +482,7 @@ static void lose_channel(struct dest *dest)
 
     stream_close(&dest->main);
     stream_close(&dest->urgent);
+    dest->is_flowing = false;
     node_drop_frames(&dest->node);
     dest->is_over = dest->options->feed;
     dest->figures.breaks += phase != POSTMIG_DESTINATION_ENDED;
