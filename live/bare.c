@@ -50,7 +50,7 @@ static void *send_all(void *argument)
 
     if (file < 0)
         refuse_errno(errno, "%s", bare->address.text);
-    stream_open(&stream, file, &(struct cut)NO_CUT);
+    stream_open(&stream, file, NULL, &(struct cut)NO_CUT);
     for (uint32_t page = 0; page < bare->pages || stream_unsent(&stream);) {
         while (page < bare->pages && stream_unsent(&stream) < MOST_UNSENT)
             put_page(bare, &stream, page++);
@@ -88,7 +88,7 @@ static void put_all(struct bare *bare, int file)
     uint64_t begun = kernel_thread_time();
     uint32_t count = 0;
 
-    stream_open(&stream, file, &(struct cut)NO_CUT);
+    stream_open(&stream, file, NULL, &(struct cut)NO_CUT);
     while (count < bare->pages) {
         uint32_t some;
 

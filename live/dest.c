@@ -9,6 +9,7 @@
 #include <string.h>
 #include <unistd.h>
 
+#include "batch.h"
 #include "door.h"
 #include "feed.h"
 #include "figures.h"
@@ -23,6 +24,7 @@
 #define KEPT_AT_A_TIME 16u
 #define MOST_FILES (MOST_NEWCOMERS + 6u)
 #define OWN_FILES 5u /* of those, what is not of the door */
+#define MOST_UNASKED 8u /* turns without poll(2) */
 #define PATIENT_MS 10000u /* for the guest's threads to stop */
 
 struct dest {
@@ -34,6 +36,7 @@ struct dest {
     struct watch watch;
     struct door door;
     struct stream main, urgent;
+    struct batch batch; /* of the main one; empty between two turns */
     postmig_destination_state state; /* since the last step that changes the phase or the epoch; its counts may be older than the node's */
     uint32_t channels;   /* taken until now */
     uint64_t instance;   /* of this process, */
@@ -41,6 +44,9 @@ struct dest {
     bool is_first_frame; /* of this channel */
     bool has_more;       /* whole frames may be there */
     bool is_at_door;     /* somebody may be */
+    bool has_messages;   /* of the kernel */
+    bool is_flowing;     /* the last batch was full; */
+    uint32_t unasked;    /* and so many turns were made since poll(2) */
     bool is_over;        /* the program that takes the part of the source has ended */
     struct samples waits;
     struct {
@@ -49,12 +55,6 @@ struct dest {
         uint64_t kept, discarded; /* copies before the guest ran */
         uint64_t busy; /* of the driver's thread, from the Package to the End, in processor time */
     } figures;
-};
-
-/* A frame at the front of a connection. */
-struct frame {
-    const uint8_t *head;
-    size_t head_bytes, page_bytes; /* the pages' bytes follow the head */
 };
 
 static char *page_of(const struct dest *dest, uint64_t address)
@@ -79,6 +79,7 @@ static void begin(struct dest *dest, const struct options *options)
                dest->is_handed ? NULL : kernel_map((size_t)options->plan.pages * PAGE_BYTES));
     watch_open(&dest->watch, &dest->node, &dest->guest, dest->is_handed ? &dest->handed : NULL);
     watch_keep_times(&dest->watch);
+    batch_open(&dest->batch);
     node_expect(postmig_destination_new((uint8_t)options->plan.threads, &dest->node.handle), "postmig_destination_new");
     trace_begin(options->trace, &dest->node, options->plan.threads);
     dest->instance = hello_new_instance();
@@ -90,7 +91,7 @@ static void open_door(struct dest *dest, const struct options *options)
 {
     if (options->feed) {
         door_none(&dest->door);
-        stream_open(&dest->main, feed_start(options->feed), &(struct cut)NO_CUT);
+        stream_open(&dest->main, feed_start(options->feed), NULL, &(struct cut)NO_CUT);
         return;
     }
     door_open(&dest->door, &options->address, options->buffer);
@@ -127,7 +128,7 @@ static void keep(struct dest *dest, const postmig_effect *effect, const struct f
     if (dest->is_handed)
         handed_keep(&dest->handed, effect->addr / PAGE_BYTES - LOW_PAGE, pages);
     if (frame->page_bytes)
-        memcpy(at, frame->head + frame->head_bytes, frame->page_bytes);
+        memcpy(at, frame->pages, frame->page_bytes);
     else
         keep_zero(at);
 }
@@ -146,8 +147,7 @@ static void note_wait(struct dest *dest, uint64_t origin)
 static bool put_copy(struct dest *dest, const postmig_effect *effect, const struct frame *frame)
 {
     char *at = page_of(dest, effect->addr);
-    int error = frame->page_bytes ? kernel_copy(dest->watch.userfault, at, frame->head + frame->head_bytes)
-                                  : kernel_zero(dest->watch.userfault, at);
+    int error = frame->page_bytes ? kernel_copy(dest->watch.userfault, at, frame->pages) : kernel_zero(dest->watch.userfault, at);
 
     if (!error) {
         dest->watch.again_in_a_row = 0;
@@ -159,21 +159,74 @@ static bool put_copy(struct dest *dest, const postmig_effect *effect, const stru
     return false;
 }
 
-/* The frame that was taken last is the only copy that waits. */
-static void install(struct dest *dest, const struct frame *frame)
+static void next_install(struct dest *dest, postmig_effect *next)
 {
-    postmig_effect next, effect;
+    node_expect(postmig_destination_next_install(&dest->node.handle, next), "postmig_destination_next_install");
+}
 
-    do
-        node_expect(postmig_destination_next_install(&dest->node.handle, &next), "postmig_destination_next_install");
-    while (next.kind == POSTMIG_DID_INSTALL && !put_copy(dest, &next, frame));
+/* The node makes the step that it has announced, and who waits for the page continues. */
+static void make_install(struct dest *dest, const postmig_effect *next)
+{
+    postmig_effect effect;
+
     node_expect(postmig_destination_install(&dest->node.handle, &effect), "postmig_destination_install");
-    if (!is_same_effect(&next, &effect))
+    if (!is_same_effect(next, &effect))
         refuse("the node has installed another page than it has announced");
     if (effect.kind != POSTMIG_DID_INSTALL)
         return;
     note_wait(dest, effect.other);
     watch_wake(&dest->watch, effect.addr);
+}
+
+/* The frame was taken last, and is the only copy that waits. */
+static void install(struct dest *dest, const struct frame *frame)
+{
+    postmig_effect next;
+
+    do
+        next_install(dest, &next);
+    while (next.kind == POSTMIG_DID_INSTALL && !put_copy(dest, &next, frame));
+    make_install(dest, &next);
+}
+
+/* How many of these pages of the source are owed side by side from there on, where the node says that the first of them goes. */
+static uint32_t side_by_side(struct dest *dest, const postmig_effect *next, const uint64_t *origin, uint32_t most)
+{
+    const char *at = page_of(dest, next->addr);
+    uint32_t count = 1, home = 0;
+
+    while (count < most && postmig_destination_home(&dest->node.handle, (uint32_t)(origin[count] / PAGE_BYTES), &home) == POSTMIG_OK &&
+           home == next->addr / PAGE_BYTES + count && page_of(dest, (uint64_t)home * PAGE_BYTES) == at + (size_t)count * PAGE_BYTES)
+        count++;
+    return count;
+}
+
+/* Puts the first copy that waits, and by the same call those that go side by side with it. Returns how many were installed or dropped; it
+   may be none where the kernel has an event that must be read first. */
+static uint32_t install_some(struct dest *dest, const uint8_t *pages, const uint64_t *origin, uint32_t most)
+{
+    postmig_effect next;
+    size_t put = 0;
+    int error;
+
+    next_install(dest, &next);
+    if (next.kind != POSTMIG_DID_INSTALL) {
+        make_install(dest, &next);
+        return 1;
+    }
+    error = kernel_copy_pages(dest->watch.userfault, page_of(dest, next.addr), pages, side_by_side(dest, &next, origin, most), &put);
+    for (uint32_t i = 0; i < put; i++) {
+        next.other = origin[i];
+        make_install(dest, &next);
+        next.addr += PAGE_BYTES;
+    }
+    if (error && error != EAGAIN)
+        watch_unexpected(error, "UFFDIO_COPY", next.addr);
+    if (error)
+        watch_again(&dest->watch);
+    else
+        dest->watch.again_in_a_row = 0;
+    return (uint32_t)put;
 }
 
 /* FRAMES */
@@ -305,8 +358,7 @@ static void notice_if_resumed(struct dest *dest, const struct frame *frame)
 /* Hostile bytes, or a source that is wrong. A guest that runs here goes no further. */
 static _Noreturn void refuse_frame(const struct dest *dest, const struct frame *frame, uint32_t status)
 {
-    refuse("%s%s", node_fault(status, frame->head, frame->head_bytes + frame->page_bytes),
-           dest->state.has_run ? ": the guest is lost" : "");
+    refuse("%s%s", node_fault(status, frame), dest->state.has_run ? ": the guest is lost" : "");
 }
 
 /* False for an End that must wait until all urgent frames have been taken. */
@@ -340,6 +392,27 @@ static bool take_urgent(struct dest *dest, const struct frame *frame)
     return true;
 }
 
+/* The Pages of the batch. All of them are taken before the first one is installed. */
+static void take_batch(struct dest *dest)
+{
+    uint64_t origin[MOST_OF_BATCH];
+    struct batch *batch = &dest->batch;
+    struct frame frame;
+    uint32_t count = 0, done = 0;
+
+    for (; count < MOST_OF_BATCH && batch_frame(batch, count, &frame); count++) {
+        postmig_effect effect;
+        uint32_t status = postmig_destination_take(&dest->node.handle, frame.head, frame.head_bytes, &effect);
+
+        if (status != POSTMIG_OK)
+            refuse_frame(dest, &frame, status);
+        origin[count] = effect.addr;
+    }
+    while (done < count)
+        done += install_some(dest, batch->pages + (size_t)done * PAGE_BYTES, origin + done, count - done);
+    batch_return(batch, count, &dest->main);
+}
+
 /* The frame at the front, once it is whole. Else `missing` bytes of it are still to be received. */
 static bool front_frame(const struct stream *stream, struct frame *frame, size_t *missing)
 {
@@ -349,22 +422,53 @@ static bool front_frame(const struct stream *stream, struct frame *frame, size_t
     if (postmig_frame_lengths(frame->head, length, &frame->head_bytes, &frame->page_bytes) == POSTMIG_OK)
         needed = frame->head_bytes + frame->page_bytes;
     *missing = length < needed ? needed - length : 0;
-    return length >= needed;
+    if (!*missing)
+        frame->pages = frame->head + frame->head_bytes;
+    return !*missing;
 }
 
-/* Takes a few frames. False once the connection is broken. */
+/* Once the guest runs the main connection has pages for the most part. */
+static bool receive(struct dest *dest, struct stream *stream, size_t missing)
+{
+    size_t length = stream_length(stream);
+
+    if (!stream->is_ready)
+        return true;
+    if (stream == &dest->main && dest->state.has_run && !dest->is_first_frame && (!length || length >= HEADER_BYTES))
+        return batch_receive(&dest->batch, stream, length ? missing : 0);
+    return stream_receive(stream, missing);
+}
+
+/* Takes frames of the stream, a few at most. Returns whether more of them may be there that can be taken. */
+static bool take_some(struct dest *dest, struct stream *stream, bool (*take_one)(struct dest *, const struct frame *))
+{
+    struct frame frame;
+    size_t missing;
+
+    for (uint32_t i = 0; i < FRAMES_AT_A_TIME; i++) {
+        if (!front_frame(stream, &frame, &missing) || !take_one(dest, &frame))
+            return false;
+        stream_take(stream, frame.head_bytes + frame.page_bytes);
+    }
+    return true;
+}
+
+/* Receives and takes frames. False once the connection is broken. */
 static bool take_frames(struct dest *dest, struct stream *stream, bool (*take_one)(struct dest *, const struct frame *))
 {
     struct frame frame;
     size_t missing = 0;
-    bool is_whole = front_frame(stream, &frame, &missing) || stream_receive(stream, missing);
+    bool is_whole = front_frame(stream, &frame, &missing) || receive(dest, stream, missing);
 
-    for (uint32_t i = 0; i < FRAMES_AT_A_TIME; i++) {
-        if (!front_frame(stream, &frame, &missing) || !take_one(dest, &frame))
-            return is_whole;
-        stream_take(stream, frame.head_bytes + frame.page_bytes);
-    }
-    dest->has_more = true;
+    dest->is_flowing = batch_is_full(&dest->batch);
+    dest->has_more |= take_some(dest, stream, take_one);
+    if (!dest->batch.length)
+        return is_whole;
+    if (stream_length(stream))
+        batch_return(&dest->batch, 0, stream);
+    else
+        take_batch(dest);
+    dest->has_more |= front_frame(stream, &frame, &missing);
     return is_whole;
 }
 
@@ -378,6 +482,7 @@ static void lose_channel(struct dest *dest)
 
     stream_close(&dest->main);
     stream_close(&dest->urgent);
+    dest->is_flowing = false;
     node_drop_frames(&dest->node);
     dest->is_over = dest->options->feed;
     dest->figures.breaks += phase != POSTMIG_DESTINATION_ENDED;
@@ -387,15 +492,15 @@ static void lose_channel(struct dest *dest)
     look(dest);
 }
 
-static void take_channel(struct dest *dest, int file, const struct hello *source)
+/* The connection of a source takes the place of the one that it had. */
+static void take_channel(struct dest *dest, const struct stream *fresh, const struct hello *source)
 {
-    static const struct cuts never = NO_CUTS;
     const struct options *options = dest->options;
     struct hello own = { .channel = MAIN, .epoch = source->epoch, .instance = dest->instance };
 
     if (stream_is_open(&dest->main))
         lose_channel(dest);
-    stream_open(&dest->main, file, dest->channels < options->cuts ? &options->cut[dest->channels].main : &never.main);
+    stream_open(&dest->main, fresh->file, fresh->tls, dest->channels < options->cuts ? &options->cut[dest->channels].main : &fresh->cut);
     hello_write(&own, stream_room(&dest->main, HELLO_BYTES));
     dest->main.out.end += HELLO_BYTES;
     dest->channels++;
@@ -406,30 +511,27 @@ static void take_channel(struct dest *dest, int file, const struct hello *source
 /* An urgent connection is of this epoch alone. One of a later epoch waits at the door. */
 static void take_urgent_channel(struct dest *dest)
 {
-    static const struct cut never = NO_CUT;
     const struct options *options = dest->options;
     uint32_t epoch = dest->state.epoch;
     struct wanted wanted = { .channel = URGENT, .least = epoch, .most = epoch, .instance = dest->source.instance };
     struct hello hello;
-    int file;
 
     if (stream_is_open(&dest->urgent) || dest->source.epoch != epoch || dest->is_first_frame)
         return;
-    file = door_take(&dest->door, &wanted, &hello);
-    if (file >= 0)
-        stream_open(&dest->urgent, file, dest->channels <= options->cuts ? &options->cut[dest->channels - 1].urgent : &never);
+    if (door_take(&dest->door, &wanted, &dest->urgent, &hello) && dest->channels <= options->cuts)
+        dest->urgent.cut = options->cut[dest->channels - 1].urgent;
 }
 
 /* A source that comes again has a later epoch. Another source is not let in. */
 static void look_at_door(struct dest *dest)
 {
     struct wanted wanted = { .channel = MAIN, .least = dest->source.epoch + 1, .most = UINT32_MAX, .instance = dest->source.instance };
+    struct stream fresh = NO_STREAM;
     struct hello hello;
-    int file;
 
     door_look(&dest->door);
-    if (dest->source.epoch < UINT32_MAX && (file = door_take(&dest->door, &wanted, &hello)) >= 0)
-        take_channel(dest, file, &hello);
+    if (dest->source.epoch < UINT32_MAX && door_take(&dest->door, &wanted, &fresh, &hello))
+        take_channel(dest, &fresh, &hello);
     if (stream_is_open(&dest->main))
         take_urgent_channel(dest);
 }
@@ -452,6 +554,16 @@ static struct pollfd waits_for(const struct stream *stream)
     return (struct pollfd){ .fd = stream->file, .events = stream_events(stream) };
 }
 
+/* While pages keep coming poll(2) is called now and then: a userfaultfd and an urgent connection without anything say so in less time. */
+static bool is_still_flowing(struct dest *dest)
+{
+    if (!dest->is_flowing || dest->unasked++ == MOST_UNASKED)
+        return false;
+    dest->has_messages = dest->main.is_ready = true;
+    dest->urgent.is_ready = stream_is_open(&dest->urgent);
+    return true;
+}
+
 /* Returns whether the caller has said, by the end of the standard input, that the source is gone. */
 static bool wait_for_more(struct dest *dest)
 {
@@ -461,9 +573,15 @@ static bool wait_for_more(struct dest *dest)
                                         { .fd = dest->is_handed ? dest->handed.monitor : -1, .events = POLLIN } };
     uint32_t count = OWN_FILES + door_files(&dest->door, files + OWN_FILES);
 
-    if (poll(files, count, dest->has_more ? 0 : 100) < 0 && errno != EINTR)
+    bool has_more = dest->has_more || dest->main.is_ready || dest->urgent.is_ready;
+
+    if (poll(files, count, has_more ? 0 : 100) < 0 && errno != EINTR)
         refuse_errno(errno, "poll");
     dest->has_more = false;
+    dest->unasked = 0;
+    dest->has_messages = files[1].revents != 0;
+    dest->main.is_ready |= files[2].revents != 0;
+    dest->urgent.is_ready |= files[3].revents != 0;
     if (files[4].revents && handed_has_stopped(&dest->handed))
         refuse("the guest has stopped, and was not asked to");
     dest->is_at_door = door_has_newcomer(&dest->door);
@@ -488,7 +606,7 @@ static void show_progress(struct dest *dest)
 /* One turn. Returns whether the source is gone. */
 static bool turn(struct dest *dest)
 {
-    if (dest->state.has_run)
+    if (dest->state.has_run && (dest->has_messages || dest->watch.is_behind))
         watch_handle(&dest->watch);
     if (dest->is_at_door)
         look_at_door(dest);
@@ -498,7 +616,7 @@ static bool turn(struct dest *dest)
         dest->has_more |= watch_put_kept(&dest->watch, KEPT_AT_A_TIME);
     trace_write();
     show_progress(dest);
-    return dest->is_over || wait_for_more(dest);
+    return dest->is_over || (!is_still_flowing(dest) && wait_for_more(dest));
 }
 
 /* HOW IT ENDS */

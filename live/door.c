@@ -63,6 +63,7 @@ uint16_t door_port(const struct door *door)
 
 static void turn_away(struct door *door, struct newcomer *newcomer)
 {
+    tls_free(newcomer->tls);
     (void)close(newcomer->file); /* nothing was written */
     newcomer->file = -1;
     door->turned_away++;
@@ -94,18 +95,21 @@ static void accept_all(struct door *door)
         if (file < 0) /* nobody more, or one that has gone again */
             return;
         place = place_for_another(door);
-        *place = (struct newcomer){ .file = file, .deadline = kernel_now() + (uint64_t)PATIENCE_MS * MILLION };
+        *place = (struct newcomer){ .file = file, .tls = tls_new(file, TLS_LISTENS),
+                                    .deadline = kernel_now() + (uint64_t)PATIENCE_MS * MILLION };
     }
 }
 
 /* False for a stranger, and for one that has gone. */
 static bool read_hello(struct newcomer *newcomer)
 {
+    uint8_t *at = newcomer->bytes + newcomer->length;
+    size_t room = HELLO_BYTES - newcomer->length;
     ssize_t got;
 
-    if (newcomer->length == HELLO_BYTES)
+    if (!room)
         return true;
-    got = recv(newcomer->file, newcomer->bytes + newcomer->length, HELLO_BYTES - newcomer->length, MSG_DONTWAIT);
+    got = newcomer->tls ? tls_receive(newcomer->tls, at, room) : recv(newcomer->file, at, room, MSG_DONTWAIT);
     if (got < 0)
         return errno == EAGAIN || errno == EINTR;
     newcomer->length += (uint32_t)got;
@@ -120,22 +124,23 @@ void door_look(struct door *door)
             turn_away(door, it);
 }
 
-int door_take(struct door *door, const struct wanted *wanted, struct hello *hello)
+bool door_take(struct door *door, const struct wanted *wanted, struct stream *stream, struct hello *hello)
 {
-    int file = -1;
+    bool is_there = false;
 
     for (struct newcomer *it = door->newcomer; it < door->newcomer + MOST_NEWCOMERS; it++) {
         if (it->file < 0 || it->length < HELLO_BYTES || it->hello.channel != wanted->channel)
             continue;
         if (it->hello.epoch < wanted->least || (wanted->instance && it->hello.instance != wanted->instance)) {
             turn_away(door, it);
-        } else if (file < 0 && it->hello.epoch <= wanted->most) {
-            file = it->file;
+        } else if (!is_there && it->hello.epoch <= wanted->most) {
+            stream_open(stream, it->file, it->tls, &(struct cut)NO_CUT);
             *hello = it->hello;
             it->file = -1;
+            is_there = true;
         }
     }
-    return file;
+    return is_there;
 }
 
 uint32_t door_files(const struct door *door, struct pollfd *files)
@@ -143,9 +148,12 @@ uint32_t door_files(const struct door *door, struct pollfd *files)
     uint32_t count = 0;
 
     files[count++] = (struct pollfd){ .fd = door->file, .events = POLLIN };
-    for (uint32_t i = 0; i < MOST_NEWCOMERS; i++)
+    for (uint32_t i = 0; i < MOST_NEWCOMERS; i++) {
+        short handshake = door->newcomer[i].file < 0 ? 0 : tls_waits_for(door->newcomer[i].tls);
+
         if (door->newcomer[i].file >= 0 && door->newcomer[i].length < HELLO_BYTES)
-            files[count++] = (struct pollfd){ .fd = door->newcomer[i].file, .events = POLLIN };
+            files[count++] = (struct pollfd){ .fd = door->newcomer[i].file, .events = handshake ? handshake : POLLIN };
+    }
     return count;
 }
 

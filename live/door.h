@@ -13,6 +13,7 @@
 
 struct newcomer {
     int file; /* -1: none */
+    struct tls *tls;
     uint64_t deadline;
     uint8_t bytes[HELLO_BYTES];
     uint32_t length; /* of them that came */
@@ -35,7 +36,7 @@ void door_none(struct door *door);
 /* The port, where the kernel has chosen it. */
 uint16_t door_port(const struct door *door);
 
-/* Accepts who is there, reads their hellos, and turns strangers and those away that have waited too long. */
+/* Accepts who is there, makes handshakes, reads hellos, and turns strangers and those away that have waited too long. */
 void door_look(struct door *door);
 
 /* Whom the destination waits for. */
@@ -45,8 +46,9 @@ struct wanted {
     uint64_t instance;    /* the source that came first; 0: any */
 };
 
-/* Takes a newcomer that is wanted, and turns those of an older epoch or another source away. Returns its file, or -1 if there is none. */
-int door_take(struct door *door, const struct wanted *wanted, struct hello *hello);
+/* Has the stream use the connection of a newcomer that is wanted, and turns those of an older epoch or another source away. False if there
+   is none. */
+bool door_take(struct door *door, const struct wanted *wanted, struct stream *stream, struct hello *hello);
 
 /* Adds what the door waits for: at most MOST_NEWCOMERS + 1 files. Returns their number. */
 uint32_t door_files(const struct door *door, struct pollfd *files);

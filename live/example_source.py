@@ -88,7 +88,10 @@ def send_runs(memory):
 def read(length):
     data = b""
     while len(data) < length:
-        piece = os.read(0, length - len(data))
+        try:
+            piece = os.read(0, length - len(data))
+        except ConnectionResetError:  # (it has ended, and had not read all)
+            piece = b""
         if not piece:
             print("the destination has ended", file=sys.stderr)
             os._exit(1)  # (from this thread, while the other one waits)

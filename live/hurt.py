@@ -129,12 +129,11 @@ def frozen_destination(program):
     return expect([("source", source, pair.LOST, "the guest has run on here, and its memory is right")])
 
 
-def strangers(program):
+def strangers(program, words=(), texts=(b"", b"GET / HTTP/1.1\r\n\r\n", hello()[:9], hello(0, 9), hello(1, 0), hello(1, 5), hello(0, 0))):
     """Those that say nothing, half a hello, something else, or an epoch that is over: none of them disturbs the migration."""
-    both = Watched(program, ["--push-rate", "8000", "--rounds", "0"])
+    both = Watched(program, ["--push-rate", "3000", "--rounds", "0"], memory=[*MEMORY, *words])
     both.at("destination running")
     host, port = both.address.split(":")
-    texts = (b"", b"GET / HTTP/1.1\r\n\r\n", hello()[:9], hello(0, 9), hello(1, 0), hello(1, 5), hello(0, 0))
     with contextlib.ExitStack() as stack:
         for text in texts * 6:
             stranger = stack.enter_context(socket.create_connection((host, int(port)), 5))
@@ -326,10 +325,10 @@ CASES = (
 )
 
 
-def all_cases(program):
+def all_cases(program, cases=CASES):
     """The number of wrong ones, each with a line."""
     wrong = 0
-    for case in CASES:
+    for case in cases:
         try:
             found = case(program)
         except (OSError, TimeoutError) as error:

@@ -143,11 +143,20 @@ void kernel_unregister(int userfault, char *at, size_t bytes)
         refuse_errno(errno, "UFFDIO_UNREGISTER of the guest's memory");
 }
 
+int kernel_copy_pages(int userfault, char *to, const void *from, size_t pages, size_t *put)
+{
+    struct uffdio_copy call = { .dst = (uintptr_t)to, .src = (uintptr_t)from, .len = pages * PAGE_BYTES };
+    int error = ioctl(userfault, UFFDIO_COPY, &call) ? errno : 0;
+
+    *put = call.copy > 0 ? (size_t)call.copy / PAGE_BYTES : 0; /* else it is an errno, or was not written */
+    return error;
+}
+
 int kernel_copy(int userfault, char *to, const void *from)
 {
-    struct uffdio_copy call = { .dst = (uintptr_t)to, .src = (uintptr_t)from, .len = PAGE_BYTES };
+    size_t put;
 
-    return ioctl(userfault, UFFDIO_COPY, &call) ? errno : 0;
+    return kernel_copy_pages(userfault, to, from, 1, &put);
 }
 
 int kernel_zero(int userfault, char *to)

@@ -29,6 +29,7 @@ void kernel_unregister(int userfault, char *at, size_t bytes);
 
 /* Each returns 0, EAGAIN while an event is unread, or what else the kernel says. Where it is 0 the threads that sleep there were woken. */
 int kernel_copy(int userfault, char *to, const void *from);
+int kernel_copy_pages(int userfault, char *to, const void *from, size_t pages, size_t *put); /* EAGAIN: `put` of them, maybe 0, were put */
 int kernel_zero(int userfault, char *to);
 int kernel_unprotect(int userfault, char *at);
 int kernel_wake(int userfault, char *at);

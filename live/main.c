@@ -22,7 +22,7 @@ static const char USAGE[] =
     "live monitor --connect unix:PATH [OPTION ..] such a monitor: it runs the guest\n"
     "live bare [--memory SIZE] [--buffer BYTES]   what the connection and UFFDIO_COPY take without a node\n"
     "\n"
-    "ADDRESS is HOST:PORT of loopback (port 0: one that is free), or unix:PATH.\n"
+    "ADDRESS is HOST:PORT (port 0: one that is free), or unix:PATH. Without --psk HOST is one of loopback.\n"
     "\n"
     "of both, and the same for both:\n"
     "  --memory SIZE     of the guest, 1M to 1G (256M)\n"
@@ -38,6 +38,7 @@ static const char USAGE[] =
     "                    since the switch, or of a destination since the End (post); `none` leaves an epoch whole\n"
     "  --feed COMMAND    takes the part of the other side: frames go to its standard input and come from its standard output. There\n"
     "                    is no --connect or --listen then, and no second epoch\n"
+    "  --psk FILE        TLS with a pre-shared key, USER:HEXKEY in the first line of FILE; of both, the same line for both\n"
     "  --progress        a line each tenth of a second\n"
     "  --trace FILE      the steps of its node, a line for each: `live/merge` makes one script of both sides' files. (not of a monitor)\n"
     "of the source:\n"
@@ -160,7 +161,7 @@ static void read_cuts(struct options *options, char *text)
 
 enum {
     CONNECT = 256, LISTEN, MEMORY, THREADS, SEED, COLD_STORES, GIVEN_BACK, BATCH, PAUSE, BUFFER, CUT, PROGRESS, ROUNDS, TARGET,
-    NO_URGENT, PUSH_RATE, BEFORE, PATIENCE, AFTER, CHECK_OWED, MONITOR, FEED, TRACE, HELP
+    NO_URGENT, PUSH_RATE, BEFORE, PATIENCE, AFTER, CHECK_OWED, MONITOR, FEED, PSK, TRACE, HELP
 };
 
 #define SHARED_OPTIONS                                                                                                              \
@@ -177,19 +178,22 @@ static const struct option source_options[] = {
     { "connect", required_argument, NULL, CONNECT }, { "rounds", required_argument, NULL, ROUNDS },
     { "target", required_argument, NULL, TARGET }, { "no-urgent", no_argument, NULL, NO_URGENT },
     { "push-rate", required_argument, NULL, PUSH_RATE }, { "before", required_argument, NULL, BEFORE },
-    { "patience", required_argument, NULL, PATIENCE }, { "feed", required_argument, NULL, FEED }, { NULL, 0, NULL, 0 }
+    { "patience", required_argument, NULL, PATIENCE }, { "feed", required_argument, NULL, FEED },
+    { "psk", required_argument, NULL, PSK }, { NULL, 0, NULL, 0 }
 };
 
 static const struct option dest_options[] = {
     SHARED_OPTIONS,
     { "listen", required_argument, NULL, LISTEN }, { "after", required_argument, NULL, AFTER },
-    { "check-owed", no_argument, NULL, CHECK_OWED }, { "feed", required_argument, NULL, FEED }, { NULL, 0, NULL, 0 }
+    { "check-owed", no_argument, NULL, CHECK_OWED }, { "feed", required_argument, NULL, FEED },
+    { "psk", required_argument, NULL, PSK }, { NULL, 0, NULL, 0 }
 };
 
 static const struct option handler_options[] = {
     SHARED_OPTIONS,
     { "listen", required_argument, NULL, LISTEN }, { "after", required_argument, NULL, AFTER },
-    { "check-owed", no_argument, NULL, CHECK_OWED }, { "monitor", required_argument, NULL, MONITOR }, { NULL, 0, NULL, 0 }
+    { "check-owed", no_argument, NULL, CHECK_OWED }, { "monitor", required_argument, NULL, MONITOR },
+    { "psk", required_argument, NULL, PSK }, { NULL, 0, NULL, 0 }
 };
 
 static const struct option monitor_options[] = {
@@ -238,6 +242,10 @@ static void set_option(struct options *options, int option, const char *name, ch
     case FEED:
         options->feed = text;
         break;
+    case PSK:
+        tls_read_key(text);
+        options->has_key = true;
+        break;
     case MONITOR:
         read_unix_address(&options->monitor, text);
         break;
@@ -267,6 +275,18 @@ static void set_option(struct options *options, int option, const char *name, ch
     }
 }
 
+static void check_address(const struct options *options)
+{
+    if (options->has_key && options->feed)
+        refuse("--feed has no connection that --psk could encrypt");
+    if (options->has_key || !options->address.text || address_is_local(&options->address))
+        return;
+    if (!tls_is_built_in())
+        refuse("%s: TLS is not built in, and plain TCP is for loopback alone: 127.0.0.1, [::1], localhost, or unix:PATH", options->address.text);
+    refuse("%s: plain TCP is for loopback alone: 127.0.0.1, [::1], localhost, or unix:PATH. With --psk FILE TLS goes to any address",
+           options->address.text);
+}
+
 static void read_options(struct options *options, const struct option *known, int count, char **words)
 {
     int option, index = 0;
@@ -285,6 +305,7 @@ static void read_options(struct options *options, const struct option *known, in
         refuse("--feed takes no address: the command is the other side");
     if (!options->address.text && !options->feed && known != bare_options)
         refuse("an address is needed: --%s ADDRESS", known == source_options || known == monitor_options ? "connect" : "listen");
+    check_address(options);
     if (known == handler_options && !options->monitor.text)
         refuse("the place where a monitor hands over its memory is needed: --monitor unix:PATH");
     if (known == monitor_options && !address_is_unix(&options->address))

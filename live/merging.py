@@ -19,6 +19,7 @@ would fit, from the comment `# epoch N`, or else it is the earliest.
 """
 
 import itertools
+import os
 import random
 import re
 import subprocess
@@ -37,6 +38,14 @@ NOTICES = {"notice source", "notice dest"}
 HEAD = 2
 # A frame whose count the trace of its sender does not tell.
 ANY = " *"
+# Answers of which a part is read here.
+READ = {
+    "start": re.compile(r"started epoch \d{1,10}$"),
+    "resume": re.compile(r"resumed epoch \d{1,10}$"),
+    "switch": re.compile(r"switched discard \d+ owed \d+$"),
+    "dact": re.compile(r"(requested 0x[0-9a-f]+ for|zeroed|woke|forgot) 0x[0-9a-f]+$"),
+}
+SAID = re.compile(r"# (cpus|epoch) (\d{1,10})$")
 DIFFERS = re.compile(r"-:(\d+): (expected .*|not a line of a test)")
 
 
@@ -68,24 +77,26 @@ class Trace:
                 raise Unreadable(f"{name}:{number}: a refused step is not a line of a trace: {line}")
             if kind in ("cpu", "retry"):
                 most = max(most, self.processor(number, order))
+            elif kind in READ and not READ[kind].match(answer):
+                raise Unreadable(f"{name}:{number}: not an answer to `{order}`: {line}")
             resumes += answer == "took resume"
             steps.append((number, kind, answer, line))
         self.least_cpus = most + 1
 
     def processor(self, number, order):
         words = order.split(" ")
-        if len(words) < 2 or not words[1].isdecimal():
+        if len(words) < 2 or not words[1].isdecimal() or len(words[1]) > 3:
             raise Unreadable(f"{self.name}:{number}: not a line of a trace: {order}")
         return int(words[1])
 
     def read_comment(self, number, line, resumes):
         if line.strip() and line[0] != "#":
             raise Unreadable(f"{self.name}:{number}: not a line `ORDER => ANSWER`: {line}")
-        words = line.split()
-        if len(words) == 3 and words[2].isdecimal() and words[1] == "cpus" and number == 1:
-            self.cpus = int(words[2])
-        elif len(words) == 3 and words[2].isdecimal() and words[1] == "epoch":
-            self.epochs[resumes] = int(words[2])
+        said = SAID.match(line)
+        if said and said[1] == "epoch":
+            self.epochs[resumes] = int(said[2])
+        elif said and number == 1:
+            self.cpus = int(said[2])
 
     def at(self, index):
         """Where a step is, and what it says."""
@@ -99,6 +110,10 @@ def read(name, side):
             return Trace(name, side, file.read())
     except (OSError, UnicodeDecodeError) as error:
         raise Unreadable(f"{name}: {getattr(error, 'strerror', None) or error}") from None
+
+
+class NoJudge(Exception):
+    """There is no proved program of these sources."""
 
 
 class Epoch:
@@ -430,10 +445,14 @@ class Script:
         return "".join(itertools.chain.from_iterable((line, "\n") for line in lines))
 
     def judged(self, program):
-        """The first line that `postmig test` finds to be wrong, as a text, or None. OSError if it cannot judge."""
-        done = subprocess.run([program, "test", "--strict"], input=self.text(), capture_output=True, text=True)
+        """The first line that `postmig test` finds to be wrong, as a text, or None. OSError if it cannot judge, NoJudge without a proved
+        program."""
+        environment = {**os.environ, "POSTMIG_PROVED_ONLY": "1"}
+        done = subprocess.run([program, "test", "--strict"], input=self.text(), capture_output=True, text=True, env=environment)
         if done.returncode == 0:
             return None
+        if "no proved build" in done.stderr:
+            raise NoJudge(done.stderr.strip())
         found = DIFFERS.search(done.stdout) or DIFFERS.search(done.stderr)
         if not found:
             raise OSError(f"postmig test: status {done.returncode}: {done.stdout.strip()} {done.stderr.strip()}")

@@ -28,31 +28,33 @@ void node_expect(uint32_t status, const char *call)
 }
 
 /* What the decoder of streams says of these bytes. */
-static uint32_t stream_fault(const uint8_t *bytes, size_t length)
+static uint32_t stream_fault(const struct frame *frame)
 {
     postmig_handle frames = POSTMIG_NONE;
-    postmig_frame frame;
+    postmig_frame first;
     size_t written = 0;
     uint32_t status = postmig_frames_new(&frames);
 
     if (status == POSTMIG_OK)
-        status = postmig_frames_feed(&frames, bytes, length);
+        status = postmig_frames_feed(&frames, frame->head, frame->head_bytes);
+    if (status == POSTMIG_OK && frame->page_bytes)
+        status = postmig_frames_feed(&frames, frame->pages, frame->page_bytes);
     if (status == POSTMIG_OK)
-        status = postmig_frames_next(&frames, &frame, NULL, 0, &written);
+        status = postmig_frames_next(&frames, &first, NULL, 0, &written);
     postmig_free(&frames);
     return status;
 }
 
-const char *node_fault(uint32_t status, const uint8_t *bytes, size_t length)
+const char *node_fault(uint32_t status, const struct frame *frame)
 {
     static char text[2 * TEXT_BYTES];
-    uint32_t fault = status == POSTMIG_NOT_A_FRAME ? stream_fault(bytes, length) : POSTMIG_OK;
+    uint32_t fault = status == POSTMIG_NOT_A_FRAME ? stream_fault(frame) : POSTMIG_OK;
     const char *name = fault == POSTMIG_BAD_TAG      ? "stream fault BadTag"
                        : fault == POSTMIG_BAD_LENGTH ? "stream fault BadLength"
                        : fault == POSTMIG_BAD_FIELD  ? "stream fault BadField"
                                                      : answer_text(status);
 
-    (void)snprintf(text, sizeof text, "a frame of the other side, with the tag 0x%02x: %s", bytes[1], name); /* it fits */
+    (void)snprintf(text, sizeof text, "a frame of the other side, with the tag 0x%02x: %s", frame->head[1], name); /* it fits */
     return text;
 }
 

@@ -16,8 +16,14 @@ struct node {
 /* Where a status is not POSTMIG_OK the program ends, and says which call returned which status. */
 void node_expect(uint32_t status, const char *call);
 
+/* Bytes of a frame: its head, and those of its pages. */
+struct frame {
+    const uint8_t *head, *pages;
+    size_t head_bytes, page_bytes;
+};
+
 /* Why a frame was not taken, for such a status: the fault of its bytes by the decoder, or the node's refusal. */
-const char *node_fault(uint32_t status, const uint8_t *bytes, size_t length);
+const char *node_fault(uint32_t status, const struct frame *frame);
 
 uint32_t node_issue(struct node *node, uint32_t cpu, const postmig_command *command, postmig_effect *effect);
 uint32_t node_retry(struct node *node, uint32_t cpu, postmig_effect *effect);

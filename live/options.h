@@ -26,6 +26,7 @@ struct options {
     uint32_t cuts;
     struct cuts cut[MOST_CUTS]; /* of the first epochs */
     bool shows_progress;
+    bool has_key;      /* connections are encrypted by it */
     const char *feed; /* a command that takes the part of the other side, or NULL */
     /* of the source */
     uint32_t rounds, target, push_rate, before;

@@ -7,6 +7,7 @@ import tempfile
 import threading
 import time
 
+import between
 import merging
 
 FOLDER = pathlib.Path(__file__).resolve().parent
@@ -77,26 +78,48 @@ class Side:
         return f"{self.figures.get('progress')} in {where}"
 
 
+def new_key(folder, name="key", user="guest"):
+    """The words that have live use a new key."""
+    file = pathlib.Path(folder) / name
+    with open(os.open(file, os.O_WRONLY | os.O_CREAT | os.O_EXCL, 0o600), "w", encoding="ascii") as out:
+        print(f"{user}:{os.urandom(32).hex()}", file=out)
+    return ["--psk", str(file)]
+
+
+def without_key(words):
+    """A monitor has no connection that leaves the host."""
+    at = words.index("--psk") if "--psk" in words else len(words)
+    return [*words[:at], *words[at + 2:]]
+
+
+def has_tls(program):
+    """Whether it was built with GnuTLS."""
+    done = subprocess.run([program, "dest", "--listen", "127.0.0.1:0", "--psk", "/nowhere"], stdin=subprocess.DEVNULL, capture_output=True, text=True)
+    return "TLS is not built in" not in done.stderr
+
+
 class Migration:
     """shared, source, dest: words of the command lines. With is_unix the two talk over a Unix socket; with is_handed the guest's memory at the
-    destination is that of a third process, the monitor. With is_traced both write their steps, to files in the folder `kept` if there is one, and
-    `judged` is what is wrong with them."""
+    destination is that of a third process, the monitor. With cuts their connections, of TCP, go by a relay that has these. With is_traced both
+    write their steps, to files in the folder `kept` if there is one, and `judged` is what is wrong with them."""
 
-    def __init__(self, shared, source, dest, program=PROGRAM, is_unix=False, on_progress=None, is_handed=False, is_traced=False,
+    def __init__(self, shared, source, dest, program=PROGRAM, is_unix=False, on_progress=None, is_handed=False, cuts=None, is_traced=False,
                  kept=None):
         self.folder = tempfile.TemporaryDirectory(prefix="live-")
         self.traces = [f"{kept or self.folder.name}/{side}.trace" for side in ("source", "dest")] if is_traced else None
-        self.script = self.judged = None
+        self.script = self.judged = self.no_judge = None
         if is_traced:
             source, dest = [*source, "--trace", self.traces[0]], [*dest, "--trace", self.traces[1]]
         address = f"unix:{self.folder.name}/socket" if is_unix else "127.0.0.1:0"
         place = f"unix:{self.folder.name}/monitor"
         role = ["handler", "--monitor", place] if is_handed else ["dest"]
         self.dest = Side([str(program), *role, "--listen", address, *shared, *dest], on_progress)
-        self.monitor = Side([str(program), "monitor", "--connect", place, *shared]) if is_handed else None
+        self.monitor = Side([str(program), "monitor", "--connect", place, *without_key(shared)]) if is_handed else None
         self.dest.listening.wait(30)
         if not is_unix:
             address = f"127.0.0.1:{self.dest.number('listening', 'port')}"
+        self.relay = between.Relay(between.place(address), cuts=cuts) if cuts else None
+        address = self.relay.address if cuts else address
         self.source = Side([str(program), "source", "--connect", address, *shared, *source], on_progress)
 
     def finish(self, patience=60):
@@ -117,16 +140,21 @@ class Migration:
         self.dest_status, self.dest_text = self.dest.end(30)
         if self.monitor:
             self.end_monitor()
+        if self.relay:
+            self.relay.close()
         if self.traces and not hang and not is_killed:
             self.judge()
         self.folder.cleanup()
         return hang or self.wrong() or self.judged
 
     def judge(self):
-        """Both traces in one script, which `postmig test` judges."""
+        """Both traces in one script, which `postmig test` judges if there is a proved program."""
+        differs = None
         try:
             self.script = merging.merge_files(*self.traces)
             differs = self.script.judged(POSTMIG)
+        except merging.NoJudge as none:
+            self.no_judge = str(none)
         except (merging.NoOrder, merging.Unreadable, OSError) as fault:
             differs = str(fault)
         if differs:

@@ -19,7 +19,8 @@
 #define RECEIVED_ENDED 2u          /* of a Recv */
 #define PUSHES_AT_A_TIME 16u
 #define MOST_UNSENT (128u << 10)   /* bytes: more pages are not put into a stream */
-#define RETRY_NS 2000000u          /* between two tries to connect */
+#define RETRY_NS 2000000u          /* between two tries to connect; */
+#define SLOW_RETRY_NS 50000000u    /* and after a handshake of TLS has failed */
 #define SECOND_NS 1000000000u
 #define MOST_HELD 256u             /* turns in which faults wait, so that pages can be protected; */
 #define MOST_CALM 32u              /* and runs that are sent before the faults are handled, once they could be */
@@ -43,7 +44,9 @@ struct source {
     uint64_t sent_before;  /* and those sent before it */
     uint32_t rounds;       /* made since pre-copy has begun, or begun again */
     bool package_is_sent, end_is_sent;
-    uint32_t cursor;       /* background push continues from this page */
+    uint32_t cursor;       /* background push continues from this page; */
+    bool has_pushed;       /* it has pushed a page since it was at the first one; */
+    bool zeros_are_due;    /* and only pages of zeros remain */
     uint32_t held, calm;   /* turns in which faults wait: pages could not be protected, and runs that are sent once they could */
     struct {
         uint64_t start, stop, stopped, sent, released;
@@ -173,7 +176,7 @@ static bool open_stream(struct source *source, struct stream *stream, enum chann
 
     if (file < 0)
         return false;
-    stream_open(stream, file, cut);
+    stream_open(stream, file, tls_new(file, TLS_CONNECTS), cut);
     hello_write(&hello, stream_room(stream, HELLO_BYTES));
     stream->out.end += HELLO_BYTES;
     return true;
@@ -193,7 +196,7 @@ static void open_feed(struct source *source)
 {
     static const struct cut never = NO_CUT;
 
-    stream_open(&source->main, feed_start(source->options->feed), &never);
+    stream_open(&source->main, feed_start(source->options->feed), NULL, &never);
     source->is_answered = true;
     source->channels++;
 }
@@ -241,7 +244,7 @@ static void connect_again(struct source *source)
 
     if (now < source->next_try)
         return;
-    source->next_try = now + RETRY_NS;
+    source->next_try = now + (tls_last_fault() ? SLOW_RETRY_NS : RETRY_NS);
     if (source->has_to_resume)
         node_expect(postmig_source_resume(&source->node.handle, &effect), "postmig_source_resume");
     source->has_to_resume = false;
@@ -276,7 +279,7 @@ static void take_back(struct source *source, size_t length)
     uint32_t status = postmig_source_back(&source->node.handle, stream_front(&source->main), length, &effect);
 
     if (status != POSTMIG_OK) {
-        give_up(source, node_fault(status, stream_front(&source->main), length));
+        give_up(source, node_fault(status, &(struct frame){ .head = stream_front(&source->main), .head_bytes = length }));
         return;
     }
     stream_take(&source->main, length);
@@ -291,6 +294,7 @@ static void take_back(struct source *source, size_t length)
     source->round_pages = 0;
     source->package_is_sent = false;
     source->cursor = LOW_PAGE;
+    source->has_pushed = source->zeros_are_due = false;
 }
 
 /* What came before the end of a connection is taken too: Done, for one. */
@@ -489,26 +493,34 @@ static uint32_t pushes_now(const struct source *source)
     return due <= pushed ? 0 : due - pushed < PUSHES_AT_A_TIME ? (uint32_t)(due - pushed) : PUSHES_AT_A_TIME;
 }
 
-/* The next page that remains, from the cursor on, and again from the first. */
+/* The next page that remains, from the cursor on, and again from the first. Once a whole pass has met zeros alone, these are due. */
 static bool next_page(struct source *source, uint32_t *page)
 {
     uint32_t status = postmig_source_next_remaining(&source->node.handle, source->cursor, page);
 
-    if (status == POSTMIG_NO_PAGE)
+    if (status == POSTMIG_NO_PAGE) {
+        source->zeros_are_due = !source->has_pushed;
+        source->has_pushed = false;
         status = postmig_source_next_remaining(&source->node.handle, LOW_PAGE, page);
+    }
     if (status != POSTMIG_NO_PAGE)
         node_expect(status, "postmig_source_next_remaining");
     return status == POSTMIG_OK;
 }
 
+/* Pages of zeros come last, so that the others arrive side by side. Returns the number of pages that were pushed, or left for later. */
 static uint32_t push_in_background(struct source *source)
 {
     uint32_t count = 0, page, most = pushes_now(source);
 
-    while (count < most && stream_unsent(&source->main) < MOST_UNSENT && next_page(source, &page)) {
+    for (; count < most && stream_unsent(&source->main) < MOST_UNSENT && next_page(source, &page); count++) {
+        if (!source->zeros_are_due && is_zero(page_of(source, page))) {
+            source->cursor = page + 1;
+            continue;
+        }
         if (!push(source, page, false))
             refuse("page 0x%x remains, and is not to be pushed", page);
-        count++;
+        source->has_pushed = true;
     }
     return count;
 }
@@ -560,7 +572,9 @@ static void wait_for_more(const struct source *source)
     struct pollfd files[3] = { { .fd = source->state.switched ? -1 : source->watch.userfault, .events = POLLIN },
                                waits_for(&source->main), waits_for(&source->urgent) };
 
-    if (poll(files, 3, is_timed ? 1 : 100) < 0 && errno != EINTR)
+    bool has_more = source->main.is_ready || source->urgent.is_ready;
+
+    if (poll(files, 3, has_more ? 0 : is_timed ? 1 : 100) < 0 && errno != EINTR)
         refuse_errno(errno, "poll");
 }
 
@@ -680,8 +694,11 @@ int source_run(const struct options *options)
 
     begin(&source, options);
     while (source.state.phase != POSTMIG_SOURCE_RELEASED) {
-        if (has_lost_patience(&source))
+        if (has_lost_patience(&source)) {
+            if (tls_last_fault())
+                fprintf(stderr, "live: TLS: %s\n", tls_last_fault());
             give_up(&source, "no destination");
+        }
         if (source.is_over && !source.state.switched)
             return keep_guest(&source);
         if (source.is_over)

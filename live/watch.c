@@ -281,6 +281,7 @@ static bool read_some(struct watch *watch)
 
 void watch_read(struct watch *watch)
 {
+    watch->is_behind = true;
     while (read_some(watch))
         continue;
 }
@@ -296,6 +297,7 @@ void watch_handle(struct watch *watch)
         while (act(watch))
             continue;
     } while (has_more || watch->again != again);
+    watch->is_behind = false;
 }
 
 void watch_again(struct watch *watch)

@@ -13,6 +13,7 @@ struct watch {
     int userfault;
     uint64_t asleep[MOST_THREADS]; /* the address of the page that a thread waits for, as the node has it; 0: none */
     uint64_t faults, events;       /* that were read */
+    bool is_behind;                /* what the node says of messages that were read is still to be done */
     uint64_t again;                /* calls of the kernel that returned EAGAIN, */
     uint32_t again_in_a_row;       /* and those since another result */
     uint64_t needless;             /* faults of pages that were there by the time they were read */

@@ -26,13 +26,6 @@
 
 /* ADDRESSES */
 
-static bool is_loopback(const struct sockaddr *name)
-{
-    if (name->sa_family == AF_INET)
-        return ntohl(((const struct sockaddr_in *)(const void *)name)->sin_addr.s_addr) >> 24 == 127;
-    return IN6_IS_ADDR_LOOPBACK(&((const struct sockaddr_in6 *)(const void *)name)->sin6_addr);
-}
-
 static void read_unix(struct address *address, const char *path)
 {
     struct sockaddr_un *name = (struct sockaddr_un *)&address->name;
@@ -77,8 +70,18 @@ void address_read(struct address *address, const char *text)
         port = UINT32_MAX;
     if (port > UINT16_MAX)
         refuse("%s: an address is HOST:PORT, [HOST]:PORT or unix:PATH", text);
-    if (!read_host(address, host, (uint16_t)port) || !is_loopback((const struct sockaddr *)&address->name))
-        refuse("%s: TLS is not built in, and plain TCP is for loopback alone: 127.0.0.1, [::1], localhost, or unix:PATH", text);
+    if (!read_host(address, host, (uint16_t)port))
+        refuse("%s: a host is given by its number, or as localhost", text);
+}
+
+bool address_is_local(const struct address *address)
+{
+    const struct sockaddr_in *four = (const struct sockaddr_in *)&address->name;
+    const struct sockaddr_in6 *six = (const struct sockaddr_in6 *)&address->name;
+
+    if (address->name.ss_family == AF_INET)
+        return ntohl(four->sin_addr.s_addr) >> 24 == 127;
+    return address_is_unix(address) || IN6_IS_ADDR_LOOPBACK(&six->sin6_addr);
 }
 
 bool address_is_unix(const struct address *address)
@@ -221,9 +224,11 @@ static void bytes_drop(struct bytes *bytes, size_t length)
 
 /* STREAMS */
 
-void stream_open(struct stream *stream, int file, const struct cut *cut)
+void stream_open(struct stream *stream, int file, struct tls *tls, const struct cut *cut)
 {
     stream->file = file;
+    stream->tls = tls;
+    stream->is_ready = file >= 0;
     stream->cut = *cut;
     stream->sent = 0;
     stream->in.begin = stream->in.end = 0;
@@ -232,9 +237,10 @@ void stream_open(struct stream *stream, int file, const struct cut *cut)
 
 void stream_close(struct stream *stream)
 {
+    tls_free(stream->tls);
     if (stream->file >= 0)
         (void)close(stream->file); /* what was not sent is lost, as meant */
-    stream_open(stream, -1, &(struct cut)NO_CUT);
+    stream_open(stream, -1, NULL, &(struct cut)NO_CUT);
 }
 
 void stream_free(struct stream *stream)
@@ -283,6 +289,13 @@ static bool is_wait(int error)
     return error == EAGAIN || error == EINTR;
 }
 
+/* (a record of TLS that was begun before a cut was set may go over it) */
+static void count_cut(uint64_t *cut, size_t bytes)
+{
+    if (*cut != NEVER)
+        *cut -= bytes < *cut ? bytes : *cut;
+}
+
 bool stream_send(struct stream *stream)
 {
     while (stream_unsent(stream)) {
@@ -293,34 +306,79 @@ bool stream_send(struct stream *stream)
             length = stream->cut.out;
         if (!length)
             return cut_off(stream);
-        sent = send(stream->file, stream->out.at + stream->out.begin, length, MSG_NOSIGNAL);
+        sent = stream->tls ? tls_send(stream->tls, stream->out.at + stream->out.begin, length)
+                           : send(stream->file, stream->out.at + stream->out.begin, length, MSG_NOSIGNAL);
         if (sent < 0)
             return is_wait(errno);
         bytes_drop(&stream->out, (size_t)sent);
         stream->sent += (size_t)sent;
-        if (stream->cut.out != NEVER)
-            stream->cut.out -= (size_t)sent;
+        count_cut(&stream->cut.out, (size_t)sent);
     }
     return true;
 }
 
+/* Leaves the first `length` bytes of the parts. Returns the number of parts that have some. */
+static size_t shorten(struct iovec *parts, size_t count, uint64_t length)
+{
+    size_t left = 0;
+
+    for (; left < count && length; left++) {
+        parts[left].iov_len = parts[left].iov_len < length ? parts[left].iov_len : length;
+        length -= parts[left].iov_len;
+    }
+    return left;
+}
+
+/* Fills the parts with what has come by records. As recvmsg(2): what is said after the last byte is said again by the next call. */
+static ssize_t decrypt(struct tls *tls, const struct iovec *parts, size_t count)
+{
+    ssize_t all = 0, got = 0;
+
+    for (size_t i = 0; i < count; i++)
+        for (size_t there = 0; there < parts[i].iov_len; there += (size_t)got) {
+            got = tls_receive(tls, (uint8_t *)parts[i].iov_base + there, parts[i].iov_len - there);
+            if (got <= 0)
+                return all ? all : got;
+            all += got;
+        }
+    return all;
+}
+
+bool stream_receive_parts(struct stream *stream, struct iovec *parts, size_t count, size_t *got)
+{
+    struct msghdr message = { .msg_iov = parts, .msg_iovlen = shorten(parts, count, stream->cut.in) };
+    ssize_t received;
+
+    *got = 0;
+    if (!message.msg_iovlen)
+        return cut_off(stream);
+    received = stream->tls ? decrypt(stream->tls, parts, message.msg_iovlen) : recvmsg(stream->file, &message, MSG_DONTWAIT);
+    stream->is_ready = tls_has_bytes(stream->tls);
+    if (received < 0)
+        return is_wait(errno);
+    *got = (size_t)received;
+    count_cut(&stream->cut.in, *got);
+    return received > 0;
+}
+
 bool stream_receive(struct stream *stream, size_t least)
 {
-    size_t room = least > MOST_RECEIVED ? least : MOST_RECEIVED;
-    uint8_t *at = bytes_room(&stream->in, room);
-    ssize_t got;
+    size_t room = least > MOST_RECEIVED ? least : MOST_RECEIVED, got = 0;
+    struct iovec part = { stream_space(stream, room), room };
+    bool is_whole = stream_receive_parts(stream, &part, 1, &got);
 
-    if (room > stream->cut.in)
-        room = stream->cut.in;
-    if (!room)
-        return cut_off(stream);
-    got = recv(stream->file, at, room, MSG_DONTWAIT);
-    if (got < 0)
-        return is_wait(errno);
-    stream->in.end += (size_t)got;
-    if (stream->cut.in != NEVER)
-        stream->cut.in -= (size_t)got;
-    return got > 0;
+    stream_fill(stream, got);
+    return is_whole;
+}
+
+uint8_t *stream_space(struct stream *stream, size_t length)
+{
+    return bytes_room(&stream->in, length);
+}
+
+void stream_fill(struct stream *stream, size_t length)
+{
+    stream->in.end += length;
 }
 
 size_t stream_length(const struct stream *stream)
@@ -340,5 +398,9 @@ void stream_take(struct stream *stream, size_t length)
 
 short stream_events(const struct stream *stream)
 {
+    short handshake = tls_waits_for(stream->tls);
+
+    if (handshake)
+        return handshake;
     return stream_unsent(stream) ? POLLIN | POLLOUT : POLLIN;
 }

@@ -1,4 +1,4 @@
-/* Connections between the two hosts: TCP on loopback, and Unix sockets. Each begins with a hello of the source, of HELLO_BYTES, that tells
+/* Connections between the two hosts: TCP, plain on loopback alone and else by TLS, and Unix sockets. Each begins with a hello of the source, of HELLO_BYTES, that tells
    its channel, its epoch, and which source it is; frames follow it. On the main connection the destination says first, in the same form,
    which destination it is. */
 #ifndef WIRE_H
@@ -8,6 +8,9 @@
 #include <stddef.h>
 #include <stdint.h>
 #include <sys/socket.h>
+#include <sys/uio.h>
+
+#include "tls.h"
 
 struct address {
     const char *text;
@@ -15,10 +18,13 @@ struct address {
     socklen_t length;
 };
 
-/* Reads `HOST:PORT`, `[HOST]:PORT` of loopback, or `unix:PATH`. Any other address is refused. */
+/* Reads `HOST:PORT` or `[HOST]:PORT` with the number of a host, or `unix:PATH`. Any other address is refused. */
 void address_read(struct address *address, const char *text);
 
 bool address_is_unix(const struct address *address);
+
+/* Whether only processes of this host are there: on loopback, or at a Unix socket. */
+bool address_is_local(const struct address *address);
 
 enum channel { MAIN, URGENT };
 
@@ -49,6 +55,8 @@ struct bytes {
 /* One connection. Without one `file` is -1. */
 struct stream {
     int file;
+    struct tls *tls; /* NULL: it is plain */
+    bool is_ready; /* something may have come since the last receive: the caller sets it too, after poll(2) */
     struct bytes in, out;
     struct cut cut;
     uint64_t sent; /* bytes that the kernel has taken: the connection is made */
@@ -62,8 +70,8 @@ void socket_set_up(int file, uint32_t buffer);
 /* Begins to connect. Returns -1 where nobody listens, with errno. */
 int wire_connect(const struct address *address, uint32_t buffer);
 
-/* Has the stream use a connection. Its cuts and buffers are empty. */
-void stream_open(struct stream *stream, int file, const struct cut *cut);
+/* Has the stream use a connection, with its session or NULL. Its buffers are empty. */
+void stream_open(struct stream *stream, int file, struct tls *tls, const struct cut *cut);
 /* Closes it, and drops all that was not read or sent. */
 void stream_close(struct stream *stream);
 /* The same, with the memory of its buffers. */
@@ -81,12 +89,19 @@ size_t stream_under_way(const struct stream *stream);
 bool stream_send(struct stream *stream);
 bool stream_receive(struct stream *stream, size_t least);
 
+/* Receives into these parts, one after the other, which it may shorten. `got` is the number of bytes. */
+bool stream_receive_parts(struct stream *stream, struct iovec *parts, size_t count, size_t *got);
+
+/* Room for `length` more bytes after those that were received; and some of them are there now. */
+uint8_t *stream_space(struct stream *stream, size_t length);
+void stream_fill(struct stream *stream, size_t length);
+
 /* What was received and not taken. */
 size_t stream_length(const struct stream *stream);
 const uint8_t *stream_front(const struct stream *stream);
 void stream_take(struct stream *stream, size_t length);
 
-/* For poll(2): what this stream waits for. */
+/* For poll(2): what this stream waits for. Where is_ready is set, poll(2) is not to wait. */
 short stream_events(const struct stream *stream);
 
 #endif

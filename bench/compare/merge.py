@@ -11,6 +11,7 @@ three orders. The status is 1 where an answer differs, where no order is found, 
 import argparse
 import collections
 import itertools
+import os
 import pathlib
 import random
 import re
@@ -161,6 +162,23 @@ def plant_all(program, kept, runs):
     return missed
 
 
+def mutate_all(kept, count):
+    """Traces that are changed anywhere: merged, or named with a line. What else is raised ends this program."""
+    draw, counts = random.Random(2), collections.Counter()
+    for _ in range(count):
+        _, traces = draw.choice(kept)
+        side = draw.choice((SOURCE, DEST))
+        text = "".join(f"{line}\n" for line in planted_traces.mutated(traces[side].splitlines(), draw))
+        try:
+            merged({**traces, side: text}, draw.choice((None, 1)))
+            counts["merged"] += 1
+        except (merging.NoOrder, merging.Unreadable) as fault:
+            counts["named"] += 1
+            if not re.search(r"\.trace(:\d+)?", str(fault)):
+                raise ValueError(f"no line is named: {fault}") from fault
+    print(", ".join(f"{value:,} {name}" for name, value in counts.items()) + " of traces that are changed anywhere")
+
+
 # THE COMMAND LINE
 
 
@@ -194,6 +212,7 @@ def main():
     given.add_argument("--orders", type=int, metavar="N", help="orders of each (10)")
     given.add_argument("--program", type=pathlib.Path, default=TOP / "postmig", metavar="PATH")
     arguments = given.parse_args()
+    os.environ["POSTMIG_PROVED_ONLY"] = "1"  # (a run of a build without proof takes a minute)
     arguments.scripts = arguments.scripts if arguments.scripts is not None else 24 if arguments.quick else 200
     arguments.orders = arguments.orders or (3 if arguments.quick else 10)
     counts = collections.Counter()
@@ -201,6 +220,7 @@ def main():
     print(", ".join(f"{value:,} {name}" for name, value in counts.items()) + f": {len(wrong)} differ")
     for line in wrong[:20]:
         print(line)
+    mutate_all(kept, 300 if arguments.quick else 5000)
     wrong_uses = command_line(dict(kept)["lost-before-switch"])
     print(*wrong_uses, sep="\n", end="\n" if wrong_uses else "")
     missed = plant_all(arguments.program, kept, 1 if arguments.quick else 10) + len(wrong_uses)

@@ -36,7 +36,7 @@ def build(folder):
     made = pathlib.Path(folder) / "play"
     # (node_trace.c, where the library has no traces of its own)
     words = written(["make", "-s", "-C", LIVE, "--eval", "traces: ; @echo $(filter node_trace.c,$(SOURCES)) $(filter -D%,$(FLAGS)) $(WRAPS)", "traces"])
-    written(["cc", "-std=gnu11", "-g", "-O1", "-Wall", "-Wextra", "-fsanitize=address,undefined", "-fno-sanitize-recover=all", "-I", LIVE, "-I",
+    written(["cc", "-std=gnu11", "-g", "-O1", "-Wall", "-Wextra", "-Wconversion", "-Werror", "-fsanitize=address,undefined", "-fno-sanitize-recover=all", "-I", LIVE, "-I",
              TOP / "crates/postmig_c/include", "-o", made, TOP / "bench/embed/play.c", *words.decode().split(), TOP / "dist/libpostmig.a"], folder=LIVE)
     return made
 
@@ -133,6 +133,7 @@ def main():
     given.add_argument("--scripts", type=int, default=200, metavar="N", help="random scripts (200)")
     given.add_argument("--program", type=pathlib.Path, default=TOP / "postmig", metavar="PATH")
     arguments = given.parse_args()
+    os.environ["POSTMIG_PROVED_ONLY"] = "1"  # (a run of a build without proof takes a minute)
     counts, wrong = collections.Counter(), []
     with tempfile.TemporaryDirectory() as folder:
         program, files = build(folder), []

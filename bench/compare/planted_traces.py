@@ -28,9 +28,11 @@ def twice(pattern):
     return plant
 
 
-def left_out(pattern):
+def left_out(pattern, later=""):
+    """A line is not there, to which a later one is due."""
     def plant(lines, draw):
-        at = one(draw, lines, pattern)
+        last = max(places(lines, later), default=0)
+        at = one(draw, lines[:last] if later else lines, pattern)
         return None if at is None else [*lines[:at], *lines[at + 1 :]]
     return plant
 
@@ -105,31 +107,48 @@ def to(text):
     return lambda _: text
 
 
+SENDS = r"^(send|sendrun|push|upush|end)\b"
+
+
+def last_sends(lines):
+    """The lines of a source that has taken Done which sent the frames of its last epoch: each of them was taken."""
+    begin = max(places(lines, "^resume"), default=0)
+    return [at for at in places(lines, SENDS) if at > begin] if places(lines, "=> took done") else []
+
+
+def unsent(lines, draw):
+    found = last_sends(lines)
+    if not found:
+        return None
+    at = draw.choice(found)
+    return [*lines[:at], *lines[at + 1 :]]
+
+
 def cut_off(lines, draw):
-    """Its last frames are not there: the other side has taken one of them."""
-    found = places(lines, r"^(send|sendrun|push|upush|end)\b")
+    """Its last frames are not there, and the other side has taken them."""
+    found = last_sends(lines)
     return lines[: draw.choice(found)] if found else None
 
 
 TRACES = (
     ("a frame is taken twice", DEST, twice(r"^deliver => took (zero|page|run|discard|package|end)")),
     ("an urgent frame is taken twice", DEST, twice("^udeliver")),
-    ("a frame is left out by its sender", SOURCE, left_out(r"^(send|sendrun|push|upush|end)\b")),
-    ("a frame is left out by its taker", DEST, left_out("^deliver => took (discard|package)")),
+    ("a frame is left out by its sender", SOURCE, unsent),
+    ("a frame is left out by its taker", DEST, left_out("^deliver => took (discard|package)", "^(deliver|cpu|retry|install)")),
     ("a trace is cut off", SOURCE, cut_off),
     ("two frames are taken in the other order", DEST, swapped("^deliver => took (zero|page|run)", "^deliver => took (zero|page|run)")),
     ("a copy is installed before it has come", DEST, installed_early),
     ("a fault is acted on before it is read", SOURCE, acted_early),
     ("a fault is retried before it is acted on", DEST, retried_early),
-    ("a notice is left out", DEST, left_out("^notice dest")),
+    ("a notice is left out", DEST, left_out("^notice dest", "=> took resume")),
     ("a notice comes too early", DEST, lambda lines, draw: early(lines, "^notice dest", "^u?deliver => took (?!resume)")),
-    ("a resume is left out", SOURCE, left_out("^resume")),
-    ("a Resume is not taken", DEST, left_out("=> took resume")),
+    ("a resume is left out", SOURCE, left_out("^resume", "=> took recv")),
+    ("a Resume is not taken", DEST, left_out("=> took resume", "^deliver")),
     ("the epoch of a Resume is wrong", DEST, changed("^# epoch ([0-9]+)", more)),
     ("the epoch of a push is wrong", SOURCE, changed("^u?push 0x[0-9a-f]+ ([0-9]+) => sent", more)),
     ("a request is taken that nobody has made", SOURCE, changed("^back => took request (0x[0-9a-f]+)", more)),
     ("the first map call is left out", SOURCE, lambda lines, draw: lines[1:] if " mmap " in lines[0] else None),
-    ("an event is left unread", DEST, left_out("^dread => read (remove|unmap|remap)")),
+    ("an event is left unread", DEST, left_out("^dread => read (remove|unmap|remap)", "^(install|dact) =>")),
 )
 
 
@@ -186,3 +205,31 @@ SCRIPTS = (
     ("a break is left out", left_out("^break")),
     ("there is a break more", twice("^break")),
 )
+
+
+# ANY CHANGE
+
+
+def mutated(lines, draw):
+    """A few lines are left out, repeated, swapped, cut off or changed somewhere."""
+    lines = list(lines)
+    for _ in range(draw.choice((1, 1, 1, 2, 4))):
+        at, other = draw.randrange(len(lines)), draw.randrange(len(lines))
+        words = lines[at].split(" ")
+        word = draw.randrange(len(words))
+        kind = draw.randrange(7)
+        if kind == 0:
+            lines[at : at + 1] = []
+        elif kind == 1:
+            lines.insert(at, lines[other])
+        elif kind == 2:
+            lines[at], lines[other] = lines[other], lines[at]
+        elif kind == 3:
+            lines = lines[: at + 1]
+        elif kind == 4:
+            lines[at] = f"{lines[at].partition(' => ')[0]} => {lines[other].partition(' => ')[2]}"
+        else:
+            words[word : word + 1] = [draw.choice(("0x10000", "=>", "", "7", "resume", "-1", "9" * 5000, "\u0661", "\r"))] if kind == 5 else []
+            lines[at] = " ".join(words)
+        lines = lines or [""]
+    return lines

@@ -157,9 +157,9 @@ static void send_frames(int out, int urgent, bool is_urgent)
         put(out, frames, length);
 }
 
-enum { NO_FRAME_THERE = 1000 };
+enum { NO_FRAME_THERE = 1000 }; /* nodes.py knows it */
 
-/* Has `taken` take the frame at the front of a wire; with_pages: of the bytes of its pages too. */
+/* Has `taken` take the frame at the front of a wire, once it is whole. */
 static uint32_t take_frame(struct wire *wire, uint32_t (*taken)(postmig_handle *, const uint8_t *, size_t, postmig_effect *))
 {
     size_t head = 0, pages = 0;
@@ -258,11 +258,34 @@ static char **words_of(char *line)
     return words;
 }
 
+/* What has come and was not taken is lost with its channel. */
+static void drop(struct wire *wire)
+{
+    if (wire->file < 0)
+        return;
+    fill(wire);
+    wire->length = 0;
+}
+
+/* One line of standard input. */
+static void make_step(char **words, bool is_source, struct wire *in, struct wire *urgent, const int out[2])
+{
+    uint32_t status;
+
+    effect = (postmig_effect){ 0 };
+    status = guest_step(words, is_source);
+    if (status == POSTMIG_NOT_A_LINE)
+        status = is_source ? source_step(words, in) : destination_step(words, in, urgent);
+    if (status == POSTMIG_OK)
+        send_frames(out[0], out[1], is(words[0], "upush"));
+    answer(status);
+}
+
 int main(int count, char **arguments)
 {
     bool is_source = count == 8 && is(arguments[1], "source");
-    struct wire in, urgent = { .file = -1 };
-    int out = is_source ? atoi(arguments[5]) : -1, urgent_out = is_source ? atoi(arguments[6]) : -1;
+    struct wire in = { .file = -1 }, urgent = { .file = -1 };
+    int out[2] = { is_source ? atoi(arguments[5]) : -1, is_source ? atoi(arguments[6]) : -1 };
     char line[512];
     uint32_t status;
 
@@ -273,7 +296,7 @@ int main(int count, char **arguments)
         status = postmig_source_new((uint8_t)atoi(arguments[2]), (uint32_t)number(arguments[3]), (uint32_t)number(arguments[4]), &node);
     } else {
         open_wire(&urgent, arguments[4]);
-        out = atoi(arguments[5]);
+        out[0] = atoi(arguments[5]);
         status = postmig_destination_new((uint8_t)atoi(arguments[2]), &node);
     }
     if (status != POSTMIG_OK || postmig_node_trace(&node, true) != POSTMIG_OK)
@@ -281,24 +304,14 @@ int main(int count, char **arguments)
     while (fgets(line, sizeof line, stdin)) {
         char **words = words_of(line);
 
-        effect = (postmig_effect){ 0 };
-        if (is(words[0], "drop")) {
-            fill(&in);
-            in.length = 0;
-            if (!is_source) {
-                fill(&urgent);
-                urgent.length = 0;
-            }
-            puts("dropped");
-            fflush(stdout);
+        if (!is(words[0], "drop")) {
+            make_step(words, is_source, &in, &urgent, out);
             continue;
         }
-        status = guest_step(words, is_source);
-        if (status == POSTMIG_NOT_A_LINE)
-            status = is_source ? source_step(words, &in) : destination_step(words, &in, &urgent);
-        if (status == POSTMIG_OK)
-            send_frames(out, urgent_out, is(words[0], "upush"));
-        answer(status);
+        drop(&in);
+        drop(&urgent);
+        if (puts("dropped") < 0 || fflush(stdout))
+            fail("standard output");
     }
     postmig_node_trace(&node, false);
     postmig_free(&node);
