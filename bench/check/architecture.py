@@ -18,7 +18,7 @@ PICTURE = page.TOP / "docs" / "architecture.svg"
 # From the top: the height of each row, and its groups, each with what it is, its crates, and how many of the twelve columns it takes.
 # A group of the first row without a neighbour below it is as high as both rows.
 ROWS = (
-    (52, ("the program", "postmig", 10), ("library for C", "postmig_c", 2)),
+    (52, ("the program", "postmig", 10), ("library for C", "postmig_c nodes", 2)),
     (
         68,
         ("tools over scripts and frames", "wiretap host_calls frames explain lint expected explore finishing", 5),
@@ -26,7 +26,7 @@ ROWS = (
         ("pictures", "draw diagram", 2),
     ),
     (52, ("the steps to completion", "finish", 4), ("scripts, transcripts and replies as text", "engine grammar report hosts", 8)),
-    (52, ("a migration: both nodes, three wires, and its recovery; a node of its own", "world recovery nodes", 12)),
+    (52, ("a migration: both nodes, three wires, and its recovery", "world recovery", 12)),
     (52, ("the source", "precopy dirty_log", 6), ("the destination", "fault_handler owed_pages", 6)),
     (52, ("frames, and the wires that carry them", "wires frame_decoder page_stream", 12)),
     (52, ("a guest's memory with its userfault object, and its processors", "guest uffd_ioctl userfault area_map page_table vcpu", 12)),

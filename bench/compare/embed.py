@@ -65,6 +65,11 @@ def in_c(work, loads):
     print("C:", run(refuse, work / "stream", *(path for pair in REFUSED for path in pair)).decode().strip())
     nodes = built(work / "nodes", "-g", "-fsanitize=address,undefined", *wraps, TOP / "bench/embed/nodes.c")
     print("C:", run(nodes).decode().strip())
+    (work / "nodes.test").write_bytes(run(nodes, "script"))
+    if PROGRAM.exists():
+        print("the traces of its nodes, as one script:", run(PROGRAM, "test", "--strict", work / "nodes.test").decode().strip())
+    else:
+        print("the traces of its nodes: left out, the program is not proved and built")
     fast = built(work / "fast", "-O2", TOP / "bench/embed/lines.c")
     print("C:", run(fast, loads).decode().strip().split("\n")[-1])
 

@@ -1,8 +1,10 @@
 /* A whole migration by a source and a destination of their own, with faults at both, an event, an urgent page, and a channel that breaks;
    each export is called. Then once more with each allocation refused in turn: the call answers POSTMIG_NO_MEMORY and changed nothing, so
-   that the same call made again succeeds, and nothing leaks. Linked with --wrap of malloc, realloc and free.
+   that the same call made again succeeds, and nothing leaks. Both nodes have a trace, whose lines are taken after each call: they are the
+   same each time. With a word after it, the program writes them instead, as one script with its answers, for postmig test. Linked with
+   --wrap of malloc, realloc and free.
 
-   nodes */
+   nodes [script] */
 #include <stdio.h>
 #include <stdlib.h>
 #include <string.h>
@@ -20,6 +22,7 @@
         while ((status_ = (call)) == POSTMIG_NO_MEMORY) WANT(refused); \
         if (status_ != POSTMIG_OK) fprintf(stderr, "status %u\n", status_); \
         WANT(status_ == POSTMIG_OK); \
+        take_lines(); \
     } while (0)
 #define SAYS(call, status) \
     do { \
@@ -56,6 +59,27 @@ static postmig_handle source, destination;
 static postmig_effect effect;
 static uint8_t text[ROOM];
 static size_t length, head, pages;
+/* the lines of both traces, in the order of the calls */
+static uint8_t script[4096];
+static size_t script_length;
+static bool traced;
+
+/* Takes the lines that wait in the trace of a node. */
+static void take_lines_of(postmig_handle *node) {
+    size_t taken;
+    do {
+        uint32_t status;
+        while ((status = postmig_node_trace_take(node, script + script_length, sizeof script - script_length, &taken)) == POSTMIG_NO_MEMORY) WANT(refused);
+        WANT(status == POSTMIG_OK);
+        script_length += taken;
+    } while (taken);
+}
+
+static void take_lines(void) {
+    if (!traced) return;
+    take_lines_of(&source);
+    take_lines_of(&destination);
+}
 
 static postmig_command load(uint64_t addr) { return (postmig_command){.kind = POSTMIG_LOAD, .width = 8, .addr = addr}; }
 static postmig_command store(uint64_t addr) { return (postmig_command){.kind = POSTMIG_STORE, .width = 8, .addr = addr}; }
@@ -104,6 +128,35 @@ static void not_open(void) {
     WANT(postmig_destination_take(it, text, 12, &effect) == POSTMIG_NOT_OPEN && postmig_destination_take_urgent(it, text, 16, &effect) == POSTMIG_NOT_OPEN);
     WANT(postmig_destination_counts(it, &to) == POSTMIG_NOT_OPEN && postmig_destination_home(it, 16, &number) == POSTMIG_NOT_OPEN);
     WANT(postmig_node_frame(it, text, sizeof text, &length) == POSTMIG_NOT_OPEN);
+    WANT(postmig_node_trace(it, true) == POSTMIG_NOT_OPEN && postmig_node_trace_take(it, text, sizeof text, &length) == POSTMIG_NOT_OPEN);
+}
+
+/* A trace that is off, on without a line, on with one, on twice, and off again. */
+static void traces(void) {
+    postmig_command map = {.kind = POSTMIG_MMAP, .length = 4096, .prot = POSTMIG_PROT_READ, .place = POSTMIG_ANYWHERE};
+    const char line[] = "cpu 1 mmap 4096 r => cpu 1 at 0x10000\n";
+    DO(postmig_source_new(2, 0, 0, &source));
+    SAYS(postmig_node_trace_take(&source, text, sizeof text, &length), POSTMIG_NO_TRACE);
+    DO(postmig_node_trace(&source, true));
+    length = 1;
+    DO(postmig_node_trace_take(&source, text, 0, &length));
+    WANT(length == 0);
+    DO(postmig_source_issue(&source, 1, &map, &effect));
+    SAYS(postmig_source_end(&source, &effect), POSTMIG_REFUSED_PHASE);
+    DO(postmig_node_trace(&source, true));
+    SAYS(postmig_node_trace_take(&source, text, sizeof line - 2, &length), POSTMIG_NO_ROOM);
+    WANT(length == sizeof line - 1);
+    DO(postmig_node_trace_take(&source, text, sizeof line - 1, &length));
+    WANT(length == sizeof line - 1 && !memcmp(text, line, length));
+    DO(postmig_node_trace_take(&source, text, sizeof text, &length));
+    WANT(length == 0);
+    DO(postmig_source_issue(&source, 1, &map, &effect));
+    DO(postmig_node_trace(&source, false));
+    SAYS(postmig_node_trace_take(&source, text, sizeof text, &length), POSTMIG_NO_TRACE);
+    DO(postmig_node_trace(&source, true));
+    DO(postmig_node_trace_take(&source, text, sizeof text, &length));
+    WANT(length == 0);
+    postmig_free(&source);
 }
 
 static void start(void) {
@@ -111,12 +164,15 @@ static void start(void) {
     SAYS(postmig_destination_new(17, &destination), POSTMIG_NO_CPU);
     DO(postmig_source_new(2, 0, 0, &source));
     DO(postmig_destination_new(2, &destination));
+    DO(postmig_node_trace(&source, true));
+    DO(postmig_node_trace(&destination, true));
+    traced = true;
     postmig_command map = {.kind = POSTMIG_MMAP, .length = 2 * PAGES * 4096, .prot = POSTMIG_PROT_READ_WRITE, .place = POSTMIG_FIXED, .target = BASE};
     DO(postmig_source_issue(&source, 0, &map, &effect));
     WANT(effect.kind == POSTMIG_DID_ANSWER && effect.reply == POSTMIG_REPLY_AT && effect.value == BASE);
     map.kind = 7;
     SAYS(postmig_source_issue(&source, 0, &map, &effect), POSTMIG_NOT_A_COMMAND);
-    for (int i = 0; i < PAGES; i++) {
+    for (uint64_t i = 0; i < PAGES; i++) {
         postmig_command present = store(BASE + 4096 * i);
         DO(postmig_source_issue(&source, 0, &present, &effect));
         WANT(effect.reply == POSTMIG_REPLY_DONE);
@@ -222,6 +278,8 @@ static void switched(void) {
 
 static void resumed(void) {
     uint32_t page = 0, count = 0;
+    memcpy(script + script_length, "break\n", 6);
+    script_length += 6;
     DO(postmig_source_notice(&source, &effect));
     SAYS(postmig_source_notice(&source, &effect), POSTMIG_REFUSED_PHASE);
     DO(postmig_destination_notice(&destination, &effect));
@@ -258,13 +316,16 @@ static void last(void) {
     DO(postmig_refusal_name(status, text, sizeof text, &length));
     WANT(length == 5 && !memcmp(text, "Phase", 5));
     SAYS(postmig_refusal_name(POSTMIG_NO_MEMORY, text, sizeof text, &length), POSTMIG_NOT_A_LINE);
+    traced = false;
     postmig_free(&source);
     postmig_free(&source);
     postmig_free(&destination);
 }
 
 static void migrate(void) {
+    script_length = 0;
     not_open();
+    traces();
     start();
     precopy();
     switched();
@@ -273,9 +334,17 @@ static void migrate(void) {
     not_open();
 }
 
-int main(void) {
+int main(int argc, char **argv) {
+    (void)argv;
     migrate();
     WANT(!refused && live == 0);
+    if (argc > 1) {
+        WANT(fwrite(script, 1, script_length, stdout) == script_length);
+        return 0;
+    }
+    static uint8_t first[sizeof script];
+    size_t first_length = script_length;
+    memcpy(first, script, script_length);
     for (turn = 0;; turn++) {
         live = 0;
         refused = false;
@@ -283,8 +352,9 @@ int main(void) {
         migrate();
         left = -1;
         WANT(live == 0);
+        WANT(script_length == first_length && !memcmp(script, first, first_length));
         if (!refused) break;
     }
-    printf("nodes of their own: each call, and %ld allocations refused, one at a time: no other answer, no leak\n", turn);
+    printf("nodes of their own: each call, and %ld allocations refused, one at a time: no other answer, no other trace, no leak\n", turn);
     return 0;
 }

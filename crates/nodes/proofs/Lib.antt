@@ -1,2 +1,5 @@
+pub mod Bounds
+pub mod HeadLemmas
+pub mod Sayings
 pub mod Waiting
 pub mod Taking

@@ -1,5 +1,5 @@
 -- The calls of a destination of its own: each is the destination's step of its name, and the frames that it sends back wait.
-use Rattle.std.specs.Prelude.{◌≡◌, ◌⊎◌, ℕ, zero, suc, ◌+◌, ◌*◌, Result, Ok, Err, Some, None, List, []}
+use Rattle.std.specs.Prelude.{◌≡◌, ◌⊎◌, ℕ, zero, suc, ◌+◌, ◌*◌, ◌≤◌, Option, Result, Ok, Err, Some, None, List, []}
 use Rattle.mig_base.specs.declared.TheConstants.{PAGE_SIZE}
 use Rattle.mig_base.specs.declared.effect.Effect.{Effect}
 use Rattle.mig_base.specs.declared.refusal.Refusal.{Refusal}
@@ -13,9 +13,8 @@ use Rattle.mig_model.specs.Wire.{Frame, Sent, wire_with}
 use Rattle.frame_decoder.specs.Streams.{IsTextOf}
 use Rattle.frame_decoder.specs.declared.version.Version.{Version}
 use Rattle.nodes.specs.Faults.{taking_fault, urgent_taking_fault}
-use Rattle.nodes.specs.Heads.{IsPageHead, IsRunHead}
+use Rattle.nodes.specs.Heads.{IsHeadOfPage, IsHeadOfRun}
 use Rattle.nodes.specs.Nodes.{PostingDestination}
-use Rattle.nodes.specs.SourceCalls.{IsNoText}
 use Rattle.nodes.specs.declared.fault.FrameFault.{FrameFault}
 use Rattle.nodes.specs.declared.steps.DestinationStep.{DestinationStep}
 
@@ -60,37 +59,69 @@ abbrev pub zeros_taken : PostingDestination → ℕ → ℕ → ℕ → PostingD
 zeros_taken old epoch first zero = old
 zeros_taken old epoch first (suc count) = taken (zeros_taken old epoch first count) epoch (Frame.Zero (first + count))
 
--- the bytes are the head of a Page, which is taken as a page of zeros
-pub record PageIsTaken (bytes : List ℕ) (old : PostingDestination) (effect : Effect) (new : PostingDestination) : Type 0 where
-  pub epoch : ℕ
-  pub page : ℕ
-  pub head : IsPageHead bytes epoch page
-  pub accepted : taking_fault old.node epoch (Frame.Zero page) ≡ None
-  pub effect_is : effect ≡ frame_effect (Frame.Zero page)
-  pub new_is : new ≡ taken old epoch (Frame.Zero page)
+-- What bytes say
 
--- the bytes are the head of a Run, whose pages are taken as pages of zeros
-pub record RunIsTaken (bytes : List ℕ) (old : PostingDestination) (effect : Effect) (new : PostingDestination) : Type 0 where
-  pub epoch : ℕ
-  pub first : ℕ
-  pub count : ℕ
-  pub head : IsRunHead bytes epoch first count
-  pub accepted : taking_fault old.node epoch (Frame.Run first []) ≡ None
-  pub effect_is : effect ≡ Effect.TookRun (PAGE_SIZE * first) count
-  pub new_is : new ≡ zeros_taken old epoch first count
+-- what the bytes of a frame say to a node that has no bytes of pages: a frame, or a run of pages of zeros
+pub data Handed : Type 0 where
+  AFrame : (sent : Sent) → Handed
+  ZeroRun : (epoch first count : ℕ) → Handed
 
--- the bytes are the text of a frame, which is taken
-pub record TextIsTaken (bytes : List ℕ) (old : PostingDestination) (effect : Effect) (new : PostingDestination) : Type 0 where
-  pub version : Version
-  pub sent : Sent
-  pub text : IsTextOf version bytes sent
-  pub accepted : taking_fault old.node sent.epoch sent.frame ≡ None
-  pub effect_is : effect ≡ frame_effect sent.frame
-  pub new_is : new ≡ taken old sent.epoch sent.frame
+-- the bytes say this: they are the text of a frame, the head of a Page, whose page is taken as one of zeros, or the head of a Run
+abbrev pub Says : List ℕ → Handed → Type 0
+Says bytes (AFrame sent) = ((version : Version) × IsTextOf version bytes sent) ⊎ ((page : ℕ) × IsHeadOfPage bytes sent.epoch page × (sent.frame ≡ Frame.Zero page))
+Says bytes (ZeroRun epoch first count) = IsHeadOfRun bytes epoch first count
 
--- the bytes are taken as what they are
-abbrev pub IsTaken : List ℕ → PostingDestination → Effect → PostingDestination → Type 0
-IsTaken bytes old effect new = PageIsTaken bytes old effect new ⊎ (RunIsTaken bytes old effect new ⊎ TextIsTaken bytes old effect new)
+-- the bytes say nothing: they are neither a text nor a head
+abbrev pub SaysNothing : List ℕ → Type 0
+SaysNothing bytes = (handed : Handed) → Says bytes handed → ⊥
+
+-- the bytes say no frame of the urgent wire, which has no Run
+abbrev pub SaysNoFrame : List ℕ → Type 0
+SaysNoFrame bytes = (sent : Sent) → Says bytes (AFrame sent) → ⊥
+
+-- the effect of taking it
+abbrev pub effect_said : Handed → Effect
+effect_said (AFrame sent) = frame_effect sent.frame
+effect_said (ZeroRun epoch first count) = Effect.TookRun (PAGE_SIZE * first) count
+
+-- the answer to what the bytes say: it is taken, with this effect and this node after it, or memory ran out; but if a fault keeps it away,
+-- the answer is that fault, or memory ran out
+abbrev pub IsAnswer : Option FrameFault → Effect → PostingDestination → Result Effect FrameFault → PostingDestination → Type 0
+IsAnswer None effect after (Ok made) new = (made ≡ effect) × (new ≡ after)
+IsAnswer None effect after (Err fault) new = fault ≡ FrameFault.NoMemory
+IsAnswer (Some reason) effect after (Ok made) new = ⊥
+IsAnswer (Some reason) effect after (Err fault) new = (fault ≡ reason) ⊎ (fault ≡ FrameFault.NoMemory)
+
+-- The wire from the source
+
+-- why it is not taken, if it is not
+abbrev pub fault_of : Destination → Handed → Option FrameFault
+fault_of node (AFrame sent) = taking_fault node sent.epoch sent.frame
+fault_of node (ZeroRun epoch first count) = taking_fault node epoch (Frame.Run first [])
+
+-- the node after it is taken
+abbrev pub after : PostingDestination → Handed → PostingDestination
+after old (AFrame sent) = taken old sent.epoch sent.frame
+after old (ZeroRun epoch first count) = zeros_taken old epoch first count
+
+-- the bytes are taken as what they say
+pub record IsTaken (bytes : List ℕ) (old : PostingDestination) (effect : Effect) (new : PostingDestination) : Type 0 where
+  pub handed : Handed
+  pub says : Says bytes handed
+  pub accepted : fault_of old.node handed ≡ None
+  pub effect_is : effect ≡ effect_said handed
+  pub new_is : new ≡ after old handed
+
+-- why bytes are not taken: memory ran out, they say nothing, or the destination refuses what they say
+abbrev pub MayNotTake : List ℕ → PostingDestination → FrameFault → Type 0
+MayNotTake bytes old fault =
+    (fault ≡ FrameFault.NoMemory)
+    ⊎ (((fault ≡ FrameFault.NotAFrame) × SaysNothing bytes) ⊎ ((handed : Handed) × Says bytes handed × (fault_of old.node handed ≡ Some fault)))
+
+-- the node after bytes that were not taken: as it was, or with the first pages of a Run, during which memory ran out
+abbrev pub IsLeft : List ℕ → PostingDestination → PostingDestination → Type 0
+IsLeft bytes old new =
+    (new ≡ old) ⊎ ((epoch : ℕ) × (first : ℕ) × (count : ℕ) × (kept : ℕ) × Says bytes (ZeroRun epoch first count) × (kept ≤ count) × (new ≡ zeros_taken old epoch first kept))
 
 -- The urgent wire
 
@@ -98,38 +129,26 @@ IsTaken bytes old effect new = PageIsTaken bytes old effect new ⊎ (RunIsTaken 
 abbrev pub urgently_taken : PostingDestination → Frame → PostingDestination
 urgently_taken old frame = record old { node = urgent_took old.node frame }
 
--- the bytes are the head of a Page, which is taken as a page of zeros
-pub record PageIsTakenUrgently (bytes : List ℕ) (old : PostingDestination) (effect : Effect) (new : PostingDestination) : Type 0 where
-  pub epoch : ℕ
-  pub page : ℕ
-  pub head : IsPageHead bytes epoch page
-  pub accepted : urgent_taking_fault old.node epoch (Frame.Zero page) ≡ None
-  pub effect_is : effect ≡ frame_effect (Frame.Zero page)
-  pub new_is : new ≡ urgently_taken old (Frame.Zero page)
+-- why it is not taken on the urgent wire, if it is not
+abbrev pub urgent_fault_of : Destination → Handed → Option FrameFault
+urgent_fault_of node (AFrame sent) = urgent_taking_fault node sent.epoch sent.frame
+urgent_fault_of node (ZeroRun epoch first count) = Some FrameFault.NotAFrame
 
--- the bytes are the text of a frame, which is taken
-pub record TextIsTakenUrgently (bytes : List ℕ) (old : PostingDestination) (effect : Effect) (new : PostingDestination) : Type 0 where
-  pub version : Version
+-- the node after it is taken there
+abbrev pub urgent_after : PostingDestination → Handed → PostingDestination
+urgent_after old (AFrame sent) = urgently_taken old sent.frame
+urgent_after old (ZeroRun epoch first count) = old
+
+-- the bytes of the urgent wire are taken as what they say
+pub record IsTakenUrgently (bytes : List ℕ) (old : PostingDestination) (effect : Effect) (new : PostingDestination) : Type 0 where
   pub sent : Sent
-  pub text : IsTextOf version bytes sent
+  pub says : Says bytes (AFrame sent)
   pub accepted : urgent_taking_fault old.node sent.epoch sent.frame ≡ None
   pub effect_is : effect ≡ frame_effect sent.frame
   pub new_is : new ≡ urgently_taken old sent.frame
 
--- the bytes of the urgent wire are taken as what they are
-abbrev pub IsTakenUrgently : List ℕ → PostingDestination → Effect → PostingDestination → Type 0
-IsTakenUrgently bytes old effect new = PageIsTakenUrgently bytes old effect new ⊎ TextIsTakenUrgently bytes old effect new
-
--- Refusals
-
--- why bytes are not taken: memory ran out, they are not the text of a frame, or the destination refuses the frame
-abbrev pub MayNotTake : List ℕ → PostingDestination → FrameFault → Type 0
-MayNotTake bytes old fault =
-    (fault ≡ FrameFault.NoMemory)
-    ⊎ (((fault ≡ FrameFault.NotAFrame) × IsNoText bytes) ⊎ ((epoch : ℕ) × (frame : Frame) × (taking_fault old.node epoch frame ≡ Some fault)))
-
--- the same on the urgent wire
+-- why they are not: memory ran out, they say no frame, or the destination refuses the frame
 abbrev pub MayNotTakeUrgently : List ℕ → PostingDestination → FrameFault → Type 0
 MayNotTakeUrgently bytes old fault =
     (fault ≡ FrameFault.NoMemory)
-    ⊎ (((fault ≡ FrameFault.NotAFrame) × IsNoText bytes) ⊎ ((epoch : ℕ) × (frame : Frame) × (urgent_taking_fault old.node epoch frame ≡ Some fault)))
+    ⊎ (((fault ≡ FrameFault.NotAFrame) × SaysNoFrame bytes) ⊎ ((sent : Sent) × Says bytes (AFrame sent) × (urgent_taking_fault old.node sent.epoch sent.frame ≡ Some fault)))

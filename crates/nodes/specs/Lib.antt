@@ -3,3 +3,4 @@ pub mod Faults
 pub mod Heads
 pub mod SourceCalls
 pub mod DestinationCalls
+pub mod Traces

@@ -1,10 +1,9 @@
 //! The bytes in front of those of pages.
 
-ghost use Rattle.std.specs.Prelude.{◌+◌, ◌≤◌, length};
-ghost use Rattle.std.specs.Option.{IfSome};
-ghost use Rattle.mig_base.specs.declared.TheConstants.{HIGH_PAGE};
-ghost use Rattle.mig_model.specs.Bounds.{IsPage};
-ghost use Rattle.nodes.specs.Heads.{IsPageHead, IsRunHead};
+ghost use Rattle.std.specs.Prelude.{◌≡◌, ◌+◌, ◌≤◌, ◌∷◌, [], ℕ, length, get_or};
+ghost use Rattle.std.specs.Int.{w32, from_be_bytes};
+ghost use Rattle.std.specs.Option.{IfNone, IfSome};
+ghost use Rattle.nodes.specs.Heads.{IsHeadOfPage, IsHeadOfRun};
 
 use mig_base::{HIGH_PAGE, LOW_PAGE, MAX_RUN, PageNo};
 use page_stream::{page_head, run_head};
@@ -12,14 +11,18 @@ use page_stream::{page_head, run_head};
 /// The number of 32 bits at a place, the highest byte first.
 fn number_at(bytes: &[u8], at: usize) -> u32
     requires { at + 4 ≤ length bytes.now }
+    ensures { result ≡
+        from_be_bytes w32
+        (get_or bytes.now at 0 ∷ get_or bytes.now (at + 1) 0 ∷ get_or bytes.now (at + 2) 0 ∷
+        get_or bytes.now (at + 3) 0 ∷ []) }
 {
     u32::from_be_bytes([bytes[at], bytes[at + 1], bytes[at + 2], bytes[at + 3]])
 }
 
 /// The epoch and the page of the head of a Page, if the bytes are exactly one.
 pub(crate) fn page_of(bytes: &[u8]) -> Option<(u32, PageNo)>
-    ensures head { IfSome result (λ found. IsPageHead bytes.now found.0 found.1) }
-    ensures page { IfSome result (λ found. IsPage found.1) }
+    ensures some { IfSome result (λ found. IsHeadOfPage bytes.now found.0 found.1) }
+    ensures none { IfNone result ((epoch page : ℕ) → IsHeadOfPage bytes.now epoch page → ⊥) }
 {
     if bytes.len() != 16 {
         return None;
@@ -45,10 +48,10 @@ pub(crate) struct RunHead {
 
 /// The pages of the head of a Run, if the bytes are exactly one.
 pub(crate) fn run_of(bytes: &[u8]) -> Option<RunHead>
-    ensures head { IfSome result (λ found.
-        IsRunHead bytes.now found.epoch found.first found.count) }
-    ensures first { IfSome result (λ found. IsPage found.first) }
-    ensures last { IfSome result (λ found. found.first + found.count ≤ HIGH_PAGE) }
+    ensures some { IfSome result (λ found.
+        IsHeadOfRun bytes.now found.epoch found.first found.count) }
+    ensures none { IfNone result ((epoch first count : ℕ) →
+        IsHeadOfRun bytes.now epoch first count → ⊥) }
 {
     if bytes.len() != 20 {
         return None;

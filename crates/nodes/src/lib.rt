@@ -11,11 +11,18 @@
 mod destination;
 mod fault;
 mod heads;
+pub mod laws;
 mod posting;
 mod source;
 mod steps;
+mod trace;
+mod traced_destination;
+mod traced_source;
 
 pub use crate::destination::DestinationNode;
 pub use crate::fault::FrameFault;
 pub use crate::source::SourceNode;
 pub use crate::steps::{DestinationStep, SourceStep};
+pub use crate::trace::TraceLine;
+pub use crate::traced_destination::TracedDestination;
+pub use crate::traced_source::TracedSource;

@@ -20,6 +20,7 @@ enum {
     POSTMIG_NOT_A_FRAME = 11,   /* the bytes are not those of one frame */
     POSTMIG_NOT_A_COMMAND = 12, /* the numbers are not those of a command */
     POSTMIG_NO_PAGE = 13,       /* there is no such page */
+    POSTMIG_NO_TRACE = 14,      /* the node has no trace */
 
     POSTMIG_REFUSED = 64, /* an answer from here on is a refusal, and nothing changed. The first that applies is given, in this order: */
     POSTMIG_REFUSED_NO_CPU = 65,            /* the guest has no such processor */
@@ -154,6 +155,20 @@ typedef struct {
    after the other, in version 2 of the format. POSTMIG_NO_FRAME: none waits. POSTMIG_NO_ROOM: *written is the length that is needed, and
    they still wait; so they do at POSTMIG_NO_MEMORY. At a broken channel the caller takes what waits and drops it, as all that was not read. */
 uint32_t postmig_node_frame(postmig_handle *node, uint8_t *out, size_t room, size_t *written);
+
+/* Begins the trace of a node, without a line, or with false ends it and drops the lines that wait. One that is on stays as it is when it is
+   begun again. A new node has none, and keeps nothing.
+
+   A node with a trace keeps a line for each call that makes a step (the table below) and answers POSTMIG_OK, in the order of the calls:
+   the line of a script, " => ", and what postmig run prints for it in the world whose stores all store 0: "push 0x10000 1 => sent zero
+   0x10000", "deliver => took advise". So it is a test (postmig test) of that node's steps. A run has 1 to 64 pages there, and a push names
+   its epoch. A call that is refused adds no line. Room for the line is made before the step: with a trace POSTMIG_NO_MEMORY may come before
+   any other refusal, and then nothing changed. A line waits until it is taken, in about a hundred bytes of memory. */
+uint32_t postmig_node_trace(postmig_handle *node, bool on);
+
+/* Takes the first line that waits in the trace, with its line feed: *written bytes, 0 if none waits. POSTMIG_NO_ROOM: *written is the length
+   of the line, and it still waits; so it does at POSTMIG_NO_MEMORY. POSTMIG_NO_TRACE. */
+uint32_t postmig_node_trace_take(postmig_handle *node, uint8_t *out, size_t room, size_t *written);
 
 /* THE SOURCE */
 
@@ -342,7 +357,7 @@ uint32_t postmig_frame_lengths(const uint8_t *bytes, size_t length, size_t *head
    source      start, round, send, run_sent (sendrun N), read (sread), act (sact), switch, push, push_urgent (upush), serve, end,
                back, notice (notice source), resume
    destination take (deliver), take_urgent (udeliver), read (dread), act (dact), install, notice (notice dest)
-   none        new, next_.., check_.., counts, home, node_frame, heads of frames; break is the caller's
+   none        new, next_.., check_.., counts, home, node_frame, node_trace, node_trace_take, heads of frames; break is the caller's
 
    AN ORDER OF CALLS
 

@@ -3,15 +3,17 @@ use Rattle.std.proofs.Common.{◌≡◌, ◌⊎◌, ℕ, ◌<◌, ◌≤◌, Res
 use Rattle.std.specs.Prelude.{◌≢◌}
 use Rattle.mig_base.specs.declared.effect.Effect.{Effect}
 use Rattle.mig_base.specs.declared.refusal.Refusal.{Refusal}
+use Rattle.mig_base.specs.declared.schedule.Step.{Step}
 use Rattle.mig_model.specs.NodeSteps.{IsRefusedFor, acted}
 use Rattle.nodes.specs.DestinationCalls as destination
 use Rattle.nodes.specs.Nodes.{PostingDestination, PostingSource}
 use Rattle.nodes.specs.SourceCalls as source
+use Rattle.nodes.specs.Traces.{Traced, and_line, destination_step, source_step, whole_frame}
 use Rattle.nodes.specs.declared.fault.FrameFault.{FrameFault}
 use Rattle.nodes.specs.declared.steps.DestinationStep.{DestinationStep}
 use Rattle.nodes.specs.declared.steps.SourceStep.{SourceStep}
 use Rattle.postmig_c.specs.Effects.{effect_numbers}
-use Rattle.postmig_c.specs.NodeCalls.{DestinationMakes, DestinationRefuses, DestinationTakes, DestinationTakesUrgently, SourceMakes, SourceRefuses, SourceTakes, SourceTakesNot}
+use Rattle.postmig_c.specs.NodeCalls.{DestinationMakes, DestinationIsLeft, DestinationRefuses, DestinationTakes, DestinationTakesNot, DestinationTakesNotUrgently, DestinationTakesUrgently, SourceMakes, SourceRefuses, SourceTakes, SourceTakesNot}
 use Rattle.postmig_c.specs.Refusals.{fault_status, refusal_status}
 use Rattle.postmig_c.specs.declared.effects.EffectNumbers.{EffectNumbers}
 
@@ -64,29 +66,37 @@ told_range (Err refusal) status numbers made refused = inr (refusal_range refusa
 refusal-not_zero : (status : ℕ) → IsRefusal status → status ≡ 0 → ⊥
 refusal-not_zero status range zero = ⊎_elim (λ (h : status ≡ 4). omega (arith, h, zero)) (λ (h : 64 < status). omega (arith, h, zero)) range
 
+-- lack of memory has no status above 64
+no_lack : (refusal : Refusal) (status : ℕ) → refusal ≡ Refusal.NoMemory → status ≡ refusal_status refusal → 64 < status → ⊥
+no_lack refusal status lack is high = let four : status ≡ 4 = subst (λ (r : Refusal). status ≡ refusal_status r) lack is in omega (arith, four, high)
+
 pub kept_unless : (A : Type 0) (new old : A) (outcome : Result Effect Refusal) (status : ℕ) (numbers : EffectNumbers) → IfOk outcome (λ effect. (status ≡ 0) × (numbers ≡ effect_numbers effect)) → OnErr outcome (new ≡ old) → status ≢ 0 → new ≡ old
 kept_unless A new old (Ok effect) status numbers made kept other = absurd (other made.0)
 kept_unless A new old (Err refusal) status numbers made kept other = kept
 
-pub source_made : (step : SourceStep) (old new : PostingSource) (outcome : Result Effect Refusal) (status : ℕ) (numbers : EffectNumbers) → IfOk outcome (λ effect. source.answer step old ≡ acted effect new)
+pub source_made : (step : SourceStep) (old new : Traced PostingSource) (outcome : Result Effect Refusal) (status : ℕ) (numbers : EffectNumbers) → IfOk outcome (λ effect. source.answer step old.node ≡ acted effect new.node)
+    → IfOk outcome (λ effect. new.trace ≡ and_line old.trace (source_step step) effect)
     → IfOk outcome (λ effect. (status ≡ 0) × (numbers ≡ effect_numbers effect)) → IfErr outcome (λ refusal. status ≡ refusal_status refusal) → status ≡ 0 → SourceMakes step old numbers new
-source_made step old new (Ok effect) status numbers made told refused zero = record { effect = effect; made = made; numbers_are = told.1 }
-source_made step old new (Err refusal) status numbers made told refused zero = absurd (refusal-not_zero status (refusal_range refusal status refused) zero)
+source_made step old new (Ok effect) status numbers made line told refused zero = record { effect = effect; made = made; numbers_are = told.1; line = line }
+source_made step old new (Err refusal) status numbers made line told refused zero = absurd (refusal-not_zero status (refusal_range refusal status refused) zero)
 
-pub source_refused : (step : SourceStep) (old : PostingSource) (outcome : Result Effect Refusal) (status : ℕ) (numbers : EffectNumbers) → IfErr outcome (λ refusal. source.MayBeRefused step old refusal)
+pub source_refused : (step : SourceStep) (old : PostingSource) (outcome : Result Effect Refusal) (status : ℕ) (numbers : EffectNumbers) → IfErr outcome (λ refusal. (refusal ≡ Refusal.NoMemory) ⊎ source.MayBeRefused step old refusal)
     → IfOk outcome (λ effect. (status ≡ 0) × (numbers ≡ effect_numbers effect)) → IfErr outcome (λ refusal. status ≡ refusal_status refusal) → 64 < status → SourceRefuses step old status
 source_refused step old (Ok effect) status numbers may told refused high = absurd (let zero = told.0 in omega (arith, zero, high))
-source_refused step old (Err refusal) status numbers may told refused high = record { refusal = refusal; refused = may; status_is = refused }
+source_refused step old (Err refusal) status numbers (inl lack) told refused high = absurd (no_lack refusal status lack refused high)
+source_refused step old (Err refusal) status numbers (inr may) told refused high = record { refusal = refusal; refused = may; status_is = refused }
 
-pub destination_made : (step : DestinationStep) (old new : PostingDestination) (outcome : Result Effect Refusal) (status : ℕ) (numbers : EffectNumbers) → IfOk outcome (λ effect. destination.answer step old ≡ acted effect new)
+pub destination_made : (step : DestinationStep) (old new : Traced PostingDestination) (outcome : Result Effect Refusal) (status : ℕ) (numbers : EffectNumbers) → IfOk outcome (λ effect. destination.answer step old.node ≡ acted effect new.node)
+    → IfOk outcome (λ effect. new.trace ≡ and_line old.trace (destination_step step) effect)
     → IfOk outcome (λ effect. (status ≡ 0) × (numbers ≡ effect_numbers effect)) → IfErr outcome (λ refusal. status ≡ refusal_status refusal) → status ≡ 0 → DestinationMakes step old numbers new
-destination_made step old new (Ok effect) status numbers made told refused zero = record { effect = effect; made = made; numbers_are = told.1 }
-destination_made step old new (Err refusal) status numbers made told refused zero = absurd (refusal-not_zero status (refusal_range refusal status refused) zero)
+destination_made step old new (Ok effect) status numbers made line told refused zero = record { effect = effect; made = made; numbers_are = told.1; line = line }
+destination_made step old new (Err refusal) status numbers made line told refused zero = absurd (refusal-not_zero status (refusal_range refusal status refused) zero)
 
-pub destination_refused : (step : DestinationStep) (old : PostingDestination) (outcome : Result Effect Refusal) (status : ℕ) (numbers : EffectNumbers) → IfErr outcome (λ refusal. IsRefusedFor (destination.answer step old) refusal)
+pub destination_refused : (step : DestinationStep) (old : PostingDestination) (outcome : Result Effect Refusal) (status : ℕ) (numbers : EffectNumbers) → IfErr outcome (λ refusal. (refusal ≡ Refusal.NoMemory) ⊎ IsRefusedFor (destination.answer step old) refusal)
     → IfOk outcome (λ effect. (status ≡ 0) × (numbers ≡ effect_numbers effect)) → IfErr outcome (λ refusal. status ≡ refusal_status refusal) → 64 < status → DestinationRefuses step old status
 destination_refused step old (Ok effect) status numbers may told refused high = absurd (let zero = told.0 in omega (arith, zero, high))
-destination_refused step old (Err refusal) status numbers may told refused high = record { refusal = refusal; refused = may; status_is = refused }
+destination_refused step old (Err refusal) status numbers (inl lack) told refused high = absurd (no_lack refusal status lack refused high)
+destination_refused step old (Err refusal) status numbers (inr may) told refused high = record { refusal = refusal; refused = may; status_is = refused }
 
 -- Frames
 
@@ -114,22 +124,40 @@ pub frame_kept_but : (A : Type 0) (new old : A) (outcome : Result Effect FrameFa
 frame_kept_but A new old (Ok effect) status numbers told refused kept other lack = absurd (other told.0)
 frame_kept_but A new old (Err fault) status numbers told refused kept other lack = kept (λ is. lack (subst (λ f. status ≡ fault_status f) is refused))
 
-pub source_takes : (bytes : List ℕ) (old new : PostingSource) (outcome : Result Effect FrameFault) (status : ℕ) (numbers : EffectNumbers) → IfOk outcome (λ effect. source.IsReturned bytes old effect new)
+pub source_takes : (bytes : List ℕ) (old new : Traced PostingSource) (outcome : Result Effect FrameFault) (status : ℕ) (numbers : EffectNumbers) → IfOk outcome (λ effect. source.IsReturned bytes old.node effect new.node)
+    → IfOk outcome (λ effect. new.trace ≡ and_line old.trace (Step.DeliverBack whole_frame) effect)
     → IfOk outcome (λ effect. (status ≡ 0) × (numbers ≡ effect_numbers effect)) → IfErr outcome (λ fault. status ≡ fault_status fault) → status ≡ 0 → SourceTakes bytes old numbers new
-source_takes bytes old new (Ok effect) status numbers taken told refused zero = record { effect = effect; returned = taken; numbers_are = told.1 }
-source_takes bytes old new (Err fault) status numbers taken told refused zero = absurd (fault-not_zero status (fault_range fault status refused) zero)
+source_takes bytes old new (Ok effect) status numbers taken line told refused zero = record { effect = effect; returned = taken; numbers_are = told.1; line = line }
+source_takes bytes old new (Err fault) status numbers taken line told refused zero = absurd (fault-not_zero status (fault_range fault status refused) zero)
 
 pub source_takes_not : (bytes : List ℕ) (old : PostingSource) (outcome : Result Effect FrameFault) (status : ℕ) (numbers : EffectNumbers) → IfErr outcome (λ fault. source.MayNotReturn bytes old fault)
     → IfOk outcome (λ effect. (status ≡ 0) × (numbers ≡ effect_numbers effect)) → IfErr outcome (λ fault. status ≡ fault_status fault) → status ≢ 0 → SourceTakesNot bytes old status
 source_takes_not bytes old (Ok effect) status numbers may told refused other = absurd (other told.0)
 source_takes_not bytes old (Err fault) status numbers may told refused other = record { fault = fault; refused = may; status_is = refused }
 
-pub destination_takes : (bytes : List ℕ) (old new : PostingDestination) (outcome : Result Effect FrameFault) (status : ℕ) (numbers : EffectNumbers) → IfOk outcome (λ effect. destination.IsTaken bytes old effect new)
+pub destination_takes : (bytes : List ℕ) (old new : Traced PostingDestination) (outcome : Result Effect FrameFault) (status : ℕ) (numbers : EffectNumbers) → IfOk outcome (λ effect. destination.IsTaken bytes old.node effect new.node)
+    → IfOk outcome (λ effect. new.trace ≡ and_line old.trace (Step.Deliver whole_frame) effect)
     → IfOk outcome (λ effect. (status ≡ 0) × (numbers ≡ effect_numbers effect)) → IfErr outcome (λ fault. status ≡ fault_status fault) → status ≡ 0 → DestinationTakes bytes old numbers new
-destination_takes bytes old new (Ok effect) status numbers taken told refused zero = record { effect = effect; taken = taken; numbers_are = told.1 }
-destination_takes bytes old new (Err fault) status numbers taken told refused zero = absurd (fault-not_zero status (fault_range fault status refused) zero)
+destination_takes bytes old new (Ok effect) status numbers taken line told refused zero = record { effect = effect; taken = taken; numbers_are = told.1; line = line }
+destination_takes bytes old new (Err fault) status numbers taken line told refused zero = absurd (fault-not_zero status (fault_range fault status refused) zero)
 
-pub destination_takes_urgently : (bytes : List ℕ) (old new : PostingDestination) (outcome : Result Effect FrameFault) (status : ℕ) (numbers : EffectNumbers) → IfOk outcome (λ effect. destination.IsTakenUrgently bytes old effect new)
+pub destination_takes_not : (bytes : List ℕ) (old : PostingDestination) (outcome : Result Effect FrameFault) (status : ℕ) (numbers : EffectNumbers) → IfErr outcome (λ fault. destination.MayNotTake bytes old fault)
+    → IfOk outcome (λ effect. (status ≡ 0) × (numbers ≡ effect_numbers effect)) → IfErr outcome (λ fault. status ≡ fault_status fault) → status ≢ 0 → DestinationTakesNot bytes old status
+destination_takes_not bytes old (Ok effect) status numbers may told refused other = absurd (other told.0)
+destination_takes_not bytes old (Err fault) status numbers may told refused other = record { fault = fault; refused = may; status_is = refused }
+
+pub destination_left : (bytes : List ℕ) (old new : Traced PostingDestination) (outcome : Result Effect FrameFault) (status : ℕ) (numbers : EffectNumbers) → OnErr outcome (destination.IsLeft bytes old.node new.node) → OnErr outcome (new.trace ≡ old.trace)
+    → IfOk outcome (λ effect. (status ≡ 0) × (numbers ≡ effect_numbers effect)) → status ≢ 0 → DestinationIsLeft bytes old new
+destination_left bytes old new (Ok effect) status numbers left same told other = absurd (other told.0)
+destination_left bytes old new (Err fault) status numbers left same told other = record { left = left; trace_is = same }
+
+pub destination_takes_urgently : (bytes : List ℕ) (old new : Traced PostingDestination) (outcome : Result Effect FrameFault) (status : ℕ) (numbers : EffectNumbers) → IfOk outcome (λ effect. destination.IsTakenUrgently bytes old.node effect new.node)
+    → IfOk outcome (λ effect. new.trace ≡ and_line old.trace (Step.DeliverUrgent whole_frame) effect)
     → IfOk outcome (λ effect. (status ≡ 0) × (numbers ≡ effect_numbers effect)) → IfErr outcome (λ fault. status ≡ fault_status fault) → status ≡ 0 → DestinationTakesUrgently bytes old numbers new
-destination_takes_urgently bytes old new (Ok effect) status numbers taken told refused zero = record { effect = effect; taken = taken; numbers_are = told.1 }
-destination_takes_urgently bytes old new (Err fault) status numbers taken told refused zero = absurd (fault-not_zero status (fault_range fault status refused) zero)
+destination_takes_urgently bytes old new (Ok effect) status numbers taken line told refused zero = record { effect = effect; taken = taken; numbers_are = told.1; line = line }
+destination_takes_urgently bytes old new (Err fault) status numbers taken line told refused zero = absurd (fault-not_zero status (fault_range fault status refused) zero)
+
+pub destination_takes_not_urgently : (bytes : List ℕ) (old : PostingDestination) (outcome : Result Effect FrameFault) (status : ℕ) (numbers : EffectNumbers) → IfErr outcome (λ fault. destination.MayNotTakeUrgently bytes old fault)
+    → IfOk outcome (λ effect. (status ≡ 0) × (numbers ≡ effect_numbers effect)) → IfErr outcome (λ fault. status ≡ fault_status fault) → status ≢ 0 → DestinationTakesNotUrgently bytes old status
+destination_takes_not_urgently bytes old (Ok effect) status numbers may told refused other = absurd (other told.0)
+destination_takes_not_urgently bytes old (Err fault) status numbers may told refused other = record { fault = fault; refused = may; status_is = refused }

@@ -205,6 +205,10 @@ value_in (Effect.Answered cpu reply) = reply_value reply
 value_in (Effect.ReadLast event cpu reply) = reply_value reply
 value_in effect = 0
 
+-- the numbers of a kind of effect that has no others
+abbrev pub of_kind : ℕ → EffectNumbers
+of_kind kind = record { kind = kind; cpu = 0; number = 0; count = 0; addr = 0; other = 0; length = 0; value = 0; reply = 0 }
+
 -- an effect in numbers
 abbrev pub effect_numbers : Effect → EffectNumbers
 effect_numbers effect =

@@ -10,3 +10,4 @@ pub mod Refusals
 pub mod NodeCalls
 pub mod Heads
 pub mod Questions
+pub mod Traces

@@ -9,12 +9,14 @@ use Rattle.mig_base.specs.Userfault.{changing}
 use Rattle.mig_base.specs.declared.phase.DestPhase.{DestPhase}
 use Rattle.mig_base.specs.declared.phase.SourcePhase.{SourcePhase}
 use Rattle.mig_base.specs.declared.refusal.Refusal.{Refusal}
+use Rattle.mig_base.specs.declared.schedule.Step.{Step}
 use Rattle.mig_base.specs.declared.effect.Effect.{Effect}
 use Rattle.mig_model.specs.NodeSteps.{IsRefusedFor, acted}
 use Rattle.mig_model.specs.Wire.{Wire, empty_wire}
 use Rattle.nodes.specs.Nodes.{PostingDestination, PostingSource}
 use Rattle.nodes.specs.DestinationCalls as destination
 use Rattle.nodes.specs.SourceCalls as source
+use Rattle.nodes.specs.Traces.{Traced, and_line, destination_step, source_step, whole_frame}
 use Rattle.nodes.specs.declared.fault.FrameFault.{FrameFault}
 use Rattle.nodes.specs.declared.steps.DestinationStep.{DestinationStep}
 use Rattle.nodes.specs.declared.steps.SourceStep.{SourceStep}
@@ -30,23 +32,29 @@ use Rattle.postmig_c.specs.Refusals.{fault_status, refusal_status}
 
 -- the handle has no source
 abbrev pub HasNoSource : Option Content → Type 0
-HasNoSource (Some (Source node)) = ⊥
+HasNoSource (Some (Source traced)) = ⊥
 HasNoSource content = Unit {0}
 
 -- the handle has a source, and this holds of it
 abbrev pub TellsSource : Option Content → (PostingSource → Type 0) → Type 0
-TellsSource (Some (Source node)) P = P node
+TellsSource (Some (Source traced)) P = P traced.node
 TellsSource content P = ⊥
 
--- the handle had a source and has one, and this holds of the two
-abbrev pub HasSources : Option Content → Option Content → (PostingSource → PostingSource → Type 0) → Type 0
-HasSources old new P = TellsSource old (λ before. TellsSource new (P before))
+-- the handle has a source with its trace, and this holds of them
+abbrev pub OfSource : Option Content → (Traced PostingSource → Type 0) → Type 0
+OfSource (Some (Source traced)) P = P traced
+OfSource content P = ⊥
 
--- the call is the source's own, and these are the numbers of its effect
-pub record SourceMakes (step : SourceStep) (old : PostingSource) (numbers : EffectNumbers) (new : PostingSource) : Type 0 where
+-- the handle had a source and has one, and this holds of the two with their traces
+abbrev pub HasSources : Option Content → Option Content → (Traced PostingSource → Traced PostingSource → Type 0) → Type 0
+HasSources old new P = OfSource old (λ before. OfSource new (P before))
+
+-- the call is the source's own, these are the numbers of its effect, and a trace has its line
+pub record SourceMakes (step : SourceStep) (old : Traced PostingSource) (numbers : EffectNumbers) (new : Traced PostingSource) : Type 0 where
   pub effect : Effect
-  pub made : source.answer step old ≡ acted effect new
+  pub made : source.answer step old.node ≡ acted effect new.node
   pub numbers_are : numbers ≡ effect_numbers effect
+  pub line : new.trace ≡ and_line old.trace (source_step step) effect
 
 -- the source refuses the call, and this is the status of its refusal
 pub record SourceRefuses (step : SourceStep) (old : PostingSource) (status : ℕ) : Type 0 where
@@ -54,11 +62,12 @@ pub record SourceRefuses (step : SourceStep) (old : PostingSource) (status : ℕ
   pub refused : source.MayBeRefused step old refusal
   pub status_is : status ≡ refusal_status refusal
 
--- the bytes are a frame that the source takes, and these are the numbers of its effect
-pub record SourceTakes (bytes : List ℕ) (old : PostingSource) (numbers : EffectNumbers) (new : PostingSource) : Type 0 where
+-- the bytes are a frame that the source takes, these are the numbers of its effect, and a trace has the line of that delivery
+pub record SourceTakes (bytes : List ℕ) (old : Traced PostingSource) (numbers : EffectNumbers) (new : Traced PostingSource) : Type 0 where
   pub effect : Effect
-  pub returned : source.IsReturned bytes old effect new
+  pub returned : source.IsReturned bytes old.node effect new.node
   pub numbers_are : numbers ≡ effect_numbers effect
+  pub line : new.trace ≡ and_line old.trace (Step.DeliverBack whole_frame) effect
 
 -- the source does not take the bytes, and this is the status of the reason
 pub record SourceTakesNot (bytes : List ℕ) (old : PostingSource) (status : ℕ) : Type 0 where
@@ -100,23 +109,29 @@ source_counts posting =
 
 -- the handle has no destination
 abbrev pub HasNoDestination : Option Content → Type 0
-HasNoDestination (Some (Destination node)) = ⊥
+HasNoDestination (Some (Destination traced)) = ⊥
 HasNoDestination content = Unit {0}
 
 -- the handle has a destination, and this holds of it
 abbrev pub TellsDestination : Option Content → (PostingDestination → Type 0) → Type 0
-TellsDestination (Some (Destination node)) P = P node
+TellsDestination (Some (Destination traced)) P = P traced.node
 TellsDestination content P = ⊥
 
--- the handle had a destination and has one, and this holds of the two
-abbrev pub HasDestinations : Option Content → Option Content → (PostingDestination → PostingDestination → Type 0) → Type 0
-HasDestinations old new P = TellsDestination old (λ before. TellsDestination new (P before))
+-- the handle has a destination with its trace, and this holds of them
+abbrev pub OfDestination : Option Content → (Traced PostingDestination → Type 0) → Type 0
+OfDestination (Some (Destination traced)) P = P traced
+OfDestination content P = ⊥
 
--- the call is the destination's own, and these are the numbers of its effect
-pub record DestinationMakes (step : DestinationStep) (old : PostingDestination) (numbers : EffectNumbers) (new : PostingDestination) : Type 0 where
+-- the handle had a destination and has one, and this holds of the two with their traces
+abbrev pub HasDestinations : Option Content → Option Content → (Traced PostingDestination → Traced PostingDestination → Type 0) → Type 0
+HasDestinations old new P = OfDestination old (λ before. OfDestination new (P before))
+
+-- the call is the destination's own, these are the numbers of its effect, and a trace has its line
+pub record DestinationMakes (step : DestinationStep) (old : Traced PostingDestination) (numbers : EffectNumbers) (new : Traced PostingDestination) : Type 0 where
   pub effect : Effect
-  pub made : destination.answer step old ≡ acted effect new
+  pub made : destination.answer step old.node ≡ acted effect new.node
   pub numbers_are : numbers ≡ effect_numbers effect
+  pub line : new.trace ≡ and_line old.trace (destination_step step) effect
 
 -- the destination refuses the call, and this is the status of its refusal
 pub record DestinationRefuses (step : DestinationStep) (old : PostingDestination) (status : ℕ) : Type 0 where
@@ -124,17 +139,36 @@ pub record DestinationRefuses (step : DestinationStep) (old : PostingDestination
   pub refused : IsRefusedFor (destination.answer step old) refusal
   pub status_is : status ≡ refusal_status refusal
 
--- the bytes are a frame that the destination takes, and these are the numbers of its effect
-pub record DestinationTakes (bytes : List ℕ) (old : PostingDestination) (numbers : EffectNumbers) (new : PostingDestination) : Type 0 where
+-- the destination takes what the bytes say, these are the numbers of its effect, and a trace has the line of that delivery
+pub record DestinationTakes (bytes : List ℕ) (old : Traced PostingDestination) (numbers : EffectNumbers) (new : Traced PostingDestination) : Type 0 where
   pub effect : Effect
-  pub taken : destination.IsTaken bytes old effect new
+  pub taken : destination.IsTaken bytes old.node effect new.node
   pub numbers_are : numbers ≡ effect_numbers effect
+  pub line : new.trace ≡ and_line old.trace (Step.Deliver whole_frame) effect
 
--- the same on the urgent wire
-pub record DestinationTakesUrgently (bytes : List ℕ) (old : PostingDestination) (numbers : EffectNumbers) (new : PostingDestination) : Type 0 where
+-- the destination does not take the bytes, and this is the status of the reason
+pub record DestinationTakesNot (bytes : List ℕ) (old : PostingDestination) (status : ℕ) : Type 0 where
+  pub fault : FrameFault
+  pub refused : destination.MayNotTake bytes old fault
+  pub status_is : status ≡ fault_status fault
+
+-- a destination after a call that took nothing: as it was, or with the first pages of a Run, and the same trace
+pub record DestinationIsLeft (bytes : List ℕ) (old new : Traced PostingDestination) : Type 0 where
+  pub left : destination.IsLeft bytes old.node new.node
+  pub trace_is : new.trace ≡ old.trace
+
+-- the destination takes the frame of the urgent wire that the bytes say
+pub record DestinationTakesUrgently (bytes : List ℕ) (old : Traced PostingDestination) (numbers : EffectNumbers) (new : Traced PostingDestination) : Type 0 where
   pub effect : Effect
-  pub taken : destination.IsTakenUrgently bytes old effect new
+  pub taken : destination.IsTakenUrgently bytes old.node effect new.node
   pub numbers_are : numbers ≡ effect_numbers effect
+  pub line : new.trace ≡ and_line old.trace (Step.DeliverUrgent whole_frame) effect
+
+-- it does not, and this is the status of the reason
+pub record DestinationTakesNotUrgently (bytes : List ℕ) (old : PostingDestination) (status : ℕ) : Type 0 where
+  pub fault : FrameFault
+  pub refused : destination.MayNotTakeUrgently bytes old fault
+  pub status_is : status ≡ fault_status fault
 
 -- the number of a phase
 abbrev pub destination_phase : DestPhase → ℕ
@@ -166,18 +200,18 @@ destination_counts posting =
 
 -- the handle has no node
 abbrev pub HasNoNode : Option Content → Type 0
-HasNoNode (Some (Source node)) = ⊥
-HasNoNode (Some (Destination node)) = ⊥
+HasNoNode (Some (Source traced)) = ⊥
+HasNoNode (Some (Destination traced)) = ⊥
 HasNoNode content = Unit {0}
 
 -- the handle has a node, and this holds of the frames that wait in it
 abbrev pub TellsWire : Option Content → (Wire → Type 0) → Type 0
-TellsWire (Some (Source node)) P = P node.wire
-TellsWire (Some (Destination node)) P = P node.wire
+TellsWire (Some (Source traced)) P = P traced.node.wire
+TellsWire (Some (Destination traced)) P = P traced.node.wire
 TellsWire content P = ⊥
 
 -- the handle with a node in which no frame waits
 abbrev pub drained : Option Content → Option Content
-drained (Some (Source node)) = Some (Source (record node { wire = empty_wire }))
-drained (Some (Destination node)) = Some (Destination (record node { wire = empty_wire }))
+drained (Some (Source traced)) = Some (Source (record traced { node = record traced.node { wire = empty_wire } }))
+drained (Some (Destination traced)) = Some (Destination (record traced { node = record traced.node { wire = empty_wire } }))
 drained content = content

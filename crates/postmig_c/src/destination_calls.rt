@@ -5,7 +5,7 @@ ghost use Rattle.std.specs.declared.option.Option.TheVariants.{None as Nothing, 
 ghost use Rattle.mig_model.specs.Owed.{home};
 ghost use Rattle.nodes.specs.declared.fault.FrameFault.{FrameFault};
 ghost use Rattle.postmig_c.specs.Refusals.{fault_status};
-ghost use Rattle.postmig_c.specs.NodeCalls.{DestinationTakes, DestinationTakesUrgently, HasDestinations, HasNoDestination, TellsDestination, destination_counts, destination_phase};
+ghost use Rattle.postmig_c.specs.NodeCalls.{DestinationIsLeft, DestinationTakes, DestinationTakesNot, DestinationTakesNotUrgently, DestinationTakesUrgently, HasDestinations, HasNoDestination, TellsDestination, destination_counts, destination_phase};
 
 use crate::effects::EffectNumbers;
 use crate::handle::{Content, Handle};
@@ -13,7 +13,7 @@ use crate::status::{DONE, NO_PAGE, NOT_OPEN};
 use crate::told::told_of_frame;
 use mig_base::PageNo;
 use mig_base::phase::DestPhase;
-use nodes::DestinationNode;
+use nodes::{DestinationNode, TracedDestination};
 use std::alloc::Global;
 
 /// How far a destination has come, in numbers.
@@ -44,9 +44,11 @@ pub struct DestinationCounts {
 }
 
 /// Hands a destination the bytes of a frame, and answers a status.
-fn take_forward(node: &mut DestinationNode, bytes: &[u8], effect: &mut EffectNumbers) -> u32
+fn take_forward(node: &mut TracedDestination, bytes: &[u8], effect: &mut EffectNumbers) -> u32
     ensures made { result ≡ 0 → DestinationTakes bytes.now node.old effect.new node.new }
+    ensures refused { result ≢ 0 → DestinationTakesNot bytes.now node.old.node result }
     ensures kept { result ≢ 0 → result ≢ 4 → node.new ≡ node.old }
+    ensures left { result ≢ 0 → DestinationIsLeft bytes.now node.old node.new }
     ensures open { result ≢ 2 }
 {
     told_of_frame(node.take(bytes), effect)
@@ -63,8 +65,13 @@ pub extern "C" fn postmig_destination_take(
     ensures made { result ≡ 0 →
         HasDestinations handle.old.content handle.new.content (λ old new.
         DestinationTakes bytes.now old effect.new new) }
+    ensures refused { result ≢ 0 → result ≢ 2 →
+        TellsDestination handle.old.content (λ old. DestinationTakesNot bytes.now old result) }
     ensures not_open { result ≡ 2 → HasNoDestination handle.old.content }
     ensures kept { result ≢ 0 → result ≢ 4 → handle.new.content ≡ handle.old.content }
+    ensures left { result ≡ 4 →
+        HasDestinations handle.old.content handle.new.content (λ old new.
+        DestinationIsLeft bytes.now old new) }
 {
     let Some(mut content) = handle.take(alloc) else {
         return NOT_OPEN;
@@ -78,8 +85,9 @@ pub extern "C" fn postmig_destination_take(
 }
 
 /// Hands a destination the bytes of a frame of the urgent wire, and answers a status.
-fn take_aside(node: &mut DestinationNode, bytes: &[u8], effect: &mut EffectNumbers) -> u32
+fn take_aside(node: &mut TracedDestination, bytes: &[u8], effect: &mut EffectNumbers) -> u32
     ensures made { result ≡ 0 → DestinationTakesUrgently bytes.now node.old effect.new node.new }
+    ensures refused { result ≢ 0 → DestinationTakesNotUrgently bytes.now node.old.node result }
     ensures kept { result ≢ 0 → node.new ≡ node.old }
     ensures open { result ≢ 2 }
 {
@@ -97,6 +105,9 @@ pub extern "C" fn postmig_destination_take_urgent(
     ensures made { result ≡ 0 →
         HasDestinations handle.old.content handle.new.content (λ old new.
         DestinationTakesUrgently bytes.now old effect.new new) }
+    ensures refused { result ≢ 0 → result ≢ 2 →
+        TellsDestination handle.old.content (λ old.
+        DestinationTakesNotUrgently bytes.now old result) }
     ensures not_open { result ≡ 2 → HasNoDestination handle.old.content }
     ensures kept { result ≢ 0 → handle.new.content ≡ handle.old.content }
 {
@@ -146,7 +157,7 @@ pub extern "C" fn postmig_destination_home(
         return NOT_OPEN;
     };
     let status = match &*content {
-        Content::Destination(node) => show_home(node, origin, page),
+        Content::Destination(node) => show_home(node.node(), origin, page),
         _ => NOT_OPEN,
     };
     *handle = Handle::of(content);
@@ -205,7 +216,7 @@ pub extern "C" fn postmig_destination_counts(
     };
     let status = match &*content {
         Content::Destination(node) => {
-            *counts = counts_of(node);
+            *counts = counts_of(node.node());
             DONE
         }
         _ => NOT_OPEN,

@@ -16,7 +16,7 @@ use crate::handle::{Content, Handle};
 use crate::status::{NO_CPU, NO_MEMORY, NOT_A_COMMAND, NOT_OPEN};
 use crate::told::told;
 use crate::worlds::open;
-use nodes::{DestinationNode, DestinationStep};
+use nodes::{DestinationNode, DestinationStep, TracedDestination};
 use std::alloc::Global;
 
 /// Puts a new destination of `cpus` processors into a handle. What it had is freed. It keeps that if the answer is not 0.
@@ -24,7 +24,12 @@ use std::alloc::Global;
 pub extern "C" fn postmig_destination_new(alloc: Global, cpus: u8, handle: &mut Handle) -> u32
     ensures ok { result ≡ 0 →
         handle.new.content ≡
-        Just (Destination (record { node = first_destination cpus; wire = empty_wire })) }
+        Just
+        (Destination
+        (record {
+          node = record { node = first_destination cpus; wire = empty_wire };
+          trace = Nothing;
+        })) }
     ensures refused { result ≢ 0 → handle.new.content ≡ handle.old.content }
 {
     if cpus < 1 || cpus > 16 {
@@ -33,13 +38,17 @@ pub extern "C" fn postmig_destination_new(alloc: Global, cpus: u8, handle: &mut 
     let Ok(node) = DestinationNode::new(alloc, cpus) else {
         return NO_MEMORY;
     };
-    open(alloc, Content::Destination(node), handle)
+    open(
+        alloc,
+        Content::Destination(TracedDestination::new(alloc, node)),
+        handle,
+    )
 }
 
 /// Makes a step of a destination, and answers a status.
-fn do_step(node: &mut DestinationNode, step: DestinationStep, effect: &mut EffectNumbers) -> u32
+fn do_step(node: &mut TracedDestination, step: DestinationStep, effect: &mut EffectNumbers) -> u32
     ensures made { result ≡ 0 → DestinationMakes step node.old effect.new node.new }
-    ensures refused { 64 < result → DestinationRefuses step node.old result }
+    ensures refused { 64 < result → DestinationRefuses step node.old.node result }
     ensures kept { result ≢ 0 → node.new ≡ node.old }
     ensures open { result ≢ 2 }
     ensures range { (result ≡ 0) ⊎ (result ≡ 4) ⊎ (64 < result) }

@@ -1,7 +1,7 @@
 //! The effect of a step, in numbers.
 
 ghost use Rattle.std.specs.Prelude.{◌≡◌};
-ghost use Rattle.postmig_c.specs.Effects.{addr_in, count_in, cpu_in, effect_numbers, errno_number, event_addr, event_length, event_number, event_other, kind_of, length_in, number_in, other_in, reply_in, reply_number, reply_value, side_number, state_number, value_in};
+ghost use Rattle.postmig_c.specs.Effects.{effect_numbers, errno_number, event_addr, event_length, event_number, event_other, of_kind, reply_number, reply_value, side_number, state_number};
 
 use mig_base::effect::Effect;
 use mig_base::phase::Received;
@@ -139,161 +139,97 @@ fn side_number(side: Side) -> u32
     }
 }
 
-/// The kind of an effect.
-fn kind_of(effect: Effect) -> u32
-    ensures { result ≡ kind_of effect }
+/// The numbers of a kind of effect that has no others.
+#[inline]
+fn of_kind(kind: u32) -> EffectNumbers
+    ensures { result ≡ of_kind kind }
 {
-    match effect {
-        Effect::Answered { .. } => 1,
-        Effect::Asleep { .. } => 2,
-        Effect::InCall { .. } => 3,
-        Effect::Started { .. } => 4,
-        Effect::RoundMade { .. } => 5,
-        Effect::SentPage { .. } => 6,
-        Effect::SentZero { .. } => 7,
-        Effect::SentRun { .. } => 8,
-        Effect::ReadFault { .. } => 9,
-        Effect::ReadEvent { .. } => 10,
-        Effect::ReadLast { .. } => 11,
-        Effect::Unprotected { .. } => 12,
-        Effect::Zeroed { .. } => 13,
-        Effect::Woke { .. } => 14,
-        Effect::Forgot { .. } => 15,
-        Effect::Requested { .. } => 16,
-        Effect::Switched { .. } => 17,
-        Effect::Moved { .. } => 18,
-        Effect::TookAdvise => 19,
-        Effect::TookPage { .. } => 20,
-        Effect::TookZero { .. } => 21,
-        Effect::TookRun { .. } => 22,
-        Effect::TookDiscard { .. } => 23,
-        Effect::TookPackage { .. } => 24,
-        Effect::TookEnd => 25,
-        Effect::TookResume => 26,
-        Effect::TookRequest { .. } => 27,
-        Effect::TookRecv { .. } => 28,
-        Effect::TookDone => 29,
-        Effect::Installed { .. } => 30,
-        Effect::Dropped { .. } => 31,
-        Effect::Asked { .. } => 32,
-        Effect::EndSent => 33,
-        Effect::Broken => 34,
-        Effect::Noticed { .. } => 35,
-        Effect::Resumed { .. } => 36,
+    EffectNumbers {
+        kind,
+        cpu: 0,
+        number: 0,
+        count: 0,
+        addr: 0,
+        other: 0,
+        length: 0,
+        value: 0,
+        reply: 0,
     }
 }
 
-/// The processor of an effect.
-fn cpu_in(effect: Effect) -> u32
-    ensures { result ≡ cpu_in effect }
+/// The numbers of an effect on a page.
+#[inline]
+fn at_page(kind: u32, addr: u64) -> EffectNumbers
+    ensures { result ≡ record (of_kind kind) { addr = addr } }
 {
-    match effect {
-        Effect::Answered { cpu, .. }
-        | Effect::Asleep { cpu }
-        | Effect::InCall { cpu, .. }
-        | Effect::ReadLast { cpu, .. } => u32::from(cpu),
-        _ => 0,
+    EffectNumbers {
+        addr,
+        ..of_kind(kind)
     }
 }
 
-/// The number of an effect: an epoch, a round, a state, a side, or that of an event.
-fn number_in(effect: Effect) -> u32
-    ensures { result ≡ number_in effect }
+/// The numbers of an effect with a number.
+#[inline]
+fn numbered(kind: u32, number: u32) -> EffectNumbers
+    ensures { result ≡ record (of_kind kind) { number = number } }
 {
-    match effect {
-        Effect::Started { epoch } | Effect::Resumed { epoch } => epoch,
-        Effect::RoundMade { round, .. } => round,
-        Effect::ReadFault { wp: true, .. } => 1,
-        Effect::ReadEvent { event } | Effect::ReadLast { event, .. } => event_number(event),
-        Effect::Switched { discard, .. } => discard,
-        Effect::TookRecv { state, .. } => state_number(state),
-        Effect::Noticed { side } => side_number(side),
-        _ => 0,
+    EffectNumbers {
+        number,
+        ..of_kind(kind)
     }
 }
 
-/// How many pages or messages.
-fn count_in(effect: Effect) -> u32
-    ensures { result ≡ count_in effect }
+/// The numbers of an effect with a count.
+#[inline]
+fn counted(kind: u32, count: u32) -> EffectNumbers
+    ensures { result ≡ record (of_kind kind) { count = count } }
 {
-    match effect {
-        Effect::InCall { messages, .. } => u32::from(messages),
-        Effect::RoundMade { todo, .. } => todo,
-        Effect::SentRun { pages, .. }
-        | Effect::TookRun { pages, .. }
-        | Effect::TookDiscard { pages }
-        | Effect::TookRecv { pages, .. } => pages,
-        Effect::Switched { owed, .. } | Effect::TookPackage { owed } => owed,
-        _ => 0,
+    EffectNumbers {
+        count,
+        ..of_kind(kind)
     }
 }
 
-/// The address of the page, or the first of an event.
-fn addr_in(effect: Effect) -> u64
-    ensures { result ≡ addr_in effect }
+/// The numbers of an effect on a processor.
+#[inline]
+fn in_cpu(kind: u32, cpu: u8) -> EffectNumbers
+    ensures { result ≡ record (of_kind kind) { cpu = cpu } }
 {
-    match effect {
-        Effect::SentPage { addr }
-        | Effect::SentZero { addr }
-        | Effect::SentRun { addr, .. }
-        | Effect::ReadFault { addr, .. }
-        | Effect::Unprotected { addr }
-        | Effect::Zeroed { addr }
-        | Effect::Woke { addr }
-        | Effect::Forgot { addr }
-        | Effect::Requested { addr, .. }
-        | Effect::TookPage { addr }
-        | Effect::TookZero { addr }
-        | Effect::TookRun { addr, .. }
-        | Effect::TookRequest { addr }
-        | Effect::Installed { addr, .. }
-        | Effect::Asked { addr } => addr,
-        Effect::ReadEvent { event } | Effect::ReadLast { event, .. } => event_addr(event),
-        _ => 0,
+    EffectNumbers {
+        cpu: u32::from(cpu),
+        ..of_kind(kind)
     }
 }
 
-/// The address of the page at the source, or the other address of an event.
-fn other_in(effect: Effect) -> u64
-    ensures { result ≡ other_in effect }
+/// The numbers of an event that was read.
+#[inline]
+fn of_event(kind: u32, event: Message) -> EffectNumbers
+    ensures { result ≡
+        record (of_kind kind) {
+          number = event_number event;
+          addr = event_addr event;
+          other = event_other event;
+          length = event_length event;
+        } }
 {
-    match effect {
-        Effect::Requested { origin, .. }
-        | Effect::Installed { origin, .. }
-        | Effect::Dropped { origin } => origin,
-        Effect::ReadEvent { event } | Effect::ReadLast { event, .. } => event_other(event),
-        _ => 0,
+    EffectNumbers {
+        number: event_number(event),
+        addr: event_addr(event),
+        other: event_other(event),
+        length: event_length(event),
+        ..of_kind(kind)
     }
 }
 
-/// A length in bytes.
-fn length_in(effect: Effect) -> u64
-    ensures { result ≡ length_in effect }
+/// The numbers with those of a reply.
+#[inline]
+fn with_reply(numbers: EffectNumbers, reply: Reply) -> EffectNumbers
+    ensures { result ≡ record numbers { value = reply_value reply; reply = reply_number reply } }
 {
-    match effect {
-        Effect::ReadEvent { event } | Effect::ReadLast { event, .. } => event_length(event),
-        Effect::Moved { bytes } => bytes,
-        _ => 0,
-    }
-}
-
-/// The reply to the command.
-fn reply_in(effect: Effect) -> u32
-    ensures { result ≡ reply_in effect }
-{
-    match effect {
-        Effect::Answered { reply, .. } | Effect::ReadLast { reply, .. } => reply_number(reply),
-        _ => 0,
-    }
-}
-
-/// The value of the reply.
-fn value_in(effect: Effect) -> u64
-    ensures { result ≡ value_in effect }
-{
-    match effect {
-        Effect::Answered { reply, .. } | Effect::ReadLast { reply, .. } => reply_value(reply),
-        _ => 0,
+    EffectNumbers {
+        value: reply_value(reply),
+        reply: reply_number(reply),
+        ..numbers
     }
 }
 
@@ -301,15 +237,78 @@ fn value_in(effect: Effect) -> u64
 pub fn effect_numbers(effect: Effect) -> EffectNumbers
     ensures { result ≡ effect_numbers effect }
 {
-    EffectNumbers {
-        kind: kind_of(effect),
-        cpu: cpu_in(effect),
-        number: number_in(effect),
-        count: count_in(effect),
-        addr: addr_in(effect),
-        other: other_in(effect),
-        length: length_in(effect),
-        value: value_in(effect),
-        reply: reply_in(effect),
+    match effect {
+        Effect::Answered { cpu, reply } => with_reply(in_cpu(1, cpu), reply),
+        Effect::Asleep { cpu } => in_cpu(2, cpu),
+        Effect::InCall { cpu, messages } => EffectNumbers {
+            count: u32::from(messages),
+            ..in_cpu(3, cpu)
+        },
+        Effect::Started { epoch } => numbered(4, epoch),
+        Effect::RoundMade { round, todo } => EffectNumbers {
+            number: round,
+            ..counted(5, todo)
+        },
+        Effect::SentPage { addr } => at_page(6, addr),
+        Effect::SentZero { addr } => at_page(7, addr),
+        Effect::SentRun { addr, pages } => EffectNumbers {
+            count: pages,
+            ..at_page(8, addr)
+        },
+        Effect::ReadFault { addr, wp } => EffectNumbers {
+            number: u32::from(wp),
+            ..at_page(9, addr)
+        },
+        Effect::ReadEvent { event } => of_event(10, event),
+        Effect::ReadLast { event, cpu, reply } => EffectNumbers {
+            cpu: u32::from(cpu),
+            ..with_reply(of_event(11, event), reply)
+        },
+        Effect::Unprotected { addr } => at_page(12, addr),
+        Effect::Zeroed { addr } => at_page(13, addr),
+        Effect::Woke { addr } => at_page(14, addr),
+        Effect::Forgot { addr } => at_page(15, addr),
+        Effect::Requested { origin, addr } => EffectNumbers {
+            other: origin,
+            ..at_page(16, addr)
+        },
+        Effect::Switched { discard, owed } => EffectNumbers {
+            number: discard,
+            ..counted(17, owed)
+        },
+        Effect::Moved { bytes } => EffectNumbers {
+            length: bytes,
+            ..of_kind(18)
+        },
+        Effect::TookAdvise => of_kind(19),
+        Effect::TookPage { addr } => at_page(20, addr),
+        Effect::TookZero { addr } => at_page(21, addr),
+        Effect::TookRun { addr, pages } => EffectNumbers {
+            count: pages,
+            ..at_page(22, addr)
+        },
+        Effect::TookDiscard { pages } => counted(23, pages),
+        Effect::TookPackage { owed } => counted(24, owed),
+        Effect::TookEnd => of_kind(25),
+        Effect::TookResume => of_kind(26),
+        Effect::TookRequest { addr } => at_page(27, addr),
+        Effect::TookRecv { state, pages } => EffectNumbers {
+            number: state_number(state),
+            ..counted(28, pages)
+        },
+        Effect::TookDone => of_kind(29),
+        Effect::Installed { addr, origin } => EffectNumbers {
+            other: origin,
+            ..at_page(30, addr)
+        },
+        Effect::Dropped { origin } => EffectNumbers {
+            other: origin,
+            ..of_kind(31)
+        },
+        Effect::Asked { addr } => at_page(32, addr),
+        Effect::EndSent => of_kind(33),
+        Effect::Broken => of_kind(34),
+        Effect::Noticed { side } => numbered(35, side_number(side)),
+        Effect::Resumed { epoch } => numbered(36, epoch),
     }
 }

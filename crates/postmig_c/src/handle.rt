@@ -11,7 +11,7 @@ ghost use Rattle.postmig_c.specs.Held.{held, coded_content};
 use crate::queue::FrameQueue;
 use crate::unboxed::Unboxed;
 use engine::LineRunner;
-use nodes::{DestinationNode, SourceNode};
+use nodes::{TracedDestination, TracedSource};
 use std::alloc::Global;
 use std::marker::Model;
 use std::mem::replace;
@@ -24,10 +24,10 @@ pub enum Content {
     World(LineRunner),
     /// A decoder, and the frames that wait.
     Frames(FrameQueue),
-    /// A source of its own.
-    Source(SourceNode),
-    /// A destination of its own.
-    Destination(DestinationNode),
+    /// A source of its own, with its trace.
+    Source(TracedSource),
+    /// A destination of its own, with its trace.
+    Destination(TracedDestination),
 }
 
 /// What C keeps of a content: null, or the address of the content. It may not be shared, so no call takes it by `&`.

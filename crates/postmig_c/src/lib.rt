@@ -28,5 +28,6 @@ mod source_calls;
 mod source_steps;
 mod status;
 mod told;
+mod traces;
 mod unboxed;
 mod worlds;

@@ -52,7 +52,7 @@ pub extern "C" fn postmig_source_next_run(
         return NOT_OPEN;
     };
     let status = match &*content {
-        Content::Source(node) => show_run(node, most, first, count),
+        Content::Source(node) => show_run(node.node(), most, first, count),
         _ => NOT_OPEN,
     };
     *handle = Handle::of(content);
@@ -84,7 +84,7 @@ pub extern "C" fn postmig_source_next_act(
         return NOT_OPEN;
     };
     let status = match &*content {
-        Content::Source(node) => told(source_act(node), effect),
+        Content::Source(node) => told(source_act(node.node()), effect),
         _ => NOT_OPEN,
     };
     *handle = Handle::of(content);
@@ -135,7 +135,7 @@ pub extern "C" fn postmig_source_next_remaining(
         return NOT_OPEN;
     };
     let status = match &*content {
-        Content::Source(node) => show_remaining(node, from, page),
+        Content::Source(node) => show_remaining(node.node(), from, page),
         _ => NOT_OPEN,
     };
     *handle = Handle::of(content);
@@ -167,7 +167,7 @@ pub extern "C" fn postmig_destination_next_act(
         return NOT_OPEN;
     };
     let status = match &*content {
-        Content::Destination(node) => told(destination_act(node), effect),
+        Content::Destination(node) => told(destination_act(node.node()), effect),
         _ => NOT_OPEN,
     };
     *handle = Handle::of(content);
@@ -206,7 +206,7 @@ pub extern "C" fn postmig_destination_next_install(
         return NOT_OPEN;
     };
     let status = match &*content {
-        Content::Destination(node) => told(destination_install(node), effect),
+        Content::Destination(node) => told(destination_install(node.node()), effect),
         _ => NOT_OPEN,
     };
     *handle = Handle::of(content);

@@ -13,7 +13,7 @@ use crate::told::told_of_frame;
 use mig_base::PageNo;
 use mig_base::phase::SourcePhase;
 use mig_base::schedule::Ticket;
-use nodes::SourceNode;
+use nodes::{SourceNode, TracedSource};
 use std::alloc::Global;
 
 /// How far a source has come, in numbers.
@@ -43,9 +43,9 @@ pub struct SourceCounts {
 }
 
 /// Hands a source the bytes of a frame that came back, and answers a status.
-fn take_back(node: &mut SourceNode, bytes: &[u8], effect: &mut EffectNumbers) -> u32
+fn take_back(node: &mut TracedSource, bytes: &[u8], effect: &mut EffectNumbers) -> u32
     ensures made { result ≡ 0 → SourceTakes bytes.now node.old effect.new node.new }
-    ensures refused { result ≢ 0 → SourceTakesNot bytes.now node.old result }
+    ensures refused { result ≢ 0 → SourceTakesNot bytes.now node.old.node result }
     ensures kept { result ≢ 0 → node.new ≡ node.old }
     ensures open { result ≢ 2 }
 {
@@ -107,7 +107,7 @@ pub extern "C" fn postmig_source_check_push(
         return NOT_OPEN;
     };
     let status = match &*content {
-        Content::Source(node) => check_push(node, Ticket { epoch, page }),
+        Content::Source(node) => check_push(node.node(), Ticket { epoch, page }),
         _ => NOT_OPEN,
     };
     *handle = Handle::of(content);
@@ -165,7 +165,7 @@ pub extern "C" fn postmig_source_counts(
     };
     let status = match &*content {
         Content::Source(node) => {
-            *counts = counts_of(node);
+            *counts = counts_of(node.node());
             DONE
         }
         _ => NOT_OPEN,

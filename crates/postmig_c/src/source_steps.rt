@@ -18,7 +18,7 @@ use crate::told::told;
 use crate::worlds::open;
 use mig_base::PageNo;
 use mig_base::schedule::Ticket;
-use nodes::{SourceNode, SourceStep};
+use nodes::{SourceNode, SourceStep, TracedSource};
 use std::alloc::Global;
 
 /// Puts a new source of `cpus` processors into a handle, with these counts as the epoch and the number of rounds. What it had is freed. It
@@ -33,7 +33,12 @@ pub extern "C" fn postmig_source_new(
 ) -> u32
     ensures ok { result ≡ 0 →
         handle.new.content ≡
-        Just (Source (record { node = first_source cpus epoch rounds; wire = empty_wire })) }
+        Just
+        (Source
+        (record {
+          node = record { node = first_source cpus epoch rounds; wire = empty_wire };
+          trace = Nothing;
+        })) }
     ensures refused { result ≢ 0 → handle.new.content ≡ handle.old.content }
 {
     if cpus < 1 || cpus > 16 {
@@ -42,13 +47,17 @@ pub extern "C" fn postmig_source_new(
     let Ok(node) = SourceNode::new(alloc, cpus, epoch, rounds) else {
         return NO_MEMORY;
     };
-    open(alloc, Content::Source(node), handle)
+    open(
+        alloc,
+        Content::Source(TracedSource::new(alloc, node)),
+        handle,
+    )
 }
 
 /// Makes a step of a source, and answers a status.
-fn do_step(node: &mut SourceNode, step: SourceStep, effect: &mut EffectNumbers) -> u32
+fn do_step(node: &mut TracedSource, step: SourceStep, effect: &mut EffectNumbers) -> u32
     ensures made { result ≡ 0 → SourceMakes step node.old effect.new node.new }
-    ensures refused { 64 < result → SourceRefuses step node.old result }
+    ensures refused { 64 < result → SourceRefuses step node.old.node result }
     ensures kept { result ≢ 0 → node.new ≡ node.old }
     ensures open { result ≢ 2 }
     ensures range { (result ≡ 0) ⊎ (result ≡ 4) ⊎ (64 < result) }

@@ -41,3 +41,6 @@ pub const NOT_A_COMMAND: u32 = 12;
 
 /// There is no such page.
 pub const NO_PAGE: u32 = 13;
+
+/// The node has no trace.
+pub const NO_TRACE: u32 = 14;

@@ -8,7 +8,7 @@ ghost use Rattle.mig_model.specs.Effects.{frame_effect};
 ghost use Rattle.mig_model.specs.Wire as machine;
 ghost use Rattle.page_stream.specs.Frames.{frame_of};
 ghost use Rattle.nodes.specs.Faults.{taking_fault, urgent_taking_fault};
-ghost use Rattle.nodes.specs.DestinationCalls.{IsTaken, IsTakenUrgently, MayNotTake, MayNotTakeUrgently, taken, urgently_taken, zeros_taken};
+ghost use Rattle.nodes.specs.DestinationCalls.{Handed, IsAnswer, IsLeft, IsTaken, IsTakenUrgently, MayNotTake, MayNotTakeUrgently, Says, after, effect_said, fault_of, taken, urgent_after, urgent_fault_of, urgently_taken, zeros_taken};
 ghost use Rattle.nodes.specs.declared.fault.FrameFault as faults;
 
 use crate::destination::DestinationNode;
@@ -30,11 +30,26 @@ impl DestinationNode {
     pub fn take(&mut self, bytes: &[u8]) -> Result<Effect, FrameFault>
         ensures taken { IfOk result (λ effect. IsTaken bytes.now self.old effect self.new) }
         ensures refused { IfErr result (λ fault. MayNotTake bytes.now self.old fault) }
+        ensures answer { (handed : Handed) → Says bytes.now handed →
+            IsAnswer (fault_of self.old.node handed) (effect_said handed) (after self.old handed)
+            result self.new }
         ensures err { IfErr result (λ fault. fault ≢ faults.FrameFault.NoMemory →
             self.new ≡ self.old) }
+        ensures left { OnErr result (IsLeft bytes.now self.old self.new) }
+    {
+        self.take_what_is_said(bytes)
+    }
+
+    /// Takes what the bytes say.
+    fn take_what_is_said(&mut self, bytes: &[u8]) -> Result<Effect, FrameFault>
+        ensures taken { IfOk result (λ effect. IsTaken bytes.now self.old effect self.new) }
+        ensures refused { IfErr result (λ fault. MayNotTake bytes.now self.old fault) }
+        ensures err { IfErr result (λ fault. fault ≢ faults.FrameFault.NoMemory →
+            self.new ≡ self.old) }
+        ensures left { OnErr result (IsLeft bytes.now self.old self.new) }
     {
         if let Some((epoch, page)) = page_of(bytes) {
-            return self.take_frame(epoch, Frame::Zero { page });
+            return self.take_zero(epoch, page);
         }
         if let Some(run) = run_of(bytes) {
             return self.take_run(run.epoch, run.first, run.count);
@@ -51,6 +66,18 @@ impl DestinationNode {
     /// Takes a frame of the urgent wire, by its text, or the first 16 bytes of a Page. `NotAFrame` as above; then the refusals of
     /// [`Destination::take_urgent`](fault_handler::Destination::take_urgent). A refusal changes nothing.
     pub fn take_urgent(&mut self, bytes: &[u8]) -> Result<Effect, FrameFault>
+        ensures taken { IfOk result (λ effect. IsTakenUrgently bytes.now self.old effect self.new) }
+        ensures refused { IfErr result (λ fault. MayNotTakeUrgently bytes.now self.old fault) }
+        ensures answer { (handed : Handed) → Says bytes.now handed →
+            IsAnswer (urgent_fault_of self.old.node handed) (effect_said handed)
+            (urgent_after self.old handed) result self.new }
+        ensures err { OnErr result (self.new ≡ self.old) }
+    {
+        self.take_aside(bytes)
+    }
+
+    /// Takes the frame of the urgent wire that the bytes say.
+    fn take_aside(&mut self, bytes: &[u8]) -> Result<Effect, FrameFault>
         ensures taken { IfOk result (λ effect. IsTakenUrgently bytes.now self.old effect self.new) }
         ensures refused { IfErr result (λ fault. MayNotTakeUrgently bytes.now self.old fault) }
         ensures err { OnErr result (self.new ≡ self.old) }
@@ -111,6 +138,26 @@ impl DestinationNode {
         }
     }
 
+    /// Takes a page as one of zeros, to which nothing is answered.
+    fn take_zero(&mut self, epoch: u32, page: PageNo) -> Result<Effect, FrameFault>
+        requires { IsPage page }
+        ensures accepted { OnOk result
+            (taking_fault self.old.node epoch (machine.Frame.Zero page) ≡ None) }
+        ensures effect { IfOk result (λ effect. effect ≡ frame_effect (machine.Frame.Zero page)) }
+        ensures taken { OnOk result (self.new ≡ taken self.old epoch (machine.Frame.Zero page)) }
+        ensures refused { IfErr result (λ fault.
+            (fault ≡ faults.FrameFault.NoMemory) ⊎
+            (taking_fault self.old.node epoch (machine.Frame.Zero page) ≡ Some fault)) }
+        ensures err { OnErr result (self.new ≡ self.old) }
+    {
+        match self.node.take(epoch, Frame::Zero { page }) {
+            Ok(_none) => Ok(Effect::TookZero {
+                addr: page_address(page),
+            }),
+            Err(fault) => Err(of_take(fault)),
+        }
+    }
+
     /// Takes the pages of a Run as pages of zeros, one after the other.
     fn take_run(&mut self, epoch: u32, first: PageNo, count: u32) -> Result<Effect, FrameFault>
         requires first { IsPage first }
@@ -124,6 +171,8 @@ impl DestinationNode {
             (taking_fault self.old.node epoch (machine.Frame.Run first []) ≡ Some fault)) }
         ensures err { IfErr result (λ fault. fault ≢ faults.FrameFault.NoMemory →
             self.new ≡ self.old) }
+        ensures left { OnErr result
+            ((kept : ℕ) × (kept ≤ count) × (self.new ≡ zeros_taken self.old epoch first kept)) }
     {
         let run = Frame::Run {
             first,

@@ -3,10 +3,10 @@ use Rattle.postmig_c.proofs.Statuses.{kept_unless, source_made, source_refused, 
 use Rattle.postmig_c.proofs.source_steps.do_step.Goals as goal
 
 pub returns-clause-made : goal.returns-clause-made
-returns-clause-made c zero = source_made c.args.step c.args.node.now c.step.new.self c.step.result c.told.result c.told.new.effect c.step.ensures.made c.told.ensures.made c.told.ensures.refused zero
+returns-clause-made c zero = source_made c.args.step c.args.node.now c.step.new.self c.step.result c.told.result c.told.new.effect c.step.ensures.made c.step.ensures.line c.told.ensures.made c.told.ensures.refused zero
 
 pub returns-clause-refused : goal.returns-clause-refused
-returns-clause-refused c high = source_refused c.args.step c.args.node.now c.step.result c.told.result c.told.new.effect c.step.ensures.refused c.told.ensures.made c.told.ensures.refused high
+returns-clause-refused c high = source_refused c.args.step c.args.node.now.node c.step.result c.told.result c.told.new.effect c.step.ensures.refused c.told.ensures.made c.told.ensures.refused high
 
 pub returns-clause-kept : goal.returns-clause-kept
 returns-clause-kept c other = kept_unless _ _ _ c.step.result c.told.result c.told.new.effect c.told.ensures.made c.step.ensures.err other

@@ -1,6 +1,6 @@
-use Rattle.mig_model.specs.Wire.{Frame}
-use Rattle.nodes.proofs.Taking.{not_taken_urgently}
+use Rattle.nodes.proofs.Taking.{is_urgent_answer}
 use Rattle.nodes.proofs.destination.DestinationNode.take_urgent.Goals as goal
 
-pub returns-in-Some-clause-refused : goal.returns-in-Some-clause-refused
-returns-in-Some-clause-refused c = not_taken_urgently c.args.bytes.now c.args.self.now c.in-Some.epoch (Frame.Zero c.in-Some.page) c.take_urgent_frame.result c.take_urgent_frame.ensures.refused
+pub returns-clause-answer : goal.returns-clause-answer
+returns-clause-answer c =
+    is_urgent_answer c.args.bytes.now c.args.self.now c.take_aside.result c.take_aside.new.self c.take_aside.ensures.taken c.take_aside.ensures.refused
