@@ -6,8 +6,9 @@
 #include <stdlib.h>
 #include <string.h>
 
+#include <postmig_node.h>
+
 #include "live.h"
-#include "node_trace.h"
 
 #define CHUNK_BYTES (256u << 10)
 

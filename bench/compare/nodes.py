@@ -28,16 +28,13 @@ from program import run, written
 # Bytes of a pipe; of a user without privileges the kernel allows this.
 PIPE = 1 << 20
 WORLDS = ("break", "progress")
-LIVE = TOP / "live"
 
 
 def build(folder):
     """The player, with both sanitizers."""
     made = pathlib.Path(folder) / "play"
-    # (node_trace.c, where the library has no traces of its own)
-    words = written(["make", "-s", "-C", LIVE, "--eval", "traces: ; @echo $(filter node_trace.c,$(SOURCES)) $(filter -D%,$(FLAGS)) $(WRAPS)", "traces"])
-    written(["cc", "-std=gnu11", "-g", "-O1", "-Wall", "-Wextra", "-Wconversion", "-Werror", "-fsanitize=address,undefined", "-fno-sanitize-recover=all", "-I", LIVE, "-I",
-             TOP / "crates/postmig_c/include", "-o", made, TOP / "bench/embed/play.c", *words.decode().split(), TOP / "dist/libpostmig.a"], folder=LIVE)
+    written(["cc", "-std=gnu11", "-g", "-O1", "-Wall", "-Wextra", "-Wconversion", "-Werror", "-fsanitize=address,undefined", "-fno-sanitize-recover=all",
+             "-I", TOP / "crates/postmig_c/include", "-o", made, TOP / "bench/embed/play.c", TOP / "dist/libpostmig.a"])
     return made
 
 

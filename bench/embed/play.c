@@ -9,7 +9,7 @@
 #include <string.h>
 #include <unistd.h>
 
-#include "node_trace.h"
+#include <postmig_node.h>
 
 enum { PAGE = 4096, MOST_WORDS = 12, ROOM = 8 << 20 };
 
