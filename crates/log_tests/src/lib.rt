@@ -1,4 +1,4 @@
-//! Tests of logs of userfaultfd calls: what their lines say (`uffd_log`).
+//! Tests of logs of userfaultfd calls: what their lines say (`uffd_log`), and what is found in them (`audit`).
 //!
 //! A test is a table of texts with what is wanted of them, and one loop plays it. Where memory is refused the call is made again, so a test
 //! passes whichever allocation is refused.
@@ -6,3 +6,5 @@
 
 #[cfg(test)]
 mod lines;
+#[cfg(test)]
+mod verdicts;

@@ -1,0 +1,141 @@
+//! Reading a log from a reader, and writing what was found to a writer.
+
+ghost use Rattle.std.specs.Prelude.{◌≡◌, ◌+◌, ℕ, List, [], length, Option, OnOk, IfOk, IfSome};
+ghost use Rattle.audit.specs.Verdicts.{Audits, HasVerdict, IsFinding};
+ghost use Rattle.audit.specs.Reading.{Gathered};
+
+use crate::fault::AuditFault;
+use crate::findings::{Finding, list_findings};
+use crate::input::{read_log, write_out};
+use crate::judging::{Judged, judge};
+use crate::log_reader::LogReader;
+use crate::split::first_line;
+use crate::summary::summary;
+use mig_base::NoMemory;
+use std::alloc::Global;
+use std::io::{Read, Write};
+
+/// The number of bytes from which the output is written.
+const PIECE: usize = 16_384;
+
+/// What is said of a log as a whole.
+#[derive(Clone, Copy, Debug, PartialEq, Eq)]
+pub enum Verdict {
+    /// Nothing was found.
+    Clean,
+    /// Something was found.
+    Found,
+    /// A line is wrong, and the log was not judged.
+    Wrong,
+    /// An answer is impossible.
+    Impossible,
+    /// A call cannot be judged, and nothing was found.
+    Undecided,
+}
+
+/// Reads a log and judges its calls. Of a log with wrong lines it writes `NAME:LINE: reason` for each of them. Else it writes
+/// `NAME:LINE: finding` for each finding, in the order of lines, and a summary, with `explains` a longer one.
+///
+/// The calls of a log are kept until it ends: some 200 bytes for each. At most 4,294,967,295 reads are made, and as many lines are read; an
+/// input that needs more ends with a read fault. An interrupted read or write is a fault. After a fault some of the text was written.
+pub fn audit_log<R: Read, W: Write>(
+    alloc: Global,
+    reader: &mut R,
+    writer: &mut W,
+    name: &str,
+    explains: bool,
+) -> Result<Verdict, AuditFault>
+    ensures { IfOk result (λ verdict. IfSome (R.remaining reader.old) (λ input.
+        Audits name.now input verdict (W.contents writer.old) (W.contents writer.new))) }
+{
+    let LogReader {
+        calls,
+        is_right,
+        ..
+    } = read_log(alloc, reader, writer, name)?;
+    if !is_right {
+        return Ok(Verdict::Wrong);
+    }
+    let judged = judge(alloc, calls.log)?;
+    let found = list_findings(alloc, &judged)?;
+    write_findings(alloc, writer, name, &found)?;
+    let text = summary(alloc, &judged, explains)?;
+    write_out(writer, text.as_bytes())?;
+    Ok(verdict_of(&judged, &found))
+}
+
+/// Puts the line of a finding in place of these bytes.
+fn print_finding(
+    alloc: Global,
+    line: &mut Vec<u8>,
+    name: &str,
+    finding: &Finding,
+) -> Result<(), NoMemory>
+    ensures { OnOk result (IsFinding name.now line.new.items) }
+{
+    let number = finding.line;
+    let front = format!(in alloc; "{name}:{number}: ")?;
+    line.clear();
+    line.extend_from_slice(front.as_bytes())?;
+    line.extend_from_slice(first_line(finding.text.as_bytes()))?;
+    line.extend_from_slice(b"\n")?;
+    Ok(())
+}
+
+/// Adds a finding to the output, and writes that if it is long enough.
+fn write_finding<W: Write>(
+    alloc: Global,
+    writer: &mut W,
+    output: &mut Vec<u8>,
+    name: &str,
+    finding: &Finding,
+) -> Result<(), AuditFault>
+    ensures { OnOk result ((number : ℕ) (before : Option (List ℕ)) →
+        Gathered name.now number output.old.items before (W.contents writer.old) →
+        Gathered name.now (number + 1) output.new.items before (W.contents writer.new)) }
+{
+    let mut line = Vec::new(alloc);
+    print_finding(alloc, &mut line, name, finding)?;
+    output.extend_from_slice(&line)?;
+    if output.len() >= PIECE {
+        write_out(writer, output)?;
+        output.clear();
+    }
+    Ok(())
+}
+
+/// Writes all findings.
+fn write_findings<W: Write>(
+    alloc: Global,
+    writer: &mut W,
+    name: &str,
+    found: &[Finding],
+) -> Result<(), AuditFault>
+    ensures { OnOk result (Gathered name.now (length found.now) [] (W.contents writer.old)
+        (W.contents writer.new)) }
+{
+    let mut output = Vec::new(alloc);
+    for finding in found {
+        write_finding(alloc, writer, &mut output, name, finding)?;
+    }
+    write_out(writer, &output)
+}
+
+/// What is said of a log of which these are all findings.
+fn verdict_of(judged: &Judged, found: &[Finding]) -> Verdict
+    ensures { HasVerdict result (length found.now) }
+{
+    if !found.is_empty() {
+        return if judged.impossible.is_empty() {
+            Verdict::Found
+        } else {
+            Verdict::Impossible
+        };
+    }
+    let all_judged = judged.log.calls.iter().all(|call| call.judged);
+    if all_judged && judged.impossible.is_empty() && judged.broken.is_none() {
+        Verdict::Clean
+    } else {
+        Verdict::Undecided
+    }
+}
