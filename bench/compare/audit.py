@@ -5,10 +5,10 @@ bench/compare/audit.py [--seeds N] [--changed N] [--seed S] [--time] [--program 
 
 The logs are those of audit/logs; one for each kind of planted fault and each of `--seeds` seeds; and `--changed` small ones, each a piece of a stored
 log or a log of bench/programs in which bytes, words, lines and calls were changed. Both judges run with --explain, and every byte that they write has
-to be the same, and the status; of a log with wrong lines the first of them, and the reasons that both have. A program that ends by a signal, or with a
-status that audit does not have, differs too. --time judges long logs instead, and prints the seconds and the memory for each. PATH is the program,
-crates/postmig/out/postmig unless it is named. With --keep the logs that differ are left in FOLDER. The status is 1 where anything differs, and 2 where
-the program cannot be run.
+to be the same, and the status. Of a log with wrong lines it has to be the same lines that are listed, but for those whose form alone is wrong to
+audit/judge and those below a wrong head. A program that ends by a signal, or with a status that audit does not have, differs too. --time judges long
+logs instead, and prints the seconds and the memory for each. PATH is the program, crates/postmig/out/postmig unless it is named. With --keep the
+logs that differ are left in FOLDER. The status is 1 where anything differs, and 2 where the program cannot be run.
 """
 
 import argparse
@@ -20,6 +20,7 @@ import io
 import os
 import pathlib
 import random
+import re
 import subprocess
 import sys
 import tempfile
@@ -37,7 +38,8 @@ import written  # noqa: E402
 
 PROGRAM = TOP / "crates" / "postmig" / "out" / "postmig"
 STATUSES = (0, 1, 2, 3, 5)
-FORM = "not a line of the language"
+# Reasons of audit/judge for the form of a line, which the grammar of uffd_log may allow.
+FORM = re.compile(r"fields? (is|are) needed|is not |unknown |not TIME PID TID")
 HEAD_LINES = 6
 PIECE_LINES = (30, 60, 120)
 SIZES = (15_000, 30_000, 60_000, 120_000, 240_000, 500_000)
@@ -146,12 +148,16 @@ def exchange_lines(lines, rng):
 
 
 def change_answer(lines, rng):
+    """The answer of a call becomes another one of its form."""
     ends = [at for at, line in enumerate(lines) if line.split()[3:4] == [b"end"]]
     if ends:
         at = rng.choice(ends)
-        words = lines[at].split()
-        answers = [b"EAGAIN", b"EEXIST -17", b"EEXIST 4096", b"ENOENT", b"EINVAL", b"ok", b"ok 0", b"ok 1", b"ok 4096", b"ESRCH", b"interrupted"]
-        lines[at] = b" ".join(words[:5] + [rng.choice(answers)]) + b"\n"
+        call, words = call_of(lines[at]), lines[at].split()
+        begun = [line.split()[5] for line in lines[:at] if call_of(line) == call and line.split()[3] == b"begin"]
+        puts = bool(begun) and begun[0] in (b"copy", b"zeropage")
+        failed = [b"EAGAIN 4096", b"EEXIST -17", b"ENOENT -2", b"EINVAL -22"] if puts else [b"EAGAIN", b"EEXIST", b"ENOENT", b"EINVAL", b"ENOMEM"]
+        done = b"ok 4096" if puts else b" ".join([b"ok", b"1", b"0x15c"][:len(words) - 5])
+        lines[at] = b" ".join(words[:5] + [rng.choice(failed + [done, b"interrupted"])]) + b"\n"
 
 
 def change_address(lines, rng):
@@ -217,13 +223,15 @@ def listed(said):
 
 
 def wrong_lines_differ(wanted, found):
-    """Where two listings of wrong lines differ. audit/judge has more reasons for the form of a line, and forgives less below one."""
+    """Where two listings of wrong lines differ: audit/judge lists all that postmig audit does, and more for the form of lines and below one."""
     lines, others = listed(found), listed(wanted)
-    if min(lines) != min(others):
-        return f"the first wrong line is {min(lines)}, and {min(others)} for audit/judge"
-    for number, reasons in lines.items():
-        if number not in others or FORM not in reasons and not set(reasons) <= set(others[number]):
-            return f"line {number}: {reasons}, and {others.get(number)} of audit/judge"
+    if min(others) <= HEAD_LINES:
+        return "" if min(lines, default=0) == min(others) else f"the head is wrong in line {min(others)}"
+    if not set(lines) <= set(others):
+        return f"line {min(set(lines) - set(others))} is listed, and not by audit/judge"
+    first = min(others)
+    if first not in lines and not all(FORM.search(reason) for reason in others[first]):
+        return f"line {first} is not listed, and by audit/judge: {others[first]}"
     return ""
 
 
@@ -231,8 +239,8 @@ def difference(wanted, found):
     """Where the two differ, or nothing."""
     if found[0] not in STATUSES:
         return f"it ended with {found[0]}: {found[2].strip()}"
-    if wanted[0] == found[0] == 2 and wanted[1] and found[1]:
-        return wrong_lines_differ(wanted[1], found[1])
+    if wanted[0] == 2 and wanted[1]:
+        return wrong_lines_differ(wanted[1], found[1] if found[0] == 2 else "")
     if wanted == found:
         return ""
     for line, other in zip((found[1] + found[2]).splitlines() + [""], (wanted[1] + wanted[2]).splitlines() + [""]):

@@ -19,7 +19,7 @@ pub record Adds (number : ℕ) (old : LogReader) (texts : List (List ℕ)) (new 
 
 -- lines were added; where none was, this holds
 abbrev pub AddsAny : Type 0 → LogReader → LogReader → Type 0
-AddsAny Right old new = (texts : List (List ℕ)) × Adds old.line old texts new × (texts ≡ [] → Right)
+AddsAny Right old new = (texts : List (List ℕ)) × Adds old.line old texts new × (new.head ≡ old.head) × (texts ≡ [] → Right)
 
 -- a line that has the form of one was taken
 pub record Takes (old : LogReader) (raw : List ℕ) (new : LogReader) : Type 0 where

@@ -72,9 +72,10 @@ impl<'a> LineReader<'a> {
         ensures { OnOk result ((name input : List ℕ) (before w : Option (List ℕ)) →
             At name input before self.old w → Finished name input before self.new w) }
     {
-        if !self.held.is_empty() {
-            self.end_line(false)?;
+        if self.held.is_empty() {
+            return self.lines.finish();
         }
+        self.end_line(false)?;
         self.lines.finish()
     }
 

@@ -1,6 +1,6 @@
 //! The lines of a log: its head, the lines of the language below it, and the listing of those that are wrong.
 
-ghost use Rattle.std.specs.Prelude.{◌≡◌, ◌<◌, ◌≤◌, ℕ, List, [], ◌∷◌, OnOk, IfNone, IsNone, true, length};
+ghost use Rattle.std.specs.Prelude.{◌≡◌, ◌<◌, ◌≤◌, ℕ, List, [], ◌∷◌, OnOk, IfNone, IsNone, IsTrue, true, length, codes};
 ghost use Rattle.audit.specs.Listing.{IsListed, BeginsWith, head_word};
 ghost use Rattle.audit.specs.Reading.{Adds, AddsAny, Takes, TakesLine};
 
@@ -56,6 +56,16 @@ fn form_fault(bytes: &[u8], ended: bool) -> Option<&'static str>
     None
 }
 
+/// Whether a log may have this line with this number: the first is known.
+fn may_be(number: u32, bytes: &[u8], ended: bool) -> bool
+    ensures { IsTrue result → number ≡ 1 → bytes.now ≡ codes "uffdlog 1" }
+{
+    if number != 1 {
+        return true;
+    }
+    ended && bytes == FIRST_LINE
+}
+
 /// Puts the line of a listing in place of these bytes. The text is replaced.
 fn print_listed(
     listed: &mut Vec<u8>,
@@ -101,9 +111,8 @@ impl<'a> LogReader<'a> {
 
     /// Lists the line that was read last.
     fn list(&mut self, wrong: &Wrong) -> Result<(), NoMemory>
-        ensures adds { OnOk result ((text : List ℕ) ×
-            Adds self.old.line self.old (text ∷ []) self.new) }
-        ensures head { OnOk result (self.new.head ≡ self.old.head) }
+        ensures { OnOk result ((text : List ℕ) ×
+            Adds self.old.line self.old (text ∷ []) self.new × (self.new.head ≡ self.old.head)) }
     {
         print_listed(
             &mut self.listed,
@@ -119,8 +128,7 @@ impl<'a> LogReader<'a> {
 
     /// The same, if anything is wrong with it.
     fn list_any(&mut self, wrong: Option<Wrong>) -> Result<(), NoMemory>
-        ensures adds { OnOk result (AddsAny (IsNone wrong) self.old self.new) }
-        ensures head { OnOk result (self.new.head ≡ self.old.head) }
+        ensures { OnOk result (AddsAny (IsNone wrong) self.old self.new) }
     {
         match wrong {
             Some(wrong) => self.list(&wrong),
@@ -135,14 +143,15 @@ impl<'a> LogReader<'a> {
         let Some(line) = self.line.checked_add(1) else {
             return Err(AuditFault::ReadFault);
         };
-        if line == 1 && (bytes != FIRST_LINE || !ended) {
+        if !may_be(line, bytes, ended) {
             return Err(AuditFault::NotALog);
         }
         self.line = line;
-        match form_fault(bytes, ended) {
-            Some(text) => self.list(&Wrong::Plain(text))?,
-            None => self.take(bytes)?,
+        if let Some(text) = form_fault(bytes, ended) {
+            self.list(&Wrong::Plain(text))?;
+            return Ok(());
         }
+        self.take(bytes)?;
         Ok(())
     }
 
@@ -153,10 +162,11 @@ impl<'a> LogReader<'a> {
         if self.head.is_next(bytes) {
             return self.take_head(bytes);
         }
-        if let Some(word) = self.head.next_word() {
-            self.list(&Wrong::Head(word))?;
-            self.head.end();
-        }
+        let Some(word) = self.head.next_word() else {
+            return self.take_below(bytes);
+        };
+        self.list(&Wrong::Head(word))?;
+        self.head.end();
         self.take_below(bytes)
     }
 
@@ -166,11 +176,10 @@ impl<'a> LogReader<'a> {
         requires word { BeginsWith (head_word self.old.head.read) bytes.now }
         ensures { OnOk result (Takes self.old bytes.now self.new) }
     {
-        if self.head.is_last() {
-            self.calls.log.command.extend_from_slice(bytes)?;
-        }
+        let is_last = self.head.is_last();
         let wrong = self.head.take(&mut self.tokens, bytes)?;
-        self.calls.log.size = PageSize(self.head.page);
+        self.calls
+            .note_head(bytes, is_last, PageSize(self.head.page))?;
         self.list_any(wrong)
     }
 
@@ -191,9 +200,10 @@ impl<'a> LogReader<'a> {
         if self.line == 0 {
             return Err(AuditFault::Empty);
         }
-        if let Some(word) = self.head.next_word() {
-            self.list(&Wrong::HeadEnds(word))?;
-        }
+        let Some(word) = self.head.next_word() else {
+            return Ok(());
+        };
+        self.list(&Wrong::HeadEnds(word))?;
         Ok(())
     }
 }

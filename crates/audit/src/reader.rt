@@ -6,6 +6,7 @@ mod answers;
 
 use crate::log::{Log, PageRun, narrow};
 use crate::log_call::{Kind, LogCall};
+use crate::pages::PageSize;
 use crate::process_table::{OpenCall, ProcessTable};
 use crate::reader::answers::check_answer;
 use crate::wrong::{Fields, Wrong};
@@ -66,6 +67,20 @@ impl CallReader {
             messages: Vec::new(alloc),
             runs: Vec::new(alloc),
         }
+    }
+
+    /// Notes a line of the head, the last of which is the command, and the size of a page so far.
+    pub(crate) fn note_head(
+        &mut self,
+        bytes: &[u8],
+        is_last: bool,
+        size: PageSize,
+    ) -> Result<(), NoMemory> {
+        self.log.size = size;
+        if is_last {
+            self.log.command.extend_from_slice(bytes)?;
+        }
+        Ok(())
     }
 
     /// Takes the line with this number, or none where it is not one of the language. What is wrong with it, if anything. Times do not run back
