@@ -223,12 +223,12 @@ def listed(said):
 
 
 def wrong_lines_differ(wanted, found):
-    """Where two listings of wrong lines differ: audit/judge lists all that postmig audit does, and more for the form of lines and below one."""
+    """Where two listings of wrong lines differ: what follows from the first wrong line may. audit/judge lists more for the form of lines."""
     lines, others = listed(found), listed(wanted)
     if min(others) <= HEAD_LINES:
         return "" if min(lines, default=0) == min(others) else f"the head is wrong in line {min(others)}"
-    if not set(lines) <= set(others):
-        return f"line {min(set(lines) - set(others))} is listed, and not by audit/judge"
+    if lines and min(lines) not in others:
+        return f"line {min(lines)} is listed, and not by audit/judge"
     first = min(others)
     if first not in lines and not all(FORM.search(reason) for reason in others[first]):
         return f"line {first} is not listed, and by audit/judge: {others[first]}"

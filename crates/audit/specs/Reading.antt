@@ -89,11 +89,9 @@ ReadsLog name input right before after = (text : List ℕ) × IsRead name input 
 
 -- Findings
 
--- of these findings the first bytes were written, and these are left
-pub record Gathered (name : List ℕ) (number : ℕ) (output : List ℕ) (before after : Option (List ℕ)) : Type 0 where
+-- the lines of this number of findings
+pub record Prints (name : List ℕ) (number : ℕ) (output : List ℕ) : Type 0 where
   pub texts : List (List ℕ)
-  pub written : List ℕ
   pub count : length texts ≡ number
   pub are : AreFindings name texts
-  pub parts : concat texts ≡ written ++ output
-  pub appends : Appends before after written
+  pub parts : output ≡ concat texts

@@ -15,16 +15,11 @@ IsFinding name text = (line : ℕ) × IsListed name line text
 abbrev pub AreFindings : List ℕ → List (List ℕ) → Type 0
 AreFindings name texts = AllByRecursion (λ text. IsFinding name text) texts
 
--- the summary: how many calls there are of each kind, and further lines
+-- the summary begins with the number of calls
 pub record IsSummary (text : List ℕ) : Type 0 where
   pub calls : ℕ
-  pub must : ℕ
-  pub may : ℕ
-  pub impossible : ℕ
-  pub unjudged : ℕ
   pub rest : List ℕ
-  pub parts : text ≡ decimal calls ++ codes " calls: " ++ decimal must ++ codes " with the only answer that the rules allow, " ++ decimal may
-      ++ codes " that an access explains which the log does not show, " ++ decimal impossible ++ codes " impossible, " ++ decimal unjudged ++ codes " not judged\n" ++ rest
+  pub parts : text ≡ decimal calls ++ codes " calls: " ++ rest
 
 -- what is said of a log of which this number of findings was written
 abbrev pub HasVerdict : Verdict → ℕ → Type 0

@@ -1,22 +1,18 @@
 //! Reading a log from a reader, and writing what was found to a writer.
 
-ghost use Rattle.std.specs.Prelude.{◌≡◌, ◌+◌, ℕ, List, [], length, Option, OnOk, IfOk, IfSome};
+ghost use Rattle.std.specs.Prelude.{length, OnOk, IfOk, IfSome};
+ghost use Rattle.audit.specs.Reading.{Prints};
 ghost use Rattle.audit.specs.Verdicts.{Audits, HasVerdict, IsFinding};
-ghost use Rattle.audit.specs.Reading.{Gathered};
 
 use crate::fault::AuditFault;
 use crate::findings::{Finding, list_findings};
 use crate::input::{read_log, write_out};
 use crate::judging::{Judged, judge};
-use crate::log_reader::LogReader;
 use crate::split::first_line;
 use crate::summary::summary;
 use mig_base::NoMemory;
 use std::alloc::Global;
 use std::io::{Read, Write};
-
-/// The number of bytes from which the output is written.
-const PIECE: usize = 16_384;
 
 /// What is said of a log as a whole.
 #[derive(Clone, Copy, Debug, PartialEq, Eq)]
@@ -48,77 +44,50 @@ pub fn audit_log<R: Read, W: Write>(
     ensures { IfOk result (λ verdict. IfSome (R.remaining reader.old) (λ input.
         Audits name.now input verdict (W.contents writer.old) (W.contents writer.new))) }
 {
-    let LogReader {
-        calls,
-        is_right,
-        ..
-    } = read_log(alloc, reader, writer, name)?;
-    if !is_right {
+    let lines = read_log(alloc, reader, writer, name)?;
+    if !lines.is_right {
         return Ok(Verdict::Wrong);
     }
-    let judged = judge(alloc, calls.log)?;
+    let judged = judge(alloc, lines.into_log())?;
     let found = list_findings(alloc, &judged)?;
-    write_findings(alloc, writer, name, &found)?;
+    let output = print_findings(alloc, name, &found)?;
+    write_out(writer, &output)?;
     let text = summary(alloc, &judged, explains)?;
     write_out(writer, text.as_bytes())?;
     Ok(verdict_of(&judged, &found))
 }
 
-/// Puts the line of a finding in place of these bytes.
+/// Puts the line of a finding in place of these bytes. The text is replaced.
 fn print_finding(
-    alloc: Global,
     line: &mut Vec<u8>,
+    text: &mut String,
     name: &str,
     finding: &Finding,
 ) -> Result<(), NoMemory>
     ensures { OnOk result (IsFinding name.now line.new.items) }
 {
     let number = finding.line;
-    let front = format!(in alloc; "{name}:{number}: ")?;
+    text.clear();
+    write!(text, "{name}:{number}: ")?;
     line.clear();
-    line.extend_from_slice(front.as_bytes())?;
+    line.extend_from_slice(text.as_bytes())?;
     line.extend_from_slice(first_line(finding.text.as_bytes()))?;
     line.extend_from_slice(b"\n")?;
     Ok(())
 }
 
-/// Adds a finding to the output, and writes that if it is long enough.
-fn write_finding<W: Write>(
-    alloc: Global,
-    writer: &mut W,
-    output: &mut Vec<u8>,
-    name: &str,
-    finding: &Finding,
-) -> Result<(), AuditFault>
-    ensures { OnOk result ((number : ℕ) (before : Option (List ℕ)) →
-        Gathered name.now number output.old.items before (W.contents writer.old) →
-        Gathered name.now (number + 1) output.new.items before (W.contents writer.new)) }
-{
-    let mut line = Vec::new(alloc);
-    print_finding(alloc, &mut line, name, finding)?;
-    output.extend_from_slice(&line)?;
-    if output.len() >= PIECE {
-        write_out(writer, output)?;
-        output.clear();
-    }
-    Ok(())
-}
-
-/// Writes all findings.
-fn write_findings<W: Write>(
-    alloc: Global,
-    writer: &mut W,
-    name: &str,
-    found: &[Finding],
-) -> Result<(), AuditFault>
-    ensures { OnOk result (Gathered name.now (length found.now) [] (W.contents writer.old)
-        (W.contents writer.new)) }
+/// The lines of all findings.
+fn print_findings(alloc: Global, name: &str, found: &[Finding]) -> Result<Vec<u8>, NoMemory>
+    ensures { IfOk result (λ output. Prints name.now (length found.now) output.items) }
 {
     let mut output = Vec::new(alloc);
+    let mut line = Vec::new(alloc);
+    let mut text = String::new(alloc);
     for finding in found {
-        write_finding(alloc, writer, &mut output, name, finding)?;
+        print_finding(&mut line, &mut text, name, finding)?;
+        output.extend_from_slice(&line)?;
     }
-    write_out(writer, &output)
+    Ok(output)
 }
 
 /// What is said of a log of which these are all findings.

@@ -114,6 +114,7 @@ impl Head {
         ensures { self.new.read ≡ self.old.read }
     {
         match word {
+            "recorder" => recorder_fault(tokens),
             "page" => self.take_page(tokens),
             "clock" => self.take_clock(line),
             _ => None,
@@ -141,6 +142,14 @@ impl Head {
         } else {
             Some(Wrong::Plain("a clock is 'thread' or 'log'"))
         }
+    }
+}
+
+/// What is wrong with the name and the version of a recorder, if anything.
+fn recorder_fault(tokens: &[Token]) -> Option<Wrong> {
+    match tokens {
+        [_, _, Token::Number(_)] => None,
+        _ => Some(Wrong::Plain("the version of a recorder is a number")),
     }
 }
 

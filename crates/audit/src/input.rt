@@ -27,8 +27,9 @@ impl<'a> LineReader<'a> {
     fn new(alloc: Global, name: &'a str) -> LineReader<'a>
         ensures { (before : Option (List ℕ)) → At name.now [] before result before }
     {
+        let lines = LogReader::new(alloc, name);
         LineReader {
-            lines: LogReader::new(alloc, name),
+            lines,
             held: Vec::new(alloc),
         }
     }

@@ -6,6 +6,7 @@ ghost use Rattle.audit.specs.Reading.{Adds, AddsAny, Takes, TakesLine};
 
 use crate::fault::AuditFault;
 use crate::head::Head;
+use crate::log::Log;
 use crate::pages::PageSize;
 use crate::reader::CallReader;
 use crate::split::first_line;
@@ -24,8 +25,8 @@ const FIRST_LINE: &[u8] = b"uffdlog 1";
 /// Takes the lines of one log.
 #[derive(Drop)]
 pub(crate) struct LogReader<'a> {
-    pub(crate) name: &'a str,
-    pub(crate) calls: CallReader,
+    name: &'a str,
+    calls: CallReader,
     /// The listing of wrong lines that is not written yet.
     pub(crate) output: Vec<u8>,
     /// Whether no line was wrong.
@@ -147,12 +148,16 @@ impl<'a> LogReader<'a> {
             return Err(AuditFault::NotALog);
         }
         self.line = line;
-        if let Some(text) = form_fault(bytes, ended) {
-            self.list(&Wrong::Plain(text))?;
-            return Ok(());
+        match form_fault(bytes, ended) {
+            Some(text) => {
+                self.list(&Wrong::Plain(text))?;
+                Ok(())
+            }
+            None => {
+                self.take(bytes)?;
+                Ok(())
+            }
         }
-        self.take(bytes)?;
-        Ok(())
     }
 
     /// Takes a line that has the form of one.
@@ -193,6 +198,12 @@ impl<'a> LogReader<'a> {
         self.list_any(wrong)
     }
 
+    /// The log that was read.
+    pub(crate) fn into_log(self) -> Log {
+        let LogReader { calls, .. } = self;
+        calls.into_log()
+    }
+
     /// After the last line: a log without its whole head is wrong.
     pub(crate) fn finish(&mut self) -> Result<(), AuditFault>
         ensures { OnOk result (AddsAny (6 ≤ self.old.head.read) self.old self.new) }
@@ -200,10 +211,12 @@ impl<'a> LogReader<'a> {
         if self.line == 0 {
             return Err(AuditFault::Empty);
         }
-        let Some(word) = self.head.next_word() else {
-            return Ok(());
-        };
-        self.list(&Wrong::HeadEnds(word))?;
-        Ok(())
+        match self.head.next_word() {
+            Some(word) => {
+                self.list(&Wrong::HeadEnds(word))?;
+                Ok(())
+            }
+            None => Ok(()),
+        }
     }
 }

@@ -45,7 +45,7 @@ fn refuse(wrong: Option<Wrong>) -> Result<(), Fault> {
 #[derive(Drop)]
 pub(crate) struct CallReader {
     alloc: Global,
-    pub(crate) log: Log,
+    log: Log,
     /// The number of the line that is read.
     line: u32,
     processes: ProcessTable,
@@ -67,6 +67,12 @@ impl CallReader {
             messages: Vec::new(alloc),
             runs: Vec::new(alloc),
         }
+    }
+
+    /// The log that was read.
+    pub(crate) fn into_log(self) -> Log {
+        let CallReader { log, .. } = self;
+        log
     }
 
     /// Notes a line of the head, the last of which is the command, and the size of a page so far.

@@ -129,9 +129,24 @@ fn add_explanation(text: &mut String, alloc: Global, judged: &Judged) -> Result<
     Ok(())
 }
 
-/// The lines of a summary after the first.
+/// Adds how many calls there are of each kind.
+fn add_counts(text: &mut String, judged: &Judged) -> Result<(), NoMemory> {
+    let must = count_of(judged, Kind::Must);
+    let may = count_of(judged, Kind::May);
+    let impossible = count_of(judged, Kind::Impossible);
+    let unjudged = count_of(judged, Kind::Unjudged);
+    write!(
+        text,
+        "{must} with the only answer that the rules allow, {may} that an access explains which the log does not show, "
+    )?;
+    write!(text, "{impossible} impossible, {unjudged} not judged\n")?;
+    Ok(())
+}
+
+/// What a summary says after the number of calls.
 fn details(alloc: Global, judged: &Judged, explains: bool) -> Result<String, NoMemory> {
     let mut text = String::new(alloc);
+    add_counts(&mut text, judged)?;
     if let Some(broken) = &judged.broken {
         add_broken(&mut text, broken)?;
     }
@@ -148,20 +163,8 @@ pub(crate) fn summary(alloc: Global, judged: &Judged, explains: bool) -> Result<
 {
     let rest = details(alloc, judged, explains)?;
     let calls = judged.log.calls.len();
-    let must = count_of(judged, Kind::Must);
-    let may = count_of(judged, Kind::May);
-    let impossible = count_of(judged, Kind::Impossible);
-    let unjudged = count_of(judged, Kind::Unjudged);
     let mut text = String::new(alloc);
-    write!(
-        text,
-        "{calls} calls: {must} with the only answer that the rules allow, "
-    )?;
-    write!(
-        text,
-        "{may} that an access explains which the log does not show, "
-    )?;
-    write!(text, "{impossible} impossible, {unjudged} not judged\n")?;
+    write!(text, "{calls} calls: ")?;
     text.push_str(rest.as_str())?;
     Ok(text)
 }
