@@ -37,7 +37,6 @@ PROMISES = (
     ("`finish`: `postmig finish` completes a migration", ["finish::finish"]),
     ("`Decoder::feed`: the bytes of frames", ["frame_decoder::feed"]),
     ("`run_threads`: `postmig threads`", ["threads::run_threads"]),
-    ("`audit_log`: `postmig audit`", ["audit::audit_log"]),
 )
 
 

