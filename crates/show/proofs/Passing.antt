@@ -22,7 +22,7 @@ each_push (first ∷ raws) raw each one = (each.0, each_push raws raw each.1 one
 
 -- nothing was passed yet
 pub none_passed : (bytes : List ℕ) (count : ℕ) → Passed bytes count bytes count
-none_passed bytes count = record { raws = []; each = tt; whole = refl; counts = refl }
+none_passed bytes count = record { raws = []; each = tt; whole = refl; counts = omega arith }
 
 -- one more line was passed
 pub one_passed : (bytes : List ℕ) (count : ℕ) (rest front behind : List ℕ) (left : ℕ) → Passed bytes count rest left → HasNoFeed front → rest ≡ front ++ 10 ∷ behind → 0 < left
