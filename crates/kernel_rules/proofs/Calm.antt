@@ -11,7 +11,7 @@ use Rattle.kernel_rules.specs.declared.kernel_table.KernelTable.{KernelTable}
 use Rattle.kernel_rules.specs.declared.object.Object.{Object}
 use Rattle.kernel_rules.specs.Certified.{quiet}
 use Rattle.kernel_rules.specs.Held.{kernel_of}
-use Rattle.kernel_rules.specs.Ioctls.{is_part, is_right, may_be_protected, may_be_put, protect_failed, put_halted, put_in_part, bytes_or_none, with_put, is_changing}
+use Rattle.kernel_rules.specs.Ioctls.{refused_while_changing, is_part, is_right, is_watched, may_be_protected, may_be_put, protect_failed, put_halted, put_in_part, bytes_or_none, with_put, is_changing}
 use Rattle.kernel_rules.specs.Reads.{first_unread, has_unread, message_taken}
 use Rattle.kernel_rules.specs.State.{Kernel, allowed, some_page}
 
@@ -60,10 +60,18 @@ pub no_right_part : (table : KernelTable) (key name : ℕ) (object : Object) (st
 unfolding kernel_of
 no_right_part table key name object start len bits most bytes part fails = rw (part, fails) refl
 
+never_again : (table : KernelTable) (name : ℕ) → refused_while_changing (kernel_of table) name ≡ None
+unfolding kernel_of
+never_again table name = refl
+
+pub no_watched_part : (table : KernelTable) (key name : ℕ) (object : Object) (start len bits most : ℕ) (bytes : Option ℕ) → is_part len bytes ≡ true → is_right object start len bits most ≡ true
+    → is_watched (kernel_of table) object start len ≡ false → put_halted (kernel_of table) key name object start len bits most bytes ≡ None
+no_watched_part table key name object start len bits most bytes part right fails = rw (part, right, fails) (never_again table name)
+
 pub part_halted : (kernel : Kernel) (key name : ℕ) (object : Object) (start len bits most : ℕ) (bytes : Option ℕ) (done : ℕ) → is_part len bytes ≡ true → is_right object start len bits most ≡ true
-    → done ≡ bytes_or_none bytes
+    → is_watched kernel object start len ≡ true → done ≡ bytes_or_none bytes
     → put_halted kernel key name object start len bits most bytes ≡ put_in_part kernel key name object (start / PAGE_SIZE) (done / PAGE_SIZE) bits
-part_halted kernel key name object start len bits most bytes done part right is = rw (part, right, is) refl
+part_halted kernel key name object start len bits most bytes done part right watched is = rw (part, right, watched, is) refl
 
 not_changing : (table : KernelTable) (name : ℕ) → is_changing (kernel_of table) name ≡ false
 unfolding kernel_of

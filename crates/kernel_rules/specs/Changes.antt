@@ -16,7 +16,6 @@ page_with change (Some page) = Some (change page)
 abbrev pub changed : Change → Option Page → Option Page
 changed (change.Register object missing protect) page = registered_page object (record { missing = missing; protect = protect }) page
 changed change.Forget page = None
-changed (change.Set found) page = found
 changed (change.ForgetObject object) page = without_object object page
 changed (change.Put protect) page = page_with (put_page protect) page
 changed change.Shown page = page_with (λ p. record p { presence = Present }) page

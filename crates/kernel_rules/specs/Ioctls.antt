@@ -191,11 +191,15 @@ abbrev pub put_stopped : Kernel → ℕ → Object → ℕ → ℕ → ℕ → �
 put_stopped kernel key object start len bits most =
     if is_right object start len bits most then stopped_at kernel key object.space (start / PAGE_SIZE) else None
 
+-- whether the pages of a range are registered
+abbrev pub is_watched : Kernel → Object → ℕ → ℕ → Bool
+is_watched kernel object start len = each_page kernel object.space (start / PAGE_SIZE) (len / PAGE_SIZE) (λ page. true)
+
 -- a call over pages that are not registered, or over several areas
 abbrev pub put_outside : Kernel → ℕ → Object → ℕ → ℕ → ℕ → ℕ → Option Kernel
 put_outside kernel key object start len bits most =
     if not (is_right object start len bits most) then None
-    else if each_page kernel object.space (start / PAGE_SIZE) (len / PAGE_SIZE) (λ page. true)
+    else if is_watched kernel object start len
     then allowed (nat_lt PAGE_SIZE len) (noted_if true differs.Areas kernel)
     else Some (record kernel { outside = kernel.outside ++ key ∷ [] })
 
@@ -205,10 +209,10 @@ is_put_wrong kernel object start len bits most =
     not (is_right object start len bits most)
     || is_one bits 1 && some_page kernel object.space (start / PAGE_SIZE) (len / PAGE_SIZE) (λ page. not page.protect)
 
--- a call that has put part of its pages, or none since the address space is changing
+-- a call that has put part of its pages, all of which are registered; or none since the address space is changing
 abbrev pub put_halted : Kernel → ℕ → ℕ → Object → ℕ → ℕ → ℕ → ℕ → Option ℕ → Option Kernel
 put_halted kernel key name object start len bits most bytes =
-    if is_part len bytes && is_right object start len bits most
+    if is_part len bytes && is_right object start len bits most && is_watched kernel object start len
     then put_in_part kernel key name object (start / PAGE_SIZE) (bytes_or_none bytes / PAGE_SIZE) bits
     else refused_while_changing kernel name
 

@@ -17,8 +17,6 @@ pub enum Change {
     },
     /// It is unmapped.
     Forget,
-    /// Another page is moved to its place.
-    Set(Option<Page>),
     /// It is no longer registered with the object.
     ForgetObject {
         object: u64,
@@ -152,12 +150,9 @@ impl Change {
         {
             return Some(registered(page, object, missing, protect));
         }
-        if let Change::Set(found) = self {
-            return found;
-        }
         let page = page?;
         match self {
-            Change::Register { .. } | Change::Forget | Change::Set(_) => None,
+            Change::Register { .. } | Change::Forget => None,
             Change::ForgetObject { object } if page.object == object => None,
             Change::ForgetObject { .. } => Some(page),
             Change::Put { protect } => Some(put(page, protect)),

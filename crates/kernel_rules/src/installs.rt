@@ -162,8 +162,12 @@ impl KernelTable {
         if !is_right(object, start, len, bits, most) {
             return Ok(false);
         }
+        let (first, count) = (start / PAGE_SIZE, len / PAGE_SIZE);
+        if !self.each_page(object.space, first, count, PageTest::Any) {
+            return Ok(false);
+        }
         let done = bytes_or_none(bytes) / PAGE_SIZE;
-        self.put_part(key, name, object, start / PAGE_SIZE, done, bits)
+        self.put_part(key, name, object, first, done, bits)
     }
 
     /// A call finds its first page there.

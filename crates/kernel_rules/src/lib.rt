@@ -1,4 +1,5 @@
-//! The rules by which real kernels answer calls on userfault objects, over any address space, with several objects and any features.
+//! A checker of logs of userfaultfd calls: [`certify`](certify::certify) says whether a run is one of a log by the rules of real kernels,
+//! over any address space, with several objects.
 //!
 //! The model of this repository (`mig_model`) is one object, and fixes what manual pages leave open. A log of a real program is judged by
 //! these rules instead: they are driven by the answers of the log, and name each step that the model would not take (docs/LINUX.md).
