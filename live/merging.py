@@ -10,11 +10,11 @@ What an order must keep:
 
 - the steps of each node, as they are in its trace;
 - a frame is taken after it was sent, and the frames of a wire in the order in which they were sent, within an epoch;
-- an epoch ends with a `break`, after all that either node has sent or taken in it, and before the first `notice` of its end;
+- an epoch ends with a `break`, after all that either node has taken in it, and before the first `notice` of its end;
 - `resume` comes once both nodes have noticed.
 
-A frame that was sent and not taken is lost by the break. If one order that keeps these four is a run of the world, so is each other one: that
-is tested (bench/compare/merge.py), and not proved. Which Resume of the source a destination has taken follows from the frames, and where two
+A frame that was sent and not taken is lost by the break. Laws say that such orders are runs of a world, with the same results at both nodes
+(docs/PROTOCOL.md, Two nodes are a world); that what is made here is such an order is tested (bench/compare/merge.py). Which Resume of the source a destination has taken follows from the frames, and where two
 would fit, from the comment `# epoch N`, or else it is the earliest.
 """
 

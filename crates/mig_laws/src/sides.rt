@@ -138,9 +138,9 @@ pub fn each_side_notices_by_itself()
 
 /// Two processes, each of which learns by itself that its channel is lost, are a world. One side may notice long before the other, the
 /// destination may take frames of a channel that the source has lost, and the source may open new channels before the destination has lost
-/// the old one. Their logs have an order all the same. So some steps of a world have exactly these logs as their two sides, and lead to
-/// the two nodes; and the commands that took effect in the source's log, and after them those in the destination's, are a run of one flat
-/// memory. Once the source is released, that memory is the destination's.
+/// the old one. Where they are settled, their logs have an order all the same. So some steps of a world have exactly these logs as their
+/// two sides, and lead to the two nodes; and the commands that took effect in the source's log, and after them those in the
+/// destination's, are a run of one flat memory. Once the source is released, that memory is the destination's.
 pub fn two_processes_are_a_world()
     ensures order { (cpus epoch rounds : ℕ) (events : List Event) (new : Processes) →
         AreEvents (first_processes cpus epoch rounds) events new → IsSettled new →
