@@ -31,7 +31,7 @@ static MADE: &[(&[u8], &[u8], u64)] = &[
     (LONG, LONG, 0),
 ];
 
-/// Scripts, how they end, and what is written: the outputs stand in column 45, or after two blanks where the line is longer.
+/// Scripts, how they end, and what is written: the outputs begin in column 45, or after two blanks where the line is longer.
 static ECHOED: &[(&[u8], Result<(), RunFault>, &[u8])] = &[
     (b"", Ok(()), b""),
     (
