@@ -13,11 +13,16 @@ What an order must keep:
 - an epoch ends with a `break`, after all that either node has taken in it, and before the first `notice` of its end;
 - `resume` comes once both nodes have noticed.
 
+A destination may have taken the place of one that has not run: then its trace begins with `notice dest` and a Resume. In place of those that
+are gone the script has a destination that took each Resume which one of them answered, and nothing else, since a Resume makes destinations
+that have not run alike. That is refused once the source has switched: one of those may have run the guest.
+
 A frame that was sent and not taken is lost by the break. Laws say that such orders are runs of a world, with the same results at both nodes
 (docs/PROTOCOL.md, Two nodes are a world); that what is made here is such an order is tested (bench/compare/merge.py). Which Resume of the source a destination has taken follows from the frames, and where two
 would fit, from the comment `# epoch N`, or else it is the earliest.
 """
 
+import copy
 import itertools
 import os
 import random
@@ -38,6 +43,9 @@ NOTICES = {"notice source", "notice dest"}
 HEAD = 2
 # A frame whose count the trace of its sender does not tell.
 ANY = " *"
+NOT_RUN = "recv notrun 0"
+# The lines that a destination which is gone makes between two epochs of the source in which it has answered a Resume.
+OF_GONE = ((0, "notice dest", "noticed dest", "notice dest => noticed dest"), (0, "deliver", "took resume", "deliver => took resume"))
 # Answers of which a part is read here.
 READ = {
     "start": re.compile(r"started epoch \d{1,10}$"),
@@ -101,7 +109,19 @@ class Trace:
     def at(self, index):
         """Where a step is, and what it says."""
         number, _, _, line = self.steps[index]
-        return f"{self.name}:{number}: {line}"
+        return f"{place(self.name, number)}: {line}"
+
+    def after(self, gone):
+        """This destination's, after those that are gone: they have answered a Resume in each of these epochs of the source."""
+        trace = copy.copy(self)
+        trace.steps = [*(step for _ in gone for step in OF_GONE), *self.steps]
+        trace.epochs = {count: epoch.number for count, epoch in enumerate(gone, 1)}
+        trace.epochs.update((len(gone) + count, number) for count, number in self.epochs.items() if count)
+        return trace
+
+
+def place(name, number):
+    return f"{name}:{number}" if number else f"a destination before {name}"
 
 
 def read(name, side):
@@ -278,16 +298,37 @@ class Merge:
         self.join()
 
     def join(self):
-        paired = pair(self.own, self.others, are_one)
-        if paired is None:
-            paired = pair(self.own, self.others, may_be_one)
-        if paired is None:
+        for fits in (are_one, may_be_one):
+            paired = pair(self.own, self.others, fits)
+            if paired is None:
+                paired = self.pair_newcomer(fits)
+            if paired is not None:
+                break
+        else:
             self.fail_to_pair()
         place_of = {0: 0, **{x: place for place, x in enumerate(paired, 1)}}
         for x, own in enumerate(self.own):
             if x in place_of:
                 self.join_frames(own, self.others[place_of[x]])
         self.join_breaks(place_of)
+
+    def is_newcomer(self):
+        """Whether the destination begins with the notice of a break, and then takes a Resume."""
+        return [step[1:3] for step in self.dest.steps[:2]] == [step[1:3] for step in OF_GONE]
+
+    def pair_newcomer(self, fits):
+        """The pairs, with lines for the destinations whose place this one has taken before the switch; None if it has taken none's."""
+        switch = next((index for index, step in enumerate(self.source.steps) if step[1] == "switch"), len(self.source.steps))
+        reports = [epoch for epoch in self.own if has_report(epoch)] if self.is_newcomer() else []
+        gone = itertools.takewhile(lambda epoch: [frame for frame, _ in epoch.taken["back"]] == [NOT_RUN] and epoch.begin < switch, reports)
+        for count, _ in enumerate(gone, 1):
+            dest = self.dest.after(reports[:count])
+            others = epochs_of_destination(dest)
+            paired = pair(self.own, others, fits)
+            if paired is not None and self.own[paired[count]].begin < switch:
+                self.dest, self.others = dest, others
+                return paired
+        return None
 
     def fail_to_pair(self):
         """The first Resume for which the source has no epoch, or the first report for which the destination has none."""
@@ -297,7 +338,8 @@ class Merge:
                           f"({self.source.name})")
         if resumes < len(reports):
             index = next(index for frame, index in reports[resumes].taken["back"] if frame.startswith("recv "))
-            raise NoOrder(f"{self.source.at(index)}: the destination has taken {resumes} times a Resume ({self.dest.name})")
+            why = "; it can have taken no other one's place: one that has run answered, or the source had switched" if self.is_newcomer() else ""
+            raise NoOrder(f"{self.source.at(index)}: the destination has taken {resumes} times a Resume ({self.dest.name}){why}")
         last = self.others[-1]
         raise NoOrder(f"{self.dest.at(last.begin)}: no epoch of the source is that of this Resume"
                       f"{'' if last.number is None else f', {last.number}'} ({self.source.name})")
@@ -458,11 +500,11 @@ class Script:
             raise OSError(f"postmig test: status {done.returncode}: {done.stdout.strip()} {done.stderr.strip()}")
         line = int(found[1])
         origin = self.origins[line - 1]
-        where = "{}:{}".format(*origin) if origin else f"a break before {self.next_origin(line)}"
+        where = place(*origin) if origin else f"a break before {self.next_origin(line)}"
         return f"{where}: {self.lines[line - 1]}: {found[2]}"
 
     def next_origin(self, line):
-        return next(("{}:{}".format(*origin) for origin in self.origins[line:] if origin), "the end")
+        return next((place(*origin) for origin in self.origins[line:] if origin), "the end")
 
 
 def merge_files(source, dest, seed=None, cpus=None):

@@ -116,6 +116,48 @@ def merge_all(program, arguments, counts):
     return wrong, kept
 
 
+# ANOTHER DESTINATION
+
+
+def epoch_of_switch(source):
+    """The epoch in which a source has switched, or a later one than all if it has not."""
+    before, switch, _ = source.partition("\nswitch => ")
+    return int(re.findall("(?:started|resumed) epoch ([0-9]+)", before)[-1]) if switch else 1 << 32
+
+
+def of_others(traces):
+    """For each Resume that a destination has taken but the first, its trace from the notice before it on, as one has it that came then; and
+    whether the source had not switched."""
+    head, *lines = traces[DEST].splitlines()
+    last, notice, count = epoch_of_switch(traces[SOURCE]), 0, 0
+    for at, line in enumerate(lines):
+        notice = at if line.startswith("notice dest") else notice
+        count += line.endswith("=> took resume")
+        if count > 1 and line.endswith("=> took resume"):
+            yield "".join(f"{line}\n" for line in (head, *lines[notice:])), int(lines[at + 1].split()[-1]) <= last
+
+
+def replace_all(program, kept, orders, counts):
+    """What is wrong where the trace of a destination is that of another one: it is merged before the switch alone."""
+    wrong, files = [], []
+    with tempfile.TemporaryDirectory() as folder:
+        for name, traces in kept:
+            for another, is_before in of_others(traces):
+                for seed in (None, *range(1, orders)) if is_before else (None,):
+                    try:
+                        script = merged({**traces, DEST: another}, seed)
+                    except merging.NoOrder as none:
+                        wrong += [f"{name}, of another destination, order {seed}: {none}"] if is_before else []
+                        counts["refused after the switch"] += not is_before
+                        continue
+                    wrong += [] if is_before else [f"{name}: another destination takes the place of one after the switch"]
+                    files.append(pathlib.Path(folder) / f"{len(files)}.test")
+                    files[-1].write_text(script.text())
+                    counts["orders with another destination"] += 1
+        wrong += judge(program, files, collections.Counter())
+    return wrong
+
+
 # PLANTED FAULTS
 
 
@@ -217,6 +259,7 @@ def main():
     arguments.orders = arguments.orders or (3 if arguments.quick else 10)
     counts = collections.Counter()
     wrong, kept = merge_all(arguments.program, arguments, counts)
+    wrong += replace_all(arguments.program, kept, arguments.orders, counts)
     print(", ".join(f"{value:,} {name}" for name, value in counts.items()) + f": {len(wrong)} differ")
     for line in wrong[:20]:
         print(line)

@@ -21,3 +21,7 @@ pub mod ChangedOrders
 pub mod ExampleOrder
 pub mod TwoProcesses
 pub mod WorldSides
+pub mod NotRun
+pub mod BeforeSwitch
+pub mod Replaced
+pub mod ReplacedRuns

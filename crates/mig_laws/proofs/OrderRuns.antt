@@ -98,12 +98,12 @@ through P g (Ok done) h = h
 through P g (Err refusal) h = h
 
 -- a command that is accepted is made where its processors run
-issue-runs : {B : Type 0} (g : Tried → B) (guest : Guest) (runs : Bool) (cpu : ℕ) (command : Command) (done : B) → map_ok g (issue guest runs cpu command) ≡ Ok done → runs ≡ true
+pub issue-runs : {B : Type 0} (g : Tried → B) (guest : Guest) (runs : Bool) (cpu : ℕ) (command : Command) (done : B) → map_ok g (issue guest runs cpu command) ≡ Ok done → runs ≡ true
 issue-runs g guest runs cpu command done is =
     ok-holds (λ d. runs ≡ true) (map_ok g (issue guest runs cpu command)) done
     (through (runs ≡ true) g (issue guest runs cpu command) (holds-and_then _ (idle_answer guest.cpus cpu) _ (each _ (idle_answer guest.cpus cpu) (λ idle. holds-in_phase _ runs _ (λ may. each _ (try_command guest cpu command) (λ tried. may)))))) is
 
-retry-runs : {B : Type 0} (g : Tried → B) (guest : Guest) (runs : Bool) (cpu : ℕ) (done : B) → map_ok g (retry guest runs cpu) ≡ Ok done → runs ≡ true
+pub retry-runs : {B : Type 0} (g : Tried → B) (guest : Guest) (runs : Bool) (cpu : ℕ) (done : B) → map_ok g (retry guest runs cpu) ≡ Ok done → runs ≡ true
 retry-runs g guest runs cpu done is =
     ok-holds (λ d. runs ≡ true) (map_ok g (retry guest runs cpu)) done
     (through (runs ≡ true) g (retry guest runs cpu) (holds-and_then _ (woken_answer guest.cpus cpu) _ (each _ (woken_answer guest.cpus cpu) (λ command. holds-in_phase _ runs _ (λ may. each _ (try_command guest cpu command) (λ tried. may)))))) is

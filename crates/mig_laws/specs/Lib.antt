@@ -6,3 +6,4 @@ pub mod Sides
 pub mod Orders
 pub mod Example
 pub mod Processes
+pub mod Replacements

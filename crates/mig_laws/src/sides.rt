@@ -1,7 +1,8 @@
 //! Two nodes are a world: what each node gives by itself, in a process of its own, is what it gives in a world. Each law is a function with
 //! an empty body, whose contract is the law.
 
-ghost use Rattle.std.specs.Prelude.{◌≡◌, ◌++◌, ℕ, true, false, Some, IsOk, Ok, List, map};
+ghost use Rattle.std.specs.Prelude.{◌≡◌, ◌++◌, ℕ, true, false, Some, IsOk, Ok, List, [], map};
+ghost use Rattle.std.specs.List.{list_all};
 ghost use Rattle.mig_base.specs.declared.effect.Effect.{Effect};
 ghost use Rattle.mig_base.specs.declared.schedule.Side.{Side};
 ghost use Rattle.mig_base.specs.declared.schedule.Step.{Step};
@@ -16,7 +17,8 @@ ghost use Rattle.mig_model.specs.Whereabouts.{current_host};
 ghost use Rattle.mig_laws.specs.Example.{its_effects, with_a_break, with_a_late_notice};
 ghost use Rattle.mig_laws.specs.Orders.{AreTurns, AreWhole, IsDestinationAlone, IsSourceAlone, IsTurn, Pair, Turn, destination_lines, finds_front, finds_urgent_front, first_pair, is_resume, log_of, source_lines, step_of, world_of};
 ghost use Rattle.mig_laws.specs.Processes.{AreEvents, Event, IsSettled, Processes, first_processes, log_here, log_there};
-ghost use Rattle.mig_laws.specs.Sides.{Line, destination_after, destination_entries, resumes, side_of, source_after, source_entries};
+ghost use Rattle.mig_laws.specs.Replacements.{AreChanges, Change, IsNotRun, is_before_run, last_log, resume_of, resume_taken, source_log};
+ghost use Rattle.mig_laws.specs.Sides.{Line, destination_after, destination_entries, destination_line, resumes, side_of, source_after, source_entries};
 
 /// A step of the source and a step of the destination that are both accepted are accepted in either order, with the same effects, and lead
 /// to the same world. That holds of deliveries, whole or partial, and of commands. Break is a step of neither side, and loses what the
@@ -164,6 +166,50 @@ pub fn two_processes_are_a_world()
         is_released new.source.phase ≡ true → memory new.destination.guest.space.host ≡
         memory_of (source_entries (first_source cpus epoch rounds) (log_here events) ++
         destination_entries (first_destination cpus) (log_there events)) }
+{}
+
+/// A destination that has taken neither a Package nor an End has learned of the migration its phase, its epoch and the copies that it keeps,
+/// and has entered no command. A Resume tells it all of that anew, and takes the copies away: whatever it has made and taken, it then is the
+/// same destination, and has sent the same Recv, as one to which nothing but a Notice has happened.
+pub fn a_resume_makes_destinations_alike()
+    ensures learned { (cpus : ℕ) (lines : List Line) → list_all is_before_run lines ≡ true →
+        IsNotRun cpus (destination_after (first_destination cpus) lines) }
+    ensures silent { (cpus : ℕ) (lines : List Line) → list_all is_before_run lines ≡ true →
+        destination_entries (first_destination cpus) lines ≡ [] }
+    ensures alike { (cpus epoch : ℕ) (lines : List Line) → list_all is_before_run lines ≡ true →
+        destination_line (destination_after (first_destination cpus) lines)
+        (Line.Took (resume_of epoch)) ≡ Ok (resume_taken cpus epoch) }
+{}
+
+/// Another destination may take the place of one, until the source has switched: it takes the Resume of a channel that the source has
+/// opened, once the first one is gone or cannot be reached. Where the processes are settled, some steps of a world have the source's log as
+/// their one side, and their other side ends with the whole log of the last destination; they lead to the two nodes. What comes before that
+/// log enters no command. So the commands in the source's log, and after them those in the last destination's, are a run of one flat memory,
+/// and once the source is released that memory is the destination's.
+pub fn a_destination_may_be_replaced()
+    ensures events { (cpus epoch rounds : ℕ) (changes : List Change) (new : Processes) →
+        AreChanges cpus (first_processes cpus epoch rounds) changes new →
+        (events : List Event) × (earlier : List Line) ×
+        AreEvents (first_processes cpus epoch rounds) events new ×
+        (log_here events ≡ source_log changes) ×
+        (log_there events ≡ earlier ++ last_log [] changes) }
+    ensures world { (cpus epoch rounds : ℕ) (changes : List Change) (new : Processes) →
+        AreChanges cpus (first_processes cpus epoch rounds) changes new → IsSettled new →
+        (steps : List Step) × (earlier : List Line) ×
+        (log_of Side.Source (first_world_with cpus epoch rounds) steps ≡ source_log changes) ×
+        (log_of Side.Destination (first_world_with cpus epoch rounds) steps ≡
+        earlier ++ last_log [] changes) ×
+        ((after_steps (first_world_with cpus epoch rounds) steps).source ≡ new.source) ×
+        ((after_steps (first_world_with cpus epoch rounds) steps).destination ≡ new.destination) }
+    ensures transcript { (cpus epoch rounds : ℕ) (changes : List Change) (new : Processes) →
+        AreChanges cpus (first_processes cpus epoch rounds) changes new → IsSettled new →
+        IsFlatRun (source_entries (first_source cpus epoch rounds) (source_log changes) ++
+        destination_entries (first_destination cpus) (last_log [] changes)) }
+    ensures alone { (cpus epoch rounds : ℕ) (changes : List Change) (new : Processes) →
+        AreChanges cpus (first_processes cpus epoch rounds) changes new → IsSettled new →
+        is_released new.source.phase ≡ true → memory new.destination.guest.space.host ≡
+        memory_of (source_entries (first_source cpus epoch rounds) (source_log changes) ++
+        destination_entries (first_destination cpus) (last_log [] changes)) }
 {}
 
 /// There are such orders and such processes: frames are taken on both main wires, the channel is lost, each side notices, and both continue
