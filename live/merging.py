@@ -45,7 +45,7 @@ HEAD = 2
 ANY = " *"
 NOT_RUN = "recv notrun 0"
 # The lines that a destination which is gone makes between two epochs of the source in which it has answered a Resume.
-OF_GONE = ((0, "notice dest", "noticed dest", "notice dest => noticed dest"), (0, "deliver", "took resume", "deliver => took resume"))
+OF_GONE = ((0, "notice dest", "paused dest", "notice dest => paused dest"), (0, "deliver", "took resume", "deliver => took resume"))
 # Answers of which a part is read here.
 READ = {
     "start": re.compile(r"started epoch \d{1,10}$"),
