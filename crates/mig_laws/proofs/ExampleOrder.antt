@@ -16,13 +16,13 @@ use Rattle.mig_laws.specs.Orders.{AreTurns, IsCut, IsDestinationTurn, IsSourceTu
 use Rattle.mig_laws.specs.Sides.{Did, Line}
 use Rattle.mig_laws.proofs.ChangedOrders.{after_here, after_there}
 
-abbrev gives : {Node : Type 0} → Effect → List Frame → Node → Did Node
+abbrev pub gives : {Node : Type 0} → Effect → List Frame → Node → Did Node
 gives effect frames node = record { effect = effect; frames = frames; urgent = []; entries = []; node = node }
 
 abbrev sent_in_two : Frame → Sent
 sent_in_two frame = record { epoch = 2; frame = frame }
 
-abbrev recv : Frame
+abbrev pub recv : Frame
 recv = Frame.Recv Received.NotRun no_pages
 
 abbrev started : Did Source
@@ -52,7 +52,7 @@ noticed_there = gives (Effect.Noticed Side.Destination) [] (destination_paused a
 abbrev five : Pair
 five = after_there four noticed_there [] []
 
-abbrev again : Did Source
+abbrev pub again : Did Source
 again = gives (Effect.Resumed 2) (Frame.Resume ∷ []) (resumed noticed.node)
 
 abbrev six : Pair
@@ -64,7 +64,7 @@ again_there = gives Effect.TookResume (recv ∷ []) (destination_took noticed_th
 abbrev seven : Pair
 seven = after_there six again_there [] []
 
-abbrev told : Did Source
+abbrev pub told : Did Source
 told = gives (Effect.TookRecv Received.NotRun (finset.len no_pages)) [] (source_took again.node recv)
 
 abbrev eight : Pair
@@ -134,7 +134,7 @@ example = (
 
 -- The events
 
-abbrev wire : List Sent → List Sent → Channel
+abbrev pub wire : List Sent → List Sent → Channel
 wire forward back = record { forward = forward; back = back; urgent = [] }
 
 abbrev advise : Sent
@@ -170,7 +170,7 @@ e8 = record e7 { first = wire (sent_in_two Frame.Resume ∷ []) []; later = []; 
 abbrev e9 : Processes
 e9 = record e8 { destination = again_there.node; first = wire [] (sent_in_two recv ∷ []) }
 
-abbrev e10 : Processes
+abbrev pub e10 : Processes
 e10 = record e9 { source = told.node; first = wire [] [] }
 
 event-1 : IsHere e0 (Line.Made Step.Start) e1
@@ -198,38 +198,35 @@ event-9 = record { did = again_there; gives = refl; may = refl; forward = []; ta
 event-10 : IsHere e9 (Line.Took (sent_in_two recv)) e10
 event-10 = record { did = told; gives = refl; may = refl; back = []; takes = refl; channel = wire [] []; puts = refl; is = refl }
 
-pub example-events : (new : Processes) × AreEvents e0 with_a_late_notice new × IsSettled new
-example-events = (
-  e10,
+pub late-events : AreEvents e0 with_a_late_notice e10
+late-events = (
+  e1,
+  event-1,
   (
-    e1,
-    event-1,
+    e2,
+    record { used = refl; under_way = refl; is = refl },
     (
-      e2,
-      record { used = refl; under_way = refl; is = refl },
+      e3,
+      event-3,
       (
-        e3,
-        event-3,
+        e4,
+        event-4,
         (
-          e4,
-          event-4,
+          e5,
+          event-5,
           (
-            e5,
-            event-5,
+            e6,
+            record { used = refl; is = refl },
             (
-              e6,
-              record { used = refl; is = refl },
+              e7,
+              event-7,
               (
-                e7,
-                event-7,
+                e8,
+                record { lost = refl; paused = refl; next = wire (sent_in_two Frame.Resume ∷ []) []; rest = []; opened = refl; is = refl },
                 (
-                  e8,
-                  record { lost = refl; paused = refl; next = wire (sent_in_two Frame.Resume ∷ []) []; rest = []; opened = refl; is = refl },
-                  (
-                    e9,
-                    event-9,
-                    (e10, event-10, refl),
-                  ),
+                  e9,
+                  event-9,
+                  (e10, event-10, refl),
                 ),
               ),
             ),
@@ -238,5 +235,7 @@ example-events = (
       ),
     ),
   ),
-  record { joined = refl; under_way = refl },
 )
+
+pub example-events : (new : Processes) × AreEvents e0 with_a_late_notice new × IsSettled new
+example-events = (e10, late-events, record { joined = refl; under_way = refl })

@@ -25,3 +25,4 @@ pub mod NotRun
 pub mod BeforeSwitch
 pub mod Replaced
 pub mod ReplacedRuns
+pub mod ExampleReplaced

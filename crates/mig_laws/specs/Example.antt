@@ -1,6 +1,6 @@
 -- An order of two logs with a break, and two processes with these logs: a migration begins, the channel is lost, both sides notice, and they
--- continue over a new one.
-use Rattle.std.specs.Prelude.{List, [], ◌∷◌}
+-- continue over a new one. It is lost again, and another destination takes the place of the first one.
+use Rattle.std.specs.Prelude.{List, [], ◌∷◌, ◌++◌, map}
 use Rattle.std.specs.FinSet as finset
 use Rattle.mig_base.specs.declared.effect.Effect.{Effect}
 use Rattle.mig_base.specs.declared.phase.Received.{Received}
@@ -10,6 +10,7 @@ use Rattle.mig_model.specs.Log.{no_pages}
 use Rattle.mig_model.specs.Wire.{Frame}
 use Rattle.mig_laws.specs.Orders.{Turn}
 use Rattle.mig_laws.specs.Processes.{Event}
+use Rattle.mig_laws.specs.Replacements.{Change}
 use Rattle.mig_laws.specs.Sides.{Line}
 
 -- Start, whose Advise is taken; a loss, which each side notices; Resume, which is taken; and its Recv, which is taken as well
@@ -44,3 +45,17 @@ with_a_late_notice =
     ∷ Event.There (Line.Took (record { epoch = 2; frame = Frame.Resume }))
     ∷ Event.Here (Line.Took (record { epoch = 2; frame = Frame.Recv Received.NotRun no_pages }))
     ∷ []
+
+-- and then the source loses the channel again, opens another one, and another destination takes the Resume
+abbrev pub a_replacement : List Change
+a_replacement =
+    Change.Happens Event.LosesHere
+    ∷ Change.Happens (Event.Here (Line.Made (Step.Notice Side.Source)))
+    ∷ Change.Happens Event.Opens
+    ∷ Change.Replaced 3
+    ∷ Change.Happens (Event.Here (Line.Took (record { epoch = 3; frame = Frame.Recv Received.NotRun no_pages })))
+    ∷ []
+
+-- all of it: the first destination has answered a Resume, and has noticed nothing of the second loss
+abbrev pub with_another_destination : List Change
+with_another_destination = map (λ event. Change.Happens event) with_a_late_notice ++ a_replacement

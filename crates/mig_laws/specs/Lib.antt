@@ -4,6 +4,6 @@ pub mod Nodes
 pub mod Runs
 pub mod Sides
 pub mod Orders
-pub mod Example
 pub mod Processes
 pub mod Replacements
+pub mod Example

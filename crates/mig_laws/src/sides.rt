@@ -14,7 +14,7 @@ ghost use Rattle.mig_model.specs.Promises.{IsAlone, IsReached};
 ghost use Rattle.mig_model.specs.Runs.{outcomes};
 ghost use Rattle.mig_model.specs.Source.{first_source, is_released};
 ghost use Rattle.mig_model.specs.Whereabouts.{current_host};
-ghost use Rattle.mig_laws.specs.Example.{its_effects, with_a_break, with_a_late_notice};
+ghost use Rattle.mig_laws.specs.Example.{its_effects, with_a_break, with_a_late_notice, with_another_destination};
 ghost use Rattle.mig_laws.specs.Orders.{AreTurns, AreWhole, IsDestinationAlone, IsSourceAlone, IsTurn, Pair, Turn, destination_lines, finds_front, finds_urgent_front, first_pair, is_resume, log_of, source_lines, step_of, world_of};
 ghost use Rattle.mig_laws.specs.Processes.{AreEvents, Event, IsSettled, Processes, first_processes, log_here, log_there};
 ghost use Rattle.mig_laws.specs.Replacements.{AreChanges, Change, IsNotRun, is_before_run, last_log, resume_of, resume_taken, source_log};
@@ -213,9 +213,12 @@ pub fn a_destination_may_be_replaced()
 {}
 
 /// There are such orders and such processes: frames are taken on both main wires, the channel is lost, each side notices, and both continue
-/// over a new one. The source may open that before the destination takes the last frame of the old one.
+/// over a new one. The source may open that before the destination takes the last frame of the old one. Then another destination takes the
+/// place of the first one, which has answered a Resume and has not noticed that the channel is lost again.
 pub fn an_order_with_a_break()
     ensures order { (new : Pair) × AreTurns (first_pair 1 0 0) with_a_break its_effects new }
     ensures processes { (new : Processes) ×
         AreEvents (first_processes 1 0 0) with_a_late_notice new × IsSettled new }
+    ensures replaced { (new : Processes) ×
+        AreChanges 1 (first_processes 1 0 0) with_another_destination new × IsSettled new }
 {}
