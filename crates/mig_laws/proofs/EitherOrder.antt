@@ -3,7 +3,7 @@
 use Rattle.std.proofs.lemmas.Bool.Decides.{nat_tests}
 use Rattle.std.proofs.Common.{◌≡◌, ◌≢◌, ◌⊎◌, inl, inr, ℕ, ◌&&◌, Bool, true, false, not, Some, List, [], ◌∷◌, ◌++◌, refl, sym, ap, subst, ◌∙◌, arith}
 use Rattle.std.specs.Prelude.{Result, Ok, Err, IsOk, ok_or}
-use Rattle.std.proofs.lemmas.Bool.{false≢true}
+use Rattle.std.proofs.lemmas.Bool.{false_from_ne_true, false≢true}
 use Rattle.std.proofs.lemmas.List.{append-nil}
 use Rattle.mig_base.specs.declared.command.Command.{Command}
 use Rattle.mig_base.specs.declared.command.Entry.{Entry}
@@ -16,8 +16,8 @@ use Rattle.mig_model.specs.Destination.{Destination, urgent_took}
 use Rattle.mig_model.specs.Effects.{frame_effect}
 use Rattle.mig_model.specs.DestinationSteps as destination
 use Rattle.mig_model.specs.Invariant.{IsSoundWorld, Wires}
-use Rattle.mig_model.specs.Migration.{Answer, Made, World, answer, has_started, is_short, made, next, next_by, outcome, outcome_by}
-use Rattle.mig_model.specs.NodeSteps.{Acted, Sends, first_of, rest_of, while_down}
+use Rattle.mig_model.specs.Migration.{Answer, Made, World, answer, delivered, destination_acts, destination_sends, has_started, is_short, made, next, next_by, outcome, outcome_by, source_sends}
+use Rattle.mig_model.specs.NodeSteps.{Acted, Sends, first_of, in_phase, rest_of, while_down, while_up}
 use Rattle.mig_model.specs.Promises.{IsReached}
 use Rattle.mig_model.specs.Source.{Source, is_released, is_source_idle, is_under_way, source_answers, source_took}
 use Rattle.mig_model.specs.SourceSteps as source
@@ -209,23 +209,33 @@ retry-form world cpu is ok =
           source-retry (there_changed world other forward urgent transcript) cpu (ran refl) ∙ ap (source_gives (there_changed world other forward urgent transcript)) found.1;
     }
 
--- what an accepted delivery back finds
-pub record FindsBack (world : World) (n : ℕ) : Type 0 where
-  pub up : world.up ≡ true
-  pub started : has_started world ≡ true
+-- what an accepted delivery finds: the link is up, its phase allows it, and a frame is in flight
+pub record Finds (up allowed : Bool) (flight : List Sent) : Type 0 where
+  pub up_is : up ≡ true
+  pub may : allowed ≡ true
   pub sent : Sent
   pub rest : List Sent
-  pub first : world.back.frames ≡ sent ∷ rest
+  pub first : flight ≡ sent ∷ rest
 
-pub finds-back : (world : World) (n : ℕ) → IsOk (outcome world (Step.DeliverBack n)) → FindsBack world n
+finds : (up allowed : Bool) (on : Wire → World) (wire : Wire) (n : ℕ) (take : World → Sent → Answer) → Holds (λ (m : Made). Finds up allowed wire.frames) (while_up up (in_phase allowed (delivered on wire n take)))
+finds up allowed on wire n take =
+    holds-while_up _ up _ (λ up_is.
+    holds-in_phase _ allowed _ (λ may.
+    holds-and_then _ (ok_or (first_of wire.frames) Refusal.NothingThere) _ (holds-ok_or _ (first_of wire.frames) Refusal.NothingThere (λ sent is.
+    let found : Finds up allowed wire.frames = record { up_is = up_is; may = may; sent = sent; rest = rest_of wire.frames; first = first_and_rest wire.frames sent is } in
+    always (Finds up allowed wire.frames) _ found))))
+
+pub finds-back : (world : World) (n : ℕ) → IsOk (outcome world (Step.DeliverBack n)) → Finds world.up (has_started world) world.back.frames
 finds-back world n ok =
-    let frames = world.back.frames in
-    answered (FindsBack world n) world (Step.DeliverBack n)
-    (holds-while_up _ world.up _ (λ up.
-    holds-in_phase _ (has_started world) _ (λ started.
-    holds-and_then _ (ok_or (first_of frames) Refusal.NothingThere) _ (holds-ok_or _ (first_of frames) Refusal.NothingThere (λ sent is.
-    let found : FindsBack world n = record { up = up; started = started; sent = sent; rest = rest_of frames; first = first_and_rest frames sent is } in
-    always (FindsBack world n) _ found))))) ok
+    answered (Finds world.up (has_started world) world.back.frames) world (Step.DeliverBack n) (finds world.up (has_started world) (λ wire. record world { back = wire }) world.back n (λ behind sent. source_sends behind (source.take behind.source sent.frame))) ok
+
+pub finds-forward : (world : World) (n : ℕ) → IsOk (outcome world (Step.Deliver n)) → Finds world.up (has_started world) world.forward.frames
+finds-forward world n ok =
+    answered (Finds world.up (has_started world) world.forward.frames) world (Step.Deliver n) (finds world.up (has_started world) (λ wire. record world { forward = wire }) world.forward n (λ behind sent. destination_sends behind (destination.take behind.destination sent.epoch sent.frame))) ok
+
+pub finds-urgent : (world : World) (n : ℕ) → IsOk (outcome world (Step.DeliverUrgent n)) → Finds world.up world.destination.has_run world.urgent.frames
+finds-urgent world n ok =
+    answered (Finds world.up world.destination.has_run world.urgent.frames) world (Step.DeliverUrgent n) (finds world.up world.destination.has_run (λ wire. record world { urgent = wire }) world.urgent n (λ behind sent. destination_acts behind (destination.take_urgent behind.destination sent.frame))) ok
 
 -- bytes that complete no frame
 abbrev only_moved : {Node : Type 0} → Node → ℕ → Did Node
@@ -244,7 +254,7 @@ taken_back world n sent rest started up first is =
     delivers_back world n sent rest false started up first is ∙ sends-gives (record world { back = wire_behind rest }) (source.take world.source sent.frame)
     ∙ ap (λ (frames : List Sent). made (frame_effect sent.frame) (source_done (record world { back = wire_behind (rest_of frames) }) (took_back world.source sent.frame))) (sym first)
 
-back-form : (world : World) (n : ℕ) (found : FindsBack world n) (short : Bool) → is_short world.back found.sent.frame n ≡ short → SourceForm world (Step.DeliverBack n)
+back-form : (world : World) (n : ℕ) (found : Finds world.up (has_started world) world.back.frames) (short : Bool) → is_short world.back found.sent.frame n ≡ short → SourceForm world (Step.DeliverBack n)
 back-form world n found true is =
     record {
       did = only_moved world.source n;
@@ -252,11 +262,11 @@ back-form world n found true is =
       fits = tt;
       said = inl refl;
       unswitched = λ command. absurd (false≢true command);
-      here = delivers_back world n found.sent found.rest true found.started found.up found.first is ∙ moved_back world n;
+      here = delivers_back world n found.sent found.rest true found.may found.up_is found.first is ∙ moved_back world n;
       later = λ other forward urgent transcript ran.
           let new = there_changed world other forward urgent transcript in
           let first = ap (λ frames. sending_if world.up frames other.node.epoch other.frames) found.first ∙ sending_if-first world.up found.sent found.rest other.node.epoch other.frames in
-          delivers_back new n found.sent (sending_if world.up found.rest other.node.epoch other.frames) true found.started found.up first is ∙ moved_back new n;
+          delivers_back new n found.sent (sending_if world.up found.rest other.node.epoch other.frames) true found.may found.up_is first is ∙ moved_back new n;
     }
 back-form world n found false is =
     record {
@@ -265,11 +275,11 @@ back-form world n found false is =
       fits = (found.sent, found.rest, found.first);
       said = inl refl;
       unswitched = λ command. absurd (false≢true command);
-      here = taken_back world n found.sent found.rest found.started found.up found.first is;
+      here = taken_back world n found.sent found.rest found.may found.up_is found.first is;
       later = λ other forward urgent transcript ran.
           let new = there_changed world other forward urgent transcript in
           let first = ap (λ frames. sending_if world.up frames other.node.epoch other.frames) found.first ∙ sending_if-first world.up found.sent found.rest other.node.epoch other.frames in
-          taken_back new n found.sent (sending_if world.up found.rest other.node.epoch other.frames) found.started found.up first is;
+          taken_back new n found.sent (sending_if world.up found.rest other.node.epoch other.frames) found.may found.up_is first is;
     }
 
 runs_here : (ran : Bool) → Some (running_side ran) ≡ Some Side.Source → ran ≡ false
@@ -408,42 +418,6 @@ there_retry-form world cpu is ok =
       later = λ other back transcript suits. destination-retry (here_changed world other back transcript) cpu is ∙ ap (destination_gives (here_changed world other back transcript)) found.1;
     }
 
--- what an accepted delivery finds
-pub record FindsForward (world : World) (n : ℕ) : Type 0 where
-  pub up : world.up ≡ true
-  pub started : has_started world ≡ true
-  pub sent : Sent
-  pub rest : List Sent
-  pub first : world.forward.frames ≡ sent ∷ rest
-
-pub finds-forward : (world : World) (n : ℕ) → IsOk (outcome world (Step.Deliver n)) → FindsForward world n
-finds-forward world n ok =
-    let frames = world.forward.frames in
-    answered (FindsForward world n) world (Step.Deliver n)
-    (holds-while_up _ world.up _ (λ up.
-    holds-in_phase _ (has_started world) _ (λ started.
-    holds-and_then _ (ok_or (first_of frames) Refusal.NothingThere) _ (holds-ok_or _ (first_of frames) Refusal.NothingThere (λ sent is.
-    let found : FindsForward world n = record { up = up; started = started; sent = sent; rest = rest_of frames; first = first_and_rest frames sent is } in
-    always (FindsForward world n) _ found))))) ok
-
--- what an accepted delivery of the urgent wire finds
-pub record FindsUrgent (world : World) (n : ℕ) : Type 0 where
-  pub up : world.up ≡ true
-  pub ran : world.destination.has_run ≡ true
-  pub sent : Sent
-  pub rest : List Sent
-  pub first : world.urgent.frames ≡ sent ∷ rest
-
-pub finds-urgent : (world : World) (n : ℕ) → IsOk (outcome world (Step.DeliverUrgent n)) → FindsUrgent world n
-finds-urgent world n ok =
-    let frames = world.urgent.frames in
-    answered (FindsUrgent world n) world (Step.DeliverUrgent n)
-    (holds-while_up _ world.up _ (λ up.
-    holds-in_phase _ world.destination.has_run _ (λ ran.
-    holds-and_then _ (ok_or (first_of frames) Refusal.NothingThere) _ (holds-ok_or _ (first_of frames) Refusal.NothingThere (λ sent is.
-    let found : FindsUrgent world n = record { up = up; ran = ran; sent = sent; rest = rest_of frames; first = first_and_rest frames sent is } in
-    always (FindsUrgent world n) _ found))))) ok
-
 none_back : (up : Bool) (world : World) (effect : Effect) → made effect world ≡ made effect (record world { back = wire_if up world.back world.destination.epoch [] })
 none_back true world effect = refl
 none_back false world effect = refl
@@ -462,7 +436,7 @@ taken_there world n sent rest did started up first is gives =
     ∙ ap (destination_gives (record world { forward = wire_behind rest })) gives
     ∙ ap (λ (frames : List Sent). made did.effect (destination_done (record world { forward = wire_behind (rest_of frames) }) did)) (sym first)
 
-forward-form : (world : World) (n : ℕ) (found : FindsForward world n) (short : Bool) → is_short world.forward found.sent.frame n ≡ short → IsOk (outcome world (Step.Deliver n)) → DestinationForm world (Step.Deliver n)
+forward-form : (world : World) (n : ℕ) (found : Finds world.up (has_started world) world.forward.frames) (short : Bool) → is_short world.forward found.sent.frame n ≡ short → IsOk (outcome world (Step.Deliver n)) → DestinationForm world (Step.Deliver n)
 forward-form world n found true is ok =
     record {
       did = only_moved world.destination n;
@@ -471,17 +445,17 @@ forward-form world n found true is ok =
       fits_ahead = tt;
       fits_aside = tt;
       said = inl refl;
-      here = delivers world n found.sent found.rest true found.started found.up found.first is ∙ moved_there (record world { forward = wire_moved world.forward n }) n;
+      here = delivers world n found.sent found.rest true found.may found.up_is found.first is ∙ moved_there (record world { forward = wire_moved world.forward n }) n;
       later = λ other back transcript suits.
           let new = here_changed world other back transcript in
           let first = ap (λ frames. sending frames other.node.epoch other.frames) found.first ∙ sending-first found.sent found.rest other.node.epoch other.frames in
-          delivers new n found.sent (sending found.rest other.node.epoch other.frames) true (ap not suits) found.up first is ∙ moved_there (record new { forward = wire_moved new.forward n }) n;
+          delivers new n found.sent (sending found.rest other.node.epoch other.frames) true (ap not suits) found.up_is first is ∙ moved_there (record new { forward = wire_moved new.forward n }) n;
     }
 forward-form world n found false is ok =
     let given = destination.take world.destination found.sent.epoch found.sent.frame in
     let behind = record world { forward = wire_behind found.rest } in
     let taken : (did : Did Destination) × (sends given ≡ Ok did) =
-    destination_did behind (sends given) (accepted-by world (Step.Deliver n) (destination_gives behind (sends given)) (delivers world n found.sent found.rest false found.started found.up found.first is ∙ there_sends-gives behind given) ok) in
+    destination_did behind (sends given) (accepted-by world (Step.Deliver n) (destination_gives behind (sends given)) (delivers world n found.sent found.rest false found.may found.up_is found.first is ∙ there_sends-gives behind given) ok) in
     record {
       did = taken.0;
       ahead = Front.Goes;
@@ -489,11 +463,11 @@ forward-form world n found false is ok =
       fits_ahead = (found.sent, found.rest, found.first);
       fits_aside = tt;
       said = inl (ok-holds (λ (did : Did Destination). did.entries ≡ []) (sends given) taken.0 (sends-quiet given) taken.1);
-      here = taken_there world n found.sent found.rest taken.0 found.started found.up found.first is taken.1;
+      here = taken_there world n found.sent found.rest taken.0 found.may found.up_is found.first is taken.1;
       later = λ other back transcript suits.
           let new = here_changed world other back transcript in
           let first = ap (λ frames. sending frames other.node.epoch other.frames) found.first ∙ sending-first found.sent found.rest other.node.epoch other.frames in
-          taken_there new n found.sent (sending found.rest other.node.epoch other.frames) taken.0 (ap not suits) found.up first is taken.1;
+          taken_there new n found.sent (sending found.rest other.node.epoch other.frames) taken.0 (ap not suits) found.up_is first is taken.1;
     }
 
 -- an urgent frame that the destination takes
@@ -506,7 +480,7 @@ taken_urgent world n sent rest ran up first is =
     delivers_urgent world n sent rest false ran up first is ∙ there_acts-gives (record world { urgent = wire_behind rest }) (destination.take_urgent world.destination sent.frame)
     ∙ ap (λ (frames : List Sent). made (frame_effect sent.frame) (destination_done (record world { urgent = wire_behind (rest_of frames) }) (took_urgent world.destination sent.frame))) (sym first)
 
-urgent-form : (world : World) (n : ℕ) (found : FindsUrgent world n) (short : Bool) → is_short world.urgent found.sent.frame n ≡ short → DestinationForm world (Step.DeliverUrgent n)
+urgent-form : (world : World) (n : ℕ) (found : Finds world.up world.destination.has_run world.urgent.frames) (short : Bool) → is_short world.urgent found.sent.frame n ≡ short → DestinationForm world (Step.DeliverUrgent n)
 urgent-form world n found true is =
     record {
       did = only_moved world.destination n;
@@ -515,11 +489,11 @@ urgent-form world n found true is =
       fits_ahead = tt;
       fits_aside = tt;
       said = inl refl;
-      here = delivers_urgent world n found.sent found.rest true found.ran found.up found.first is ∙ moved_there (record world { urgent = wire_moved world.urgent n }) n;
+      here = delivers_urgent world n found.sent found.rest true found.may found.up_is found.first is ∙ moved_there (record world { urgent = wire_moved world.urgent n }) n;
       later = λ other back transcript suits.
           let new = here_changed world other back transcript in
           let first = ap (λ frames. sending frames other.node.epoch other.urgent) found.first ∙ sending-first found.sent found.rest other.node.epoch other.urgent in
-          delivers_urgent new n found.sent (sending found.rest other.node.epoch other.urgent) true found.ran found.up first is ∙ moved_there (record new { urgent = wire_moved new.urgent n }) n;
+          delivers_urgent new n found.sent (sending found.rest other.node.epoch other.urgent) true found.may found.up_is first is ∙ moved_there (record new { urgent = wire_moved new.urgent n }) n;
     }
 urgent-form world n found false is =
     record {
@@ -529,11 +503,11 @@ urgent-form world n found false is =
       fits_ahead = tt;
       fits_aside = (found.sent, found.rest, found.first);
       said = inl refl;
-      here = taken_urgent world n found.sent found.rest found.ran found.up found.first is;
+      here = taken_urgent world n found.sent found.rest found.may found.up_is found.first is;
       later = λ other back transcript suits.
           let new = here_changed world other back transcript in
           let first = ap (λ frames. sending frames other.node.epoch other.urgent) found.first ∙ sending-first found.sent found.rest other.node.epoch other.urgent in
-          taken_urgent new n found.sent (sending found.rest other.node.epoch other.urgent) found.ran found.up first is;
+          taken_urgent new n found.sent (sending found.rest other.node.epoch other.urgent) found.may found.up_is first is;
     }
 
 runs_there : (ran : Bool) → Some (running_side ran) ≡ Some Side.Destination → ran ≡ true
@@ -596,22 +570,18 @@ pub idle-flight : (from : SourcePhase) (source : Source) (destination : Destinat
 idle-flight SourcePhase.Idle source destination forward back urgent wires idle = (wires.1, wires.2)
 idle-flight _ source destination forward back urgent wires idle = absurd (false≢true idle)
 
-nothing-first : (sent : Sent) (rest flight : List Sent) → flight ≡ [] → flight ≡ sent ∷ rest → ⊥
+pub nothing-first : (sent : Sent) (rest flight : List Sent) → flight ≡ [] → flight ≡ sent ∷ rest → ⊥
 nothing-first sent rest flight none first = cc
-
-pub not-true : (b : Bool) → (b ≡ true → ⊥) → b ≡ false
-not-true true never = absurd (never refl)
-not-true false never = refl
 
 -- so where a frame is in flight a migration has started
 pub started-forward : (world : World) (sent : Sent) (rest : List Sent) → IsSoundWorld world → world.up ≡ true → world.forward.frames ≡ sent ∷ rest → is_source_idle world.source.phase ≡ false
 started-forward world sent rest sound up first =
-    not-true (is_source_idle world.source.phase) (λ idle.
+    false_from_ne_true (is_source_idle world.source.phase) (λ idle.
     nothing-first sent rest world.forward.frames (idle-flight world.source.phase world.source world.destination world.forward.frames world.back.frames world.urgent.frames (sound.flight.wires up) idle).0 first)
 
 pub started-back : (world : World) (sent : Sent) (rest : List Sent) → IsSoundWorld world → world.up ≡ true → world.back.frames ≡ sent ∷ rest → is_source_idle world.source.phase ≡ false
 started-back world sent rest sound up first =
-    not-true (is_source_idle world.source.phase) (λ idle.
+    false_from_ne_true (is_source_idle world.source.phase) (λ idle.
     nothing-first sent rest world.back.frames (idle-flight world.source.phase world.source world.destination world.forward.frames world.back.frames world.urgent.frames (sound.flight.wires up) idle).1 first)
 
 -- the notice of the destination is accepted while the link is down
@@ -623,7 +593,7 @@ suits-later : (world : World) (step : Step) → IsSoundWorld world → (new : Di
     side_of world.destination.has_run step ≡ Some Side.Destination → IsOk (outcome world step) → Suits world step new.node
 suits-later world (Step.Deliver n) sound new back transcript kept side ok =
     let found = finds-forward world n ok in
-    started-forward (here_changed world new back transcript) found.sent (sending found.rest new.node.epoch new.frames) kept found.up
+    started-forward (here_changed world new back transcript) found.sent (sending found.rest new.node.epoch new.frames) kept found.up_is
     (ap (λ frames. sending frames new.node.epoch new.frames) found.first ∙ sending-first found.sent found.rest new.node.epoch new.frames)
 suits-later world (Step.Notice Side.Destination) sound new back transcript kept side ok =
     let down = noticed-down world ok in under_way-down (here_changed world new back transcript) kept down ∙ sym (under_way-down world sound down)
@@ -677,7 +647,7 @@ commute world here there sound sound_here sound_there side ok a b =
     let next_there = next-made world there b.did.effect after_there b.here in
     let kept_here : IsSoundWorld after_here = subst IsSoundWorld next_here sound_here in
     let kept_there : IsSoundWorld after_there = subst IsSoundWorld next_there sound_there in
-    let ran = λ (command : is_command here ≡ true). not-true b.did.node.has_run (λ has_run. false≢true (sym (a.unswitched command) ∙ kept_there.phases.ran_after_switch has_run)) in
+    let ran = λ (command : is_command here ≡ true). false_from_ne_true b.did.node.has_run (λ has_run. false≢true (sym (a.unswitched command) ∙ kept_there.phases.ran_after_switch has_run)) in
     let suits = suits-later world there sound a.did (fronted a.front world.back) (world.transcript ++ a.did.entries) kept_here side ok in
     let later_here = a.later b.did (fronted b.ahead world.forward) (fronted b.aside world.urgent) (world.transcript ++ b.did.entries) ran in
     let later_there = b.later a.did (fronted a.front world.back) (world.transcript ++ a.did.entries) suits in

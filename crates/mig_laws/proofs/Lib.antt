@@ -19,6 +19,7 @@ pub mod OrderRuns
 pub mod LogNodes
 pub mod ChangedOrders
 pub mod ExampleOrder
+pub mod GrownOrders
 pub mod TwoProcesses
 pub mod WorldSides
 pub mod NotRun

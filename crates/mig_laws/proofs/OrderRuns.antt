@@ -2,7 +2,7 @@
 use Rattle.std.proofs.lemmas.Bool.Decides.{nat_tests}
 use Rattle.std.proofs.Common.{◌≡◌, ◌⊎◌, inl, inr, append_assoc, ℕ, ◌-◌, ◌||◌, Bool, true, false, not, ltb, Option, Some, None, List, [], ◌∷◌, ◌++◌, map, if◌then◌else◌, refl, sym, ap, subst, ◌∙◌, arith}
 use Rattle.std.specs.Prelude.{Result, Ok, Err, ok_or}
-use Rattle.std.proofs.lemmas.Bool.{and_parts, false≢true}
+use Rattle.std.proofs.lemmas.Bool.{and_parts, false_from_ne_true, false≢true, not-true}
 use Rattle.std.proofs.lemmas.List.{append-nil}
 use Rattle.mig_base.specs.Bytes.{zero_page}
 use Rattle.mig_base.specs.Userfault.{next_message}
@@ -37,8 +37,8 @@ use Rattle.mig_model.proofs.steps.StepLemmas.{Holds, delivers, delivers_back, de
 use Rattle.mig_laws.specs.Nodes.{map_ok}
 use Rattle.mig_laws.specs.Orders.{AreTurns, IsCut, IsDestinationTurn, IsSourceTurn, IsTurn, Pair, Turn, destination_lines, first_pair, line_of, log_of, logged, makes, source_lines, source_may, step_of, taken_line, world_of}
 use Rattle.mig_laws.specs.Sides.{Did, Line, acts, destination_line, destination_step, running_side, sends, source_step}
-use Rattle.mig_laws.proofs.EitherOrder.{next-made, sends-quiet, source-quiet, not-true, ok-holds, outcome-made, started-back, started-forward, under_way-down}
-use Rattle.mig_laws.proofs.SideForms.{destination-issue, destination-own, destination-retry, destination_done, destination_gives, destination_linked, is_destination_own, is_source_own, sends-gives, source-issue, source-own, source-retry, source_done, source_gives, source_linked, there_acts-gives, there_sends-gives}
+use Rattle.mig_laws.proofs.EitherOrder.{next-made, sends-quiet, source-quiet, ok-holds, outcome-made, started-back, started-forward, under_way-down}
+use Rattle.mig_laws.proofs.SideForms.{destination-issue, destination-own, destination-retry, destination_done, destination_gives, destination_linked, is_destination_own, is_source_own, or-false, sends-gives, source-issue, source-own, source-retry, source_done, source_gives, source_linked, there_acts-gives, there_sends-gives}
 
 -- a turn of two processes as a step of their world: its answer, and what it adds to the logs of the two sides
 pub record IsStep (old : Pair) (turn : Turn) (effect : Effect) (new : Pair) : Type 0 where
@@ -51,16 +51,8 @@ never refusal done is = cc
 
 -- Where the channel carries frames
 
-or-false : (b : Bool) → (b || false) ≡ b
-or-false true = refl
-or-false false = refl
-
 pub up-if : (up : Bool) → (up || false) ≡ true → up ≡ true
 up-if up may = sym (or-false up) ∙ may
-
-pub down-if : (up : Bool) → not up ≡ true → up ≡ false
-down-if true may = absurd (false≢true may)
-down-if false may = refl
 
 -- where it may come a step gives what the source gives by itself
 source-may : (pair : Pair) (step : Step) → is_source_own step ≡ true → source_may pair.up (is_dest_paused pair.destination.phase) (Line.Made step) ≡ true → source_linked pair.up pair.source step ≡ source_step pair.source step
@@ -75,7 +67,7 @@ source-may pair (Step.Push ticket) own may = is-up pair.up _ (up-if pair.up may)
 source-may pair (Step.PushUrgent ticket) own may = is-up pair.up _ (up-if pair.up may)
 source-may pair Step.Serve own may = is-up pair.up _ (up-if pair.up may)
 source-may pair Step.End own may = is-up pair.up _ (up-if pair.up may)
-source-may pair (Step.Notice side) own may = is-down pair.up _ (down-if pair.up may)
+source-may pair (Step.Notice side) own may = is-down pair.up _ (not-true pair.up may)
 source-may pair (Step.Issue cpu command) own may = absurd (false≢true own)
 source-may pair (Step.Retry cpu) own may = absurd (false≢true own)
 source-may pair (Step.Deliver n) own may = absurd (false≢true own)
@@ -110,7 +102,7 @@ retry-runs g guest runs cpu done is =
 
 -- the source makes commands only where the destination has not run
 not-run : (world : World) → IsSoundWorld world → not world.source.switched ≡ true → world.destination.has_run ≡ false
-not-run world sound runs = not-true world.destination.has_run (λ has_run. false≢true (ap not (sym (sound.phases.ran_after_switch has_run)) ∙ runs))
+not-run world sound runs = false_from_ne_true world.destination.has_run (λ has_run. false≢true (ap not (sym (sound.phases.ran_after_switch has_run)) ∙ runs))
 
 -- The source
 
@@ -195,7 +187,7 @@ source-turn old Step.Resume did new sound later turn =
     let given = source.resume old.source in
     record {
       answer_is =
-          ap (source_sends up) (is-down old.up (in_phase (is_dest_paused old.destination.phase) given) (down-if old.up may.0) ∙ in-phase (is_dest_paused old.destination.phase) given may.1)
+          ap (source_sends up) (is-down old.up (in_phase (is_dest_paused old.destination.phase) given) (not-true old.up may.0) ∙ in-phase (is_dest_paused old.destination.phase) given may.1)
           ∙ sends-gives up given ∙ ap (source_gives up) turn.gives
           ∙ gave old did turn.back new true (inl (ok-holds (λ (d : Did Source). d.entries ≡ []) (sends given) did (sends-quiet given) turn.gives)) turn.takes turn.is;
       here = refl;
@@ -259,7 +251,7 @@ destination-turn old Step.DestRead did new sound turn = record { answer_is = des
 destination-turn old Step.DestAct did new sound turn = record { answer_is = destination-made old Step.DestAct did new turn.gives refl turn turn.takes turn.takes_urgent; here = refl; there = refl }
 destination-turn old Step.Install did new sound turn = record { answer_is = destination-made old Step.Install did new turn.gives refl turn turn.takes turn.takes_urgent; here = refl; there = refl }
 destination-turn old (Step.Notice Side.Destination) did new sound turn =
-    let down = down-if old.up turn.may in
+    let down = not-true old.up turn.may in
     let under_way = under_way-down (world_of old) sound down in
     let given = acts (destination.pause old.destination) in
     let linked = is-down old.up (in_phase (is_under_way old.source) given) down ∙ in-phase (is_under_way old.source) given under_way ∙ turn.gives in

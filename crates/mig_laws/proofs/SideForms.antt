@@ -113,7 +113,7 @@ source-own world Step.Install own = absurd (false≢true own)
 source-own world Step.Break own = absurd (false≢true own)
 source-own world Step.Resume own = absurd (false≢true own)
 
-or-false : (b : Bool) → (b || false) ≡ b
+pub or-false : (b : Bool) → (b || false) ≡ b
 or-false true = refl
 or-false false = refl
 

@@ -2,7 +2,8 @@
 use Rattle.std.proofs.lemmas.Bool.Decides.{nat_tests}
 use Rattle.std.proofs.Common.{◌≡◌, ℕ, ◌||◌, ◌&&◌, Bool, true, false, not, cond, List, [], ◌∷◌, ◌++◌, if◌then◌else◌, refl, sym, ap, subst, ◌∙◌, arith}
 use Rattle.std.specs.Prelude.{Result, Ok, Err, IsOk}
-use Rattle.std.proofs.lemmas.Bool.{false≢true}
+use Rattle.std.proofs.Math.Bool.{or-true}
+use Rattle.std.proofs.lemmas.Bool.{false≢true, not-true}
 use Rattle.mig_base.specs.declared.effect.Effect.{Effect}
 use Rattle.mig_base.specs.declared.refusal.Refusal.{Refusal}
 use Rattle.mig_base.specs.declared.schedule.Side.{Side}
@@ -68,17 +69,13 @@ was-down {A} up (Err refusal) done is = absurd (either-refused (is_out_of_phase 
 may-up : (up : Bool) → up ≡ true → (up || false) ≡ true
 may-up up is = ap (λ b. b || false) is
 
-may-any : (up : Bool) → (up || true) ≡ true
-may-any true = refl
-may-any false = refl
-
 own-turned : (old : Pair) (step : Step) (did : Did Source) → IsSoundWorld (world_of old) → IsLater old → is_source_own step ≡ true → source_linked old.up old.source step ≡ Ok did → Turned old step
-own-turned old Step.Start did sound later own gives = here-turned old Step.Start did sound later gives (may-any old.up)
-own-turned old Step.Round did sound later own gives = here-turned old Step.Round did sound later gives (may-any old.up)
+own-turned old Step.Start did sound later own gives = here-turned old Step.Start did sound later gives (or-true old.up)
+own-turned old Step.Round did sound later own gives = here-turned old Step.Round did sound later gives (or-true old.up)
 own-turned old Step.Send did sound later own gives = let found = was-up old.up (source_step old.source Step.Send) did gives in here-turned old Step.Send did sound later found.1 (may-up old.up found.0)
 own-turned old (Step.SendRun count) did sound later own gives = let found = was-up old.up (source_step old.source (Step.SendRun count)) did gives in here-turned old (Step.SendRun count) did sound later found.1 (may-up old.up found.0)
-own-turned old Step.SourceRead did sound later own gives = here-turned old Step.SourceRead did sound later gives (may-any old.up)
-own-turned old Step.SourceAct did sound later own gives = here-turned old Step.SourceAct did sound later gives (may-any old.up)
+own-turned old Step.SourceRead did sound later own gives = here-turned old Step.SourceRead did sound later gives (or-true old.up)
+own-turned old Step.SourceAct did sound later own gives = here-turned old Step.SourceAct did sound later gives (or-true old.up)
 own-turned old Step.Switch did sound later own gives = let found = was-up old.up (source_step old.source Step.Switch) did gives in here-turned old Step.Switch did sound later found.1 (may-up old.up found.0)
 own-turned old (Step.Push ticket) did sound later own gives = let found = was-up old.up (source_step old.source (Step.Push ticket)) did gives in here-turned old (Step.Push ticket) did sound later found.1 (may-up old.up found.0)
 own-turned old (Step.PushUrgent ticket) did sound later own gives = let found = was-up old.up (source_step old.source (Step.PushUrgent ticket)) did gives in here-turned old (Step.PushUrgent ticket) did sound later found.1 (may-up old.up found.0)
@@ -124,12 +121,8 @@ resume-step old sound later ok =
 
 -- Deliveries
 
-unshort : (short : Bool) → not short ≡ true → short ≡ false
-unshort true is = absurd (false≢true is)
-unshort false is = refl
-
 full : (wire : Wire) (flight rest : List Sent) (sent : Sent) (n : ℕ) → flight ≡ sent ∷ rest → completes wire flight n ≡ true → is_short wire sent.frame n ≡ false
-full wire flight rest sent n first whole_is = unshort (is_short wire sent.frame n) (sym (ap (λ f. completes wire f n) first) ∙ whole_is)
+full wire flight rest sent n first whole_is = not-true (is_short wire sent.frame n) (sym (ap (λ f. completes wire f n) first) ∙ whole_is)
 
 line-taken : (line : Sent → Line) (flight rest : List Sent) (sent : Sent) (n : ℕ) → flight ≡ sent ∷ rest → is_short (wire_behind flight) sent.frame n ≡ false → taken_line line (wire_behind flight) flight n ≡ line sent ∷ []
 line-taken line flight rest sent n first short =
@@ -144,7 +137,7 @@ back-step old n sound later whole_is ok =
     let short = full (wire_behind old.back) old.back found.rest sent n found.first whole_is in
     let new = after_here old (Line.Took sent) did found.rest in
     let turn : Turn = Turn.AtSource (Line.Took sent) in
-    let is : IsTurn old turn did.effect new = (did, record { gives = refl; may = found.up; back = found.rest; takes = found.first; is = refl }, refl) in
+    let is : IsTurn old turn did.effect new = (did, record { gives = refl; may = found.up_is; back = found.rest; takes = found.first; is = refl }, refl) in
     let one = every-turn old turn did.effect new sound later is in
     record {
       turn = turn;
@@ -152,8 +145,8 @@ back-step old n sound later whole_is ok =
       new = new;
       is = is;
       answer_is =
-          delivers_back world n sent found.rest false found.started found.up found.first short
-          ∙ sym (delivers_back world (text_len sent.frame) sent found.rest false found.started found.up found.first (whole (text_len sent.frame))) ∙ one.answer_is;
+          delivers_back world n sent found.rest false found.may found.up_is found.first short
+          ∙ sym (delivers_back world (text_len sent.frame) sent found.rest false found.may found.up_is found.first (whole (text_len sent.frame))) ∙ one.answer_is;
       here = line-taken (λ s. Line.Took s) old.back found.rest sent n found.first short;
       there = refl;
     }
@@ -167,11 +160,11 @@ forward-step old n sound later whole_is ok =
     let given = destination.take old.destination sent.epoch sent.frame in
     let behind = record world { forward = wire_behind found.rest } in
     let taken : (did : Did Destination) × (sends given ≡ Ok did) =
-    destination_did behind (sends given) (accepted-by world (Step.Deliver n) (destination_gives behind (sends given)) (delivers world n sent found.rest false found.started found.up found.first short ∙ there_sends-gives behind given) ok) in
+    destination_did behind (sends given) (accepted-by world (Step.Deliver n) (destination_gives behind (sends given)) (delivers world n sent found.rest false found.may found.up_is found.first short ∙ there_sends-gives behind given) ok) in
     let did = taken.0 in
     let new = after_there old did found.rest old.urgent in
     let turn : Turn = Turn.AtDestination (Line.Took sent) in
-    let is : IsTurn old turn did.effect new = (did, record { gives = taken.1; may = found.up; forward = found.rest; takes = found.first; urgent = old.urgent; takes_urgent = refl; is = refl }, refl) in
+    let is : IsTurn old turn did.effect new = (did, record { gives = taken.1; may = found.up_is; forward = found.rest; takes = found.first; urgent = old.urgent; takes_urgent = refl; is = refl }, refl) in
     let one = every-turn old turn did.effect new sound later is in
     record {
       turn = turn;
@@ -179,8 +172,8 @@ forward-step old n sound later whole_is ok =
       new = new;
       is = is;
       answer_is =
-          delivers world n sent found.rest false found.started found.up found.first short
-          ∙ sym (delivers world (text_len sent.frame) sent found.rest false found.started found.up found.first (whole (text_len sent.frame))) ∙ one.answer_is;
+          delivers world n sent found.rest false found.may found.up_is found.first short
+          ∙ sym (delivers world (text_len sent.frame) sent found.rest false found.may found.up_is found.first (whole (text_len sent.frame))) ∙ one.answer_is;
       here = refl;
       there = line-taken (λ s. Line.Took s) old.forward found.rest sent n found.first short;
     }
@@ -193,9 +186,9 @@ urgent-step old n sound later whole_is ok =
     let did = took_urgent old.destination sent.frame in
     let short = full (wire_behind old.urgent) old.urgent found.rest sent n found.first whole_is in
     let new = after_there old did old.forward found.rest in
-    let gives = ap (λ b. in_phase b (acts (destination.take_urgent old.destination sent.frame))) found.ran in
+    let gives = ap (λ b. in_phase b (acts (destination.take_urgent old.destination sent.frame))) found.may in
     let turn : Turn = Turn.AtDestination (Line.TookUrgent sent) in
-    let is : IsTurn old turn did.effect new = (did, record { gives = gives; may = found.up; forward = old.forward; takes = refl; urgent = found.rest; takes_urgent = found.first; is = refl }, refl) in
+    let is : IsTurn old turn did.effect new = (did, record { gives = gives; may = found.up_is; forward = old.forward; takes = refl; urgent = found.rest; takes_urgent = found.first; is = refl }, refl) in
     let one = every-turn old turn did.effect new sound later is in
     record {
       turn = turn;
@@ -203,8 +196,8 @@ urgent-step old n sound later whole_is ok =
       new = new;
       is = is;
       answer_is =
-          delivers_urgent world n sent found.rest false found.ran found.up found.first short
-          ∙ sym (delivers_urgent world (text_len sent.frame) sent found.rest false found.ran found.up found.first (whole (text_len sent.frame))) ∙ one.answer_is;
+          delivers_urgent world n sent found.rest false found.may found.up_is found.first short
+          ∙ sym (delivers_urgent world (text_len sent.frame) sent found.rest false found.may found.up_is found.first (whole (text_len sent.frame))) ∙ one.answer_is;
       here = refl;
       there = line-taken (λ s. Line.TookUrgent s) old.urgent found.rest sent n found.first short;
     }
@@ -261,7 +254,7 @@ issue-step old cpu command false ran sound later ok =
     let step = Step.Issue cpu command in
     let given = source_step old.source step in
     let found : (did : Did Source) × (given ≡ Ok did) = source_did world given (accepted-by world step (source_gives world given) (source-issue world cpu command ran) ok) in
-    here-turned old step found.0 sound later found.1 (may-any old.up)
+    here-turned old step found.0 sound later found.1 (or-true old.up)
 issue-step old cpu command true ran sound later ok =
     let world = world_of old in
     let step = Step.Issue cpu command in
@@ -275,7 +268,7 @@ retry-step old cpu false ran sound later ok =
     let step = Step.Retry cpu in
     let given = source_step old.source step in
     let found : (did : Did Source) × (given ≡ Ok did) = source_did world given (accepted-by world step (source_gives world given) (source-retry world cpu ran) ok) in
-    here-turned old step found.0 sound later found.1 (may-any old.up)
+    here-turned old step found.0 sound later found.1 (or-true old.up)
 retry-step old cpu true ran sound later ok =
     let world = world_of old in
     let step = Step.Retry cpu in
