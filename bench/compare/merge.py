@@ -5,7 +5,9 @@ faults into traces, and looks who names them.
 python3 bench/compare/merge.py [--quick] [--scripts N] [--orders N] [--program PATH]
 
 The runs are those of examples/ and N random scripts (200) of all profiles of `postmig explore`, each in ten orders. --quick: 24 scripts,
-three orders. The status is 1 where an answer differs, where no order is found, or where a planted fault is not named.
+three orders. At each Resume but the first the trace of the destination is also cut, as that of another one that came then in the place of
+the first: before the switch it is merged, after it refused. The status is 1 where an answer differs, where no order is found, or where a
+planted fault is not named.
 """
 
 import argparse

@@ -1,4 +1,4 @@
-//! Laws that follow from the machine of `mig_model`, and on which no other crate stands.
+//! Laws that follow from the machine of `mig_model`. Of the other crates `node_laws` alone uses them.
 //!
 //! Contents do not matter. A map of bytes that keeps 0 acts on all that has contents: `specs/Contents.antt` says how on pages, numbers,
 //! commands, spaces and guests, `specs/Worlds.antt` on nodes, frames, worlds, steps and answers, and `specs/Nodes.antt` on what a step of
@@ -6,7 +6,8 @@
 //!
 //! Two nodes are a world. `specs/Sides.antt` says what a node gives by itself and what is in its log, and `specs/Orders.antt` in which
 //! orders the lines of two logs may have happened. `specs/Processes.antt` has two processes, each of which learns by itself that its channel
-//! is lost. `specs/Example.antt` has an order, and what happens to two processes with the same logs.
+//! is lost; `specs/Replacements.antt` lets another destination take the place of one that has not run. `specs/Example.antt` has an order, and
+//! what happens to two processes with the same logs.
 //!
 //! [`spaces`] has the laws of an address space, [`nodes`] those of a guest and of a node, [`worlds`] those of a migration whose contents
 //! change, and [`sides`] those of two nodes in processes of their own.
