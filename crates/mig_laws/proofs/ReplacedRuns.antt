@@ -118,7 +118,7 @@ joins source here cpus epoch kept channel [] next rest at forward takes =
     let mid : Processes = record { source = source; destination = node; first = next; later = rest; here = here; there = true } in
     let new = joined source here cpus at next forward rest in
     let line : IsThere mid (Line.Took (resume_of at)) new =
-        record { did = resume_taken cpus at; gives = takes-resume cpus DestPhase.Paused epoch kept at; may = refl; forward = forward; takes = takes; urgent = next.urgent; takes_urgent = refl; is = refl } in
+    record { did = resume_taken cpus at; gives = takes-resume cpus DestPhase.Paused epoch kept at; may = refl; forward = forward; takes = takes; urgent = next.urgent; takes_urgent = refl; is = refl } in
     way-then (waiting source here node channel (next ∷ rest)) mid new [] (Line.Took (resume_of at) ∷ [])
     (way-one (waiting source here node channel (next ∷ rest)) mid Event.Joins (record { lost = refl; paused = refl; next = next; rest = rest; opened = refl; is = refl }) refl)
     (way-one mid new (Event.There (Line.Took (resume_of at))) line refl)
@@ -154,7 +154,7 @@ in-place cpus log old epoch new is before =
     let end = joined old.source old.here cpus epoch is.next is.forward is.rest in
     let took = joins old.source old.here cpus last kept old.first is.skipped is.next is.rest epoch is.forward is.takes in
     let whole = way-then start lost end [] (found.lines ++ Line.Took (resume_of epoch) ∷ []) (loses old.source old.here old.there (not_run cpus phase last kept) old.first later)
-        (way-then lost paused end found.lines (Line.Took (resume_of epoch) ∷ []) found.way took) in
+    (way-then lost paused end found.lines (Line.Took (resume_of epoch) ∷ []) found.way took) in
     record {
       lines = found.lines ++ Line.Took (resume_of epoch) ∷ [];
       way = subst (λ now. Way old (found.lines ++ Line.Took (resume_of epoch) ∷ []) now) (sym is.is) (subst (λ now. Way now (found.lines ++ Line.Took (resume_of epoch) ∷ []) end) begins whole);
