@@ -25,7 +25,7 @@
 #define MOST_FILES (MOST_NEWCOMERS + 6u)
 #define OWN_FILES 5u /* of those, what is not of the door */
 #define MOST_UNASKED 8u /* turns without poll(2) */
-#define PATIENT_MS 10000u /* for the guest's threads to stop */
+#define PATIENT_MS 30000u /* for the guest's threads to stop, on a machine that has much else to do */
 
 struct dest {
     const struct options *options;
@@ -377,6 +377,8 @@ static bool take(struct dest *dest, const struct frame *frame)
     dest->is_first_frame = false;
     if (effect.kind != POSTMIG_DID_TAKE_ZERO && effect.kind != POSTMIG_DID_TAKE_RUN)
         look(dest);
+    if (effect.kind == POSTMIG_DID_TAKE_RESUME)
+        trace_resumed(dest->state.epoch);
     return true;
 }
 
@@ -614,7 +616,7 @@ static bool turn(struct dest *dest)
         lose_channel(dest);
     if (dest->state.has_run && dest->is_handed)
         dest->has_more |= watch_put_kept(&dest->watch, KEPT_AT_A_TIME);
-    trace_write();
+    trace_bound();
     show_progress(dest);
     return dest->is_over || (!is_still_flowing(dest) && wait_for_more(dest));
 }

@@ -331,7 +331,7 @@ def all_cases(program, cases=CASES):
     for case in cases:
         try:
             found = case(program)
-        except (OSError, TimeoutError) as error:
+        except (OSError, TimeoutError, subprocess.SubprocessError) as error:
             found = str(error)
         if found:
             print(f"WRONG {case.__name__.replace('_', ' ')}: {found}", flush=True)

@@ -15,6 +15,8 @@ PROGRAM = FOLDER / "out/live"
 POSTMIG = FOLDER.parent / "postmig"
 # What a program ends with: live.h.
 DONE, LOST, REFUSED, WRONG = range(4)
+# A migration that makes progress may take so many times as long as one that makes none.
+MOST_PATIENT = 3
 
 
 def figures_of(line):
@@ -122,14 +124,23 @@ class Migration:
         address = self.relay.address if cuts else address
         self.source = Side([str(program), "source", "--connect", address, *shared, *source], on_progress)
 
+    def wait(self, patience):
+        """Until one side has ended, or nothing that they say of their progress has changed for this time; MOST_PATIENT times as long at most."""
+        begun, last, said = time.time(), time.time(), None
+        while self.source.is_running() and self.dest.is_running():
+            now, saying = time.time(), (self.source.figures.get("progress"), self.dest.figures.get("progress"))
+            if saying != said:
+                last, said = now, saying
+            if now - last > patience or now - begun > MOST_PATIENT * patience:
+                return
+            time.sleep(0.002)
+
     def finish(self, patience=60):
         """What is wrong, or None. The destination hears that the source is gone once it is; one that gives up ends both."""
-        limit = time.time() + patience
-        while self.source.is_running() and self.dest.is_running() and time.time() < limit:
-            time.sleep(0.002)
-        hang = None
+        begun, hang = time.time(), None
+        self.wait(patience)
         if self.source.is_running() and self.dest.is_running():
-            hang = f"no end after {patience} s: source {self.source.state()}; destination {self.dest.state()}"
+            hang = f"no end after {time.time() - begun:.0f} s: source {self.source.state()}; destination {self.dest.state()}"
         if self.source.is_running() and not hang:
             time.sleep(0.05)
         is_killed = self.source.is_running()
@@ -137,7 +148,7 @@ class Migration:
             self.source.process.kill()
         self.source_status, self.source_text = self.source.end(10)
         self.dest.close_input()
-        self.dest_status, self.dest_text = self.dest.end(30)
+        self.dest_status, self.dest_text = self.dest.end(60)
         if self.monitor:
             self.end_monitor()
         if self.relay:

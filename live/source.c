@@ -18,12 +18,14 @@
 #define MOST_OF_RUN 64u
 #define RECEIVED_ENDED 2u          /* of a Recv */
 #define PUSHES_AT_A_TIME 16u
+#define UNHEARD_TURNS 16u          /* between two looks at the urgent connection */
 #define MOST_UNSENT (128u << 10)   /* bytes: more pages are not put into a stream */
 #define RETRY_NS 2000000u          /* between two tries to connect; */
 #define SLOW_RETRY_NS 50000000u    /* and after a handshake of TLS has failed */
 #define SECOND_NS 1000000000u
 #define MOST_HELD 256u             /* turns in which faults wait, so that pages can be protected; */
 #define MOST_CALM 32u              /* and runs that are sent before the faults are handled, once they could be */
+#define MOST_OF_TURN_NS 200000000u /* that counts as waited: a longer turn had much to do for the guest, or the process did not run */
 #define RUN_ON_MS 100u             /* of a guest whose migration was lost before the switch, for the check of its memory */
 
 struct source {
@@ -39,7 +41,9 @@ struct source {
     bool is_answered;      /* on this channel */
     bool has_to_resume;    /* the channel is lost, and the next epoch has not begun */
     bool is_over;          /* there is no destination that the guest could be moved to */
-    uint64_t last_progress, next_try;
+    uint64_t last_turn, next_try;
+    uint32_t turns;        /* with an urgent connection */
+    uint64_t waited;       /* without progress, in ns */
     uint32_t round_pages;  /* of this round, */
     uint64_t sent_before;  /* and those sent before it */
     uint32_t rounds;       /* made since pre-copy has begun, or begun again */
@@ -155,7 +159,7 @@ static void begin(struct source *source, const struct options *options)
     source->figures.start = kernel_now();
     enter_memory(source);
     node_expect(postmig_source_start(&source->node.handle, &effect), "postmig_source_start");
-    source->last_progress = kernel_now();
+    source->last_turn = kernel_now();
     source->instance = hello_new_instance();
     look(source);
 }
@@ -288,7 +292,7 @@ static void take_back(struct source *source, size_t length)
     look(source);
     if (effect.kind != POSTMIG_DID_TAKE_RECV)
         return;
-    source->last_progress = kernel_now();
+    source->waited = 0;
     source->figures.lost_dones += effect.number == RECEIVED_ENDED;
     source->rounds = 0;
     source->round_pages = 0;
@@ -311,7 +315,15 @@ static bool hear(struct source *source)
     return is_whole;
 }
 
-/* Sends and receives. False once either connection is broken. Nothing comes back on the urgent one but its end. */
+/* Nothing comes back there but its end, which is that of the main one too. So it is looked at now and then. */
+static bool is_urgent_whole(struct source *source)
+{
+    if (!stream_is_open(&source->urgent))
+        return true;
+    return stream_send(&source->urgent) && (++source->turns % UNHEARD_TURNS || stream_receive(&source->urgent, 0));
+}
+
+/* Sends and receives. False once either connection is broken. */
 static bool exchange(struct source *source)
 {
     bool is_whole;
@@ -319,9 +331,7 @@ static bool exchange(struct source *source)
     (void)node_send_frames(&source->node, &source->main); /* how many is of no interest */
     is_whole = stream_send(&source->main) && hear(source);
     (void)node_send_frames(&source->node, &source->main); /* after a Recv: Discard and Package */
-    if (is_whole && stream_is_open(&source->urgent))
-        is_whole = stream_send(&source->urgent) && stream_receive(&source->urgent, 0);
-    return is_whole;
+    return is_whole && is_urgent_whole(source);
 }
 
 /* PRE-COPY */
@@ -607,12 +617,20 @@ static void note_progress(struct source *source, uint64_t sent)
     if (!source->is_answered || source->state.phase == POSTMIG_SOURCE_PAUSED)
         return;
     if (source->main.sent != sent || (!stream_unsent(&source->main) && !source->end_is_sent))
-        source->last_progress = kernel_now();
+        source->waited = 0;
+}
+
+static void count_turn(struct source *source)
+{
+    uint64_t now = kernel_now(), took = now - source->last_turn;
+
+    source->waited += took < MOST_OF_TURN_NS ? took : MOST_OF_TURN_NS;
+    source->last_turn = now;
 }
 
 static bool has_lost_patience(const struct source *source)
 {
-    return kernel_now() - source->last_progress > (uint64_t)source->options->patience * SECOND_NS;
+    return source->waited > (uint64_t)source->options->patience * SECOND_NS;
 }
 
 /* Pages can be protected only while no thread gives memory back. Where each try meets one, faults wait for a while: then the threads do. */
@@ -632,6 +650,7 @@ static void turn(struct source *source)
     uint64_t sent = source->main.sent;
     bool has_more;
 
+    count_turn(source);
     if (!source->state.switched)
         handle_guest(source);
     if (!stream_is_open(&source->main))
@@ -645,7 +664,7 @@ static void turn(struct source *source)
     has_more = work(source);
     if (stream_is_open(&source->urgent) && stream_unsent(&source->urgent) && !stream_send(&source->urgent))
         lose_channel(source);
-    trace_write();
+    trace_bound();
     show_progress(source);
     if (!has_more && source->state.phase != POSTMIG_SOURCE_RELEASED)
         wait_for_more(source);

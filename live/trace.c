@@ -2,20 +2,27 @@
 #include "trace.h"
 
 #include <errno.h>
+#include <inttypes.h>
 #include <stdio.h>
 #include <stdlib.h>
 #include <string.h>
 
 #include <postmig_node.h>
 
+#include "kernel.h"
 #include "live.h"
 
-#define CHUNK_BYTES (256u << 10)
+#define LINE_BYTES 1024u            /* more than any line has */
+#define FILE_BYTES (256u << 10)
+#define MOST_WAITING (1u << 19)     /* lines: 12 MiB at the node where most are of pages that move without a fault */
 
 static struct {
     FILE *file; /* NULL: nothing is traced */
     struct node *node;
-    uint8_t *chunk;
+    uint32_t *epochs; /* of the Resumes that were taken, */
+    size_t resumes;
+    size_t written; /* and of how many of them the lines are in the file */
+    uint64_t lines; /* in the file */
     bool is_ending;
 } trace;
 
@@ -24,53 +31,75 @@ void trace_begin(const char *path, struct node *node, uint32_t processors)
     if (!path)
         return;
     trace.node = node;
-    trace.chunk = malloc(CHUNK_BYTES + 1);
-    if (!trace.chunk)
-        refuse("no memory for a trace");
     trace.file = fopen(path, "w");
     if (!trace.file)
         refuse_errno(errno, "%s", path);
-    (void)setvbuf(trace.file, NULL, _IOFBF, CHUNK_BYTES); /* a smaller buffer is as right */
+    (void)setvbuf(trace.file, NULL, _IOFBF, FILE_BYTES); /* a smaller buffer is as right */
     node_expect(postmig_node_trace(&node->handle, true), "postmig_node_trace");
     if (fprintf(trace.file, "# cpus %u\n", processors) < 0)
         refuse_errno(errno, "the trace");
 }
 
-/* In which epoch a Resume was taken: no line of a destination says that, and a merge has to know which one it was. */
-static void write_epoch(void)
+void trace_resumed(uint32_t epoch)
 {
-    postmig_destination_state state;
-
-    if (trace.node->is_source || !strstr((const char *)trace.chunk, "=> took resume\n"))
-        return;
-    node_expect(postmig_destination_counts(&trace.node->handle, &state), "postmig_destination_counts");
-    if (fprintf(trace.file, "# epoch %u\n", state.epoch) < 0)
-        refuse_errno(errno, "the trace");
-}
-
-void trace_write(void)
-{
-    size_t written;
+    uint32_t *epochs;
 
     if (!trace.file)
         return;
-    do {
-        node_expect(postmig_node_trace_take(&trace.node->handle, trace.chunk, CHUNK_BYTES, &written), "postmig_node_trace_take");
-        trace.chunk[written] = 0;
-        if (fwrite(trace.chunk, 1, written, trace.file) != written)
-            refuse_errno(errno, "the trace");
-        write_epoch();
-    } while (written);
+    epochs = realloc(trace.epochs, (trace.resumes + 1) * sizeof *epochs);
+    if (!epochs)
+        refuse("no memory for a trace");
+    trace.epochs = epochs;
+    trace.epochs[trace.resumes++] = epoch;
+}
+
+/* After the line of a Resume that was taken. (It has no epoch where the program ends just then.) */
+static void write_epoch(const char *line)
+{
+    if (!strstr(line, "=> took resume\n") || trace.written == trace.resumes)
+        return;
+    if (fprintf(trace.file, "# epoch %u\n", trace.epochs[trace.written++]) < 0)
+        refuse_errno(errno, "the trace");
+}
+
+/* False if none waits. */
+static bool write_line(void)
+{
+    char line[LINE_BYTES + 1];
+    size_t length = 0;
+
+    node_expect(postmig_node_trace_take(&trace.node->handle, (uint8_t *)line, LINE_BYTES, &length), "postmig_node_trace_take");
+    line[length] = 0;
+    if (fwrite(line, 1, length, trace.file) != length)
+        refuse_errno(errno, "the trace");
+    write_epoch(line);
+    trace.lines += length != 0;
+    return length != 0;
+}
+
+void trace_bound(void)
+{
+    size_t waiting = 0;
+
+    if (!trace.file)
+        return;
+    node_expect(postmig_node_trace_count(&trace.node->handle, &waiting), "postmig_node_trace_count");
+    for (; waiting > MOST_WAITING; waiting--)
+        (void)write_line(); /* it waits */
 }
 
 void trace_end(void)
 {
+    uint64_t before = kernel_thread_time(), sooner = trace.lines;
+
     if (!trace.file || trace.is_ending)
         return;
     trace.is_ending = true; /* (where a line cannot be written the program ends, and comes here again) */
-    trace_write();
+    while (write_line())
+        continue;
     if (fclose(trace.file))
         refuse_errno(errno, "the trace");
     trace.file = NULL;
-    free(trace.chunk);
+    free(trace.epochs);
+    printf("trace lines=%" PRIu64 " sooner=%" PRIu64 " took=%" PRIu64 "\n", trace.lines, sooner, kernel_thread_time() - before);
 }

@@ -128,6 +128,7 @@ static void not_open(void) {
     WANT(postmig_destination_take(it, text, 12, &effect) == POSTMIG_NOT_OPEN && postmig_destination_take_urgent(it, text, 16, &effect) == POSTMIG_NOT_OPEN);
     WANT(postmig_destination_counts(it, &to) == POSTMIG_NOT_OPEN && postmig_destination_home(it, 16, &number) == POSTMIG_NOT_OPEN);
     WANT(postmig_node_frame(it, text, sizeof text, &length) == POSTMIG_NOT_OPEN);
+    WANT(postmig_node_trace_count(it, &length) == POSTMIG_NOT_OPEN);
     WANT(postmig_node_trace(it, true) == POSTMIG_NOT_OPEN && postmig_node_trace_take(it, text, sizeof text, &length) == POSTMIG_NOT_OPEN);
 }
 
@@ -135,8 +136,11 @@ static void not_open(void) {
 static void traces(void) {
     postmig_command map = {.kind = POSTMIG_MMAP, .length = 4096, .prot = POSTMIG_PROT_READ, .place = POSTMIG_ANYWHERE};
     const char line[] = "cpu 1 mmap 4096 r => cpu 1 at 0x10000\n";
+    size_t waiting = 1;
     DO(postmig_source_new(2, 0, 0, &source));
     SAYS(postmig_node_trace_take(&source, text, sizeof text, &length), POSTMIG_NO_TRACE);
+    DO(postmig_node_trace_count(&source, &waiting));
+    WANT(waiting == 0);
     DO(postmig_node_trace(&source, true));
     length = 1;
     DO(postmig_node_trace_take(&source, text, 0, &length));
@@ -146,6 +150,8 @@ static void traces(void) {
     DO(postmig_node_trace(&source, true));
     SAYS(postmig_node_trace_take(&source, text, sizeof line - 2, &length), POSTMIG_NO_ROOM);
     WANT(length == sizeof line - 1);
+    DO(postmig_node_trace_count(&source, &waiting));
+    WANT(waiting == 1);
     DO(postmig_node_trace_take(&source, text, sizeof line - 1, &length));
     WANT(length == sizeof line - 1 && !memcmp(text, line, length));
     DO(postmig_node_trace_take(&source, text, sizeof text, &length));

@@ -1,9 +1,11 @@
 /* Moves owed pages from the push at a source to the install at a destination of their own, one by one, by the calls that a driver makes for
    each. For a count of instructions: of all calls, beside Source::push, Destination::take and Destination::install in them:
 
-     valgrind --tool=callgrind --toggle-collect=move_page rate PAGES [trace]
+     valgrind --tool=callgrind --toggle-collect=move_page rate PAGES [keep | trace]
 
-   rate PAGES [trace] */
+   keep: both nodes have a trace; trace: and its lines are taken after each page.
+
+   rate PAGES [keep | trace] */
 #include <stdio.h>
 #include <stdlib.h>
 #include <string.h>
@@ -22,7 +24,7 @@ enum { BASE = 0x100000 };
 static postmig_handle source, destination;
 static postmig_effect effect;
 static uint8_t text[1 << 20];
-static bool traced;
+static bool takes;
 
 static void deliver(void) {
     size_t length, head, pages;
@@ -48,7 +50,7 @@ __attribute__((noinline)) void move_page(uint32_t page) {
     DO(postmig_destination_take(&destination, bytes, length, &effect));
     DO(postmig_destination_next_install(&destination, &effect));
     DO(postmig_destination_install(&destination, &effect));
-    if (!traced) return;
+    if (!takes) return;
     take_lines(&source);
     take_lines(&destination);
 }
@@ -67,8 +69,8 @@ int main(int argc, char **argv) {
     deliver();
     DO(postmig_source_switch(&source, &effect));
     deliver();
-    traced = argc > 2;
-    if (traced) {
+    takes = argc > 2 && !strcmp(argv[2], "trace");
+    if (argc > 2) {
         DO(postmig_node_trace(&source, true));
         DO(postmig_node_trace(&destination, true));
     }

@@ -1,5 +1,6 @@
 -- The trace of a node of its own: the steps that it has made, as lines of a script with their answers.
-use Rattle.std.specs.Prelude.{◌≡◌, ℕ, ◌^◌, ◌-◌, ◌<◌, true, if◌then◌else◌, Option, Some, None, Ok, List, [], ◌∷◌, ◌++◌, codes, refl}
+use Rattle.std.specs.Prelude.{◌≡◌, ℕ, ◌^◌, ◌-◌, ◌<◌, true, if◌then◌else◌, Option, Some, None, Ok, List, [], ◌∷◌, ◌++◌, length, map, codes, refl}
+use Rattle.std.specs.Option.{IsSome}
 use Rattle.std.specs.VecDeque.{deque_capacity, deque_len}
 use Rattle.std.specs.Coded.{Coded, code_by, coded×, coded_list, coded_option}
 use Rattle.mig_base.specs.declared.effect.Effect.{Effect}
@@ -14,6 +15,7 @@ use Rattle.nodes.specs.Nodes.{PostingDestination, PostingSource, coded_posting_d
 use Rattle.nodes.specs.contracts.trace.TraceLine as line
 use Rattle.nodes.specs.declared.steps.DestinationStep.{DestinationStep}
 use Rattle.nodes.specs.declared.steps.SourceStep.{SourceStep}
+use Rattle.nodes.specs.declared.trace.Kept.{Kept}
 use Rattle.nodes.specs.declared.trace.Lines.{Lines}
 use Rattle.nodes.specs.declared.trace.TraceLine.{TraceLine}
 
@@ -62,13 +64,22 @@ line_text line = order_text (order_of line.step) ++ (codes " => " ++ outcome_lin
 abbrev pub Trace : Type 0
 Trace = Option (List TraceLine)
 
+-- bridges the form in which a line is kept to the line
+abbrev pub line_of : Kept → TraceLine
+line_of (Kept.Pushed ticket addr) = record { step = Step.Push ticket; effect = Effect.SentZero addr }
+line_of (Kept.PushedUrgent ticket addr) = record { step = Step.PushUrgent ticket; effect = Effect.SentZero addr }
+line_of (Kept.Took n addr) = record { step = Step.Deliver n; effect = Effect.TookZero addr }
+line_of (Kept.TookUrgent n addr) = record { step = Step.DeliverUrgent n; effect = Effect.TookZero addr }
+line_of (Kept.Installed addr origin) = record { step = Step.Install; effect = Effect.Installed addr origin }
+line_of (Kept.Other place) = place.value
+
 -- bridges the lines of the code to these
 abbrev pub trace_of : Lines → Trace
-trace_of lines = if lines.on then Some lines.waiting.items else None
+trace_of lines = if lines.on then Some (map line_of lines.waiting.items) else None
 
--- there is room for one more line, if there is a trace
+-- there is room for one more line, whatever it says, if there is a trace
 abbrev pub HasRoom : Lines → Type 0
-HasRoom lines = lines.on ≡ true → deque_len lines.waiting < deque_capacity lines.waiting
+HasRoom lines = lines.on ≡ true → (deque_len lines.waiting < deque_capacity lines.waiting) × IsSome lines.spare
 
 -- a trace with one more line, if there is a trace
 abbrev pub and_line : Trace → Step → Effect → Trace
@@ -89,6 +100,11 @@ first_line (Some lines) = first_of lines
 abbrev pub without_line : Trace → Trace
 without_line None = None
 without_line (Some lines) = Some (rest_of lines)
+
+-- how many lines wait
+abbrev pub lines_in : Trace → ℕ
+lines_in None = 0
+lines_in (Some lines) = length lines
 
 -- a node, and its trace
 pub record Traced (Node : Type 0) : Type 0 where

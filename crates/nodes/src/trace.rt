@@ -1,14 +1,17 @@
 //! The trace of a node: the steps that it has made, as lines of a script.
 
-ghost use Rattle.std.specs.Prelude.{◌≡◌, ◌<◌, true, IsTrue, ◌↔◌, Some, OnOk, string_bytes};
-ghost use Rattle.nodes.specs.Traces.{HasRoom, and_line, begun, first_line, line_text, trace_of, without_line};
+ghost use Rattle.std.specs.Prelude.{◌≡◌, ◌<◌, true, IfSome, IsSome, IsTrue, ◌↔◌, Some, OnOk, string_bytes};
+ghost use Rattle.nodes.specs.Traces.{HasRoom, and_line, begun, first_line, line_of, line_text, lines_in, trace_of, without_line};
 
 use grammar::{Order, OrderText};
-use mig_base::NoMemory;
 use mig_base::effect::Effect;
-use mig_base::schedule::Step;
+use mig_base::schedule::{Step, Ticket};
+use mig_base::{Addr, NoMemory};
 use std::alloc::Global;
 use std::collections::VecDeque;
+
+/// Most lines are shorter: it makes the room that they need at once.
+const USUAL_BYTES: usize = 96;
 
 /// A line of a trace: a step that was made, and its effect.
 #[derive(Clone, Copy, Debug, PartialEq, Eq)]
@@ -23,6 +26,7 @@ impl TraceLine {
         ensures { OnOk result (string_bytes text.new ≡ line_text self.now) }
     {
         text.clear();
+        text.try_reserve(USUAL_BYTES)?;
         let order = OrderText(Order::of(self.step));
         let effect = self.effect;
         write!(text, "{order} => {effect}\n")?;
@@ -30,11 +34,93 @@ impl TraceLine {
     }
 }
 
+/// How a line is kept until it is taken: in 24 bytes where a page moves without a fault, else in a place of its own.
+#[derive(Drop)]
+pub(crate) enum Kept {
+    /// A page of zeros was pushed.
+    Pushed { ticket: Ticket, addr: Addr },
+    /// One was pushed on the urgent wire.
+    PushedUrgent { ticket: Ticket, addr: Addr },
+    /// A page of zeros was taken.
+    Took { n: u64, addr: Addr },
+    /// One was taken from the urgent wire.
+    TookUrgent { n: u64, addr: Addr },
+    /// A copy was installed.
+    Installed { addr: Addr, origin: Addr },
+    /// Any other line.
+    Other(Box<TraceLine>),
+}
+
+impl Kept {
+    /// The short form of a line, if it has one.
+    fn short(line: TraceLine) -> Option<Kept>
+        ensures { IfSome result (λ kept. line_of kept ≡ line) }
+    {
+        match line.step {
+            Step::Push(ticket) => match line.effect {
+                Effect::SentZero { addr } => Some(Kept::Pushed { ticket, addr }),
+                _ => None,
+            },
+            Step::PushUrgent(ticket) => match line.effect {
+                Effect::SentZero { addr } => Some(Kept::PushedUrgent { ticket, addr }),
+                _ => None,
+            },
+            Step::Deliver { n } => match line.effect {
+                Effect::TookZero { addr } => Some(Kept::Took { n, addr }),
+                _ => None,
+            },
+            Step::DeliverUrgent { n } => match line.effect {
+                Effect::TookZero { addr } => Some(Kept::TookUrgent { n, addr }),
+                _ => None,
+            },
+            Step::Install => match line.effect {
+                Effect::Installed { addr, origin } => Some(Kept::Installed { addr, origin }),
+                _ => None,
+            },
+            _ => None,
+        }
+    }
+
+    /// The line.
+    fn line(&self) -> TraceLine
+        ensures { result ≡ line_of self.now }
+    {
+        let (step, effect) = match self {
+            Kept::Pushed { ticket, addr } => (
+                Step::Push(*ticket),
+                Effect::SentZero { addr: *addr },
+            ),
+            Kept::PushedUrgent { ticket, addr } => {
+                (Step::PushUrgent(*ticket), Effect::SentZero { addr: *addr })
+            }
+            Kept::Took { n, addr } => (Step::Deliver { n: *n }, Effect::TookZero { addr: *addr }),
+            Kept::TookUrgent { n, addr } => {
+                (
+                    Step::DeliverUrgent { n: *n },
+                    Effect::TookZero { addr: *addr },
+                )
+            }
+            Kept::Installed { addr, origin } => (
+                Step::Install,
+                Effect::Installed {
+                    addr: *addr,
+                    origin: *origin,
+                },
+            ),
+            Kept::Other(line) => return **line,
+        };
+        TraceLine { step, effect }
+    }
+}
+
 /// The lines that wait to be taken, oldest first, if there is a trace.
 #[derive(Drop)]
 pub(crate) struct Lines {
     pub(crate) on: bool,
-    pub(crate) waiting: VecDeque<TraceLine>,
+    pub(crate) waiting: VecDeque<Kept>,
+    /// A place for a line without a short form. What it has is of no meaning.
+    pub(crate) spare: Option<Box<TraceLine>>,
+    alloc: Global,
 }
 
 impl Lines {
@@ -45,6 +131,8 @@ impl Lines {
         Lines {
             on: false,
             waiting: VecDeque::new(alloc),
+            spare: None,
+            alloc,
         }
     }
 
@@ -62,17 +150,24 @@ impl Lines {
     pub(crate) fn end(&mut self, alloc: Global)
         ensures { trace_of self.new ≡ None }
     {
-        self.on = false;
-        self.waiting = VecDeque::new(alloc);
+        *self = Lines::new(alloc);
     }
 
-    /// Makes room for a line, if there is a trace.
+    /// Makes room for a line, whatever it will say, if there is a trace.
     pub(crate) fn reserve(&mut self) -> Result<(), NoMemory>
         ensures stays { trace_of self.new ≡ trace_of self.old }
         ensures room { OnOk result (HasRoom self.new) }
     {
-        if self.on {
-            self.waiting.try_reserve(1)?;
+        if !self.on {
+            return Ok(());
+        }
+        self.waiting.try_reserve(1)?;
+        if self.spare.is_none() {
+            let line = TraceLine {
+                step: Step::Start,
+                effect: Effect::EndSent,
+            };
+            self.spare = Some(Box::new(self.alloc, line)?);
         }
         Ok(())
     }
@@ -82,9 +177,29 @@ impl Lines {
         requires { HasRoom self.old }
         ensures { trace_of self.new ≡ and_line (trace_of self.old) step effect }
     {
-        if self.on {
-            self.waiting.push_back_reserved(TraceLine { step, effect });
+        if !self.on {
+            return;
         }
+        let line = TraceLine { step, effect };
+        let kept = match Kept::short(line) {
+            Some(kept) => kept,
+            None => self.place(line),
+        };
+        self.waiting.push_back_reserved(kept);
+    }
+
+    /// The line in the spare place.
+    fn place(&mut self, line: TraceLine) -> Kept
+        requires { IsSome self.old.spare }
+        ensures line { line_of result ≡ line }
+        ensures on { self.new.on ≡ self.old.on }
+        ensures waiting { self.new.waiting ≡ self.old.waiting }
+    {
+        let Some(mut place) = self.spare.take() else {
+            unreachable!()
+        };
+        *place = line;
+        Kept::Other(place)
     }
 
     /// The first line that waits.
@@ -94,7 +209,7 @@ impl Lines {
         if !self.on || self.waiting.is_empty() {
             return None;
         }
-        Some(self.waiting[0])
+        Some(self.waiting[0].line())
     }
 
     /// Drops the first line that waits.
@@ -104,5 +219,12 @@ impl Lines {
         if self.on {
             let _ = self.waiting.pop_front();
         }
+    }
+
+    /// How many lines wait.
+    pub(crate) fn count(&self) -> usize
+        ensures { result ≡ lines_in (trace_of self.now) }
+    {
+        if self.on { self.waiting.len() } else { 0 }
     }
 }

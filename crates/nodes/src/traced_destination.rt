@@ -6,7 +6,7 @@ ghost use Rattle.mig_base.specs.declared.schedule.Step as machine;
 ghost use Rattle.mig_model.specs.NodeSteps.{IsRefusedFor, acted};
 ghost use Rattle.mig_model.specs.Wire.{empty_wire};
 ghost use Rattle.nodes.specs.DestinationCalls.{IsLeft, IsTaken, IsTakenUrgently, MayNotTake, MayNotTakeUrgently, answer};
-ghost use Rattle.nodes.specs.Traces.{and_line, begun, destination_step, first_line, whole_frame, without_line};
+ghost use Rattle.nodes.specs.Traces.{and_line, begun, destination_step, first_line, lines_in, whole_frame, without_line};
 ghost use Rattle.nodes.specs.declared.fault.FrameFault as faults;
 
 use crate::destination::DestinationNode;
@@ -155,6 +155,13 @@ impl TracedDestination {
         ensures { result ≡ is_some self.now.trace }
     {
         self.trace.on
+    }
+
+    /// How many lines wait. 0 without a trace.
+    pub fn line_count(&self) -> usize
+        ensures { result ≡ lines_in self.now.trace }
+    {
+        self.trace.count()
     }
 
     /// The first line that waits.

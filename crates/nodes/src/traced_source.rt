@@ -6,7 +6,7 @@ ghost use Rattle.mig_base.specs.declared.schedule.Step as machine;
 ghost use Rattle.mig_model.specs.NodeSteps.{acted};
 ghost use Rattle.mig_model.specs.Wire.{empty_wire};
 ghost use Rattle.nodes.specs.SourceCalls.{IsReturned, MayBeRefused, MayNotReturn, answer};
-ghost use Rattle.nodes.specs.Traces.{and_line, begun, first_line, source_step, whole_frame, without_line};
+ghost use Rattle.nodes.specs.Traces.{and_line, begun, first_line, lines_in, source_step, whole_frame, without_line};
 
 use crate::fault::FrameFault;
 use crate::source::SourceNode;
@@ -144,6 +144,13 @@ impl TracedSource {
         ensures { result ≡ is_some self.now.trace }
     {
         self.trace.on
+    }
+
+    /// How many lines wait. 0 without a trace.
+    pub fn line_count(&self) -> usize
+        ensures { result ≡ lines_in self.now.trace }
+    {
+        self.trace.count()
     }
 
     /// The first line that waits.

@@ -163,8 +163,15 @@ uint32_t postmig_node_frame(postmig_handle *node, uint8_t *out, size_t room, siz
    the line of a script, " => ", and what postmig run prints for it in the world whose stores all store 0: "push 0x10000 1 => sent zero
    0x10000", "deliver => took advise". So it is a test (postmig test) of that node's steps. A run has 1 to 64 pages there, and a push names
    its epoch. A call that is refused adds no line. Room for the line is made before the step: with a trace POSTMIG_NO_MEMORY may come before
-   any other refusal, and then nothing changed. A line waits until it is taken, in about a hundred bytes of memory. */
+   any other refusal, and then nothing changed.
+
+   A line waits until it is taken, as numbers: its words are made then, and are what costs. A trace of N lines takes 24 N bytes, which may be
+   48 N, since its room doubles where it is full, and 72 N while it does; and about 130 bytes more for each line that is not of a zero page
+   that was pushed or taken, on either wire, or of an install. */
 uint32_t postmig_node_trace(postmig_handle *node, bool on);
+
+/* How many lines wait in the trace of a node, in *lines: 0 without a trace. It takes the same time for any number. */
+uint32_t postmig_node_trace_count(postmig_handle *node, size_t *lines);
 
 /* Takes the first line that waits in the trace, with its line feed: *written bytes, 0 if none waits. POSTMIG_NO_ROOM: *written is the length
    of the line, and it still waits; so it does at POSTMIG_NO_MEMORY. POSTMIG_NO_TRACE. */
@@ -263,6 +270,7 @@ typedef struct {
     uint64_t faults;     /* read */
 } postmig_source_state;
 
+/* It counts the pages that remain, which takes the longer the larger the guest is: it is no call for every page. */
 uint32_t postmig_source_counts(postmig_handle *source, postmig_source_state *state);
 
 /* THE DESTINATION */
@@ -357,7 +365,8 @@ uint32_t postmig_frame_lengths(const uint8_t *bytes, size_t length, size_t *head
    source      start, round, send, run_sent (sendrun N), read (sread), act (sact), switch, push, push_urgent (upush), serve, end,
                back, notice (notice source), resume
    destination take (deliver), take_urgent (udeliver), read (dread), act (dact), install, notice (notice dest)
-   none        new, next_.., check_.., counts, home, node_frame, node_trace, node_trace_take, heads of frames; break is the caller's
+   none        new, next_.., check_.., counts, home, node_frame, node_trace, node_trace_count,
+               node_trace_take, heads of frames; break is the caller's
 
    AN ORDER OF CALLS
 

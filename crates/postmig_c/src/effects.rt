@@ -190,6 +190,42 @@ fn counted(kind: u32, count: u32) -> EffectNumbers
     }
 }
 
+/// The numbers of an effect with a number and a count.
+#[inline]
+fn tallied(kind: u32, number: u32, count: u32) -> EffectNumbers
+    ensures { result ≡ record (of_kind kind) { number = number; count = count } }
+{
+    EffectNumbers {
+        number,
+        count,
+        ..of_kind(kind)
+    }
+}
+
+/// The numbers of an effect on neighbouring pages.
+#[inline]
+fn at_pages(kind: u32, addr: u64, count: u32) -> EffectNumbers
+    ensures { result ≡ record (of_kind kind) { count = count; addr = addr } }
+{
+    EffectNumbers {
+        count,
+        addr,
+        ..of_kind(kind)
+    }
+}
+
+/// The numbers of an effect on a page that is another one at the source.
+#[inline]
+fn at_home(kind: u32, addr: u64, origin: u64) -> EffectNumbers
+    ensures { result ≡ record (of_kind kind) { addr = addr; other = origin } }
+{
+    EffectNumbers {
+        addr,
+        other: origin,
+        ..of_kind(kind)
+    }
+}
+
 /// The numbers of an effect on a processor.
 #[inline]
 fn in_cpu(kind: u32, cpu: u8) -> EffectNumbers
@@ -245,16 +281,10 @@ pub fn effect_numbers(effect: Effect) -> EffectNumbers
             ..in_cpu(3, cpu)
         },
         Effect::Started { epoch } => numbered(4, epoch),
-        Effect::RoundMade { round, todo } => EffectNumbers {
-            number: round,
-            ..counted(5, todo)
-        },
+        Effect::RoundMade { round, todo } => tallied(5, round, todo),
         Effect::SentPage { addr } => at_page(6, addr),
         Effect::SentZero { addr } => at_page(7, addr),
-        Effect::SentRun { addr, pages } => EffectNumbers {
-            count: pages,
-            ..at_page(8, addr)
-        },
+        Effect::SentRun { addr, pages } => at_pages(8, addr, pages),
         Effect::ReadFault { addr, wp } => EffectNumbers {
             number: u32::from(wp),
             ..at_page(9, addr)
@@ -268,14 +298,8 @@ pub fn effect_numbers(effect: Effect) -> EffectNumbers
         Effect::Zeroed { addr } => at_page(13, addr),
         Effect::Woke { addr } => at_page(14, addr),
         Effect::Forgot { addr } => at_page(15, addr),
-        Effect::Requested { origin, addr } => EffectNumbers {
-            other: origin,
-            ..at_page(16, addr)
-        },
-        Effect::Switched { discard, owed } => EffectNumbers {
-            number: discard,
-            ..counted(17, owed)
-        },
+        Effect::Requested { origin, addr } => at_home(16, addr, origin),
+        Effect::Switched { discard, owed } => tallied(17, discard, owed),
         Effect::Moved { bytes } => EffectNumbers {
             length: bytes,
             ..of_kind(18)
@@ -283,24 +307,15 @@ pub fn effect_numbers(effect: Effect) -> EffectNumbers
         Effect::TookAdvise => of_kind(19),
         Effect::TookPage { addr } => at_page(20, addr),
         Effect::TookZero { addr } => at_page(21, addr),
-        Effect::TookRun { addr, pages } => EffectNumbers {
-            count: pages,
-            ..at_page(22, addr)
-        },
+        Effect::TookRun { addr, pages } => at_pages(22, addr, pages),
         Effect::TookDiscard { pages } => counted(23, pages),
         Effect::TookPackage { owed } => counted(24, owed),
         Effect::TookEnd => of_kind(25),
         Effect::TookResume => of_kind(26),
         Effect::TookRequest { addr } => at_page(27, addr),
-        Effect::TookRecv { state, pages } => EffectNumbers {
-            number: state_number(state),
-            ..counted(28, pages)
-        },
+        Effect::TookRecv { state, pages } => tallied(28, state_number(state), pages),
         Effect::TookDone => of_kind(29),
-        Effect::Installed { addr, origin } => EffectNumbers {
-            other: origin,
-            ..at_page(30, addr)
-        },
+        Effect::Installed { addr, origin } => at_home(30, addr, origin),
         Effect::Dropped { origin } => EffectNumbers {
             other: origin,
             ..of_kind(31)

@@ -2,7 +2,7 @@
 
 ghost use Rattle.std.specs.Prelude.{◌≡◌, ◌≢◌, ◌⊎◌};
 ghost use Rattle.std.specs.declared.option.Option.TheVariants.{None as Nothing};
-ghost use Rattle.nodes.specs.Traces.{line_text, without_line};
+ghost use Rattle.nodes.specs.Traces.{line_text, lines_in, without_line};
 ghost use Rattle.postmig_c.specs.NodeCalls.{HasNoNode};
 ghost use Rattle.postmig_c.specs.Room.{Fills, IsTooLong};
 ghost use Rattle.postmig_c.specs.Traces.{HasLongLine, ShowsLine, TellsTrace, turned, with_trace};
@@ -57,6 +57,37 @@ pub extern "C" fn postmig_node_trace(alloc: Global, handle: &mut Handle, on: boo
         }
         Content::Destination(node) => {
             turn_destination(alloc, node, on);
+            DONE
+        }
+        _ => NOT_OPEN,
+    };
+    *handle = Handle::of(content);
+    status
+}
+
+/// Says how many lines wait in the trace of a node: 0 without one.
+#[unsafe(no_mangle)]
+pub extern "C" fn postmig_node_trace_count(
+    alloc: Global,
+    handle: &mut Handle,
+    lines: &mut usize,
+) -> u32
+    ensures count { result ≡ 0 →
+        TellsTrace handle.old.content (λ trace. lines.new ≡ lines_in trace) }
+    ensures not_open { result ≡ 2 → HasNoNode handle.old.content }
+    ensures same { handle.new.content ≡ handle.old.content }
+    ensures range { (result ≡ 0) ⊎ (result ≡ 2) }
+{
+    let Some(content) = handle.take(alloc) else {
+        return NOT_OPEN;
+    };
+    let status = match &*content {
+        Content::Source(source) => {
+            *lines = source.line_count();
+            DONE
+        }
+        Content::Destination(destination) => {
+            *lines = destination.line_count();
             DONE
         }
         _ => NOT_OPEN,

@@ -12,5 +12,5 @@ unfolding line_text outcome_line
 returns c =
     let effect = c.args.self.now.effect in
     c.in_ok-write.ensures.bytes
-    ∙ ap (λ (before : List ℕ). before ++ (order_text c.of.result ++ (codes " => " ++ (effect_text effect ++ codes "\n")))) c.clear.ensures.bytes
+    ∙ ap (λ (before : List ℕ). before ++ (order_text c.of.result ++ (codes " => " ++ (effect_text effect ++ codes "\n")))) (c.try_reserve.ensures.bytes ∙ c.clear.ensures.bytes)
     ∙ ap (λ (order : Order). order_text order ++ (codes " => " ++ (effect_text effect ++ codes "\n"))) c.of.ensures.is
