@@ -25,13 +25,13 @@ pub none_passed : (bytes : List ℕ) (count : ℕ) → Passed bytes count bytes 
 none_passed bytes count = record { raws = []; each = tt; whole = refl; counts = omega arith }
 
 -- one more line was passed
-pub one_passed : (bytes : List ℕ) (count : ℕ) (rest front behind : List ℕ) (left : ℕ) → Passed bytes count rest left → HasNoFeed front → rest ≡ front ++ 10 ∷ behind → 0 < left
-    → Passed bytes count behind (left - 1)
-one_passed bytes count rest front behind left p one is some = record {
+pub one_passed : (bytes : List ℕ) (count : ℕ) (rest front after : List ℕ) (left : ℕ) → Passed bytes count rest left → HasNoFeed front → rest ≡ front ++ 10 ∷ after → 0 < left
+    → Passed bytes count after (left - 1)
+one_passed bytes count rest front after left p one is some = record {
   raws = p.raws ++ front ∷ [];
   each = each_push p.raws front p.each one;
-  whole = p.whole ∙ ap (λ (t : List ℕ). joined p.raws ++ t) (is ∙ sym (append_assoc front (10 ∷ []) behind)) ∙ sym (append_assoc (joined p.raws) (front ++ 10 ∷ []) behind)
-      ∙ ap (λ (t : List ℕ). t ++ behind) (sym (joined_push p.raws front));
+  whole = p.whole ∙ ap (λ (t : List ℕ). joined p.raws ++ t) (is ∙ sym (append_assoc front (10 ∷ []) after)) ∙ sym (append_assoc (joined p.raws) (front ++ 10 ∷ []) after)
+      ∙ ap (λ (t : List ℕ). t ++ after) (sym (joined_push p.raws front));
   counts = omega (p.counts, some, length-append p.raws (front ∷ []), arith);
 }
 

@@ -13,6 +13,10 @@ use Rattle.engine.specs.Lines.{joined}
 use Rattle.engine.specs.Script.{Runs}
 use Rattle.engine.specs.Worlds.{progress_in}
 use Rattle.mig_model.specs.Migration.{World}
+use Rattle.show.specs.declared.what.Asked.{Asked}
+use Rattle.show.specs.declared.what.What.{What}
+use Rattle.show.specs.declared.what.What.TheVariants as whats
+use Rattle.show.specs.Owed.{IsOwedText}
 
 -- The first lines
 
@@ -90,13 +94,28 @@ IsStop bytes faults.NoMemory = ⊤
 
 -- What is written
 
--- the text is of this world: it begins with the line that `progress` would write, and the rest is any text
-abbrev pub IsOf : World → List ℕ → Type 0
-IsOf world text = (more : List ℕ) × (text ≡ progress_line (progress_in world) ++ more)
+-- whether the owed pages are asked for
+abbrev pub asks_owed : What → Bool
+asks_owed whats.Cpus = false
+asks_owed whats.Queues = false
+asks_owed whats.Owed = true
+asks_owed whats.Wires = false
+asks_owed whats.Pages = false
+asks_owed whats.All = true
+
+-- the text is of this world: the line that `progress` would write, and the owed pages if they are asked for; what is before and after
+-- them is any text, and there is none where they alone are asked for
+pub record IsOf (world : World) (what : What) (text : List ℕ) : Type 0 where
+  pub before : List ℕ
+  pub between : List ℕ
+  pub after : List ℕ
+  pub whole : text ≡ progress_line (progress_in world) ++ before ++ between ++ after
+  pub owed : asks_owed what ≡ true → IsOwedText world between
+  pub alone : what ≡ whats.Owed → (before ≡ []) × (after ≡ [])
 
 -- a text of this world was written
-abbrev pub Writes : World → Option (List ℕ) → Option (List ℕ) → Type 0
-Writes world before after = (text : List ℕ) × IsOf world text × Appends before after text
+abbrev pub Writes : World → What → Option (List ℕ) → Option (List ℕ) → Type 0
+Writes world what before after = (text : List ℕ) × IsOf world what text × Appends before after text
 
 -- the lines that are asked for were run, and lead to this world
 pub record IsReached (start : World) (at : Option ℕ) (input : List ℕ) (world : World) : Type 0 where
@@ -105,20 +124,22 @@ pub record IsReached (start : World) (at : Option ℕ) (input : List ℕ) (world
   pub leads : LeadsTo start front world
 
 -- what is written: a text of the world that is reached, or nothing if the input has fewer lines
-abbrev pub Shows : Bool → World → Option ℕ → List ℕ → Option (List ℕ) → Option (List ℕ) → Type 0
-Shows true start at input before after = (world : World) × IsReached start at input world × Writes world before after
-Shows false start at input before after = IsBeyond at input × Appends before after []
+abbrev pub Shows : Bool → World → Asked → List ℕ → Option (List ℕ) → Option (List ℕ) → Type 0
+Shows true start asked input before after = (world : World) × IsReached start asked.at input world × Writes world asked.what before after
+Shows false start asked input before after = IsBeyond asked.at input × Appends before after []
 
 -- a fault while the text of a world is written: only at a write fault a part of it was
-abbrev pub WriteStops : World → RunFault → Option (List ℕ) → Option (List ℕ) → Type 0
-WriteStops world (faults.Line n) before after = ⊥
-WriteStops world faults.ReadFault before after = ⊥
-WriteStops world faults.WriteFault before after = (text : List ℕ) × IsOf world text × Front text before after
-WriteStops world faults.NoMemory before after = Appends before after []
+abbrev pub WriteStops : World → What → RunFault → Option (List ℕ) → Option (List ℕ) → Type 0
+WriteStops world what (faults.Line n) before after = ⊥
+WriteStops world what faults.ReadFault before after = ⊥
+WriteStops world what faults.WriteFault before after = (text : List ℕ) × IsOf world what text × Front text before after
+WriteStops world what faults.NoMemory before after = Appends before after []
 
--- how it ends with a fault.
-abbrev pub ShowStops : World → Option ℕ → List ℕ → RunFault → Option (List ℕ) → Option (List ℕ) → Type 0
-ShowStops start at input (faults.Line n) before after = (front : List ℕ) × IsRun at input front × IsWrongAt front n × Appends before after []
-ShowStops start at input faults.ReadFault before after = Appends before after []
-ShowStops start at input faults.WriteFault before after = Appends before after [] ⊎ ((world : World) × IsReached start at input world × WriteStops world faults.WriteFault before after)
-ShowStops start at input faults.NoMemory before after = Appends before after []
+-- how it ends with a fault: at a wrong line that is the first of those that are run, and nothing is written but for a part of the text
+-- at a write fault
+abbrev pub ShowStops : World → Asked → List ℕ → RunFault → Option (List ℕ) → Option (List ℕ) → Type 0
+ShowStops start asked input (faults.Line n) before after = (front : List ℕ) × IsRun asked.at input front × IsWrongAt front n × Appends before after []
+ShowStops start asked input faults.ReadFault before after = Appends before after []
+ShowStops start asked input faults.WriteFault before after =
+    Appends before after [] ⊎ ((world : World) × IsReached start asked.at input world × WriteStops world asked.what faults.WriteFault before after)
+ShowStops start asked input faults.NoMemory before after = Appends before after []

@@ -5,7 +5,7 @@ use grammar::{Order, OrderText};
 use mig_base::cpu_state::CpuState;
 use mig_base::phase::{DestPhase, SourcePhase};
 use mig_base::schedule::{Side, Step};
-use mig_base::{Addr, Command, HIGH_PAGE, NoMemory, PAGE_SIZE, PageNo, WorldPhase, page_address};
+use mig_base::{Command, HIGH_PAGE, NoMemory, PAGE_SIZE, PageNo, WorldPhase, page_address};
 use world::World;
 
 /// The node that runs the processors, or ran them last.
@@ -23,23 +23,24 @@ fn is_down(world: &World) -> bool {
         || matches!(world.source_phase(), SourcePhase::Paused)
 }
 
-/// The page of an address; the one after the last for an address above the address space.
-fn page_at(addr: Addr) -> PageNo {
-    (addr / PAGE_SIZE).min(u64::from(HIGH_PAGE)) as PageNo
-}
-
-/// The page of a load or a store, and 0 for a map call.
-fn page_of(command: Command) -> PageNo {
+/// The page of a load or a store. A map call has none.
+fn page_of(command: Command) -> Option<PageNo> {
     match command {
-        Command::Load { addr, .. } | Command::Store { addr, .. } => page_at(addr),
-        _ => 0,
+        Command::Load { addr, .. } | Command::Store { addr, .. }
+            if addr / PAGE_SIZE < u64::from(HIGH_PAGE) => Some((addr / PAGE_SIZE) as PageNo),
+        _ => None,
     }
 }
 
 /// The line of a script that has to come next for a processor that sleeps on an owed page.
 fn line_for_owed(world: &World, survey: &Survey, page: PageNo, origin: PageNo) -> &'static str {
     if survey.arrived.contains(origin) {
-        return "install";
+        // Nothing is installed while an event is unread.
+        return if world.destination_events() > 0 {
+            "dread"
+        } else {
+            "install"
+        };
     }
     if survey.flying.contains(origin) {
         return "deliver";
@@ -56,13 +57,29 @@ fn line_for_owed(world: &World, survey: &Survey, page: PageNo, origin: PageNo) -
     if survey.is_asked(origin) {
         return "serve";
     }
-    if survey.destination.has_unread(page) && !world.requests().contains(&origin) {
-        return "dread";
+    if world.requests().contains(&origin) {
+        return "push";
     }
-    if survey.destination.holds(page) && !world.requests().contains(&origin) {
-        return "dact";
+    line_for_fault(world, survey, page)
+}
+
+/// The line of a script that has to come next for a processor whose fault the destination's handler has not resolved. It resolves none
+/// while an event is unread.
+fn line_for_fault(world: &World, survey: &Survey, page: PageNo) -> &'static str {
+    if survey.destination.has_unread(page) || world.destination_events() > 0 {
+        "dread"
+    } else {
+        "dact"
     }
-    "push"
+}
+
+/// The same at the source.
+fn line_at_source(world: &World, survey: &Survey, page: PageNo) -> &'static str {
+    if survey.source.has_unread(page) || world.source_events() > 0 {
+        "sread"
+    } else {
+        "sact"
+    }
 }
 
 /// The line of a script that has to come next for a processor that sleeps on a page.
@@ -71,16 +88,11 @@ fn line_for(world: &World, survey: &Survey, page: PageNo) -> &'static str {
         return "the package";
     }
     if matches!(node_of(world), Side::Source) {
-        return if survey.source.has_unread(page) {
-            "sread"
-        } else {
-            "sact"
-        };
+        return line_at_source(world, survey, page);
     }
     match world.owed().origin(page) {
         Some(origin) => line_for_owed(world, survey, page, origin),
-        None if survey.destination.has_unread(page) => "dread",
-        None => "dact",
+        None => line_for_fault(world, survey, page),
     }
 }
 
@@ -97,6 +109,25 @@ fn with_command(cpu: u8, command: Command) -> OrderText {
     OrderText(Order::Make(Step::Issue { cpu, command }))
 }
 
+/// Appends the line of a processor that sleeps.
+fn write_asleep(
+    text: &mut String,
+    world: &World,
+    survey: &Survey,
+    cpu: u8,
+    command: Command,
+) -> Result<(), NoMemory> {
+    let line = with_command(cpu, command);
+    write!(text, "{line}: asleep")?;
+    if let Some(page) = page_of(command) {
+        let addr = page_address(page);
+        let next = line_for(world, survey, page);
+        write!(text, " on 0x{addr:x}, waits for {next}")?;
+    }
+    write!(text, "\n")?;
+    Ok(())
+}
+
 /// Appends the line of a processor.
 fn write_cpu(
     text: &mut String,
@@ -107,16 +138,10 @@ fn write_cpu(
 ) -> Result<(), NoMemory> {
     match state {
         CpuState::Idle => write!(text, "cpu {cpu}: idle\n")?,
-        CpuState::Asleep(command) => {
-            let page = page_of(command);
-            let addr = page_address(page);
-            let next = line_for(world, survey, page);
-            let command = with_command(cpu, command);
-            write!(text, "{command}: asleep on 0x{addr:x}, waits for {next}\n")?;
-        }
+        CpuState::Asleep(command) => write_asleep(text, world, survey, cpu, command)?,
         CpuState::Woken(command) => {
-            let command = with_command(cpu, command);
-            write!(text, "{command}: woken, waits for retry\n")?;
+            let line = with_command(cpu, command);
+            write!(text, "{line}: woken, waits for retry\n")?;
         }
         CpuState::InCall { reply, left } => {
             let read = read_at(node_of(world));

@@ -14,13 +14,13 @@ fn first_lines(bytes: &[u8], count: u64) -> Option<&[u8]>
     let mut rest = bytes;
     let mut left = count;
     while left > 0 {
-        let Some((_, behind)) = split_line(rest) else {
+        let Some((_, after)) = split_line(rest) else {
             if left == 1 && !rest.is_empty() {
                 return Some(bytes);
             }
             return None;
         };
-        rest = behind;
+        rest = after;
         left -= 1;
     }
     Some(&bytes[..bytes.len() - rest.len()])

@@ -1,9 +1,8 @@
 //! The pages of both nodes.
 
 use crate::what::Span;
-use area_map::AreaMap;
 use mig_base::schedule::Side;
-use mig_base::{HIGH_PAGE, NoMemory, PAGE_BYTES, PAGE_SIZE, PageNo, Prot, page_address};
+use mig_base::{Area, HIGH_PAGE, NoMemory, PAGE_BYTES, PAGE_SIZE, PageNo, Prot, page_address};
 use uffd_ioctl::Space;
 use world::World;
 
@@ -13,15 +12,41 @@ const MOST_WORDS: usize = 4;
 /// The bytes of a word.
 const WORD: usize = 8;
 
-/// The pages from the first one up to, and without, the last one, which have a byte in a range; all where none is given.
-fn bounds_of(range: Option<Span>) -> (PageNo, PageNo) {
-    let Some(Span { start, end }) = range else {
-        return (0, HIGH_PAGE);
-    };
-    let high = u64::from(HIGH_PAGE);
-    let first = (start / PAGE_SIZE).min(high) as PageNo;
-    let last = end.div_ceil(PAGE_SIZE).min(high) as PageNo;
-    (first, last)
+/// Some neighbouring pages: from `first` up to, and without, `end`.
+#[derive(Clone, Copy)]
+struct Pages {
+    first: PageNo,
+    end: PageNo,
+}
+
+impl Pages {
+    /// The pages that have a byte in a range; all where none is given.
+    fn of(range: Option<Span>) -> Pages {
+        let Some(Span { start, end }) = range else {
+            return Pages {
+                first: 0,
+                end: HIGH_PAGE,
+            };
+        };
+        let high = u64::from(HIGH_PAGE);
+        Pages {
+            first: (start / PAGE_SIZE).min(high) as PageNo,
+            end: end.div_ceil(PAGE_SIZE).min(high) as PageNo,
+        }
+    }
+
+    /// Those of them that an area has.
+    fn within(self, area: &Area) -> Pages {
+        Pages {
+            first: self.first.max(area.first),
+            end: self.end.min(area.first.saturating_add(area.count)),
+        }
+    }
+
+    /// How many they are.
+    fn count(self) -> u32 {
+        self.end.saturating_sub(self.first)
+    }
 }
 
 /// Appends the words of a page that are not 0, each with its address: the first of them, and how many there are more.
@@ -92,15 +117,23 @@ fn write_of_node(
     Ok(())
 }
 
+/// The address space of a node.
+fn space_of(world: &World, node: Side) -> &Space {
+    match node {
+        Side::Source => world.source_space(),
+        Side::Destination => world.destination_space(),
+    }
+}
+
 /// Appends the line of a page that is mapped.
 fn write_page(
     text: &mut String,
     world: &World,
-    space: &Space,
     node: Side,
     page: PageNo,
     prot: Prot,
 ) -> Result<(), NoMemory> {
+    let space = space_of(world, node);
     let addr = page_address(page);
     let prot = word_of(prot);
     let registered = registration(space, page);
@@ -122,41 +155,30 @@ fn write_page(
     Ok(())
 }
 
-/// A node with its space and its mapped pages.
-#[derive(Clone, Copy)]
-struct Node<'a> {
-    side: Side,
-    space: &'a Space,
-    areas: &'a AreaMap,
+/// How many of some pages are in one of these areas.
+fn count_in(areas: &[Area], pages: Pages) -> u32 {
+    let mut count = 0u32;
+    for area in areas {
+        count = count.saturating_add(pages.within(area).count());
+    }
+    count
 }
 
-impl Node<'_> {
-    /// How many of some pages are mapped.
-    fn count(&self, first: PageNo, last: PageNo) -> u32 {
-        let mut count = 0u32;
-        for area in self.areas.areas() {
-            let end = area.first.saturating_add(area.count).min(last);
-            count = count.saturating_add(end.saturating_sub(area.first.max(first)));
+/// Appends the line of each of some pages of a node that is in one of these areas.
+fn write_areas(
+    text: &mut String,
+    world: &World,
+    node: Side,
+    areas: &[Area],
+    pages: Pages,
+) -> Result<(), NoMemory> {
+    for area in areas {
+        let mapped = pages.within(area);
+        for page in mapped.first..mapped.end {
+            write_page(text, world, node, page, area.prot)?;
         }
-        count
     }
-
-    /// Appends the line of each of some pages that are mapped.
-    fn write(
-        &self,
-        text: &mut String,
-        world: &World,
-        first: PageNo,
-        last: PageNo,
-    ) -> Result<(), NoMemory> {
-        for area in self.areas.areas() {
-            let end = area.first.saturating_add(area.count).min(last);
-            for page in area.first.max(first)..end {
-                write_page(text, world, self.space, self.side, page, area.prot)?;
-            }
-        }
-        Ok(())
-    }
+    Ok(())
 }
 
 /// Appends how many pages of a range each node has mapped, and each of them.
@@ -165,23 +187,12 @@ pub(crate) fn write_pages(
     world: &World,
     range: Option<Span>,
 ) -> Result<(), NoMemory> {
-    let (first, last) = bounds_of(range);
-    let space = world.source_space();
-    let areas = space.areas()?;
-    let source = Node {
-        side: Side::Source,
-        space,
-        areas: &areas,
-    };
-    let space = world.destination_space();
-    let areas = space.areas()?;
-    let destination = Node {
-        side: Side::Destination,
-        space,
-        areas: &areas,
-    };
-    let counts = (source.count(first, last), destination.count(first, last));
-    write!(text, "pages source {} dest {}\n", counts.0, counts.1)?;
-    source.write(text, world, first, last)?;
-    destination.write(text, world, first, last)
+    let pages = Pages::of(range);
+    let source = world.source_space().areas()?;
+    let destination = world.destination_space().areas()?;
+    let at_source = count_in(source.areas(), pages);
+    let at_destination = count_in(destination.areas(), pages);
+    write!(text, "pages source {at_source} dest {at_destination}\n")?;
+    write_areas(text, world, Side::Source, source.areas(), pages)?;
+    write_areas(text, world, Side::Destination, destination.areas(), pages)
 }

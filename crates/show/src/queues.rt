@@ -21,11 +21,11 @@ pub(crate) fn write_queues(
     survey: &Survey,
 ) -> Result<(), NoMemory> {
     let sread = survey.source.reads.len();
-    let sact = survey.source.acts.len();
+    let sact = world.source_held();
     let serve = world.asked();
     let dread = survey.destination.reads.len();
     let dact = survey.destination.acts.len();
-    let install = survey.installs.len();
+    let install = world.arrivals();
     write!(text, "queues sread {sread} sact {sact} serve {serve} ")?;
     write!(text, "dread {dread} dact {dact} install {install}\n")?;
     write_queue(text, "sread", &survey.source.reads)?;

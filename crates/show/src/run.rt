@@ -52,11 +52,12 @@ fn write_facts<W: Write>(
     world: &World,
     asked: Asked,
 ) -> Result<(), RunFault>
-    ensures ok { OnOk result (Writes world.now (W.contents writer.old) (W.contents writer.new)) }
-    ensures fault { IfErr result (λ fault.
-        WriteStops world.now fault (W.contents writer.old) (W.contents writer.new)) }
+    ensures ok { OnOk result (Writes world.now asked.what (W.contents writer.old)
+        (W.contents writer.new)) }
+    ensures fault { IfErr result (λ fault. WriteStops world.now asked.what fault
+        (W.contents writer.old) (W.contents writer.new)) }
 {
-    let text = facts_of(alloc, world, asked.what, asked.range)?;
+    let text = facts_of(alloc, world, asked)?;
     write_out(writer, text.as_bytes())
 }
 
@@ -70,9 +71,9 @@ fn show_input<W: Write>(
 ) -> Result<bool, RunFault>
     requires low { 1 ≤ cpus }
     requires high { cpus ≤ 16 }
-    ensures ok { IfOk result (λ found. Shows found (first_world cpus) asked.at input.now
+    ensures ok { IfOk result (λ found. Shows found (first_world cpus) asked input.now
         (W.contents writer.old) (W.contents writer.new)) }
-    ensures fault { IfErr result (λ fault. ShowStops (first_world cpus) asked.at input.now fault
+    ensures fault { IfErr result (λ fault. ShowStops (first_world cpus) asked input.now fault
         (W.contents writer.old) (W.contents writer.new)) }
 {
     let Some(script) = run_lines(input, asked.at) else {
@@ -99,10 +100,10 @@ pub fn show_script<R: Read, W: Write>(
     requires low { 1 ≤ cpus }
     requires high { cpus ≤ 16 }
     ensures ok { IfOk result (λ found. IfSome (R.remaining reader.old) (λ input.
-        Shows found (first_world cpus) asked.at input (W.contents writer.old)
+        Shows found (first_world cpus) asked input (W.contents writer.old)
         (W.contents writer.new))) }
     ensures fault { IfErr result (λ fault. IfSome (R.remaining reader.old) (λ input.
-        ShowStops (first_world cpus) asked.at input fault (W.contents writer.old)
+        ShowStops (first_world cpus) asked input fault (W.contents writer.old)
         (W.contents writer.new))) }
 {
     let mut input = Vec::new(alloc);

@@ -18,6 +18,11 @@ const MOVE: &[u8] =
     b"cpu 0 mmap 4096 rw\ncpu 0 store 0x10000 1 7\nstart\nround\nsend\ncpu 0 store 0x10000 1 8\n\
 cpu 1 mremap 0x10000 4096 4096 maymove fixed 0x20000\nsread\nbreak\nnotice source\ngo\n";
 
+/// A page that moves at the destination while it is owed, and is pushed on the urgent wire.
+const OWED_ELSEWHERE: &[u8] =
+    b"cpu 0 mmap 4096 rw\ncpu 0 store 0x10000 1 7\nstart\nswitch\ndeliver\ndeliver\ndeliver\n\
+cpu 0 mremap 0x10000 4096 4096 maymove fixed 0x20000\ndread\ncpu 1 load 0x20000 1\nupush 0x10000\nbreak\n";
+
 /// A script, the line, what is shown there, and the facts without the line of progress.
 type Row = (&'static [u8], u64, What, &'static [u8], &'static [u8]);
 
@@ -118,6 +123,34 @@ dest page 0x10000: rw, registered missing, owed from 0x10000, missing\ndest page
         What::Wires,
         b"progress phase precopy rounds 1 sent 1 left 0 installed 0 dropped 0 faults 1\n",
         b"channel lost, epoch 1\npaused source\nwires wire 0 back 0 urgent 0\n",
+    ),
+    (
+        OWED_ELSEWHERE,
+        9,
+        What::Owed,
+        b"progress phase postcopy rounds 0 sent 0 left 1 installed 0 dropped 0 faults 0\n",
+        b"owed left 1 push 1 requests 0\npush 0x10000\nowed 0x20000 from 0x10000: to push\n",
+    ),
+    (
+        OWED_ELSEWHERE,
+        11,
+        What::Owed,
+        b"progress phase postcopy rounds 0 sent 1 left 1 installed 0 dropped 0 faults 0\n",
+        b"owed left 1 push 0 requests 0\nowed 0x20000 from 0x10000: on urgent\n",
+    ),
+    (
+        OWED_ELSEWHERE,
+        11,
+        What::Cpus,
+        b"progress phase postcopy rounds 0 sent 1 left 1 installed 0 dropped 0 faults 0\n",
+        b"cpu 0: idle\ncpu 1 load 0x20000 1: asleep on 0x20000, waits for udeliver\n",
+    ),
+    (
+        OWED_ELSEWHERE,
+        12,
+        What::Cpus,
+        b"progress phase postcopy rounds 0 sent 1 left 1 installed 0 dropped 0 faults 0\n",
+        b"cpu 0: idle\ncpu 1 load 0x20000 1: asleep on 0x20000, waits for the channel\n",
     ),
 ];
 
