@@ -1,3 +1,3 @@
-pub mod Owed
+pub mod OwedLines
 pub mod Passing
 pub mod Reached

@@ -1,5 +1,5 @@
 use Rattle.std.proofs.Common.{◌∙◌}
-use Rattle.show.proofs.Owed.{all_owed, none_owed, one_owed}
+use Rattle.show.proofs.OwedLines.{all_owed, none_owed, one_owed}
 use Rattle.show.proofs.owed.write_pages.Goals as goal
 
 pub loop-origin-init : goal.loop-origin-init

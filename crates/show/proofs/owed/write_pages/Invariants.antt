@@ -1,5 +1,5 @@
 use Rattle.std.proofs.Common.{string_bytes}
-use Rattle.show.proofs.Owed.{HaveOwedLines}
+use Rattle.show.proofs.OwedLines.{HaveOwedLines}
 use Rattle.show.proofs.owed.write_pages.Given as goal
 
 abbrev pub invariant-loop-origin : goal.invariant-loop-origin

@@ -1,5 +1,5 @@
 use Rattle.std.proofs.Common.{◌∙◌}
-use Rattle.show.proofs.Owed.{all_pushed, none_pushed, one_pushed}
+use Rattle.show.proofs.OwedLines.{all_pushed, none_pushed, one_pushed}
 use Rattle.show.proofs.owed.write_pushes.Goals as goal
 
 pub loop-page-init : goal.loop-page-init

@@ -1,5 +1,5 @@
 use Rattle.std.proofs.Common.{string_bytes}
-use Rattle.show.proofs.Owed.{HavePushLines}
+use Rattle.show.proofs.OwedLines.{HavePushLines}
 use Rattle.show.proofs.owed.write_pushes.Given as goal
 
 abbrev pub invariant-loop-page : goal.invariant-loop-page

@@ -1,12 +1,10 @@
 -- The pages that a loop over a set has taken, and their lines.
-use Rattle.std.proofs.Common.{◌≡◌, ℕ, List, [], ◌∷◌, ◌++◌, Option, Some, None, refl, sym, ap, subst, ◌∙◌, append_assoc, append-nil}
-use Rattle.std.specs.Prelude.{MatchOption}
+use Rattle.std.proofs.Common.{◌≡◌, ℕ, List, [], ◌∷◌, ◌++◌, refl, sym, ap, subst, ◌∙◌, append_assoc, append-nil}
 use Rattle.std.specs.Ordering.{nat_cmp}
 use Rattle.std.specs.FinSet.{FinSet, empty, remove}
 use Rattle.mig_base.specs.PageSets.{IsFirstPage}
 use Rattle.mig_model.specs.Migration.{World}
-use Rattle.mig_model.specs.Owed.{home, origins}
-use Rattle.show.specs.Owed.{AddsAllOwed, AddsOwed, AddsPushes, AreAscending, AreOwedLines, IsOwedLine, IsOwedText, IsPlace, owed_head, owed_line, push_line, push_lines}
+use Rattle.show.specs.Owed.{AddsAllOwed, AddsOwed, AddsPushes, AreAscending, AreOwedLines, IsOwedLine, push_line, push_lines}
 
 -- these pages were taken out of a set, the least first, and the others are left
 abbrev pub AreTaken : FinSet nat_cmp → List ℕ → FinSet nat_cmp → Type 0
@@ -79,27 +77,3 @@ one_owed world set left rest before after new page have first at adds = record {
 
 pub all_owed : (world : World) (set left : FinSet nat_cmp) (before after : List ℕ) → HaveOwedLines world set before left after → left ≡ empty → AddsAllOwed world set before after
 all_owed world set left before after have none = (have.pages, have.lines, all_taken set have.pages left have.taken none, have.each, have.grown)
-
--- the line of one page
-
-pub owed_somewhere : (world : World) (origin page : ℕ) (place before after : List ℕ) → home world.destination.owed origin ≡ Some page → IsPlace place → after ≡ before ++ owed_line world origin page place → AddsOwed world origin before after
-owed_somewhere world origin page place before after at is grown =
-    (owed_line world origin page place, subst (λ (found : Option ℕ). MatchOption found (owed_line world origin page place ≡ []) (λ p. (word : List ℕ) × IsPlace word × (owed_line world origin page place ≡ owed_line world origin p word))) (sym at) (place, is, refl), grown)
-
-pub owed_nowhere : (world : World) (origin : ℕ) (before after : List ℕ) → home world.destination.owed origin ≡ None → after ≡ before → AddsOwed world origin before after
-owed_nowhere world origin before after at same =
-    ([], subst (λ (found : Option ℕ). MatchOption found ([] ≡ []) (λ p. (word : List ℕ) × IsPlace word × ([] ≡ owed_line world origin p word))) (sym at) refl, same ∙ sym (append-nil before))
-
--- the whole text
-pub owed_whole : (world : World) (set : FinSet nat_cmp) (empty_text headed pushed text : List ℕ) → empty_text ≡ [] → headed ≡ empty_text ++ owed_head world → AddsPushes world.source.remaining headed pushed
-    → set ≡ origins world.destination.owed → AddsAllOwed world set pushed text → IsOwedText world text
-owed_whole world set empty_text headed pushed text none head pushes is owed = record {
-  pushes = pushes.0;
-  owed = owed.0;
-  lines = owed.1;
-  all_pushes = pushes.1;
-  all_owed = subst (λ (s : FinSet nat_cmp). AreAscending s owed.0) is owed.2;
-  each = owed.3;
-  whole = owed.4 ∙ ap (λ (t : List ℕ). t ++ owed.1) (pushes.2 ∙ ap (λ (t : List ℕ). t ++ push_lines pushes.0) (head ∙ ap (λ (t : List ℕ). t ++ owed_head world) none))
-      ∙ append_assoc (owed_head world) (push_lines pushes.0) owed.1;
-}
