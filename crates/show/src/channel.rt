@@ -108,10 +108,9 @@ fn write_wire(
 ) -> Result<(), NoMemory> {
     for (index, (epoch, frame)) in frames.iter().enumerate() {
         let number = index.saturating_add(1);
-        let len = frame.text_len();
         write!(text, "{wire} {number}: ")?;
         write_frame(text, frame)?;
-        write!(text, ", epoch {epoch}, {len} bytes")?;
+        write!(text, ", epoch {epoch}")?;
         if index == 0 && held > 0 {
             write!(text, ", {held} arrived")?;
         }
@@ -135,7 +134,19 @@ fn write_channel(text: &mut String, world: &World) -> Result<(), NoMemory> {
     Ok(())
 }
 
-/// Appends what the channel is, how many frames are on the wires, and each frame.
+/// Appends how many bytes are in flight on the wires.
+fn write_bytes(text: &mut String, world: &World) -> Result<(), NoMemory> {
+    let forward = world.forward_bytes();
+    let back = world.back_bytes();
+    let urgent = world.urgent_bytes();
+    write!(
+        text,
+        "bytes wire {forward} back {back} urgent {urgent}\n"
+    )?;
+    Ok(())
+}
+
+/// Appends what the channel is, how many frames and bytes are on the wires, and each frame.
 pub(crate) fn write_wires(alloc: Global, text: &mut String, world: &World) -> Result<(), NoMemory> {
     let forward = frames_on(alloc, world.forward())?;
     let back = frames_on(alloc, world.back())?;
@@ -147,6 +158,7 @@ pub(crate) fn write_wires(alloc: Global, text: &mut String, world: &World) -> Re
         "wires wire {} back {} urgent {}\n",
         counts.0, counts.1, counts.2
     )?;
+    write_bytes(text, world)?;
     write_wire(text, "wire", &forward, world.forward().held())?;
     write_wire(text, "back", &back, world.back().held())?;
     write_wire(text, "urgent", &urgent, world.urgent().held())

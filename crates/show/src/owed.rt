@@ -37,6 +37,7 @@ fn requested(world: &World, origin: PageNo) -> &'static str
 }
 
 /// Appends how many pages are owed, how many of them the source has still to push, and how many are requested.
+#[tactic(auto, unfolding(crate::specs::Owed::owed_head))]
 fn write_head(text: &mut String, world: &World) -> Result<(), NoMemory>
     ensures { OnOk result (string_bytes text.new ≡
         string_bytes text.old ++ owed_head world.now) }
@@ -49,6 +50,7 @@ fn write_head(text: &mut String, world: &World) -> Result<(), NoMemory>
 }
 
 /// Appends the line of a page that the source has still to push.
+#[tactic(auto, unfolding(crate::specs::Owed::push_line))]
 fn write_push(text: &mut String, page: PageNo) -> Result<(), NoMemory>
     ensures { OnOk result (string_bytes text.new ≡ string_bytes text.old ++ push_line page) }
 {
@@ -69,6 +71,7 @@ fn write_pushes(text: &mut String, pages: &PageSet) -> Result<(), NoMemory>
 }
 
 /// Appends the line of a page of the source that the destination is owed at `home`, with the word for its place.
+#[tactic(auto, unfolding(crate::specs::Owed::owed_line))]
 fn write_line(
     text: &mut String,
     world: &World,

@@ -32,7 +32,7 @@ static FACTS: &[Row] = &[
         5,
         What::Wires,
         b"progress phase switching rounds 0 sent 0 left 2 installed 0 dropped 0 faults 0\n",
-        b"channel up, epoch 1\nwires wire 3 back 0 urgent 0\nwire 1: advise, epoch 1, 12 bytes\nwire 2: discard 0, epoch 1, 16 bytes\nwire 3: package owed 2, epoch 1, 40 bytes\nwire 3 owes 0x10000\nwire 3 owes 0x11000\n",
+        b"channel up, epoch 1\nwires wire 3 back 0 urgent 0\nbytes wire 68 back 0 urgent 0\nwire 1: advise, epoch 1\nwire 2: discard 0, epoch 1\nwire 3: package owed 2, epoch 1\nwire 3 owes 0x10000\nwire 3 owes 0x11000\n",
     ),
     (
         FAULT,
@@ -70,7 +70,7 @@ static FACTS: &[Row] = &[
         b"cpu 0 load 0x10000 8: asleep on 0x10000, waits for deliver\ncpu 1 store 0x10004 4 0x9: asleep on 0x10000, waits for deliver\n\
 queues sread 0 sact 0 serve 0 dread 0 dact 0 install 0\n\
 owed left 2 push 1 requests 1\npush 0x11000\nowed 0x10000 from 0x10000: on wire, requested\nowed 0x11000 from 0x11000: to push\n\
-channel up, epoch 1\nwires wire 1 back 0 urgent 0\nwire 1: page 0x10000, epoch 1, 4112 bytes, 20 arrived\n\
+channel up, epoch 1\nwires wire 1 back 0 urgent 0\nbytes wire 4112 back 0 urgent 0\nwire 1: page 0x10000, epoch 1, 20 arrived\n\
 pages source 2 dest 2\nsource page 0x10000: rw, registered missing write-protect, present, 0x10000 has 0x1122334455667788\n\
 source page 0x11000: rw, registered missing write-protect, present, 0x11000 has 0x5\n\
 dest page 0x10000: rw, registered missing, owed from 0x10000, missing\ndest page 0x11000: rw, registered missing, owed from 0x11000, missing\n",
@@ -122,7 +122,7 @@ dest page 0x10000: rw, registered missing, owed from 0x10000, missing\ndest page
         10,
         What::Wires,
         b"progress phase precopy rounds 1 sent 1 left 0 installed 0 dropped 0 faults 1\n",
-        b"channel lost, epoch 1\npaused source\nwires wire 0 back 0 urgent 0\n",
+        b"channel lost, epoch 1\npaused source\nwires wire 0 back 0 urgent 0\nbytes wire 0 back 0 urgent 0\n",
     ),
     (
         OWED_ELSEWHERE,
