@@ -23,7 +23,7 @@ ROWS = (
         68,
         ("tools over scripts and frames", "wiretap host_calls frames explain lint expected explore finishing", 5),
         ("threads and a lock", "threads rig pusher", 3),
-        ("pictures", "draw diagram", 2),
+        ("looking inside", "draw diagram show", 2),
     ),
     (52, ("the steps to completion", "finish", 4), ("scripts, transcripts and replies as text", "engine grammar report hosts", 8)),
     (52, ("a migration: both nodes, three wires, and its recovery", "world recovery", 12)),

@@ -1,5 +1,6 @@
 //! The command line: its subcommands and their arguments.
 
+use crate::showing::show_command;
 use clap::{Arg, ArgAction, Command, value_parser};
 use std::alloc::{AllocError, Global};
 
@@ -8,7 +9,7 @@ const VERSION: &str = "0.1.0";
 
 const WHY_IT_FAILED: &str = "Says on standard error why a read or a write failed";
 
-const WHY_IT_ENDED: &str =
+pub(crate) const WHY_IT_ENDED: &str =
     "Says on standard error what is wrong with each line of FILE, and why a read or a write failed";
 
 const WHY_IT_IS_WRONG: &str =
@@ -26,7 +27,7 @@ const STATUSES: &str = "Exit status:
 docs/SCRIPT.md has the lines of scripts and transcripts.";
 
 /// `--cpus N`.
-fn cpus_argument<'a>(alloc: Global) -> Arg<'a> {
+pub(crate) fn cpus_argument<'a>(alloc: Global) -> Arg<'a> {
     Arg::new(alloc, "cpus")
         .long("cpus")
         .value_name("N")
@@ -36,7 +37,7 @@ fn cpus_argument<'a>(alloc: Global) -> Arg<'a> {
 }
 
 /// `[FILE]`.
-fn file_argument<'a>(alloc: Global) -> Arg<'a> {
+pub(crate) fn file_argument<'a>(alloc: Global) -> Arg<'a> {
     Arg::new(alloc, "file")
         .value_name("FILE")
         .help("Is read in place of standard input")
@@ -51,7 +52,7 @@ fn strict_argument<'a>(alloc: Global, help: &'a str) -> Arg<'a> {
 }
 
 /// `--explain`, which also says why reading or writing fails.
-fn explain_argument<'a>(alloc: Global, help: &'a str) -> Arg<'a> {
+pub(crate) fn explain_argument<'a>(alloc: Global, help: &'a str) -> Arg<'a> {
     Arg::new(alloc, "explain")
         .long("explain")
         .help(help)
@@ -337,6 +338,7 @@ pub(crate) fn command_line<'a>(alloc: Global) -> Result<Command<'a>, AllocError>
         .subcommand(lint_command(alloc)?)?
         .subcommand(frames_command(alloc)?)?
         .subcommand(draw_command(alloc)?)?
+        .subcommand(show_command(alloc)?)?
         .subcommand(explore_command(alloc)?)?
         .subcommand(test_command(alloc)?)?
         .subcommand(threads_command(alloc)?)

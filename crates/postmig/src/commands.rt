@@ -5,6 +5,7 @@ ghost use Rattle.std.specs.Prelude.{◌≤◌};
 use crate::arguments::command_line;
 use crate::input::Input;
 use crate::reasons::{say_wrong_line, say_wrong_lines};
+use crate::showing::show;
 use crate::status::{
     ALL_DONE, BAD_COMMAND_OR_SCRIPT, NO_MEMORY, READ_OR_WRITE_FAULT, strict_status_of,
 };
@@ -309,6 +310,7 @@ fn do_command<T: Threads + Wait + Sync>(rt: &HostRuntime, handle: &T, matches: &
         Some(("lint", matches)) => lint(rt, matches),
         Some(("frames", matches)) => take_frames(rt, matches),
         Some(("draw", matches)) => draw_script(rt, matches),
+        Some(("show", matches)) => show(rt, matches),
         Some(("explore", matches)) => explore(rt, matches),
         Some(("test", matches)) => test(rt, matches),
         Some(("threads", matches)) => run_in_threads(rt, handle, matches),

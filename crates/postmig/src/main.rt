@@ -9,6 +9,7 @@
 //! - `postmig lint` lists the wrong lines of a script or a transcript.
 //! - `postmig frames` reads frames, and writes a destination's answer to each.
 //! - `postmig draw` runs a script, and writes a picture of the run.
+//! - `postmig show` runs a script up to a line, and writes what is there.
 //! - `postmig explore` writes a random script.
 //! - `postmig test` runs scripts whose lines have answers, and names the answers that differ, or with `--write` replaces them.
 //! - `postmig threads` reads nothing, runs a migration in threads, and writes a report.
@@ -25,6 +26,7 @@ mod commands;
 mod input;
 mod reasons;
 mod renewal;
+mod showing;
 mod status;
 mod streams;
 mod tally;

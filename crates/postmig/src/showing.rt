@@ -1,0 +1,106 @@
+//! `postmig show`: what a world holds at a line of a script.
+
+use crate::arguments::{WHY_IT_ENDED, cpus_argument, explain_argument, file_argument};
+use crate::reasons::say_wrong_lines;
+use crate::status::{BAD_COMMAND_OR_SCRIPT, READ_OR_WRITE_FAULT};
+use crate::streams::{end, open_input, open_output};
+use clap::{Arg, ArgMatches, Command, value_parser};
+use grammar::token::read_tokens;
+use grammar::{Language, Token};
+use show::{Asked, Span, What, show_script};
+use std::alloc::{AllocError, Global};
+
+/// The names of what is shown, in the order of `What::ALL`.
+const WHATS: &[&str] = &["cpus", "queues", "owed", "wires", "pages", "all"];
+
+/// `postmig show [--at LINE] [--range START:END] [--cpus N] [--explain] WHAT [FILE]`.
+pub(crate) fn show_command<'a>(alloc: Global) -> Result<Command<'a>, AllocError> {
+    let at = Arg::new(alloc, "at")
+        .long("at")
+        .value_name("LINE")
+        .help("The last line of the script that is run, and not that of FILE")
+        .value_parser(value_parser!(u64));
+    let range = Arg::new(alloc, "range")
+        .long("range")
+        .value_name("START:END")
+        .help("The addresses whose pages are shown, and not all; END is the one after the last");
+    let what = Arg::new(alloc, "what")
+        .value_name("WHAT")
+        .help("What is shown")
+        .value_parser(WHATS)
+        .required(true);
+    Command::new(alloc, "show")
+        .about("Runs a script up to a line, and says what is there")
+        .arg(at)?
+        .arg(range)?
+        .arg(cpus_argument(alloc))?
+        .arg(explain_argument(alloc, WHY_IT_ENDED))?
+        .arg(what)?
+        .arg(file_argument(alloc))
+}
+
+/// The number that a text spells, as a line of a script has it.
+fn number_of(alloc: Global, text: &str) -> Option<u64> {
+    let mut tokens = Vec::new(alloc);
+    let Ok(true) = read_tokens(&mut tokens, text.as_bytes()) else {
+        return None;
+    };
+    match tokens.as_slice() {
+        [Token::Number(number)] => Some(*number),
+        _ => None,
+    }
+}
+
+/// The range that a text names.
+fn range_of(alloc: Global, text: &str) -> Option<Span> {
+    let (start, end) = text.split_once(':')?;
+    let start = number_of(alloc, start)?;
+    let end = number_of(alloc, end)?;
+    (start <= end).then_some(Span { start, end })
+}
+
+/// What a command asks for. Says on standard error what is wrong with its range.
+fn asked_of(rt: &HostRuntime, matches: &ArgMatches) -> Option<Asked> {
+    let what = What::named(matches.get_str("what")?)?;
+    let range = match matches.get_str("range") {
+        None => None,
+        Some(text) => {
+            let range = range_of(rt.alloc(), text);
+            if range.is_none() {
+                let _ = eprintln!(rt;
+                    "error: invalid value for '--range <START:END>': not two addresses, of which the second is not below the first"
+                );
+                return None;
+            }
+            range
+        }
+    };
+    Some(Asked {
+        what,
+        at: matches.get_one::<u64>("at"),
+        range,
+    })
+}
+
+/// Runs a script up to a line, and writes what is there.
+pub(crate) fn show(rt: &HostRuntime, matches: &ArgMatches) -> u8 {
+    let Some(cpus @ 1..=16) = matches.get_one::<u8>("cpus") else {
+        return BAD_COMMAND_OR_SCRIPT;
+    };
+    let Some(asked) = asked_of(rt, matches) else {
+        return BAD_COMMAND_OR_SCRIPT;
+    };
+    let Some(mut input) = open_input(rt, matches) else {
+        return READ_OR_WRITE_FAULT;
+    };
+    let mut output = open_output(rt);
+    let shown = show_script(rt.alloc(), &mut input, &mut output, cpus, asked);
+    if let (Ok(false), Some(line)) = (&shown, asked.at) {
+        let _ = eprintln!(rt; "{}: there is no line {line}", input.name());
+        return BAD_COMMAND_OR_SCRIPT;
+    }
+    let outcome = shown.map(|_| true);
+    let status = end(rt, matches, &input, &output, outcome);
+    say_wrong_lines(rt, matches, Language::Script, &outcome);
+    status
+}

@@ -1,0 +1,3 @@
+pub mod OwedLines
+pub mod Passing
+pub mod Reached
