@@ -1,0 +1,96 @@
+//! The rules that findings name, and what a finding means for the guest.
+
+use crate::judging::Judged;
+
+/// A rule, by which something was found.
+#[derive(Clone, Copy, PartialEq, Eq)]
+pub(crate) enum Rule {
+    /// The kernel answers as its rules say.
+    Answer,
+    /// A page is registered when it is put.
+    NotRegistered,
+    /// It is put once.
+    PutTwice,
+    /// Nobody touches it before.
+    PresentBefore,
+    /// Each fault that is read is resolved.
+    FaultNotResolved,
+    /// Each page is put before its registration ends.
+    PageOwed,
+}
+
+impl Rule {
+    /// All, in the order of docs/AUDIT.md.
+    pub(crate) const ALL: [Rule; 6] = [
+        Rule::Answer,
+        Rule::NotRegistered,
+        Rule::PutTwice,
+        Rule::PresentBefore,
+        Rule::FaultNotResolved,
+        Rule::PageOwed,
+    ];
+
+    pub(crate) fn name(self) -> &'static str {
+        match self {
+            Rule::Answer => "impossible-answer",
+            Rule::NotRegistered => "not-registered",
+            Rule::PutTwice => "put-twice",
+            Rule::PresentBefore => "present-before",
+            Rule::FaultNotResolved => "fault-not-resolved",
+            Rule::PageOwed => "page-owed",
+        }
+    }
+
+    /// Who has not kept it.
+    pub(crate) fn whose(self) -> &'static str {
+        match self {
+            Rule::Answer => "kernel",
+            _ => "monitor",
+        }
+    }
+
+    /// What a finding means, and where docs/LINUX.md speaks of it.
+    pub(crate) fn meaning(self) -> &'static str {
+        match self {
+            Rule::Answer => {
+                "the kernel answered otherwise than its rules, or calls are missing: of the log, or of the monitor (LINUX.md, The userfault object)"
+            }
+            Rule::NotRegistered => {
+                "the page was unmapped or moved meanwhile, or the address is wrong (LINUX.md, For authors of a handler)"
+            }
+            Rule::PutTwice => {
+                "the bytes of the later call are lost; that is harmless where both have the same (LINUX.md, For authors of a handler)"
+            }
+            Rule::PresentBefore => {
+                "the bytes of the call are lost, and the guest has what was there before (LINUX.md, For authors of a handler)"
+            }
+            Rule::FaultNotResolved => {
+                "a thread of the guest waits for ever, or until the registration ends (LINUX.md, For authors of a handler)"
+            }
+            Rule::PageOwed => "the guest reads zeros there (LINUX.md, For authors of a handler)",
+        }
+    }
+
+    /// Whether something was found by it.
+    pub(crate) fn is_broken(self, judged: &Judged) -> bool {
+        let kernel = &judged.kernel;
+        match self {
+            Rule::Answer => !judged.impossible.is_empty(),
+            Rule::NotRegistered => !kernel.outside.is_empty(),
+            Rule::PutTwice => has_there(judged, true),
+            Rule::PresentBefore => has_there(judged, false),
+            Rule::FaultNotResolved => !kernel.unanswered.is_empty(),
+            Rule::PageOwed => !kernel.owed.is_empty(),
+        }
+    }
+}
+
+/// Whether a call has stopped at a page that a call of the log had put, or another.
+fn has_there(judged: &Judged, put: bool) -> bool {
+    for there in &judged.kernel.there {
+        if there.put == put {
+            return true;
+        }
+    }
+    false
+}
