@@ -6,9 +6,9 @@ use Rattle.std.specs.Io.KnownBytes.{Appends}
 use Rattle.std.proofs.KnownBytes.{Appends-nil, Appends-trans}
 use Rattle.audit.specs.declared.audit.Verdict.{Verdict}
 use Rattle.audit.specs.declared.audit.Verdict.TheVariants as verdict
-use Rattle.audit.specs.Listing.{IsRead}
-use Rattle.audit.specs.Reading.{ReadsLog, Prints}
-use Rattle.audit.specs.Verdicts.{IsFinding, AreFindings, IsSummary, HasVerdict, IsJudged, Audits}
+use Rattle.call_log.specs.declared.log.Log.{Log}
+use Rattle.call_log.specs.Listing.{IsRead, ReadsLog}
+use Rattle.audit.specs.Verdicts.{IsFinding, AreFindings, IsSummary, HasVerdict, IsJudged, Audits, Prints}
 
 -- Findings
 
@@ -59,11 +59,11 @@ said name input verdict.Impossible before after p = p
 said name input verdict.Undecided before after p = p
 said name input verdict.Wrong before after p = absurd p.1.fits
 
-pub audited : (r0 : Option (List ℕ)) (name : List ℕ) (right : Bool) (v : Verdict) (n : ℕ) (output summary : List ℕ) (w0 w1 w2 w3 : Option (List ℕ)) → IfSome r0 (λ input. ReadsLog name input right w0 w1) → right ≡ true → Prints name n output → Appends w1 w2 output → IsSummary summary
-    → Appends w2 w3 summary → HasVerdict v n → IfSome r0 (λ input. Audits name input v w0 w3)
-audited None name right v n output summary w0 w1 w2 w3 read is g first sums wrote fits = tt
-audited (Some input) name right v n output summary w0 w1 w2 w3 read is g first sums wrote fits =
-    let none : read.0 ≡ [] = read.2.0 (rw is refl) in
+pub audited : (r : Option (List ℕ)) (name : List ℕ) (log : Log) (v : Verdict) (n : ℕ) (output summary : List ℕ) (w0 w1 w2 w3 : Option (List ℕ)) → IfSome r (λ input. ReadsLog name input (Some log) w0 w1) → Prints name n output → Appends w1 w2 output → IsSummary summary
+    → Appends w2 w3 summary → HasVerdict v n → IfSome r (λ input. Audits name input v w0 w3)
+audited None name log v n output summary w0 w1 w2 w3 read g first sums wrote fits = tt
+audited (Some input) name log v n output summary w0 w1 w2 w3 read g first sums wrote fits =
+    let none : read.0 ≡ [] = read.2.0 refl in
     said name input v w0 w3
     (whole_judged name input v w0 w1 w3 (subst (λ (t : List ℕ). IsRead name input t) none read.1) (subst (λ (t : List ℕ). Appends w0 w1 t) none read.3) (judged name v n output summary w1 w2 w3 g first sums wrote fits))
 
@@ -71,6 +71,6 @@ some_text : (text : List ℕ) → (text ≡ [] → ⊥) → 0 < length text
 some_text [] h = absurd (h refl)
 some_text (x ∷ xs) h = omega arith
 
-pub audited_wrong : (r0 : Option (List ℕ)) (name : List ℕ) (right : Bool) (w0 w1 : Option (List ℕ)) → IfSome r0 (λ input. ReadsLog name input right w0 w1) → right ≡ false → IfSome r0 (λ input. Audits name input verdict.Wrong w0 w1)
-audited_wrong None name right w0 w1 read is = tt
-audited_wrong (Some input) name right w0 w1 read is = (read.0, some_text read.0 (λ none. let e : false ≡ true = subst (λ (b : Bool). IsTrue b) is (read.2.1 none) in cc), read.1, read.3)
+pub audited_wrong : (r : Option (List ℕ)) (name : List ℕ) (w0 w1 : Option (List ℕ)) → IfSome r (λ input. ReadsLog name input None w0 w1) → IfSome r (λ input. Audits name input verdict.Wrong w0 w1)
+audited_wrong None name w0 w1 read = tt
+audited_wrong (Some input) name w0 w1 read = (read.0, some_text read.0 (λ none. let e : false ≡ true = read.2.1 none in cc), read.1, read.3)

@@ -1,3 +1,1 @@
-pub mod Listing
-pub mod Reading
 pub mod Verdicts

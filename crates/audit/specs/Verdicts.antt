@@ -5,7 +5,7 @@ use Rattle.std.specs.Fmt.{decimal}
 use Rattle.std.specs.Io.KnownBytes.{Appends}
 use Rattle.audit.specs.declared.audit.Verdict.{Verdict}
 use Rattle.audit.specs.declared.audit.Verdict.TheVariants as verdict
-use Rattle.audit.specs.Listing.{IsListed, IsRead}
+use Rattle.call_log.specs.Listing.{IsListed, IsRead}
 
 -- a finding: a name, the line of the log that it is of, and a text
 abbrev pub IsFinding : List ℕ → List ℕ → Type 0
@@ -15,7 +15,7 @@ IsFinding name text = (line : ℕ) × IsListed name line text
 abbrev pub AreFindings : List ℕ → List (List ℕ) → Type 0
 AreFindings name texts = AllByRecursion (λ text. IsFinding name text) texts
 
--- the summary begins with the number of calls
+-- a summary begins with a number of calls
 pub record IsSummary (text : List ℕ) : Type 0 where
   pub calls : ℕ
   pub rest : List ℕ
@@ -42,3 +42,10 @@ pub record IsJudged (name : List ℕ) (verdict : Verdict) (before after : Option
 abbrev pub Audits : List ℕ → List ℕ → Verdict → Option (List ℕ) → Option (List ℕ) → Type 0
 Audits name input verdict.Wrong before after = (text : List ℕ) × (0 < length text) × IsRead name input text × Appends before after text
 Audits name input said before after = IsRead name input [] × IsJudged name said before after
+
+-- the lines of this number of findings
+pub record Prints (name : List ℕ) (number : ℕ) (output : List ℕ) : Type 0 where
+  pub texts : List (List ℕ)
+  pub count : length texts ≡ number
+  pub are : AreFindings name texts
+  pub parts : output ≡ concat texts

@@ -1,15 +1,14 @@
 //! Reading a log from a reader, and writing what was found to a writer.
 
-ghost use Rattle.std.specs.Prelude.{length, OnOk, IfOk};
-ghost use Rattle.audit.specs.Reading.{Prints};
-ghost use Rattle.audit.specs.Verdicts.{HasVerdict, IsFinding};
+ghost use Rattle.std.specs.Prelude.{length, OnOk, IfOk, IfSome};
+ghost use Rattle.audit.specs.Verdicts.{Audits, HasVerdict, IsFinding, Prints};
 
-use crate::fault::AuditFault;
 use crate::findings::{Finding, list_findings};
-use crate::input::{read_log, write_out};
 use crate::judging::{Judged, judge};
-use crate::split::first_line;
 use crate::summary::summary;
+use call_log::fault::LogFault;
+use call_log::input::{read_log, write_out};
+use call_log::split::first_line;
 use mig_base::NoMemory;
 use std::alloc::Global;
 use std::io::{Read, Write};
@@ -40,12 +39,14 @@ pub fn audit_log<R: Read, W: Write>(
     writer: &mut W,
     name: &str,
     explains: bool,
-) -> Result<Verdict, AuditFault> {
-    let lines = read_log(alloc, reader, writer, name)?;
-    if !lines.is_right {
+) -> Result<Verdict, LogFault>
+    ensures { IfOk result (λ verdict. IfSome (R.remaining reader.old) (λ input.
+        Audits name.now input verdict (W.contents writer.old) (W.contents writer.new))) }
+{
+    let Some(log) = read_log(alloc, reader, writer, name)? else {
         return Ok(Verdict::Wrong);
-    }
-    let judged = judge(alloc, lines.into_log())?;
+    };
+    let judged = judge(alloc, log)?;
     let found = list_findings(alloc, &judged)?;
     let output = print_findings(alloc, name, &found)?;
     write_out(writer, &output)?;

@@ -2,9 +2,9 @@
 
 use crate::judging::Judged;
 use crate::kernel::Owed;
-use crate::log::Log;
 use crate::rule_names::Rule;
 use crate::search::Impossible;
+use call_log::log::Log;
 use mig_base::NoMemory;
 use std::alloc::Global;
 

@@ -1,9 +1,9 @@
 //! Judging a log: the search, and the replay of the run that it found.
 
 use crate::kernel::Kernel;
-use crate::log::Log;
 use crate::replay::{Broken, Replayed, replay_run};
 use crate::search::{Impossible, Search};
+use call_log::log::Log;
 use mig_base::NoMemory;
 use std::alloc::Global;
 

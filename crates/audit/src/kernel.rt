@@ -1,10 +1,10 @@
 //! What a kernel has, as far as a log has shown it: userfault objects, registered pages, threads that wait, and map calls under way.
 
-use crate::pages::{PageSize, Range};
 use crate::space::Space;
+use call_log::pages::{PageSize, Range};
 use indexmap::IndexMap;
 use kernel_rules::fault::{has_unread_in, is_asleep, note_left, stops, wake_in};
-use kernel_rules::{Change, Difference, Fault, Object, Page, Phase};
+use kernel_rules::{Change, Difference, Fault, Object, Page, Phase, Reach};
 use mig_base::NoMemory;
 use std::alloc::Global;
 use uffd_log::Message;
@@ -299,7 +299,7 @@ impl Kernel {
         range: Range,
         answered: bool,
     ) -> Result<(), NoMemory> {
-        let reach = range.reach();
+        let reach = reach_of(range);
         let unread = has_unread_in(&self.faults, object, reach);
         if answered {
             self.note_waits(object, range)?;
@@ -314,7 +314,7 @@ impl Kernel {
         let by = self.now;
         for fault in &self.faults {
             if let Some(read) = fault.read_by {
-                if is_asleep(object, range.reach(), *fault) {
+                if is_asleep(object, reach_of(range), *fault) {
                     let flags = fault.flags;
                     self.waits.push(Waited { read, by, flags })?;
                 }
@@ -480,6 +480,14 @@ pub(crate) const ALL: Range = Range {
     first: 0,
     count: u64::MAX,
 };
+
+/// A range as `kernel_rules` takes it.
+fn reach_of(range: Range) -> Reach {
+    Reach::Within {
+        first: range.first,
+        count: range.count,
+    }
+}
 
 /// Whether a page is known to be missing.
 pub(crate) fn is_missing(page: Page) -> bool {

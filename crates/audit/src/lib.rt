@@ -1,7 +1,7 @@
 //! Judging a log of a real program's userfaultfd calls: what the kernel answered otherwise than its rules, and what the monitor left undone.
 //!
-//! [`audit_log`] reads a log of the language `uffdlog 1` (docs/UFFDLOG.md), looks for a run of the rules with exactly its answers, replays that
-//! run, and writes `NAME:LINE: finding` for all that it found, and a summary. docs/AUDIT.md says how to read it.
+//! [`audit_log`] reads a log by `call_log`, looks for a run of the rules with exactly its answers, replays that run, and writes
+//! `NAME:LINE: finding` for all that it found, and a summary. docs/AUDIT.md says how to read it, and `specs/Verdicts.antt` what is promised.
 //!
 //! No contract says that a finding is right: what a line means is proved in `uffd_log`, what becomes of a page and of a fault in
 //! `kernel_rules`, and here that the code is safe and ends. The search may be wrong; the replay is there to notice.
@@ -10,20 +10,11 @@
 #![tactic(auto)]
 
 mod audit;
-mod fault;
 mod findings;
-mod head;
-mod input;
 mod judging;
 mod kernel;
-mod log;
-mod log_call;
-mod log_reader;
 mod needs;
-mod pages;
 mod polls;
-mod process_table;
-mod reader;
 mod refusal;
 mod replay;
 mod rule_names;
@@ -31,12 +22,9 @@ mod rules;
 mod run;
 mod search;
 mod space;
-mod split;
 mod summary;
 mod threads;
 mod unseen;
 mod waits;
-mod wrong;
 
 pub use crate::audit::{Verdict, audit_log};
-pub use crate::fault::AuditFault;

@@ -1,11 +1,11 @@
 //! Which open calls have to take effect before another one, for its answer.
 
 use crate::kernel::{Kernel, is_missing};
-use crate::log_call::{LogCall, PROTECTS, is_event};
-use crate::pages::Range;
 use crate::rules::has_next;
 use crate::search::Search;
 use crate::threads::unnamed;
+use call_log::log_call::{LogCall, PROTECTS, is_event};
+use call_log::pages::Range;
 use kernel_rules::fault::{find, find_unread, is_protection};
 use kernel_rules::{Fault, Phase};
 use uffd_log::{Answer, Call, Errno, Message};

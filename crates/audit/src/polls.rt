@@ -1,13 +1,13 @@
 //! What a call's answer says of threads and of map calls, and no line shows.
 
 use crate::kernel::Kernel;
-use crate::log_call::{DONTWAKE, Kind, LogCall, POLLIN};
 use crate::needs::thread_of;
 use crate::rules::has_next;
 use crate::run::Unseen;
 use crate::search::index::FaultRead;
 use crate::search::{Put, Search};
 use crate::threads::stranger;
+use call_log::log_call::{DONTWAKE, Kind, LogCall, POLLIN};
 use kernel_rules::fault::{find, is_protection};
 use kernel_rules::{Fault, Phase};
 use mig_base::NoMemory;

@@ -2,11 +2,11 @@
 //! step with exactly the log's answer.
 
 use crate::kernel::Kernel;
-use crate::log::Log;
-use crate::log_call::LogCall;
 use crate::refusal::{Refusal, Stop};
 use crate::rules::Made;
 use crate::run::{Late, Run, What};
+use call_log::log::Log;
+use call_log::log_call::LogCall;
 use mig_base::NoMemory;
 use std::alloc::Global;
 

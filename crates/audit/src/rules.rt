@@ -10,10 +10,10 @@ mod protect;
 mod reads;
 
 use crate::kernel::Kernel;
-use crate::log::PageRun;
-use crate::log_call::LogCall;
 use crate::refusal::Stop;
 pub(crate) use crate::rules::reads::has_next;
+use call_log::log::PageRun;
+use call_log::log_call::LogCall;
 use kernel_rules::Object;
 use uffd_log::{Call, Message};
 

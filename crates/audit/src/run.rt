@@ -1,6 +1,6 @@
 //! A run of a log: its lines in their order, with the effects of calls put in between, and what no line shows.
 
-use crate::log::narrow;
+use call_log::log::narrow;
 use mig_base::NoMemory;
 use std::alloc::Global;
 

@@ -5,13 +5,13 @@
 pub(crate) mod index;
 
 use crate::kernel::{Kernel, is_present};
-use crate::log::Log;
-use crate::log_call::{Kind, LogCall};
 use crate::refusal::{Refusal, Stop};
 use crate::rules::Made;
 use crate::run::{Run, Unseen};
 use crate::search::index::Index;
 use crate::unseen::Unreturned;
+use call_log::log::Log;
+use call_log::log_call::{Kind, LogCall};
 use mig_base::NoMemory;
 use std::alloc::Global;
 use uffd_log::Call;

@@ -1,6 +1,6 @@
 //! The registered pages of an address space: changes of long ranges are kept as they are, and short ones page by page.
 
-use crate::pages::Range;
+use call_log::pages::Range;
 use indexmap::IndexMap;
 use kernel_rules::{Change, Page};
 use mig_base::NoMemory;

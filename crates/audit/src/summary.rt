@@ -4,10 +4,10 @@ ghost use Rattle.std.specs.Prelude.{IfOk, string_bytes};
 ghost use Rattle.audit.specs.Verdicts.{IsSummary};
 
 use crate::judging::Judged;
-use crate::log_call::Kind;
 use crate::replay::Broken;
 use crate::rule_names::Rule;
 use crate::waits::{KINDS, Microseconds, waits_of};
+use call_log::log_call::Kind;
 use kernel_rules::Difference;
 use mig_base::NoMemory;
 use std::alloc::Global;

@@ -1,8 +1,8 @@
 //! What a log does not show: threads that touch a page, and map calls that queue an event or clear their pages.
 
 use crate::kernel::{Kernel, is_unknown};
-use crate::pages::Range;
 use crate::run::Unseen;
+use call_log::pages::Range;
 use kernel_rules::fault::{find, has_seen, has_twin, is_protection, note_thread, remove, stops};
 use kernel_rules::{Change, Difference, Fault, Phase, Presence};
 use mig_base::NoMemory;

@@ -1,6 +1,7 @@
 //! What is said of whole logs, which come in pieces.
 
-use audit::{AuditFault, Verdict, audit_log};
+use audit::{Verdict, audit_log};
+use call_log::LogFault;
 use std::alloc::{AllocError, Global};
 use std::process::Abort;
 use std::test::Fail;
@@ -82,23 +83,23 @@ static LOGS: [(&'static [u8], &'static [u8], Verdict, &'static [u8]); 9] = [
 ];
 
 /// A read or a write that fails, with the lines after the registration, the fault, and what is written.
-static FAULTS: [(&'static [u8], u32, u32, AuditFault, &'static [u8]); 3] = [
+static FAULTS: [(&'static [u8], u32, u32, LogFault, &'static [u8]); 3] = [
     (
         b"9 7 8 exi\n",
         56,
         0,
-        AuditFault::ReadFault,
+        LogFault::ReadFault,
         b"log:16: not a line of the language\n",
     ),
-    (b"", 1, 0, AuditFault::ReadFault, b""),
-    (b"", 0, 3, AuditFault::WriteFault, b"4 "),
+    (b"", 1, 0, LogFault::ReadFault, b""),
+    (b"", 0, 3, LogFault::WriteFault, b"4 "),
 ];
 
 /// Inputs that are not logs.
-static NO_LOGS: [(&'static [u8], AuditFault); 3] = [
-    (b"", AuditFault::Empty),
-    (b"uffdlog 2\n", AuditFault::NotALog),
-    (b"uffdlog 1", AuditFault::NotALog),
+static NO_LOGS: [(&'static [u8], LogFault); 3] = [
+    (b"", LogFault::Empty),
+    (b"uffdlog 2\n", LogFault::NotALog),
+    (b"uffdlog 1", LogFault::NotALog),
 ];
 
 /// A log in pieces, with what is said of it.
@@ -108,7 +109,7 @@ struct Case<'a> {
     /// The read that fails, counted from 1, if one does.
     read_fails_at: u32,
     write_fails_at: u32,
-    answer: Result<Verdict, AuditFault>,
+    answer: Result<Verdict, LogFault>,
     written: &'a [u8],
 }
 
@@ -116,7 +117,7 @@ struct Case<'a> {
 fn judged(
     alloc: Global,
     case: &Case<'_>,
-) -> Result<(Result<Verdict, AuditFault>, OneByte), AllocError> {
+) -> Result<(Result<Verdict, LogFault>, OneByte), AllocError> {
     let mut reader = Pieces {
         bytes: case.input,
         size: 7,
@@ -136,7 +137,7 @@ fn judged(
 /// Plays a case, and again if it is refused memory.
 fn play(rt: &impl Abort, alloc: Global, case: &Case<'_>) -> Result<(), Fail> {
     let (mut answer, mut writer) = judged(alloc, case)?;
-    if answer == Err(AuditFault::NoMemory) {
+    if answer == Err(LogFault::NoMemory) {
         (answer, writer) = judged(alloc, case)?;
     }
     let written = str::from_utf8(&writer.bytes)?;

@@ -6,8 +6,8 @@ use Rattle.frames.specs.declared.fault.FramesFault.{FramesFault}
 use Rattle.frames.specs.declared.fault.FramesFault.TheVariants as frames
 use Rattle.audit.specs.declared.audit.Verdict.{Verdict}
 use Rattle.audit.specs.declared.audit.Verdict.TheVariants as verdict
-use Rattle.audit.specs.declared.fault.AuditFault.{AuditFault}
-use Rattle.audit.specs.declared.fault.AuditFault.TheVariants as audit
+use Rattle.call_log.specs.declared.fault.LogFault.{LogFault}
+use Rattle.call_log.specs.declared.fault.LogFault.TheVariants as audit
 use Rattle.wiretap.specs.declared.fault.TapFault.{TapFault}
 use Rattle.wiretap.specs.declared.fault.TapFault.TheVariants as taps
 
@@ -54,7 +54,7 @@ verdict_status verdict.Impossible = 3
 verdict_status verdict.Undecided = 5
 
 -- the status of a log that could not be judged
-abbrev pub audit_fault_status : AuditFault → ℕ
+abbrev pub audit_fault_status : LogFault → ℕ
 audit_fault_status audit.NotALog = 2
 audit_fault_status audit.Empty = 2
 audit_fault_status audit.ReadFault = 2

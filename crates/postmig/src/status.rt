@@ -3,7 +3,8 @@
 ghost use Rattle.std.specs.Prelude.{◌≡◌, IfOk, IfErr, OnOk};
 ghost use Rattle.postmig.specs.Status.{answer_status, audit_fault_status, fault_status, frames_fault_status, strict_status, verdict_status};
 
-use audit::{AuditFault, Verdict};
+use audit::Verdict;
+use call_log::LogFault;
 use engine::RunFault;
 use frames::FramesFault;
 
@@ -47,7 +48,7 @@ pub(crate) fn frames_status_of(outcome: Result<u64, FramesFault>) -> u8
 }
 
 /// The exit status of a log that was judged.
-pub(crate) fn audit_status_of(outcome: Result<Verdict, AuditFault>) -> u8
+pub(crate) fn audit_status_of(outcome: Result<Verdict, LogFault>) -> u8
     ensures verdict { IfOk outcome (λ verdict. result ≡ verdict_status verdict) }
     ensures fault { IfErr outcome (λ fault. result ≡ audit_fault_status fault) }
 {
@@ -57,7 +58,7 @@ pub(crate) fn audit_status_of(outcome: Result<Verdict, AuditFault>) -> u8
         Ok(Verdict::Wrong) => READ_OR_WRITE_FAULT,
         Ok(Verdict::Impossible) => NO_FLAT_RUN,
         Ok(Verdict::Undecided) => UNDECIDED,
-        Err(AuditFault::NoMemory) => NO_MEMORY,
+        Err(LogFault::NoMemory) => NO_MEMORY,
         Err(_) => READ_OR_WRITE_FAULT,
     }
 }

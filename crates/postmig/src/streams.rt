@@ -9,7 +9,8 @@ use crate::status::{BAD_COMMAND_OR_SCRIPT, READ_OR_WRITE_FAULT, audit_status_of,
 use crate::tap::Tap;
 use crate::terminal::Terminal;
 use crate::watched::{Watched, say_reason};
-use audit::{AuditFault, Verdict};
+use audit::Verdict;
+use call_log::LogFault;
 use clap::ArgMatches;
 use engine::RunFault;
 use frames::FramesFault;
@@ -149,7 +150,7 @@ pub(crate) fn end_audit(
     matches: &ArgMatches,
     input: &Watched<'_, Input>,
     output: &Watched<'_, Stdout>,
-    outcome: Result<Verdict, AuditFault>,
+    outcome: Result<Verdict, LogFault>,
 ) -> u8
     ensures verdict { IfOk outcome (λ verdict. result ≡ verdict_status verdict) }
     ensures fault { IfErr outcome (λ fault. result ≡ audit_fault_status fault) }
@@ -157,18 +158,18 @@ pub(crate) fn end_audit(
     if let Err(fault) = outcome {
         let name = matches.get_str("file").unwrap_or("-");
         match fault {
-            AuditFault::NotALog | AuditFault::Empty => {
+            LogFault::NotALog | LogFault::Empty => {
                 let _ = eprintln!(rt; "{name}:1: {fault}");
             }
-            AuditFault::ReadFault => {
+            LogFault::ReadFault => {
                 let _ = eprintln!(rt; "{fault}");
                 say_input(rt, matches, input);
             }
-            AuditFault::WriteFault => {
+            LogFault::WriteFault => {
                 let _ = eprintln!(rt; "{fault}");
                 say_output(rt, matches, output);
             }
-            AuditFault::NoMemory => {
+            LogFault::NoMemory => {
                 let _ = eprintln!(rt; "{fault}");
             }
         }

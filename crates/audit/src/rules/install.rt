@@ -1,10 +1,10 @@
 //! UFFDIO_COPY and UFFDIO_ZEROPAGE.
 
 use crate::kernel::{Kernel, There, is_missing, is_present, is_unknown};
-use crate::log_call::{COPY_PROTECTS, DONTWAKE};
-use crate::pages::Range;
 use crate::refusal::{Refusal, Stop, need};
 use crate::rules::{Made, refused};
+use call_log::log_call::{COPY_PROTECTS, DONTWAKE};
+use call_log::pages::Range;
 use kernel_rules::{Change, Difference, Object};
 use uffd_log::{Answer, Errno};
 

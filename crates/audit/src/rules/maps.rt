@@ -1,9 +1,9 @@
 //! mmap, munmap, mremap and madvise: what becomes of registered pages, and which events the objects get.
 
 use crate::kernel::{ALL, Calling, Kernel};
-use crate::pages::Range;
 use crate::refusal::Stop;
 use crate::rules::Made;
+use call_log::pages::Range;
 use kernel_rules::{Change, Difference, Page, Presence};
 use mig_base::NoMemory;
 use uffd_log::{Descriptor, Errno, Message};

@@ -1,10 +1,10 @@
 //! Objects: open, UFFDIO_API, UFFDIO_REGISTER, UFFDIO_UNREGISTER, UFFDIO_WAKE, O_NONBLOCK, close, and what a recorder scanned.
 
 use crate::kernel::{ALL, Kernel};
-use crate::log::PageRun;
-use crate::pages::Range;
 use crate::refusal::{Stop, need};
 use crate::rules::{Made, refused};
+use call_log::log::PageRun;
+use call_log::pages::Range;
 use kernel_rules::{Change, Difference, Object, Presence};
 use mig_base::NoMemory;
 use mig_base::flags::{API, EVENT_FEATURES, has_bit};

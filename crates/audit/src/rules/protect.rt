@@ -1,10 +1,10 @@
 //! UFFDIO_WRITEPROTECT.
 
 use crate::kernel::Kernel;
-use crate::log_call::PROTECTS;
-use crate::pages::Range;
 use crate::refusal::{Stop, need};
 use crate::rules::Made;
+use call_log::log_call::PROTECTS;
+use call_log::pages::Range;
 use kernel_rules::{Change, Difference, Object, Page};
 use mig_base::NoMemory;
 use uffd_log::Errno;

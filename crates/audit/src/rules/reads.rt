@@ -1,10 +1,10 @@
 //! read(2) and poll(2) of a userfault object.
 
 use crate::kernel::{Calling, Kernel};
-use crate::log_call::POLLIN;
-use crate::pages::Range;
 use crate::refusal::{Stop, need};
 use crate::rules::{Made, refused};
+use call_log::log_call::POLLIN;
+use call_log::pages::Range;
 use kernel_rules::fault::{find_unread, remove};
 use kernel_rules::{Difference, Fault, Object, Phase};
 use mig_base::NoMemory;

@@ -1,7 +1,7 @@
 //! What a search looks up in a log: reads by their objects and pages, and what takes registered pages away.
 
-use crate::log::Log;
-use crate::log_call::LogCall;
+use call_log::log::Log;
+use call_log::log_call::LogCall;
 use mig_base::NoMemory;
 use std::alloc::Global;
 use uffd_log::{Call, Message};

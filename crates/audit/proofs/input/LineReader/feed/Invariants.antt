@@ -1,9 +1,0 @@
-use Rattle.std.proofs.Common.{length}
-use Rattle.audit.proofs.Reading.{Led}
-use Rattle.audit.proofs.input.LineReader.feed.Given as goal
-
-abbrev pub invariant-loop-front : goal.invariant-loop-front
-invariant-loop-front l = Led l.fn.self l.bytes l.rest l.self
-
-abbrev pub decreases-loop-front : goal.decreases-loop-front
-decreases-loop-front l = length l.rest

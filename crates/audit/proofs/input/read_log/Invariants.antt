@@ -1,5 +1,0 @@
-use Rattle.audit.proofs.Reading.{Ran}
-use Rattle.audit.proofs.input.read_log.Given as goal
-
-abbrev pub invariant-loop : goal.invariant-loop
-invariant-loop g l = Ran l.fn.name (g.R.Read.remaining l.fn.input) (g.R.Read.remaining l.input) l.reader (g.W.Write.contents l.fn.writer) (g.W.Write.contents l.writer)
