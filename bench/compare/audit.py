@@ -4,7 +4,7 @@
 bench/compare/audit.py [--seeds N] [--changed N] [--seed S] [--time] [--program PATH] [--keep FOLDER]
 
 The logs are those of audit/logs; one for each kind of planted fault and each of `--seeds` seeds; and `--changed` small ones, each a piece of a stored
-log or a log of bench/programs in which bytes, words, lines and calls were changed. Both judges run with --explain, and every byte that they write has
+log or a log of bench/programs in which bytes, words, lines and calls were changed. Both judges run with --explain and --late, and every byte that they write has
 to be the same, and the status. Of a log with wrong lines it has to be the same lines that are listed, but for those whose form alone is wrong to
 audit/judge and those below a wrong head. A program that ends by a signal, or with a status that audit does not have, differs too. --time judges long
 logs instead, and prints the seconds and the memory for each. PATH is the program, crates/postmig/out/postmig unless it is named. With --keep the
@@ -41,6 +41,8 @@ STATUSES = (0, 1, 2, 3, 5)
 # Reasons of audit/judge for the form of a line, which the grammar of uffd_log may allow.
 FORM = re.compile(r"fields? (is|are) needed|is not |unknown |not TIME PID TID")
 HEAD_LINES = 6
+# Both are to name the page faults that waited longer, in microseconds.
+LATE = 100
 PIECE_LINES = (30, 60, 120)
 SIZES = (15_000, 30_000, 60_000, 120_000, 240_000, 500_000)
 
@@ -202,14 +204,14 @@ def said_in_python(module, name):
     out = io.StringIO()
     try:
         with contextlib.redirect_stdout(out):
-            status = module.verdict(argparse.Namespace(log=name, explain=True))
+            status = module.verdict(argparse.Namespace(log=name, explain=True, late=LATE))
         return status, out.getvalue(), ""
     except uffdlog.Unreadable as reason:
         return 2, out.getvalue(), f"{name}:1: {reason}\n" if str(reason).startswith("not a log") else f"{name}: {reason}\n"
 
 
 def said_by(program, name):
-    done = subprocess.run([program, "audit", "--explain", name], capture_output=True, text=True, errors="replace", check=False)
+    done = subprocess.run([program, "audit", "--explain", "--late", str(LATE), name], capture_output=True, text=True, errors="replace", check=False)
     return done.returncode, done.stdout, done.stderr
 
 

@@ -28,8 +28,17 @@ pub enum Verdict {
     Undecided,
 }
 
+/// What a caller asks for.
+#[derive(Clone, Copy, Debug, PartialEq, Eq)]
+pub struct Asked {
+    /// A longer summary.
+    pub explains: bool,
+    /// The microseconds after which a page fault is late, if any is to be.
+    pub late_after: Option<u64>,
+}
+
 /// Reads a log and judges its calls. Of a log with wrong lines it writes `NAME:LINE: reason` for each of them. Else it writes
-/// `NAME:LINE: finding` for each finding, in the order of lines, and a summary, with `explains` a longer one.
+/// `NAME:LINE: finding` for each finding, in the order of lines, and a summary.
 ///
 /// The calls of a log are kept until it ends: some 200 bytes for each. At most 4,294,967,295 reads are made, and as many lines are read; an
 /// input that needs more ends with a read fault. An interrupted read or write is a fault. After a fault some of the text was written.
@@ -38,7 +47,7 @@ pub fn audit_log<R: Read, W: Write>(
     reader: &mut R,
     writer: &mut W,
     name: &str,
-    explains: bool,
+    asked: Asked,
 ) -> Result<Verdict, LogFault>
     ensures { IfOk result (λ verdict. IfSome (R.remaining reader.old) (λ input.
         Audits name.now input verdict (W.contents writer.old) (W.contents writer.new))) }
@@ -47,10 +56,10 @@ pub fn audit_log<R: Read, W: Write>(
         return Ok(Verdict::Wrong);
     };
     let judged = judge(alloc, log)?;
-    let found = list_findings(alloc, &judged)?;
+    let found = list_findings(alloc, &judged, asked.late_after)?;
     let output = print_findings(alloc, name, &found)?;
     write_out(writer, &output)?;
-    let text = summary(alloc, &judged, explains)?;
+    let text = summary(alloc, &judged, &found, asked.explains)?;
     write_out(writer, text.as_bytes())?;
     Ok(verdict_of(&judged, &found))
 }

@@ -1,9 +1,10 @@
 //! What was found: a list of lines of the log, each with a text.
 
 use crate::judging::Judged;
-use crate::kernel::Owed;
+use crate::kernel::{Again, Owed};
 use crate::rule_names::Rule;
 use crate::search::Impossible;
+use crate::waits::{Microseconds, Wait, waits_of};
 use call_log::log::Log;
 use mig_base::NoMemory;
 use std::alloc::Global;
@@ -13,6 +14,7 @@ use std::alloc::Global;
 pub(crate) struct Finding {
     pub(crate) line: u32,
     pub(crate) text: String,
+    pub(crate) rule: Rule,
 }
 
 /// The findings of a log, in no order.
@@ -28,7 +30,7 @@ impl Findings {
         let whose = rule.whose();
         let name = rule.name();
         let text = format!(in self.alloc; "{whose}: {text} [{name}]")?;
-        self.list.push(Finding { line, text })?;
+        self.list.push(Finding { line, text, rule })?;
         Ok(())
     }
 
@@ -81,6 +83,39 @@ impl Findings {
         self.push(call.begin, Rule::FaultNotResolved, text)
     }
 
+    /// A fault that waited longer than was asked for.
+    fn add_late(&mut self, wait: Wait) -> Result<(), NoMemory> {
+        let time = Microseconds(wait.time);
+        let woken = wait.woken;
+        let text = format!(in self.alloc;
+            "read: the page fault waited {time}, until line {woken}"
+        )?;
+        self.push(wait.read(), Rule::Late, text.as_str())
+    }
+
+    /// A map call an event of which nobody has read.
+    fn add_untold(&mut self, log: &Log, place: u32) -> Result<(), NoMemory> {
+        let Some(call) = log.call(place) else {
+            return Ok(());
+        };
+        let word = call.word();
+        let text = format!(in self.alloc; "{word}: an event of this call was never read")?;
+        self.push(call.begin, Rule::EventNotRead, text.as_str())
+    }
+
+    /// A call that was refused, and not tried again for a page that is owed.
+    fn add_again(&mut self, log: &Log, again: &Again) -> Result<(), NoMemory> {
+        let Some(call) = log.call(again.call) else {
+            return Ok(());
+        };
+        let word = call.word();
+        let addr = log.size.address(again.page);
+        let text = format!(in self.alloc;
+            "{word}: EAGAIN, and the page 0x{addr:x} was not tried again"
+        )?;
+        self.push(call.begin, Rule::NotTriedAgain, text.as_str())
+    }
+
     /// Pages that were still missing when their registration ended.
     fn add_owed(&mut self, log: &Log, owed: &Owed) -> Result<(), NoMemory> {
         let (line, word) = match owed.call.and_then(|place| log.call(place)) {
@@ -94,6 +129,11 @@ impl Findings {
         )?;
         self.push(line, Rule::PageOwed, text.as_str())
     }
+}
+
+/// Whether the page of a call that was refused is among these, which are owed.
+fn is_owed(owed: &Owed, again: &Again) -> bool {
+    owed.space == again.space && owed.range.contains(again.page)
 }
 
 /// Where owed pages are among others.
@@ -124,8 +164,12 @@ fn joined(alloc: Global, owed: &[Owed]) -> Result<Vec<Owed>, NoMemory> {
     Ok(joined)
 }
 
-/// The findings of a log, in the order of their lines.
-pub(crate) fn list_findings(alloc: Global, judged: &Judged) -> Result<Vec<Finding>, NoMemory> {
+/// The findings of a log, in the order of their lines. A page fault is late after these microseconds, if any is to be.
+pub(crate) fn list_findings(
+    alloc: Global,
+    judged: &Judged,
+    late_after: Option<u64>,
+) -> Result<Vec<Finding>, NoMemory> {
     let mut found = Findings {
         alloc,
         list: Vec::new(alloc),
@@ -143,7 +187,23 @@ pub(crate) fn list_findings(alloc: Global, judged: &Judged) -> Result<Vec<Findin
     for read in &judged.kernel.unanswered {
         found.add_unanswered(log, *read)?;
     }
-    for owed in &joined(alloc, &judged.kernel.owed)? {
+    if let Some(limit) = late_after {
+        for wait in &waits_of(alloc, judged, None)? {
+            if wait.time > limit.saturating_mul(1000) {
+                found.add_late(*wait)?;
+            }
+        }
+    }
+    for place in &judged.kernel.untold {
+        found.add_untold(log, *place)?;
+    }
+    let owed = joined(alloc, &judged.kernel.owed)?;
+    for again in &judged.kernel.again {
+        if owed.iter().any(|owed| is_owed(owed, again)) {
+            found.add_again(log, again)?;
+        }
+    }
+    for owed in &owed {
         found.add_owed(log, owed)?;
     }
     let Findings { mut list, .. } = found;

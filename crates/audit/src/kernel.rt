@@ -51,6 +51,14 @@ pub(crate) struct There {
     pub(crate) put: bool,
 }
 
+/// A call that was refused with EAGAIN, the first page of which no later call was to put.
+#[derive(Clone, Copy)]
+pub(crate) struct Again {
+    pub(crate) call: u32,
+    pub(crate) space: u32,
+    pub(crate) page: u64,
+}
+
 /// A fault that a call has resolved, from the read that returned it on.
 #[derive(Clone, Copy)]
 pub(crate) struct Waited {
@@ -79,6 +87,9 @@ pub(crate) struct Kernel {
     /// The calls on pages that are not registered.
     pub(crate) outside: Vec<u32>,
     pub(crate) waits: Vec<Waited>,
+    /// The map calls an event of which was never read.
+    pub(crate) untold: Vec<u32>,
+    pub(crate) again: Vec<Again>,
     /// The call that takes effect.
     pub(crate) now: u32,
     /// How many pages it has shown of which nothing was known.
@@ -154,6 +165,8 @@ impl Kernel {
             there: Vec::new(alloc),
             outside: Vec::new(alloc),
             waits: Vec::new(alloc),
+            untold: Vec::new(alloc),
+            again: Vec::new(alloc),
             now: 0,
             resolved: 0,
         })
@@ -457,7 +470,12 @@ impl Kernel {
         }
     }
 
-    /// The log ends: what is registered is judged as it is, and who sleeps was not answered.
+    /// A call is to put the pages of a range: those that were refused with EAGAIN are tried again.
+    pub(crate) fn note_tried(&mut self, space: u32, range: Range) {
+        self.again.retain(|again| again.space != space || !range.contains(again.page));
+    }
+
+    /// The log ends: what is registered is judged as it is, who sleeps was not answered, and what is unread was not read.
     pub(crate) fn finish(&mut self) -> Result<(), NoMemory> {
         for place in 0..self.objects.len() {
             let Some((object, _)) = self.objects.get_index(place) else {
@@ -469,6 +487,11 @@ impl Kernel {
         for fault in &self.faults {
             if let Some(read) = fault.read_by {
                 self.unanswered.push(read)?;
+            }
+        }
+        for calling in &self.calls {
+            if !calling.has_told_all() && !self.untold.contains(&calling.key) {
+                self.untold.push(calling.key)?;
             }
         }
         Ok(())

@@ -27,4 +27,4 @@ mod threads;
 mod unseen;
 mod waits;
 
-pub use crate::audit::{Verdict, audit_log};
+pub use crate::audit::{Asked, Verdict, audit_log};

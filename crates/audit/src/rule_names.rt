@@ -1,9 +1,7 @@
 //! The rules that findings name, and what a finding means for the guest.
 
-use crate::judging::Judged;
-
 /// A rule, by which something was found.
-#[derive(Clone, Copy, PartialEq, Eq)]
+#[derive(Clone, Copy, PartialEq, Eq, PartialOrd, Ord)]
 pub(crate) enum Rule {
     /// The kernel answers as its rules say.
     Answer,
@@ -15,18 +13,27 @@ pub(crate) enum Rule {
     PresentBefore,
     /// Each fault that is read is resolved.
     FaultNotResolved,
+    /// It is resolved in the time that was asked for.
+    Late,
+    /// Each event is read.
+    EventNotRead,
+    /// A call that is refused with EAGAIN is tried again.
+    NotTriedAgain,
     /// Each page is put before its registration ends.
     PageOwed,
 }
 
 impl Rule {
     /// All, in the order of docs/AUDIT.md.
-    pub(crate) const ALL: [Rule; 6] = [
+    pub(crate) const ALL: [Rule; 9] = [
         Rule::Answer,
         Rule::NotRegistered,
         Rule::PutTwice,
         Rule::PresentBefore,
         Rule::FaultNotResolved,
+        Rule::Late,
+        Rule::EventNotRead,
+        Rule::NotTriedAgain,
         Rule::PageOwed,
     ];
 
@@ -37,6 +44,9 @@ impl Rule {
             Rule::PutTwice => "put-twice",
             Rule::PresentBefore => "present-before",
             Rule::FaultNotResolved => "fault-not-resolved",
+            Rule::Late => "late",
+            Rule::EventNotRead => "event-not-read",
+            Rule::NotTriedAgain => "not-tried-again",
             Rule::PageOwed => "page-owed",
         }
     }
@@ -67,30 +77,14 @@ impl Rule {
             Rule::FaultNotResolved => {
                 "a thread of the guest waits for ever, or until the registration ends (LINUX.md, For authors of a handler)"
             }
+            Rule::Late => "a thread of the guest slept longer than was asked for",
+            Rule::EventNotRead => {
+                "the thread that made the call slept until the object was closed, and calls on its pages went wrong meanwhile (LINUX.md, For authors of a handler)"
+            }
+            Rule::NotTriedAgain => {
+                "the page was to be put once the map call was over, and the guest reads zeros there (LINUX.md, For authors of a handler)"
+            }
             Rule::PageOwed => "the guest reads zeros there (LINUX.md, For authors of a handler)",
         }
     }
-
-    /// Whether something was found by it.
-    pub(crate) fn is_broken(self, judged: &Judged) -> bool {
-        let kernel = &judged.kernel;
-        match self {
-            Rule::Answer => !judged.impossible.is_empty(),
-            Rule::NotRegistered => !kernel.outside.is_empty(),
-            Rule::PutTwice => has_there(judged, true),
-            Rule::PresentBefore => has_there(judged, false),
-            Rule::FaultNotResolved => !kernel.unanswered.is_empty(),
-            Rule::PageOwed => !kernel.owed.is_empty(),
-        }
-    }
-}
-
-/// Whether a call has stopped at a page that a call of the log had put, or another.
-fn has_there(judged: &Judged, put: bool) -> bool {
-    for there in &judged.kernel.there {
-        if there.put == put {
-            return true;
-        }
-    }
-    false
 }

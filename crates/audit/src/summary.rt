@@ -3,6 +3,7 @@
 ghost use Rattle.std.specs.Prelude.{IfOk, string_bytes};
 ghost use Rattle.audit.specs.Verdicts.{IsSummary};
 
+use crate::findings::Finding;
 use crate::judging::Judged;
 use crate::replay::Broken;
 use crate::rule_names::Rule;
@@ -101,14 +102,19 @@ fn add_broken(text: &mut String, broken: &Broken) -> Result<(), NoMemory> {
 }
 
 /// Adds what `--explain` asks for.
-fn add_explanation(text: &mut String, alloc: Global, judged: &Judged) -> Result<(), NoMemory> {
+fn add_explanation(
+    text: &mut String,
+    alloc: Global,
+    judged: &Judged,
+    found: &[Finding],
+) -> Result<(), NoMemory> {
     let command = str::from_utf8(&judged.log.command).unwrap_or("command");
     write!(text, "{command}\n")?;
     for (flags, name) in KINDS {
         add_kind(text, alloc, judged, *flags, name)?;
     }
     for rule in Rule::ALL {
-        if rule.is_broken(judged) {
+        if found.iter().any(|finding| finding.rule == rule) {
             let name = rule.name();
             let meaning = rule.meaning();
             write!(text, "{name}: {meaning}\n")?;
@@ -144,7 +150,12 @@ fn add_counts(text: &mut String, judged: &Judged) -> Result<(), NoMemory> {
 }
 
 /// What a summary says after the number of calls.
-fn details(alloc: Global, judged: &Judged, explains: bool) -> Result<String, NoMemory> {
+fn details(
+    alloc: Global,
+    judged: &Judged,
+    found: &[Finding],
+    explains: bool,
+) -> Result<String, NoMemory> {
     let mut text = String::new(alloc);
     add_counts(&mut text, judged)?;
     if let Some(broken) = &judged.broken {
@@ -152,16 +163,21 @@ fn details(alloc: Global, judged: &Judged, explains: bool) -> Result<String, NoM
     }
     add_waits(&mut text, alloc, judged)?;
     if explains {
-        add_explanation(&mut text, alloc, judged)?;
+        add_explanation(&mut text, alloc, judged, found)?;
     }
     Ok(text)
 }
 
 /// What is said of a log in the end.
-pub(crate) fn summary(alloc: Global, judged: &Judged, explains: bool) -> Result<String, NoMemory>
+pub(crate) fn summary(
+    alloc: Global,
+    judged: &Judged,
+    found: &[Finding],
+    explains: bool,
+) -> Result<String, NoMemory>
     ensures { IfOk result (λ text. IsSummary (string_bytes text)) }
 {
-    let rest = details(alloc, judged, explains)?;
+    let rest = details(alloc, judged, found, explains)?;
     let calls = judged.log.calls.len();
     let mut text = String::new(alloc);
     write!(text, "{calls} calls: ")?;

@@ -13,7 +13,14 @@ pub(crate) struct Wait {
     /// The line of the read, counted from the end, so that the first of the longest is the greatest.
     back: u32,
     /// The line where the call ended that woke the thread.
-    woken: u32,
+    pub(crate) woken: u32,
+}
+
+impl Wait {
+    /// The line of the read.
+    pub(crate) fn read(self) -> u32 {
+        u32::MAX - self.back
+    }
 }
 
 /// Kinds of faults by their flags, each with what it is called.
@@ -29,7 +36,7 @@ pub(crate) const KINDS: &[(u64, &str)] = &[
 impl fmt::Display for Wait {
     fn fmt<W: fmt::Write>(&self, f: &mut fmt::Formatter<W>) -> fmt::Result {
         let time = Microseconds(self.time);
-        let read = u32::MAX - self.back;
+        let read = self.read();
         let woken = self.woken;
         write!(f, "{time}, read at line {read}, woken at line {woken}")
     }

@@ -10,6 +10,9 @@ pub enum LogFault {
     /// The first line is not `uffdlog 1`. Nothing was written.
     #[error("not a log: the first line is not 'uffdlog 1'")]
     NotALog,
+    /// The first line is one of strace's. Nothing was written.
+    #[error("not a log, but what strace writes: audit/from-strace makes a log of it")]
+    StraceOutput,
     /// There is no line. Nothing was written.
     #[error("not a log: it is empty")]
     Empty,

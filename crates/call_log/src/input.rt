@@ -1,7 +1,8 @@
 //! Reading a log line by line.
 
-ghost use Rattle.std.specs.Prelude.{◌≡◌, ◌∷◌, ℕ, List, [], Option, OnOk, IfOk, IfSome};
+ghost use Rattle.std.specs.Prelude.{◌≡◌, ◌∷◌, ℕ, List, [], Option, OnOk, IfOk, IfErr, IfSome};
 ghost use Rattle.std.specs.Io.KnownBytes.{Appends};
+ghost use Rattle.call_log.specs.declared.fault.LogFault.TheVariants.{WriteFault};
 ghost use Rattle.call_log.specs.Listing.{HasNoFeed, ReadsLog};
 ghost use Rattle.call_log.specs.Reading.{At, EndsLine, Finished, Leads, ReadsLines, Writes};
 
@@ -144,7 +145,8 @@ pub fn read_log<R: Read, W: Write>(
 
 /// Writes all of the bytes. `WriteFault` comes if a write fails or takes no byte; the first of the bytes may be written then.
 pub fn write_out<W: Write>(writer: &mut W, bytes: &[u8]) -> Result<(), LogFault>
-    ensures { OnOk result (Appends (W.contents writer.old) (W.contents writer.new) bytes.now) }
+    ensures ok { OnOk result (Appends (W.contents writer.old) (W.contents writer.new) bytes.now) }
+    ensures fault { IfErr result (λ fault. fault ≡ WriteFault) }
 {
     let mut rest = bytes;
     while !rest.is_empty() {

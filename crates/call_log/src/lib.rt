@@ -20,6 +20,7 @@ pub mod pages;
 mod process_table;
 mod reader;
 pub mod split;
+mod strace;
 mod wrong;
 
 pub use crate::fault::LogFault;

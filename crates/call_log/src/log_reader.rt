@@ -10,6 +10,7 @@ use crate::log::Log;
 use crate::pages::PageSize;
 use crate::reader::CallReader;
 use crate::split::first_line;
+use crate::strace::is_of_strace;
 use crate::wrong::Wrong;
 use mig_base::NoMemory;
 use std::alloc::Global;
@@ -65,6 +66,15 @@ fn may_be(number: u32, bytes: &[u8], ended: bool) -> bool
         return true;
     }
     ended && bytes == FIRST_LINE
+}
+
+/// Why an input is no log whose first line is this.
+fn no_log_fault(bytes: &[u8]) -> LogFault {
+    if is_of_strace(bytes) {
+        LogFault::StraceOutput
+    } else {
+        LogFault::NotALog
+    }
 }
 
 /// Puts the line of a listing in place of these bytes. The text is replaced.
@@ -145,7 +155,7 @@ impl<'a> LogReader<'a> {
             return Err(LogFault::ReadFault);
         };
         if !may_be(line, bytes, ended) {
-            return Err(LogFault::NotALog);
+            return Err(no_log_fault(bytes));
         }
         self.line = line;
         match form_fault(bytes, ended) {

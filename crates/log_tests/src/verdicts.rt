@@ -1,6 +1,6 @@
 //! What is said of whole logs, which come in pieces.
 
-use audit::{Verdict, audit_log};
+use audit::{Asked, Verdict, audit_log};
 use call_log::LogFault;
 use std::alloc::{AllocError, Global};
 use std::process::Abort;
@@ -18,7 +18,7 @@ const OPENED: &[u8] =
 const MOST: usize = 1_000;
 
 /// Two parts below the head, what is said of the log, and what is written.
-static LOGS: [(&'static [u8], &'static [u8], Verdict, &'static [u8]); 9] = [
+static LOGS: [(&'static [u8], &'static [u8], Verdict, &'static [u8]); 11] = [
     (
         OPENED,
         b"",
@@ -31,6 +31,20 @@ static LOGS: [(&'static [u8], &'static [u8], Verdict, &'static [u8]); 9] = [
         b"9 7 8 begin 5 read 8:5 32\n10 7 8 message 5 fault 0x10000 1 9\n11 7 8 end 5 ok 1\n12 7 8 begin 6 copy 8:5 0x10000 0x50000 0x1000 0\n13 7 8 end 6 ok 4096\n14 7 8 begin 7 copy 8:5 0x11000 0x51000 0x1000 0\n15 7 8 end 7 ok 4096\n",
         Verdict::Clean,
         b"7 calls: 6 with the only answer that the rules allow, 1 that an access explains which the log does not show, 0 impossible, 0 not judged\npage faults that waited until a call woke their thread: 1, the longest 0.0 us, read at line 16, woken at line 20\n",
+    ),
+    // It is put later than after the microsecond that the tests allow.
+    (
+        OPENED,
+        b"9 7 8 begin 5 read 8:5 32\n10 7 8 message 5 fault 0x10000 1 9\n11 7 8 end 5 ok 1\n12 7 8 begin 6 copy 8:5 0x10000 0x50000 0x1000 0\n1911 7 8 end 6 ok 4096\n2000 7 8 begin 7 copy 8:5 0x11000 0x51000 0x1000 0\n2001 7 8 end 7 ok 4096\n",
+        Verdict::Found,
+        b"log:16: monitor: read: the page fault waited 1.9 us, until line 20 [late]\n7 calls: 6 with the only answer that the rules allow, 1 that an access explains which the log does not show, 0 impossible, 0 not judged\npage faults that waited until a call woke their thread: 1, the longest 1.9 us, read at line 16, woken at line 20\n",
+    ),
+    // Its object asks for UFFD_EVENT_REMOVE. It is closed while a page is removed, and another one was to be put.
+    (
+        b"1 7 7 begin 1 open syscall 0x80800\n2 7 7 end 1 ok 8:5\n3 7 7 begin 2 api 8:5 0xaa 0x8\n4 7 7 end 2 ok 0x1ffff 0x8000000000000003\n5 7 7 begin 3 register 8:5 0x10000 0x2000 0x1\n6 7 7 end 3 ok 0x15c\n7 7 7 begin 4 scan 8:5 0x10000 0x2000\n8 7 7 end 4 ok 0\n9 7 7 begin 5 copy 8:5 0x11000 0x51000 0x1000 0\n10 7 7 end 5 ok 4096\n",
+        b"11 7 8 begin 6 madvise 0x11000 0x1000 4\n12 7 7 begin 7 copy 8:5 0x10000 0x50000 0x1000 0\n13 7 7 end 7 EAGAIN -11\n14 7 7 begin 8 close 8:5\n15 7 7 end 8 ok\n16 7 8 end 6 ok\n",
+        Verdict::Found,
+        b"log:17: monitor: madvise: an event of this call was never read [event-not-read]\nlog:18: monitor: copy: EAGAIN, and the page 0x10000 was not tried again [not-tried-again]\nlog:20: monitor: close: 1 registered pages from 0x10000 on are still missing [page-owed]\n8 calls: 8 with the only answer that the rules allow, 0 that an access explains which the log does not show, 0 impossible, 0 not judged\n",
     ),
     // It is never put, nor is the other page.
     (
@@ -96,8 +110,18 @@ static FAULTS: [(&'static [u8], u32, u32, LogFault, &'static [u8]); 3] = [
 ];
 
 /// Inputs that are not logs.
-static NO_LOGS: [(&'static [u8], LogFault); 3] = [
+static NO_LOGS: [(&'static [u8], LogFault); 6] = [
     (b"", LogFault::Empty),
+    // What strace writes, in two forms, and what it does not.
+    (
+        b"71 1764282000.000001 execve(\"./monitor\", [], 0x7ffc /* 20 vars */) = 0\n",
+        LogFault::StraceOutput,
+    ),
+    (
+        b"[pid  71] userfaultfd(O_CLOEXEC <unfinished ...>\n",
+        LogFault::StraceOutput,
+    ),
+    (b"int main(void)\n", LogFault::NotALog),
     (b"uffdlog 2\n", LogFault::NotALog),
     (b"uffdlog 1", LogFault::NotALog),
 ];
@@ -130,7 +154,11 @@ fn judged(
         writes: 0,
         most: MOST,
     };
-    let answer = audit_log(alloc, &mut reader, &mut writer, "log", false);
+    let asked = Asked {
+        explains: false,
+        late_after: Some(1),
+    };
+    let answer = audit_log(alloc, &mut reader, &mut writer, "log", asked);
     Ok((answer, writer))
 }
 

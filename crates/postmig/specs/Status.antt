@@ -56,6 +56,7 @@ verdict_status verdict.Undecided = 5
 -- the status of a log that could not be judged
 abbrev pub audit_fault_status : LogFault → ℕ
 audit_fault_status audit.NotALog = 2
+audit_fault_status audit.StraceOutput = 2
 audit_fault_status audit.Empty = 2
 audit_fault_status audit.ReadFault = 2
 audit_fault_status audit.WriteFault = 2

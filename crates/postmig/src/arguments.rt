@@ -175,14 +175,22 @@ fn lint_command<'a>(alloc: Global) -> Result<Command<'a>, AllocError> {
         .arg(file_argument(alloc))
 }
 
-/// `postmig audit [--explain] [FILE]`.
+/// `postmig audit [--late MICROSECONDS] [--explain] [FILE]`.
 fn audit_command<'a>(alloc: Global) -> Result<Command<'a>, AllocError> {
+    let late = Arg::new(alloc, "late")
+        .long("late")
+        .value_name("MICROSECONDS")
+        .help(
+            "Names each page fault that waited longer, from its read to the call that woke its thread",
+        )
+        .value_parser(value_parser!(u64));
     Command::new(alloc, "audit")
         .about("Judges the userfaultfd calls of a log, and names what is wrong with them")
         .arg(explain_argument(
             alloc,
             "Says what the findings mean, how long faults waited, and why a read or a write failed",
         ))?
+        .arg(late)?
         .arg(file_argument(alloc))
 }
 

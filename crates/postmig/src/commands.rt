@@ -14,7 +14,7 @@ use crate::streams::{
 use crate::tally::test;
 use crate::tap::{has_taps, make_taps};
 use crate::watched::Watched;
-use audit::audit_log;
+use audit::{Asked, audit_log};
 use clap::ArgMatches;
 use clap::error::ErrorKind;
 use draw::run_draw;
@@ -179,12 +179,15 @@ fn lint(rt: &HostRuntime, matches: &ArgMatches) -> u8 {
 /// Judges the calls of a log, by the name of its file, or `-`.
 fn audit(rt: &HostRuntime, matches: &ArgMatches) -> u8 {
     let name = matches.get_str("file").unwrap_or("-");
-    let explains = matches.get_flag("explain");
+    let asked = Asked {
+        explains: matches.get_flag("explain"),
+        late_after: matches.get_one::<u64>("late"),
+    };
     let Some(mut input) = open_input(rt, matches) else {
         return READ_OR_WRITE_FAULT;
     };
     let mut output = open_output(rt);
-    let outcome = audit_log(rt.alloc(), &mut input, &mut output, name, explains);
+    let outcome = audit_log(rt.alloc(), &mut input, &mut output, name, asked);
     end_audit(rt, matches, &input, &output, outcome)
 }
 

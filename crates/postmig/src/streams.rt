@@ -5,7 +5,9 @@ ghost use Rattle.postmig.specs.Status.{answer_status, audit_fault_status, fault_
 
 use crate::input::Input;
 use crate::reasons::{gives_reasons, say_wrong_line, say_wrong_lines};
-use crate::status::{BAD_COMMAND_OR_SCRIPT, READ_OR_WRITE_FAULT, audit_status_of, frames_status_of, status_of};
+use crate::status::{
+    BAD_COMMAND_OR_SCRIPT, READ_OR_WRITE_FAULT, audit_status_of, frames_status_of, status_of,
+};
 use crate::tap::Tap;
 use crate::terminal::Terminal;
 use crate::watched::{Watched, say_reason};
@@ -158,7 +160,7 @@ pub(crate) fn end_audit(
     if let Err(fault) = outcome {
         let name = matches.get_str("file").unwrap_or("-");
         match fault {
-            LogFault::NotALog | LogFault::Empty => {
+            LogFault::NotALog | LogFault::StraceOutput | LogFault::Empty => {
                 let _ = eprintln!(rt; "{name}:1: {fault}");
             }
             LogFault::ReadFault => {

@@ -1,6 +1,6 @@
 //! UFFDIO_COPY and UFFDIO_ZEROPAGE.
 
-use crate::kernel::{Kernel, There, is_missing, is_present, is_unknown};
+use crate::kernel::{Again, Kernel, There, is_missing, is_present, is_unknown};
 use crate::refusal::{Refusal, Stop, need};
 use crate::rules::{Made, refused};
 use call_log::log_call::{COPY_PROTECTS, DONTWAKE};
@@ -57,6 +57,9 @@ impl Kernel {
             mode,
             is_right,
         };
+        if is_right {
+            self.note_tried(space, install.range);
+        }
         match made.call.answer {
             Some(Answer::Value(done)) => self.install_all(install, done, len),
             Some(Answer::Minus(done)) => {
@@ -173,7 +176,7 @@ impl Kernel {
         match errno {
             Errno::Eagain => match self.part_of(bytes, len) {
                 Some(count) => self.install_part(install, count),
-                None => self.refuse_while_changing(install.name),
+                None => self.install_later(install),
             },
             Errno::Eexist => {
                 need(install.is_right, WRONG)?;
@@ -201,6 +204,21 @@ impl Kernel {
         };
         self.put(Install { range, ..install })?;
         self.stop_at(install, range.end())
+    }
+
+    /// EAGAIN, and no page was put: it is to be tried again.
+    fn install_later(&mut self, install: Install) -> Result<(), Stop> {
+        self.refuse_while_changing(install.name)?;
+        if !install.is_right {
+            return Ok(());
+        }
+        self.again
+            .push(Again {
+                call: install.key,
+                space: install.space,
+                page: install.range.first,
+            })
+            .map_err(|_| Stop::NoMemory)
     }
 
     /// EAGAIN of such a call, which changes nothing.

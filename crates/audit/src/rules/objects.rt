@@ -200,23 +200,27 @@ impl Kernel {
         self.wake(name, ALL, false)?;
         self.objects.swap_remove(&name);
         for place in 0..self.calls.len() {
-            self.silence(place, name);
+            self.silence(place, name)?;
         }
         Ok(())
     }
 
     /// A map call has nothing more to tell an object.
-    fn silence(&mut self, place: usize, name: u64) {
+    fn silence(&mut self, place: usize, name: u64) -> Result<(), NoMemory> {
         let Some(calling) = self.calls.get_mut(place) else {
-            return;
+            return Ok(());
         };
         let was_untold = calling.has_untold(name);
+        if was_untold && !self.untold.contains(&calling.key) {
+            self.untold.push(calling.key)?;
+        }
         calling.queued = calling.queued && !was_untold;
         calling.events.retain(|event| event.0 != name);
         calling.tells.retain(|other| *other != name);
         if calling.tells.is_empty() {
             calling.untold.count = 0;
         }
+        Ok(())
     }
 
     /// What a recorder found: it settles what is not known. A reading is not of one moment, and is compared with nothing.
