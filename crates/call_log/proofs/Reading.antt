@@ -1,19 +1,19 @@
 -- Lines of a log that are read in pieces: it does not matter where the pieces end.
-use Rattle.std.proofs.Common.{◌≡◌, ℕ, zero, suc, ◌+◌, ◌<◌, ◌≤◌, ◌↔◌, IsTrue, Bool, true, false, List, [], ◌∷◌, ◌++◌, length, take, Option, Some, None, refl, sym, ap, subst, ◌∙◌, append_assoc, append-nil, length-append, inl, inr, arith, ◌-◌, min, nat_lt, ◌⊎◌}
-use Rattle.std.specs.Prelude.{OnOk, IfSome, codes}
+use Rattle.std.proofs.Common.{◌≡◌, ℕ, ◌+◌, ◌<◌, ◌≤◌, ◌↔◌, IsTrue, Bool, true, false, List, [], ◌∷◌, ◌++◌, length, take, Option, Some, None, refl, sym, ap, subst, ◌∙◌, append_assoc, append-nil, length-append, inl, inr, arith, ◌-◌, min, nat_lt, ◌⊎◌}
+use Rattle.std.specs.Prelude.{IfSome, codes}
 use Rattle.std.specs.Fmt.{decimal}
 use Rattle.std.proofs.lemmas.List.{take_all, take_min, length-take, take-append-le}
 use Rattle.std.proofs.Math.Seq.{take-append-add}
 use Rattle.std.proofs.lemmas.Bool.Decides.{nat_tests}
 use Rattle.call_log.specs.declared.head.Head.{Head}
 use Rattle.std.specs.List.{concat}
-use Rattle.std.specs.Io.KnownBytes.{Appends, Consumes, IsAtEnd}
+use Rattle.std.specs.Io.KnownBytes.{Consumes, IsAtEnd}
 use Rattle.std.proofs.KnownBytes.{Appends-nil, Appends-trans, Consumes-nil, Consumes-trans}
 use Rattle.call_log.specs.declared.log_reader.LogReader.{LogReader}
 use Rattle.call_log.specs.declared.input.LineReader.{LineReader}
 use Rattle.call_log.specs.declared.log.Log.{Log}
-use Rattle.call_log.specs.Listing.{HasNoFeed, ListsLine, Lists, Ends, IsRead, ReadsLog, joined, AreListed, IsRight}
-use Rattle.call_log.specs.Reading.{At, Leads, EndsLine, TakesLine, Writes, Finished, ReadsLines, AddsAny}
+use Rattle.call_log.specs.Listing.{HasNoFeed, ListsLine, Lists, IsRead, ReadsLog, joined, AreListed, IsRight}
+use Rattle.call_log.specs.Reading.{At, Leads, EndsLine, Writes, Finished, ReadsLines, AddsAny}
 
 no_feed-append : (xs ys : List ℕ) → HasNoFeed xs → HasNoFeed ys → HasNoFeed (xs ++ ys)
 no_feed-append [] ys p q = q
