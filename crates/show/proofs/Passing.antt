@@ -47,7 +47,7 @@ rest_fits bytes count rest left p = omega (ap (λ (t : List ℕ). length t) p.wh
 pub all_passed : (bytes : List ℕ) (count : ℕ) (rest : List ℕ) (left : ℕ) → Passed bytes count rest left → left ≡ 0 → AreFirst count bytes (take (length bytes - length rest) bytes)
 all_passed bytes count rest left p done =
     let is = subst (λ (n : ℕ). take n bytes ≡ joined p.raws) (sym (front_len bytes p.raws rest p.whole))
-        (ap (λ (t : List ℕ). take (length (joined p.raws)) t) p.whole ∙ take-append_seam (joined p.raws) rest) in
+    (ap (λ (t : List ℕ). take (length (joined p.raws)) t) p.whole ∙ take-append_seam (joined p.raws) rest) in
     record {
       raws = p.raws;
       last = [];

@@ -139,10 +139,7 @@ fn write_bytes(text: &mut String, world: &World) -> Result<(), NoMemory> {
     let forward = world.forward_bytes();
     let back = world.back_bytes();
     let urgent = world.urgent_bytes();
-    write!(
-        text,
-        "bytes wire {forward} back {back} urgent {urgent}\n"
-    )?;
+    write!(text, "bytes wire {forward} back {back} urgent {urgent}\n")?;
     Ok(())
 }
 

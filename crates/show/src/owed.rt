@@ -127,11 +127,7 @@ fn write_pages(
 }
 
 /// How many pages are owed, which of them the source has still to push, and where each is that the destination is owed.
-pub(crate) fn owed_facts(
-    alloc: Global,
-    world: &World,
-    survey: &Survey,
-) -> Result<String, NoMemory>
+pub(crate) fn owed_facts(alloc: Global, world: &World, survey: &Survey) -> Result<String, NoMemory>
     ensures { IfOk result (λ text. IsOwedText world.now (string_bytes text)) }
 {
     let mut text = String::new(alloc);
