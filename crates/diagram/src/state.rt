@@ -179,8 +179,8 @@ const LOOKS: [Look; STATES] = [
         class: Class::InCall,
         words: "in a map call",
         part: "in call",
-        top: 4,
-        height: 8,
+        top: 2,
+        height: 12,
     },
     Look {
         class: Class::Woken,
