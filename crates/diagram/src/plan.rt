@@ -179,7 +179,7 @@ fn frame_shapes(record: &Record, columns: Columns) -> usize {
 }
 
 impl Plan {
-    /// The columns and the bands of a record, with `per` lines in a column and `together` pages in a row.
+    /// The columns and the bands of a record, with `per` lines in a column and `together` pages in a row, without its waits.
     fn of(memory: &mut Memory, record: &Record, per: u32, together: u32) -> Plan {
         let lines = record.lines.len().clamp(1, u32::MAX as usize) as u32;
         let columns = Columns { lines, per };
@@ -191,10 +191,6 @@ impl Plan {
         let stirs = memory.filled(Stir::Touched, record.cpus as usize);
         let changes = &record.processors.changes;
         let processors = Band::new(memory, changes, &stirs, 1, columns);
-        // Waits are counted in lines, also where a column has several.
-        let lone = Columns { lines, per: 1 };
-        let stretches = stretches_of(memory, changes, &processors.rows, lone);
-        let waits = find_waits(memory, &stretches, record.cpus);
         let names = source
             .names_width(memory)
             .max(destination.names_width(memory));
@@ -205,7 +201,7 @@ impl Plan {
             source,
             destination,
             processors,
-            waits,
+            waits: Vec::new(memory.alloc),
             top: 0,
             forward: (0, 0),
             back: (0, 0),
@@ -233,6 +229,14 @@ impl Plan {
             together = together.saturating_mul(2);
             plan = Plan::of(memory, record, per, together);
         }
+        // Waits are counted in lines, also where a column has several.
+        let lone = Columns {
+            lines: plan.columns.lines,
+            per: 1,
+        };
+        let changes = &record.processors.changes;
+        let stretches = stretches_of(memory, changes, &plan.processors.rows, lone);
+        plan.waits = find_waits(memory, &stretches, record.cpus);
         plan
     }
 

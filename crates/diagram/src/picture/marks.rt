@@ -197,15 +197,23 @@ fn classes_of(event: Event) -> (Class, Class) {
     }
 }
 
+/// The class of the line of a mark without words.
+fn wordless_class(event: Event) -> Class {
+    match event {
+        Event::Break => Class::BreakMark,
+        _ => Class::Rail,
+    }
+}
+
 /// Draws the marks, each with its words if they have a row. Those without words begin below the lengths of the parts of the migration, and
 /// of those at one place the last is drawn.
 pub(super) fn marks(pen: &mut Pen, plan: &Plan, labels: &Labels) {
     let mut before = u64::MAX;
     for label in &labels.labels {
-        let (line, class) = classes_of(label.mark.event);
         let words = words_of(&label.mark);
         let foot = (label.x, plan.bottom);
         if let Some(row) = label.row {
+            let (line, class) = classes_of(label.mark.event);
             let y = plan.top.saturating_sub(row.saturating_mul(ROW));
             pen.name(&words);
             pen.line(line, (label.x, y.saturating_sub(90)), foot);
@@ -214,7 +222,7 @@ pub(super) fn marks(pen: &mut Pen, plan: &Plan, labels: &Labels) {
         } else if label.x != before {
             pen.name(&words);
             let head = (label.x, plan.top.saturating_add(PARTS));
-            pen.line(line, head, foot);
+            pen.line(wordless_class(label.mark.event), head, foot);
         }
         before = label.x;
     }

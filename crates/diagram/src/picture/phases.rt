@@ -59,7 +59,7 @@ fn phase_words<'a>(
     let all = [Words(word), Words(": "), steps, Words(" steps")];
     let lone = [steps, Nothing, Nothing, Nothing];
     for (words, room) in [(all, clear), (all, whole), (lone, clear), (lone, whole)] {
-        if pen.width(&words, 95).saturating_add(100) <= room.width() {
+        if pen.width(&words, 85).saturating_add(80) <= room.width() {
             return (words, room);
         }
     }

@@ -181,6 +181,20 @@ fn place_of(route: &Route, width: u64, written: &[Label]) -> Option<Label> {
     None
 }
 
+/// Keeps words off the crosses of lost frames.
+fn keep_crosses(memory: &mut Memory, routes: &[Route], written: &mut Vec<Label>) {
+    for route in routes {
+        if matches!(route.flight.end, End::Lost) && written.len() < MOST_WORDS {
+            let cross = Label {
+                left: route.to.0.saturating_sub(40),
+                right: route.to.0.saturating_add(40),
+                y: route.to.1.saturating_add(30),
+            };
+            memory.push(written, cross);
+        }
+    }
+}
+
 /// Writes what the frames of a wire are on their lines, where there is room: if their pages are named, also on the lines of those that
 /// have pages.
 fn frame_labels(pen: &mut Pen, routes: &[Route], pages: bool, written: &mut Vec<Label>) {
@@ -291,10 +305,13 @@ pub(super) fn wire_labels(pen: &mut Pen, plan: &Plan, record: &Record) {
     let slow = routes_of(&mut pen.memory, plan, down, &record.forward.flights);
     let fast = routes_of(&mut pen.memory, plan, urgent, &record.urgent.flights);
     let mut written = Vec::new(pen.memory.alloc);
+    keep_crosses(&mut pen.memory, &slow, &mut written);
+    keep_crosses(&mut pen.memory, &fast, &mut written);
     frame_labels(pen, &fast, small || fast.len() <= MOST_FRAMES, &mut written);
     frame_labels(pen, &slow, small, &mut written);
     let returns = routes_of(&mut pen.memory, plan, up, &record.back.flights);
     let few = small || returns.len() <= MOST_FRAMES;
     let mut written = Vec::new(pen.memory.alloc);
+    keep_crosses(&mut pen.memory, &returns, &mut written);
     frame_labels(pen, &returns, few, &mut written);
 }
