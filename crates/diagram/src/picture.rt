@@ -9,7 +9,10 @@ mod legend;
 mod longest;
 mod marks;
 mod notes;
+mod phases;
+mod processors;
 mod ruler;
+mod sleeps;
 mod strands;
 
 use crate::class::Class;
@@ -21,6 +24,7 @@ use crate::record::Record;
 use crate::sheet::Sheet;
 use crate::tags::Attribute;
 use crate::text::Part::{At, Length, Words};
+use crate::text::width_of;
 use crate::waits::Wait;
 use mig_base::NoMemory;
 use std::alloc::Global;
@@ -29,10 +33,10 @@ use std::alloc::Global;
 const STYLE: &str = "path{fill:none}text{font-family:sans-serif;fill:#222;font-size:10px}\
 .n1{font-size:14px;font-weight:bold}.n2{font-size:11px}.n3{font-size:11px;font-weight:bold}.n4{font-weight:bold}\
 .sm{font-size:8.5px;fill:#666}.mo{font-family:monospace;font-size:9px}.gm{font-family:monospace;font-size:8.5px;fill:#999}\
-.en{text-anchor:end}.mi{text-anchor:middle}.wh{fill:#fff;font-size:8px;text-anchor:middle}.bl{font-size:8px;text-anchor:middle}.wl{fill:#fff;font-size:8px}\
+.en{text-anchor:end}.mi{text-anchor:middle}.wh{fill:#fff;font-size:8px;text-anchor:middle}.bl{font-size:8px;text-anchor:middle}.wl{fill:#fff;font-size:8px;paint-order:stroke;stroke:#009e73;stroke-width:3px}\
 .ha{paint-order:stroke;stroke:#fff;stroke-width:3px;stroke-linejoin:round}\
 .bg{fill:#fff}.st{fill:#f0eee6}.nl{fill:#e4e4e4}\
-.e{fill:#bbb}.c{fill:#8ccbf0}.p{fill:#ececec;stroke:#bbb;stroke-width:.5}.u{fill:#9a9a9a}.d{fill:url(#dirty)}.o{fill:#cc7a00}\
+.e{fill:#bbb}.c{fill:#8ccbf0}.p{fill:#ececec;stroke:#bbb;stroke-width:.5}.u{fill:#9a9a9a}.d{fill:url(#dirty)}.o{fill:#b36b00}\
 .i{fill:#009e73}.m{fill:#fff;stroke:#009e73}.a{fill:#f0e442;stroke:#222;stroke-width:.8}\
 .h{fill:#d55e00}.f{fill:url(#page);stroke:#d55e00;stroke-width:.8}.r{fill:url(#request);stroke:#d55e00;stroke-width:.8}\
 .s{fill:#6b2d00}.n{fill:#222}.w{fill:#fff;stroke:#d55e00}.k{fill:#cc79a7}\
@@ -136,6 +140,7 @@ struct Layout {
     plan: Plan,
     labels: marks::Labels,
     texts: Vec<ruler::Text>,
+    sleeps: Vec<sleeps::Sleep>,
     items: legend::Items,
     waits: Vec<Wait>,
     /// Where the legend begins, and where the list of waits.
@@ -152,6 +157,7 @@ impl Drop for Layout {
             plan: _plan,
             labels: _labels,
             texts: _texts,
+            sleeps: _sleeps,
             items: _items,
             waits: _waits,
             foot: _foot,
@@ -163,24 +169,32 @@ impl Drop for Layout {
 }
 
 /// The layout of the picture of a record.
-fn lay_out(memory: &mut Memory, record: &Record) -> Layout {
+fn lay_out(memory: &mut Memory, record: &Record, name: &str) -> Layout {
     let mut plan = Plan::new(memory, record);
     let labels = marks::find_labels(memory, &plan, record);
     plan.place(700u64.saturating_add(labels.height));
     let texts = ruler::find_texts(memory, &plan, record);
-    let items = legend::find_items(memory, &plan, record);
+    let sleeps = sleeps::find_sleeps(memory, &plan, record);
+    let items = legend::find_items(memory, &plan, record, &sleeps);
     let waits = longest::longest_of(memory, &plan);
     let foot = plan
         .bottom
         .saturating_add(ruler::height(&texts))
         .saturating_add(100);
     let list = foot.saturating_add(items.height);
-    let width = plan.right().saturating_add(RIGHT).max(items.width);
+    let title = width_of(name.len(), 140).saturating_add(200);
+    let width = plan
+        .right()
+        .saturating_add(RIGHT)
+        .max(items.width)
+        .max(labels.right)
+        .max(title);
     let height = list.saturating_add(longest::height(&waits));
     Layout {
         plan,
         labels,
         texts,
+        sleeps,
         items,
         waits,
         foot,
@@ -196,19 +210,24 @@ fn draw(pen: &mut Pen, layout: &Layout, record: &Record, name: &str) {
     ground(pen, name, layout.width, layout.height);
     head::head(pen, plan, record, name);
     marks::grounds(pen, plan, record);
-    bands::processors(pen, plan, record);
+    processors::lanes(pen, plan, record);
     bands::nodes(pen, plan, record);
     strands::wires(pen, plan, record);
     marks::marks(pen, plan, &layout.labels);
-    // Words come after the lines that would cross them.
-    marks::phases(pen, plan, record);
-    bands::wait_labels(pen, plan);
+    // Words come after the lines that would cross them, and so do bars and dots that have words.
+    processors::bars(pen, plan, record);
+    for sleep in &layout.sleeps {
+        sleeps::draw_sleep(pen, sleep);
+    }
+    bands::ages(pen, plan, record);
+    phases::phases(pen, plan, record, &layout.labels);
+    processors::wait_labels(pen, plan);
     bands::move_labels(pen, plan, record);
     strands::wire_labels(pen, plan, record);
     notes::write_notes(pen, plan, record);
     ruler::ruler(pen, plan, record, &layout.texts);
     legend::legend(pen, &layout.items, layout.foot);
-    longest::longest(pen, plan, record, &layout.waits, layout.list);
+    longest::longest(pen, record, &layout.waits, layout.list);
 }
 
 /// Paints the picture of a record, which is named so.
@@ -216,7 +235,7 @@ pub fn paint(alloc: Global, record: &Record, name: &str) -> Result<Vec<u8>, NoMe
     ensures { IfOk result (λ picture. IsPicture picture.items) }
 {
     let mut memory = Memory { alloc, whole: true };
-    let layout = lay_out(&mut memory, record);
+    let layout = lay_out(&mut memory, record, name);
     let sheet = new_sheet(&mut memory, layout.width, layout.height)?;
     let mut pen = Pen::new(memory, sheet);
     draw(&mut pen, &layout, record, name);

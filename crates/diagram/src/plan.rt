@@ -5,11 +5,12 @@ use crate::memory::Memory;
 use crate::pen::{Frame, share};
 use crate::record::{Change, FEW, Record};
 use crate::rows::{Rows, Stir, stirs_of};
+use crate::text::width_of;
 use crate::waits::{Wait, find_waits};
 use mig_base::schedule::Side;
 
-/// Where the columns begin, in tenths of a pixel.
-pub(crate) const LEFT: u64 = 840;
+/// Where the columns begin, in tenths of a pixel: here, or farther to the right where a name of a row is long.
+const LEFT: u64 = 840;
 
 /// The room on the right of the columns.
 pub(crate) const RIGHT: u64 = 1480;
@@ -45,6 +46,8 @@ impl Drop for Band {
 /// A picture: its columns, its bands, and its size.
 pub(crate) struct Plan {
     pub columns: Columns,
+    /// Where the columns begin, and how wide they are together.
+    pub left: u64,
     pub width: u64,
     pub source: Band,
     pub destination: Band,
@@ -64,6 +67,7 @@ impl Drop for Plan {
     fn drop(self) {
         let Plan {
             columns: _columns,
+            left: _left,
             width: _width,
             source: _source,
             destination: _destination,
@@ -122,6 +126,15 @@ impl Band {
         y
     }
 
+    /// How wide the names of the rows are.
+    fn names_width(&self, memory: &mut Memory) -> u64 {
+        let mut longest = 0usize;
+        for row in &self.rows.rows {
+            longest = longest.max(memory.text(&row.name()).len());
+        }
+        width_of(longest, 90)
+    }
+
     /// Where a row begins.
     pub(crate) fn top_of(&self, row: u32) -> u64 {
         match self.rows.rows.get(row as usize) {
@@ -138,7 +151,7 @@ impl Band {
 }
 
 /// The width of the columns.
-fn width_of(lines: u32) -> u64 {
+fn columns_width(lines: u32) -> u64 {
     let lines = u64::from(lines);
     let small = lines.saturating_mul(260).clamp(6500, 8400);
     let more = lines.saturating_sub(400).saturating_mul(5);
@@ -166,7 +179,7 @@ fn frame_shapes(record: &Record, columns: Columns) -> usize {
 }
 
 impl Plan {
-    /// The columns and the bands of a record, with `per` lines in a column and `together` pages in a row.
+    /// The columns and the bands of a record, with `per` lines in a column and `together` pages in a row, without its waits.
     fn of(memory: &mut Memory, record: &Record, per: u32, together: u32) -> Plan {
         let lines = record.lines.len().clamp(1, u32::MAX as usize) as u32;
         let columns = Columns { lines, per };
@@ -176,15 +189,19 @@ impl Plan {
         let changes = &record.destination.changes;
         let destination = Band::new(memory, changes, &stirs, together, columns);
         let stirs = memory.filled(Stir::Touched, record.cpus as usize);
-        let processors = Band::new(memory, &record.processors.changes, &stirs, 1, columns);
-        let waits = find_waits(memory, &processors.stretches, record.cpus);
+        let changes = &record.processors.changes;
+        let processors = Band::new(memory, changes, &stirs, 1, columns);
+        let names = source
+            .names_width(memory)
+            .max(destination.names_width(memory));
         Plan {
             columns,
-            width: width_of(lines),
+            left: LEFT.max(names.saturating_add(160)),
+            width: columns_width(lines),
             source,
             destination,
             processors,
-            waits,
+            waits: Vec::new(memory.alloc),
             top: 0,
             forward: (0, 0),
             back: (0, 0),
@@ -212,6 +229,14 @@ impl Plan {
             together = together.saturating_mul(2);
             plan = Plan::of(memory, record, per, together);
         }
+        // Waits are counted in lines, also where a column has several.
+        let lone = Columns {
+            lines: plan.columns.lines,
+            per: 1,
+        };
+        let changes = &record.processors.changes;
+        let stretches = stretches_of(memory, changes, &plan.processors.rows, lone);
+        plan.waits = find_waits(memory, &stretches, record.cpus);
         plan
     }
 
@@ -237,7 +262,7 @@ impl Plan {
         }
         let halves = u64::from(column).saturating_mul(2).saturating_add(1);
         let across = share(self.width, halves, u64::from(count).saturating_mul(2));
-        LEFT.saturating_add(across)
+        self.left.saturating_add(across)
     }
 
     /// The middle of the column of a line.
@@ -245,9 +270,14 @@ impl Plan {
         self.x_of(self.columns.of(line))
     }
 
+    /// Where the names on the left of the columns end.
+    pub(crate) fn names_end(&self) -> u64 {
+        self.left.saturating_sub(60)
+    }
+
     /// Where the columns end.
     pub(crate) fn right(&self) -> u64 {
-        LEFT.saturating_add(self.width)
+        self.left.saturating_add(self.width)
     }
 
     /// Whether each line has a column that is wide enough for words.
@@ -257,11 +287,7 @@ impl Plan {
 
     /// The line of the file at which a column begins.
     pub(crate) fn line_of(&self, record: &Record, column: u32) -> u32 {
-        let at = column.saturating_mul(self.columns.per) as usize;
-        match record.lines.get(at) {
-            Some(line) => *line,
-            None => record.lines.last().copied().unwrap_or(0),
-        }
+        record.line_at(column.saturating_mul(self.columns.per))
     }
 
     /// The rectangle of a stretch in a row that begins and is high so.

@@ -166,6 +166,16 @@ pub struct Record {
     pub cpus: u32,
 }
 
+impl Record {
+    /// The line of the file of an order; of the last one, if there are fewer.
+    pub(crate) fn line_at(&self, line: u32) -> u32 {
+        match self.lines.get(line as usize) {
+            Some(line) => *line,
+            None => self.lines.last().copied().unwrap_or(0),
+        }
+    }
+}
+
 // As that of a track.
 impl Drop for Record {
     fn drop(self) {

@@ -3,6 +3,7 @@
 use crate::memory::Memory;
 use crate::record::{Dot, Track};
 use crate::state::State;
+use crate::text::Part;
 use mig_base::HIGH_PAGE;
 use mig_base::schedule::Side;
 
@@ -24,6 +25,13 @@ pub(crate) struct Row {
     group: u32,
     /// Where it begins, once the band is placed.
     pub top: u64,
+}
+
+impl Row {
+    /// Its first page, and how many follow.
+    pub(crate) fn name(&self) -> [Part<'static>; 2] {
+        [Part::Page(self.first), Part::More(self.pages)]
+    }
 }
 
 /// The rows of a band, and the row of each page.

@@ -25,8 +25,8 @@ pub(crate) enum Part<'a> {
     At(Place),
     /// Why a line was refused.
     Refused(Refusal),
-    /// The columns of a wait by state, and the steps of a column.
-    Sum(&'a Counts, u32),
+    /// The steps of a wait by state.
+    Sum(&'a Counts),
 }
 
 /// Adds a length.
@@ -49,10 +49,10 @@ fn push_count(text: &mut String, count: u32, what: &str) -> Result<(), AllocErro
 }
 
 /// Adds the steps of each state, as a sum after what they sum to.
-fn push_sum(text: &mut String, counts: &Counts, per: u32) -> Result<(), AllocError> {
+fn push_sum(text: &mut String, counts: &Counts) -> Result<(), AllocError> {
     let mut sign = "=";
     for state in State::WAITS {
-        let steps = counts.of(state).saturating_mul(per);
+        let steps = counts.of(state);
         if steps > 0 {
             let word = state.look().part;
             write!(text, " {sign} {word} {steps}")?;
@@ -84,7 +84,7 @@ fn push(text: &mut String, part: Part) -> Result<(), AllocError> {
             push_length(text, place.1)
         }
         Part::Refused(refusal) => write!(text, "{refusal}"),
-        Part::Sum(counts, per) => push_sum(text, counts, per),
+        Part::Sum(counts) => push_sum(text, counts),
     }
 }
 

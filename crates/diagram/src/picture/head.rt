@@ -8,7 +8,7 @@ use crate::text::Part::{Count, Number, Sum, Words};
 use crate::waits::Total;
 
 /// The line at which the migration is complete, if it is, and how many steps nobody ran the processors.
-fn outcome_of(plan: &Plan, record: &Record) -> (Option<u32>, u32) {
+fn outcome_of(record: &Record) -> (Option<u32>, u32) {
     let mut complete = None;
     let mut switched = None;
     let mut nobody = 0u32;
@@ -19,7 +19,7 @@ fn outcome_of(plan: &Plan, record: &Record) -> (Option<u32>, u32) {
                 nobody = mark.line.saturating_sub(line);
             }
             (Event::Complete, _) if complete.is_none() => {
-                complete = Some(plan.line_of(record, plan.columns.of(mark.line)));
+                complete = Some(record.line_at(mark.line));
             }
             _ => {}
         }
@@ -29,7 +29,7 @@ fn outcome_of(plan: &Plan, record: &Record) -> (Option<u32>, u32) {
 
 /// Writes how the run ends, and how long nobody ran the processors.
 fn outcome(pen: &mut Pen, plan: &Plan, record: &Record) {
-    let (complete, nobody) = outcome_of(plan, record);
+    let (complete, nobody) = outcome_of(record);
     let steps = plan.columns.lines;
     let mut words = match complete {
         Some(line) => pen
@@ -55,17 +55,20 @@ fn outcome(pen: &mut Pen, plan: &Plan, record: &Record) {
 
 /// Writes how often and how long processors waited, and for whom.
 fn waits(pen: &mut Pen, plan: &Plan) {
+    let place = (100, 485);
     let total = Total::of(&plan.waits, 0, u32::MAX);
-    let per = plan.columns.per;
+    if total.waits == 0 {
+        return pen.word(Class::Sentence, place, "No processor waited.");
+    }
     let words = [
         Count(total.waits, "wait"),
         Words(" of processors, "),
-        Number(total.columns.saturating_mul(per)),
+        Number(total.steps),
         Words(" steps in all"),
-        Sum(&total.parts, per),
+        Sum(&total.parts),
         Words("."),
     ];
-    pen.words(Class::Sentence, (100, 485), &words);
+    pen.words(Class::Sentence, place, &words);
 }
 
 /// Writes the name of the picture, and what it says in sentences: also what is merged, if anything is.

@@ -1,6 +1,7 @@
 //! What the colours and the signs mean: those that the picture has.
 
 use super::bands::{age_of, run_of};
+use super::sleeps::Sleep;
 use crate::class::Class;
 use crate::memory::Memory;
 use crate::pen::{Frame, Pen};
@@ -31,7 +32,6 @@ enum Line {
     Other,
     Lost,
     Break,
-    Move,
 }
 
 /// What an item shows.
@@ -42,9 +42,11 @@ enum Sign {
     /// A state.
     Box(State),
     Line(Line),
-    /// A dot, a cross, and a number in the bar of a page that is installed.
+    /// A dot with the number of a processor, and one without, a cross, an arrow, and a number in the bar of a page that is installed.
     Dot,
+    SmallDot,
     Cross,
+    Move,
     Age,
     /// The ground while nobody runs the processors, and while there is no link.
     NobodyRuns,
@@ -69,7 +71,6 @@ fn line_of(line: Line) -> (Class, &'static str) {
         Line::Other => (Class::OtherFrame, "another frame"),
         Line::Lost => (Class::LostFrame, "lost in a break"),
         Line::Break => (Class::BreakMark, "a break"),
-        Line::Move => (Class::Move, "a mapping moves"),
     }
 }
 
@@ -177,8 +178,27 @@ fn has_age(plan: &Plan, record: &Record) -> bool {
     false
 }
 
+/// Whether there are dots with numbers, and whether there are dots without.
+fn dots_in(sleeps: &[Sleep]) -> (bool, bool) {
+    let mut numbered = false;
+    let mut others = false;
+    for sleep in sleeps {
+        if sleep.has_number() {
+            numbered = true;
+        } else {
+            others = true;
+        }
+    }
+    (numbered, others)
+}
+
 /// The items of a picture.
-pub(super) fn find_items(memory: &mut Memory, plan: &Plan, record: &Record) -> Items {
+pub(super) fn find_items(
+    memory: &mut Memory,
+    plan: &Plan,
+    record: &Record,
+    sleeps: &[Sleep],
+) -> Items {
     let mut items = Items {
         items: Vec::new(memory.alloc),
         is_first: true,
@@ -194,6 +214,7 @@ pub(super) fn find_items(memory: &mut Memory, plan: &Plan, record: &Record) -> I
     let back = Kinds::of(&record.back.flights);
     let lost = forward.lost || urgent.lost || back.lost;
     let (switches, breaks) = grounds_in(record);
+    let (numbered, others) = dots_in(sleeps);
     let signs = [
         (Sign::NobodyRuns, switches),
         (Sign::NoLink, breaks),
@@ -202,9 +223,10 @@ pub(super) fn find_items(memory: &mut Memory, plan: &Plan, record: &Record) -> I
         (Sign::Line(Line::Urgent), urgent.pages),
         (Sign::Line(Line::Other), forward.others || back.others),
         (Sign::Line(Line::Lost), lost),
-        (Sign::Dot, !record.dots.is_empty()),
+        (Sign::Dot, numbered),
+        (Sign::SmallDot, others),
         (Sign::Cross, !record.drops.is_empty()),
-        (Sign::Line(Line::Move), !record.moves.is_empty()),
+        (Sign::Move, !record.moves.is_empty()),
         (Sign::Age, has_age(plan, record)),
     ];
     for (sign, is_there) in signs {
@@ -241,8 +263,19 @@ fn draw_item(pen: &mut Pen, sign: Sign, x: u64, y: u64) {
             words
         }
         Sign::Dot => {
-            pen.disk(Class::Sleep, middle, 45);
+            pen.disk(Class::Sleep, middle, 50);
+            let place = (middle.0, middle.1.saturating_add(30));
+            pen.word(Class::BlackMiddle, place, "1");
+            "cpu 1 goes to sleep"
+        }
+        Sign::SmallDot => {
+            pen.disk(Class::SmallSleep, middle, 24);
             "a processor goes to sleep"
+        }
+        Sign::Move => {
+            let foot = (middle.0, y.saturating_add(20));
+            pen.arrow(Class::Move, (middle.0, top), foot);
+            "a mapping moves"
         }
         Sign::Cross => {
             pen.cross(Class::Cross, middle, 32);

@@ -19,7 +19,7 @@ fn put(memory: &mut Memory, longest: &mut Vec<Wait>, wait: Wait) {
     let mut next = wait;
     let mut is_placed = false;
     for place in longest.iter_mut() {
-        if is_placed || place.columns() < next.columns() {
+        if is_placed || place.steps() < next.steps() {
             let behind = *place;
             *place = next;
             next = behind;
@@ -46,7 +46,7 @@ pub(super) fn height(waits: &[Wait]) -> u64 {
 }
 
 /// Writes the list of the longest waits.
-pub(super) fn longest(pen: &mut Pen, plan: &Plan, record: &Record, waits: &[Wait], top: u64) {
+pub(super) fn longest(pen: &mut Pen, record: &Record, waits: &[Wait], top: u64) {
     if waits.is_empty() {
         return;
     }
@@ -54,19 +54,18 @@ pub(super) fn longest(pen: &mut Pen, plan: &Plan, record: &Record, waits: &[Wait
     let mut y = top;
     for wait in waits {
         y = y.saturating_add(LINE);
-        let per = plan.columns.per;
         let words = [
             Words("cpu "),
             Number(wait.cpu),
             Words(", "),
             Page(wait.page),
             Words(", lines "),
-            Number(plan.line_of(record, wait.from)),
+            Number(record.line_at(wait.from)),
             Words(" to "),
-            Number(plan.line_of(record, wait.to)),
+            Number(record.line_at(wait.to)),
             Words(": "),
-            Number(wait.columns().saturating_mul(per)),
-            Sum(&wait.parts, per),
+            Number(wait.steps()),
+            Sum(&wait.parts),
         ];
         pen.words(Class::Fixed, (100, y), &words);
     }

@@ -14,24 +14,29 @@ const MOST_ROWS: u64 = 9;
 /// The height of a row of words.
 const ROW: u64 = 120;
 
+/// The room above the bands for the lengths of the parts of the migration.
+const PARTS: u64 = 200;
+
 /// The most marks that have words.
 const MOST_WORDS: usize = 120;
 
 /// A mark as it is drawn.
 #[derive(Clone, Copy)]
 pub(super) struct Label {
-    x: u64,
+    pub x: u64,
     mark: Mark,
     /// Its row above the bands, if it has words.
-    row: Option<u64>,
+    pub row: Option<u64>,
 }
 
 /// The marks as they are drawn, from the last to the first.
 #[derive(Drop)]
 pub(super) struct Labels {
-    labels: Vec<Label>,
+    pub labels: Vec<Label>,
     wording: Wording,
     pub height: u64,
+    /// Where the words end.
+    pub right: u64,
 }
 
 /// How much a mark matters.
@@ -102,10 +107,13 @@ impl Wording {
 
 /// The words of a mark.
 fn words_of(mark: &Mark) -> [Part<'static>; 4] {
-    let (first, second) = (Number(mark.first), Number(mark.second));
+    let first = Number(mark.first);
     match mark.event {
         Event::Break => break_words(mark.first, mark.second),
-        Event::Round => [Words("round "), first, Words(": "), second],
+        Event::Round => {
+            let pages = Count(mark.second, "page");
+            [Words("round "), first, Words(": "), pages]
+        }
         Event::Switch => [Words("switch: "), first, Words(" owed"), Nothing],
         Event::Resume => [Words("resume, epoch "), first, Nothing, Nothing],
         event => [Words(word_of(event)), Nothing, Nothing, Nothing],
@@ -130,13 +138,16 @@ fn row_above(labels: &[Label], x: u64, width: u64) -> u64 {
 fn staircase(memory: &mut Memory, plan: &Plan, record: &Record, wording: Wording) -> Labels {
     let mut labels = Vec::new(memory.alloc);
     let mut rows = 0u64;
+    let mut right = 0u64;
     for mark in record.marks.iter().rev() {
         let x = plan.x_at(mark.line);
         let mut row = None;
         if rank_of(mark.event) >= wording.least {
             let words = memory.text(&wording.words_of(mark));
-            let above = row_above(&labels, x, width_of(words.len(), 100).saturating_add(60));
+            let width = width_of(words.len(), 100).saturating_add(60);
+            let above = row_above(&labels, x, width);
             rows = rows.max(above.saturating_add(1));
+            right = right.max(x.saturating_add(width));
             row = Some(above);
         }
         let mark = *mark;
@@ -146,6 +157,7 @@ fn staircase(memory: &mut Memory, plan: &Plan, record: &Record, wording: Wording
         labels,
         wording,
         height: rows.saturating_mul(ROW),
+        right,
     }
 }
 
@@ -185,14 +197,23 @@ fn classes_of(event: Event) -> (Class, Class) {
     }
 }
 
-/// Draws the marks, each with its words if they have a row. Of those without words at one place, the last is drawn.
+/// The class of the line of a mark without words.
+fn wordless_class(event: Event) -> Class {
+    match event {
+        Event::Break => Class::BreakMark,
+        _ => Class::Rail,
+    }
+}
+
+/// Draws the marks, each with its words if they have a row. Those without words begin below the lengths of the parts of the migration, and
+/// of those at one place the last is drawn.
 pub(super) fn marks(pen: &mut Pen, plan: &Plan, labels: &Labels) {
     let mut before = u64::MAX;
     for label in &labels.labels {
-        let (line, class) = classes_of(label.mark.event);
         let words = words_of(&label.mark);
         let foot = (label.x, plan.bottom);
         if let Some(row) = label.row {
+            let (line, class) = classes_of(label.mark.event);
             let y = plan.top.saturating_sub(row.saturating_mul(ROW));
             pen.name(&words);
             pen.line(line, (label.x, y.saturating_sub(90)), foot);
@@ -200,7 +221,8 @@ pub(super) fn marks(pen: &mut Pen, plan: &Plan, labels: &Labels) {
             pen.words(class, (label.x.saturating_add(30), y), &above);
         } else if label.x != before {
             pen.name(&words);
-            pen.line(line, (label.x, plan.top), foot);
+            let head = (label.x, plan.top.saturating_add(PARTS));
+            pen.line(wordless_class(label.mark.event), head, foot);
         }
         before = label.x;
     }
@@ -252,54 +274,5 @@ pub(super) fn grounds(pen: &mut Pen, plan: &Plan, record: &Record) {
             }
             _ => {}
         }
-    }
-}
-
-/// Writes how long a part of the migration took, where there is room: its name and its steps, its steps alone, or nothing.
-fn phase(pen: &mut Pen, plan: &Plan, word: &str, lines: (u32, u32)) {
-    let steps = Number(lines.1.saturating_sub(lines.0));
-    let left = plan.x_at(lines.0);
-    let right = plan.x_at(lines.1);
-    let room = right.saturating_sub(left);
-    let mut words = [Words(word), Words(": "), steps, Words(" steps")];
-    if pen.width(&words, 95).saturating_add(100) > room {
-        words = [steps, Nothing, Nothing, Nothing];
-    }
-    if pen.width(&words, 95).saturating_add(100) > room {
-        words = [Nothing; 4];
-    }
-    let half = pen.width(&words, 110) / 2;
-    let middle = left.saturating_add(room / 2);
-    let y = plan.top.saturating_add(150);
-    pen.line(Class::Mark, (left, y), (middle.saturating_sub(half), y));
-    pen.line(Class::Mark, (middle.saturating_add(half), y), (right, y));
-    pen.words(Class::MiddleEdged, (middle, y.saturating_add(35)), &words);
-}
-
-/// What follows a mark, if the migration is in another part then.
-fn part_behind(event: Event) -> Option<&'static str> {
-    match event {
-        Event::Start => Some("pre-copy"),
-        Event::Switch => Some("nobody runs"),
-        Event::Package => Some("post-copy"),
-        Event::Complete => Some("after"),
-        _ => None,
-    }
-}
-
-/// Writes how long each part of a migration took.
-pub(super) fn phases(pen: &mut Pen, plan: &Plan, record: &Record) {
-    let mut from = 0u32;
-    let mut word = "guest at the source";
-    for mark in &record.marks {
-        if let Some(next) = part_behind(mark.event) {
-            phase(pen, plan, word, (from, mark.line));
-            from = mark.line;
-            word = next;
-        }
-    }
-    let last = plan.columns.lines.saturating_sub(1);
-    if !record.marks.is_empty() && from < last {
-        phase(pen, plan, word, (from, last));
     }
 }

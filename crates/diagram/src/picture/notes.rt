@@ -57,7 +57,7 @@ fn forward_notes(pen: &mut Pen, plan: &Plan, record: &Record) {
     let sent = sent.saturating_add(overtaking);
     let counts = [
         ("pages sent: ", sent),
-        ("again: ", sent.saturating_sub(different.len())),
+        ("sent again: ", sent.saturating_sub(different.len())),
         ("on the urgent wire: ", overtaking),
         ("lost: ", lost.saturating_add(urgent_lost)),
     ];

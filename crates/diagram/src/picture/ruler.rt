@@ -3,7 +3,7 @@
 use crate::class::Class;
 use crate::memory::Memory;
 use crate::pen::Pen;
-use crate::plan::{LEFT, Plan};
+use crate::plan::Plan;
 use crate::record::Record;
 use crate::text::Part::{Number, Refused, Words};
 use crate::text::width_of;
@@ -110,30 +110,28 @@ fn numbers(pen: &mut Pen, plan: &Plan, record: &Record) {
     let apart = distance(plan);
     pen.word(
         Class::SmallEnding,
-        (LEFT - 60, y.saturating_add(150)),
+        (plan.names_end(), y.saturating_add(150)),
         "line",
     );
     let mut next = apart;
-    for column in 0..plan.columns.count() {
-        let line = plan.line_of(record, column);
-        if line >= next {
-            let x = plan.x_of(column);
+    let mut at = 0u32;
+    for line in &record.lines {
+        if *line >= next {
+            let x = plan.x_at(at);
             pen.line(Class::Axle, (x, y), (x, y.saturating_add(50)));
-            pen.words(
-                Class::SmallMiddle,
-                (x, y.saturating_add(150)),
-                &[Number(line)],
-            );
+            let place = (x, y.saturating_add(150));
+            pen.words(Class::SmallMiddle, place, &[Number(*line)]);
             let steps = line.checked_div(apart).unwrap_or(0).saturating_add(1);
             next = steps.saturating_mul(apart);
         }
+        at = at.saturating_add(1);
     }
 }
 
 /// Draws what stands below the bands.
 pub(super) fn ruler(pen: &mut Pen, plan: &Plan, record: &Record, texts: &[Text]) {
     let y = plan.bottom;
-    pen.line(Class::Mark, (LEFT, y), (plan.right(), y));
+    pen.line(Class::Mark, (plan.left, y), (plan.right(), y));
     if !plan.is_small() {
         return numbers(pen, plan, record);
     }

@@ -3,7 +3,7 @@
 use crate::class::Class;
 use crate::memory::Memory;
 use crate::pen::{Pen, share};
-use crate::plan::{LEFT, Plan};
+use crate::plan::Plan;
 use crate::record::{End, Flight, Kind, Record};
 use crate::state::State;
 use crate::text::Part::{More, Nothing, Number, Page, Words};
@@ -118,9 +118,9 @@ fn draw_frame(pen: &mut Pen, plan: &Plan, record: &Record, class: Class, route: 
         page,
         more,
         Words(": sent at line "),
-        Number(plan.line_of(record, plan.columns.of(flight.sent))),
+        Number(record.line_at(flight.sent)),
         Words(ended),
-        Number(plan.line_of(record, plan.columns.of(flight.ended))),
+        Number(record.line_at(flight.ended)),
     ]);
     let class = if flight.kind.has_page() {
         class
@@ -165,7 +165,7 @@ pub(super) fn is_free(label: Label, others: &[Label]) -> bool {
 
 /// A place for words that are so wide on the line of a frame: the first of some heights where there is room.
 fn place_of(route: &Route, width: u64, written: &[Label]) -> Option<Label> {
-    let half = (width / 2).saturating_add(25);
+    let half = (width / 2).saturating_add(50);
     let reach = route.to.0.saturating_sub(route.from.0);
     for height in HEIGHTS {
         let x = route.from.0.saturating_add(share(reach, height, 10));
@@ -179,6 +179,20 @@ fn place_of(route: &Route, width: u64, written: &[Label]) -> Option<Label> {
         }
     }
     None
+}
+
+/// Keeps words off the crosses of lost frames.
+fn keep_crosses(memory: &mut Memory, routes: &[Route], written: &mut Vec<Label>) {
+    for route in routes {
+        if matches!(route.flight.end, End::Lost) && written.len() < MOST_WORDS {
+            let cross = Label {
+                left: route.to.0.saturating_sub(40),
+                right: route.to.0.saturating_add(40),
+                y: route.to.1.saturating_add(30),
+            };
+            memory.push(written, cross);
+        }
+    }
 }
 
 /// Writes what the frames of a wire are on their lines, where there is room: if their pages are named, also on the lines of those that
@@ -225,26 +239,24 @@ fn arrivals(pen: &mut Pen, plan: &Plan, record: &Record) {
 
 /// Draws a rail, with its name.
 fn rail(pen: &mut Pen, plan: &Plan, y: u64, name: &str) {
-    pen.line(Class::Rail, (LEFT, y), (plan.right(), y));
-    let place = (LEFT - 60, y.saturating_add(30));
+    pen.line(Class::Rail, (plan.left, y), (plan.right(), y));
+    let place = (plan.names_end(), y.saturating_add(30));
     pen.word(Class::SmallEnding, place, name);
 }
 
 /// Draws the rails between which frames travel, with their names and those of the wires.
 fn rails(pen: &mut Pen, plan: &Plan) {
-    let top = plan.forward.0;
-    rail(pen, plan, top, "source");
-    rail(pen, plan, plan.forward.1, "destination");
-    rail(pen, plan, plan.back.0, "");
-    rail(pen, plan, plan.back.1, "");
-    pen.word(Class::Heading, (100, top.saturating_sub(50)), "wires");
-    pen.word(
-        Class::Ending,
-        (LEFT - 60, top.saturating_add(450)),
-        "forward",
-    );
-    let middle = plan.back.1.saturating_add(230);
-    pen.word(Class::Ending, (LEFT - 60, middle), "back");
+    let (source, destination) = plan.forward;
+    rail(pen, plan, source, "source");
+    rail(pen, plan, destination, "destination");
+    pen.word(Class::Heading, (100, source.saturating_sub(50)), "wires");
+    let middle = source.saturating_add(450);
+    pen.word(Class::Ending, (plan.names_end(), middle), "forward");
+    let (destination, source) = plan.back;
+    rail(pen, plan, source, "source");
+    rail(pen, plan, destination, "destination");
+    let middle = source.saturating_add(230);
+    pen.word(Class::Ending, (plan.names_end(), middle), "back");
 }
 
 /// The three wires as they are drawn: that to the destination, the urgent one, and that back.
@@ -293,10 +305,13 @@ pub(super) fn wire_labels(pen: &mut Pen, plan: &Plan, record: &Record) {
     let slow = routes_of(&mut pen.memory, plan, down, &record.forward.flights);
     let fast = routes_of(&mut pen.memory, plan, urgent, &record.urgent.flights);
     let mut written = Vec::new(pen.memory.alloc);
+    keep_crosses(&mut pen.memory, &slow, &mut written);
+    keep_crosses(&mut pen.memory, &fast, &mut written);
     frame_labels(pen, &fast, small || fast.len() <= MOST_FRAMES, &mut written);
     frame_labels(pen, &slow, small, &mut written);
     let returns = routes_of(&mut pen.memory, plan, up, &record.back.flights);
     let few = small || returns.len() <= MOST_FRAMES;
     let mut written = Vec::new(pen.memory.alloc);
+    keep_crosses(&mut pen.memory, &returns, &mut written);
     frame_labels(pen, &returns, few, &mut written);
 }
