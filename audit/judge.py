@@ -533,8 +533,8 @@ def replay(log, run):
     return kernel, used
 
 
-def judge(name):
-    log = Log(name)
+def judge(log):
+    """Judges a log without a wrong line."""
     search = Search(log)
     run = search.run()
     kernel, used = search.kernel, Counter()
@@ -544,4 +544,4 @@ def judge(name):
             kernel, used = replay(log, run)
         except Exception as reason:  # noqa: what does not replay is not certified
             broken = str(reason)
-    return log, search, run, kernel, used, broken
+    return search, run, kernel, used, broken

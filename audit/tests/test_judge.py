@@ -31,7 +31,7 @@ class Judge(unittest.TestCase):
     def test_stored_logs(self):
         for name, (must, may, differs) in WANTED.items():
             with self.subTest(name):
-                _, search, _, kernel, used, broken = judge.judge(str(LOGS / f"{name}.log.gz"))
+                search, _, kernel, used, broken = judge.judge(judge.Log(str(LOGS / f"{name}.log.gz")))
                 kinds = Counter(search.kind.values())
                 self.assertEqual((kinds["must"] + kinds["differs"], kinds["may"], dict(used), broken), (must, may, differs, None))
                 found = findings(kernel, search)
