@@ -114,6 +114,8 @@ class Kernel:
         self.pages, self.faults, self.queue, self.calls = {}, {}, {}, {}
         self.owed, self.unanswered, self.twice, self.outside = [], [], [], []
         self.waits = []  # for each fault that a call has resolved: the read that returned it, that call, and the fault's flags
+        self.unread_events = []  # the map calls an event of which was never read
+        self.again = {}  # calls that were refused with EAGAIN, by their first page, which no later call was to put
         self.differs, self.resolved, self.now = [], 0, None
 
     # What steps share
@@ -313,6 +315,8 @@ class Kernel:
         of, done = self.object_of(call.arguments), call.values.get("BYTES")
         right = of.features is not None and mode & ~modes == 0 and self.is_range(start, length)
         places = self.places(of.space, start, length) if right else Places(of.space, 0, 0)
+        for place in [it for it in self.again if it in places]:
+            del self.again[place]
         watched = self.watched(places)
         no_protect = mode & COPY_PROTECTS and any(not self.pages[it].modes & PROTECT_MODE for it in watched)
         if call.answer == "ok":
@@ -328,6 +332,8 @@ class Kernel:
             need(self.changing(me), "no map call is under way that an event tells of")
             if not self.untold(me):
                 self.differs.append("changing-longer")
+            if places:
+                self.again[places[0]] = call
         elif call.answer == "EEXIST":
             need(right and watched[:1] == [places[0]], "not registered, or wrong arguments")
             self.is_present(places[0], call)
@@ -426,6 +432,7 @@ class Kernel:
         self.forget(mine, call, True)
         self.wake(me, None, False)
         of.closed = True
+        self.unread_events += self.untold(me)
         for key in self.changing(me):
             self.calls[key].events.pop(me, None)
             self.calls[key].removes.pop(me, None)
@@ -586,3 +593,4 @@ class Kernel:
         for found in {page.object for page in self.pages.values()}:
             self.forget([place for place, page in self.pages.items() if page.object == found], None, True)
         self.unanswered += [fault.call for fault in self.faults.values() if fault.phase == ASLEEP and fault.call]
+        self.unread_events += [key for key, of in self.calls.items() if any(of.events.values()) or any(of.removes.values())]

@@ -22,6 +22,8 @@ NUMBER = re.compile(r"0|[1-9][0-9]{0,19}|0x(?:0|[1-9a-f][0-9a-f]{0,15})")
 SIGNED = re.compile(r"-?(?:0|[1-9][0-9]{0,18})")
 TEXT = re.compile(r"%|(?:[!-$&-~]|%[0-9a-f]{2})+")
 PRINTABLE = re.compile(rb"[ -~]*")
+# A line of strace's: after a process and a time, which may be missing, comes a call's name with its arguments, and what it returned.
+STRACE = re.compile(rb"(?:[0-9.:\[\]pid ]* )?[a-z0-9_]+\(.* [=<]", re.S)
 
 
 class Wrong(Exception):
@@ -30,6 +32,13 @@ class Wrong(Exception):
 
 class Unreadable(Exception):
     """A file that cannot be read as a log at all."""
+
+
+def no_log(line):
+    """Why an input is no log whose first line is this."""
+    if STRACE.match(line[:LONGEST_LINE + 1]):
+        return "not a log, but what strace writes: audit/from-strace makes a log of it"
+    return "not a log: the first line is not 'uffdlog 1'"
 
 
 # What a word of a line may be. Each takes the word and returns its value.
@@ -238,7 +247,7 @@ class Reader:
         self.line += 1
         try:
             if self.line == 1 and data != FIRST_LINE:
-                raise Unreadable("not a log: the first line is not 'uffdlog 1'")
+                raise Unreadable(no_log(data))
             return self.read(self.words(data))
         except Wrong as reason:
             self.wrong(self.line, str(reason))
