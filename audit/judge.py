@@ -12,8 +12,8 @@ from dataclasses import dataclass, field
 from typing import Optional
 
 import uffdlog
-from kernel_rules import (ASLEEP, DONTWAKE, FAULT_PROTECTED, FAULT_WRITE, INSTALLS, Kernel, MAP_CALLS, MISSING, NOT_JUDGED, POLLIN, POLLNVAL, PRESENT, PROTECTS,
-                          Places, SEEN, TELLING, THREAD_ID, UNKNOWN, UNREAD)
+from kernel_rules import (ASLEEP, DONTWAKE, FAULT_PROTECTED, FAULT_WRITE, INSTALLS, Kernel, MAP_CALLS, MISSING, NOT_JUDGED, POLLIN, POLLNVAL, PRESENT,
+                          PROTECTS, Places, SEEN, TELLING, THREAD_ID, UNKNOWN, UNREAD)
 
 
 # How many calls after a poll are looked at.

@@ -228,6 +228,7 @@ class Kernel:
         for place in self.watched(places):
             page = self.pages[place]
             page.presence, page.guarded = presence, False
+            self.again.pop(place, None)  # its owner has given it back
 
     # Calls
 

@@ -231,4 +231,6 @@ PLANTED = (
     ("qemu-push", two_stale_faults, "impossible"), ("qemu-push", fault_outside, "impossible"), ("qemu-push", event_not_asked_for, "impossible"),
     ("qemu-push", installed_page_discarded, "owed"), ("qemu-push", unregistered_early, "owed"),
     ("qemu-push", message_that_nobody_read, "impossible"), ("qemu-snapshot", fault_of_an_unprotected_page, "impossible"),
+    ("live-handler", event_never_read, "impossible"), ("live-handler", event_of_another_range, "impossible"),
+    ("live-handler", map_call_for_ever, "impossible"),
 )

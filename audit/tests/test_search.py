@@ -96,6 +96,17 @@ LONG = """70 70 begin 5 copy 8:5 0x10000 0x7000 0x1000 0x0
 70 70 begin 9 madvise 0x30000 0x7ffffff00000 0x4
 70 70 end 9 ENOMEM
 """
+# What EAGAIN was for has been given back.
+GIVEN_BACK = """70 71 begin 5 madvise 0x10000 0x1000 0x4
+70 70 begin 6 copy 8:5 0x10000 0x7000 0x1000 0x0
+70 70 end 6 EAGAIN -11
+70 70 begin 7 read 8:5 32
+70 70 message 7 remove 0x10000 0x11000
+70 70 end 7 ok 1
+70 71 end 5 ok
+70 70 begin 8 copy 8:5 0x11000 0x7000 0x1000 0x0
+70 70 end 8 ok 4096
+"""
 # Two processes with one address, and children that share the memory of each: what each has found tells whose it is.
 CHILDREN = """72 72 forked 70
 72 72 begin 1 open syscall 0x800
@@ -143,6 +154,13 @@ class Search(unittest.TestCase):
         self.assert_clean(text_of(WOKEN_BY_PROTECTION, "0x1", "0x3"))
         self.assert_clean(text_of(LONG))
         self.assert_clean(text_of(CHILDREN))
+
+    def test_tried_again(self):
+        _, said = self.judged(text_of(GIVEN_BACK, "0x8"))
+        self.assertNotIn("not-tried-again", said)
+        other = GIVEN_BACK.replace("begin 6 copy 8:5 0x10000", "begin 6 copy 8:5 0x11000").replace("begin 8 copy 8:5 0x11000", "begin 8 copy 8:5 0x10000")
+        _, said = self.judged(text_of(other, "0x8"))
+        self.assertIn("the page 0x11000 was not tried again [not-tried-again]", said)
 
     def test_wrong(self):
         """Each with one change that no run explains, or that leaves a thread asleep."""
