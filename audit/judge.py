@@ -360,7 +360,7 @@ class Search:
         of = self.kernel.objects.get(found)
         if of and (of.features or 0) & THREAD_ID:
             return values["THREAD"]
-        threads = (("page", values["ADDRESS"] // self.log.page, values["FLAGS"], number) for number in itertools.count())
+        threads = ((found, values["ADDRESS"] // self.log.page, values["FLAGS"], number) for number in itertools.count())
         return next(it for it in threads if it not in self.kernel.faults or it not in shown and self.kernel.faults[it].phase != ASLEEP)
 
     def prepare_read(self, call):
@@ -476,7 +476,13 @@ class Search:
             return False
         if self.vanishing_now(call, read):
             return False
-        return self.vanished(call) or not read and self.never_read(me)
+        if self.vanished(call):
+            return True
+        if not read:
+            self.never_read(me)
+        elif read.answer == "ok":
+            self.show_early(me, read, True)
+        return False
 
     def next_read(self, call):
         reads = self.reads[call.object]
@@ -492,7 +498,8 @@ class Search:
             self.ends_of[id(reads)] = [read.end for read in reads]
         return self.ends_of[id(reads)]
 
-    def show_early(self, me, read):
+    def show_early(self, me, read, leaves=False):
+        """The first message of a read waits already. With `leaves` its thread may have left another fault by a signal."""
         kind, values = read.messages[0]
         if kind != "fault":
             self.announce(me, kind, values)
@@ -500,8 +507,10 @@ class Search:
         thread, of = self.thread_of(me, values), self.kernel.objects[me]
         held = self.kernel.faults.get(thread)
         place = (of.space, values["ADDRESS"] // self.log.page)
-        if held and (held.place != place or held.phase == ASLEEP):
-            self.wait_no_more(thread, held)
+        if held and held.phase == ASLEEP:
+            self.settle_where(lambda it: self.wakes(it, held))
+        if leaves and self.kernel.faults.get(thread) is held and held and (held.place != place or held.phase == ASLEEP):
+            self.step("leaves", thread)
         return self.touch(thread, me, place, values["FLAGS"])
 
     def vanishing_now(self, call, read):
@@ -524,11 +533,10 @@ class Search:
         return place, FAULT_PROTECTED | FAULT_WRITE if page and page.presence == PRESENT else 0
 
     def never_read(self, me):
-        """No read follows: a thread waits at a page that is missing or protected, and its fault is unread to the end. Always false: it is not placed."""
+        """No read follows: a thread waits at a page that is missing or protected, and its fault is unread to the end."""
         for place, page in self.kernel.pages.items():
             if page.object == me and self.touch(self.stranger(), me, place, FAULT_PROTECTED if page.presence == PRESENT else 0):
                 break
-        return False
 
     def stranger(self):
         self.strangers += 1

@@ -84,6 +84,25 @@ WOKEN_BY_PROTECTION = """70 70 begin 5 copy 8:5 0x10000 0x7000 0x1000 0x2
 70 70 begin 9 read 8:5 32
 70 70 end 9 EAGAIN
 """
+# Two objects of two processes, with a thread at one page of each.
+TWO_OBJECTS = """72 72 started 69 ./monitor
+72 72 begin 1 open syscall 0x800
+72 72 end 1 ok 9:5
+72 72 begin 2 api 9:5 0xaa 0x0
+72 72 end 2 ok 0x1ffff 0x8000000000000003
+72 72 begin 3 register 9:5 0x10000 0x1000 0x1
+72 72 end 3 ok 0x17c
+70 70 begin 5 read 8:5 32
+70 70 message 5 fault 0x10000 0 0
+70 70 end 5 ok 1
+72 72 begin 4 read 9:5 32
+72 72 message 4 fault 0x10000 0 0
+72 72 end 4 ok 1
+70 70 begin 6 copy 8:5 0x10000 0x7000 0x2000 0x0
+70 70 end 6 ok 8192
+72 72 begin 5 copy 9:5 0x10000 0x7000 0x1000 0x0
+72 72 end 5 ok 4096
+"""
 # More pages than any memory has: the munmap ends far above the object's.
 LONG = """70 70 begin 5 copy 8:5 0x10000 0x7000 0x1000 0x0
 70 70 end 5 ok 4096
@@ -152,6 +171,7 @@ class Search(unittest.TestCase):
         self.assert_clean(text_of(NEVER_READ))
         self.assert_clean(text_of(MOVED, "0x4c"))
         self.assert_clean(text_of(WOKEN_BY_PROTECTION, "0x1", "0x3"))
+        self.assert_clean(text_of(TWO_OBJECTS))
         self.assert_clean(text_of(LONG))
         self.assert_clean(text_of(CHILDREN))
 
