@@ -115,11 +115,13 @@ class Log:
         shaken = {call.object for call in self.calls if call.word == "api" and call.answer == "ok"}
         self.found = {call.object: call.space for call in reversed(self.calls) if call.object is not None and call.object in shaken - opened}
         for call in self.calls:
-            call.judged = call.word in (*MAP_CALLS, "open", "fork") or call.object in opened | shaken and not self.is_long(call)
+            call.judged = not self.is_long(call) and (call.word in (*MAP_CALLS, "open", "fork") or call.object in opened | shaken)
 
     def is_long(self, call):
+        """Of map calls the pages that may become registered count: what they take away is never more than there is."""
         found = call.range()
-        return bool(found) and found[1] // self.page > MOST_PAGES
+        pages = call.arguments["NEW"] if call.word == "mremap" else 0 if call.word in MAP_CALLS or not found else found[1]
+        return pages // self.page > MOST_PAGES
 
 
 class Search:
@@ -245,6 +247,11 @@ class Search:
         of = self.kernel.objects.get(call.object)
         return self.kernel.places(of.space, *call.range()) if of else Places(None, 0, 0)
 
+    def first_place(self, call):
+        """The first page of a call on an object, which is nowhere if the object is not open."""
+        places = self.places_of(call)
+        return places[0] if places else (None, 0)
+
     def read_first(self, found, places):
         """The open reads that return a fault of these pages take effect before the page changes."""
         pages = places.pages
@@ -311,7 +318,7 @@ class Search:
         """Whether an install under way is of a page that the call protects: the next fault of it that is read says so."""
         if install.word not in INSTALLS or install.object != call.object or install.answer != "ok":
             return False
-        page, (start, length) = self.places_of(install)[0][1], call.range()
+        page, (start, length) = self.first_place(install)[1], call.range()
         later = [values for read, values in self.faults.get((call.object, page), ()) if read.end > call.end][:1]
         return start <= page * self.log.page < start + length and any(values["FLAGS"] & FAULT_PROTECTED for values in later)
 
@@ -344,11 +351,11 @@ class Search:
 
     def is_put_in(self, install, places):
         """Whether an install is of a page that loses its registration, or its bytes, by another call: it may only have been put before."""
-        return install.word in INSTALLS and install.answer == "ok" and self.places_of(install)[0] in places
+        return install.word in INSTALLS and install.answer == "ok" and self.first_place(install) in places
 
     def is_missing_after(self, install, call):
         """Whether the next fault of a page that is read after a call which clears it says that the page was missing: its install came before."""
-        place = self.places_of(install)[0]
+        place = self.first_place(install)
         for read, values in self.faults.get((install.object, place[1]), ()):
             if read.end > call.end:
                 return not values["FLAGS"] & FAULT_PROTECTED and not self.is_discarded(place, call.end + 1, read)
@@ -528,7 +535,7 @@ class Search:
 
     def woken_first(self, call):
         """The first page of a call that wakes those who wait there, and the flags of a fault of it."""
-        place = self.places_of(call)[0]
+        place = self.first_place(call)
         page = self.kernel.pages.get(place)
         return place, FAULT_PROTECTED | FAULT_WRITE if page and page.presence == PRESENT else 0
 
@@ -545,7 +552,7 @@ class Search:
     def vanished(self, call):
         """The same, of a page that was put while the poll lasted: the poll took effect before that."""
         for it in reversed(self.put[call.object]):
-            place, thread = self.places_of(it)[0], self.stranger()
+            place, thread = self.first_place(it), self.stranger()
             if it.node < self.begun[call.key]:
                 break
             if it.arguments["MODE"] & DONTWAKE or it.answer != "ok":
