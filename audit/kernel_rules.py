@@ -506,7 +506,7 @@ class Kernel:
             return
         cursor, end = of.removes[me]
         first, last = values["START"] // self.page, values["END"] // self.page
-        if (first, last) != (of.clear[0][1], of.clear[-1][1] + 1):
+        if not of.clear or (first, last) != (of.clear.pages.start, of.clear.pages.stop):
             self.differs.append("remove-of-each-area")
         of.removes[me] = (last, end) if self.watches(of.space, me, last, end) else ()
 
