@@ -126,6 +126,17 @@ GIVEN_BACK = """70 71 begin 5 madvise 0x10000 0x1000 0x4
 70 70 begin 8 copy 8:5 0x11000 0x7000 0x1000 0x0
 70 70 end 8 ok 4096
 """
+# The page is put again before the message of its madvise is read, which no kernel allows.
+PUT_AGAIN = """70 70 begin 5 copy 8:5 0x10000 0x7000 0x2000 0x0
+70 70 end 5 ok 8192
+70 71 begin 6 madvise 0x10000 0x1000 0x4
+70 70 begin 7 copy 8:5 0x10000 0x7000 0x1000 0x0
+70 70 end 7 ok 4096
+70 70 begin 8 read 8:5 32
+70 70 message 8 remove 0x10000 0x11000
+70 70 end 8 ok 1
+70 71 end 6 ok
+"""
 # Two processes with one address, and children that share the memory of each: what each has found tells whose it is.
 CHILDREN = """72 72 forked 70
 72 72 begin 1 open syscall 0x800
@@ -192,6 +203,8 @@ class Search(unittest.TestCase):
             self.assertIn(old, text)
             status, said = self.judged(text_of(text.replace(old, new)))
             self.assertEqual(status, wanted, said)
+        status, said = self.judged(text_of(PUT_AGAIN, "0x8"))
+        self.assertEqual(status, 3, said)
 
 
 if __name__ == "__main__":
