@@ -6,17 +6,20 @@ step, on a kernel of its own; how `Search` found it does not matter then.
 """
 
 import bisect
+import itertools
 from collections import Counter, defaultdict
 from dataclasses import dataclass, field
 from typing import Optional
 
 import uffdlog
-from kernel_rules import (ASLEEP, DONTWAKE, FAULT_PROTECTED, INSTALLS, Kernel, MAP_CALLS, MISSING, NOT_JUDGED, POLLIN, POLLNVAL, PRESENT, PROTECTS,
-                          SEEN, TELLING, THREAD_ID, UNKNOWN, UNREAD)
+from kernel_rules import (ASLEEP, DONTWAKE, FAULT_PROTECTED, FAULT_WRITE, INSTALLS, Kernel, MAP_CALLS, MISSING, NOT_JUDGED, POLLIN, POLLNVAL, PRESENT,
+                          PROTECTS, Places, SEEN, TELLING, THREAD_ID, UNKNOWN, UNREAD)
 
 
 # How many calls after a poll are looked at.
 NEAR = 200
+# The most pages of a range of an object that is judged.
+MOST_PAGES = 1 << 24
 
 
 @dataclass(eq=False)
@@ -58,12 +61,14 @@ class Log:
 
     def __init__(self, name):
         self.calls, self.lines, self.wrong, self.page = [], [], [], 4096
-        self.own, self.spaces = set(), {}
+        self.own, self.met = set(), defaultdict(set)
         by_call, reader = {}, None
         for entry, reader in uffdlog.entries(name, lambda line, reason: self.wrong.append((line, reason))):
             self.page = reader.page
             if entry.kind in ("started", "forked"):
                 self.own.add(entry.pid)
+            elif entry.kind == "found":
+                self.met[entry.pid].add(entry.values["O"][0])
             elif entry.kind == "begin":
                 call = Call(len(self.calls), entry.word, entry.values, entry.line, entry.pid, entry.tid)
                 by_call[id(entry.call)] = (call, entry.call)
@@ -91,15 +96,18 @@ class Log:
                 call.answer = "ok"
 
     def set_spaces(self):
-        """A process that the log has not seen begin may share an address space: that whose registered pages its map calls meet."""
+        """A process that the log has not seen begin may share an address space: that whose registered pages its map calls meet, and if there are
+        several the one whose objects it has found."""
         ranges = [(call.space, *call.range()) for call in self.calls if call.word == "register" and call.answer == "ok"]
+        creators = {call.values["O"][0]: call.space for call in self.calls if call.word == "open" and call.answer == "ok"}
         for call in self.calls:
             found = call.range() if call.word in MAP_CALLS else None
             if found and call.space not in self.own:
                 meets = {space for space, start, length in ranges if start < found[0] + found[1] and found[0] < start + length}
+                if len(meets) > 1:
+                    meets &= {creators.get(it) for it in self.met[call.space]}
                 if len(meets) == 1:
                     call.space = meets.pop()
-
 
     def set_unjudged(self):
         """Calls on an object that the log has not seen open, nor make its handshake, cannot be judged: what it watches is not known."""
@@ -107,7 +115,14 @@ class Log:
         shaken = {call.object for call in self.calls if call.word == "api" and call.answer == "ok"}
         self.found = {call.object: call.space for call in reversed(self.calls) if call.object is not None and call.object in shaken - opened}
         for call in self.calls:
-            call.judged = call.word in MAP_CALLS + ("open", "fork") or call.object in opened | shaken
+            call.judged = not self.is_long(call) and (call.word in (*MAP_CALLS, "open", "fork") or call.object in opened | shaken)
+
+    def is_long(self, call):
+        """Of map calls the pages that may become registered count: what they take away is never more than there is."""
+        found = call.range()
+        if call.word in MAP_CALLS:
+            return call.word == "mremap" and call.answer == "ok" and call.arguments["NEW"] // self.page > MOST_PAGES
+        return bool(found) and found[1] // self.page > MOST_PAGES
 
 
 class Search:
@@ -231,14 +246,19 @@ class Search:
 
     def places_of(self, call):
         of = self.kernel.objects.get(call.object)
-        return self.kernel.places(of.space, *call.range()) if of else []
+        return self.kernel.places(of.space, *call.range()) if of else Places(None, 0, 0)
+
+    def first_place(self, call):
+        """The first page of a call on an object, which is nowhere if the object is not open."""
+        places = self.places_of(call)
+        return places[0] if places else (None, 0)
 
     def read_first(self, found, places):
         """The open reads that return a fault of these pages take effect before the page changes."""
-        if len(places) > len(self.readers):
-            within = set(places)
-            places = [(None, page) for (of, page) in list(self.readers) if of == found and any(place[1] == page for place in within)]
-        for _, page in places:
+        pages = places.pages
+        if places.count() > len(self.readers):
+            pages = [page for (of, page) in list(self.readers) if of == found and page in places.pages]
+        for page in pages:
             for read in list(self.readers.get((found, page), ())):
                 self.settle(read)
 
@@ -269,15 +289,15 @@ class Search:
         for read, values in later:
             if read.done or read.begin < call.end:
                 continue
-            if self.is_discarded(place, call, read):
+            if self.is_discarded(place, call.begin, read):
                 break
             thread = self.thread_of(call.object, values)
             if values["FLAGS"] & FAULT_PROTECTED == 0 and thread not in self.kernel.faults:
                 self.step("sees", thread, call.object, place, values["FLAGS"])
 
-    def is_discarded(self, place, call, read):
-        """Whether a map call may have taken the page away between the two."""
-        at = bisect.bisect_left(self.gone, (call.begin,))
+    def is_discarded(self, place, line, read):
+        """Whether a call may have taken the page away between a line and a read."""
+        at = bisect.bisect_left(self.gone, (line,))
         address = place[1] * self.log.page
         return any(begin < read.end and space == place[0] and start <= address < start + length for _, begin, space, start, length in self.gone[at:])
 
@@ -299,7 +319,7 @@ class Search:
         """Whether an install under way is of a page that the call protects: the next fault of it that is read says so."""
         if install.word not in INSTALLS or install.object != call.object or install.answer != "ok":
             return False
-        page, (start, length) = self.places_of(install)[0][1], call.range()
+        page, (start, length) = self.first_place(install)[1], call.range()
         later = [values for read, values in self.faults.get((call.object, page), ()) if read.end > call.end][:1]
         return start <= page * self.log.page < start + length and any(values["FLAGS"] & FAULT_PROTECTED for values in later)
 
@@ -308,7 +328,10 @@ class Search:
         return False
 
     def prepare_unregister(self, call):
-        self.read_first(call.object, self.places_of(call))
+        places = self.places_of(call)
+        self.read_first(call.object, places)
+        if call.answer == "ok":
+            self.settle_where(lambda it: self.is_put_in(it, places))
         return False
 
     def prepare_close(self, call):
@@ -319,18 +342,34 @@ class Search:
     def prepare_mmap(self, call):
         found = call.range()
         if call.answer == "ok" and found:
+            places = self.kernel.places(call.space, *found)
             for me in {page.object for page in self.kernel.pages.values()} if self.readers else ():
-                self.read_first(me, self.kernel.places(call.space, *found))
+                self.read_first(me, places)
+            self.settle_where(lambda it: self.is_put_in(it, places) and (call.word != "madvise" or self.is_missing_after(it, call)))
         return False
 
     prepare_munmap = prepare_madvise = prepare_mremap = prepare_mmap
 
-    def thread_of(self, found, values):
-        """The thread of a fault. Where the object names none it is one that the log has not seen."""
+    def is_put_in(self, install, places):
+        """Whether an install is of a page that loses its registration, or its bytes, by another call: it may only have been put before."""
+        return install.word in INSTALLS and install.answer == "ok" and self.first_place(install) in places
+
+    def is_missing_after(self, install, call):
+        """Whether the next fault of a page that is read after a call which clears it says that the page was missing: its install came before."""
+        place = self.first_place(install)
+        for read, values in self.faults.get((install.object, place[1]), ()):
+            if read.end > call.end:
+                return not values["FLAGS"] & FAULT_PROTECTED and not self.is_discarded(place, call.end + 1, read)
+        return False
+
+    def thread_of(self, found, values, shown=()):
+        """The thread of a fault. Where the object names none it is one that the log has not seen: not one of those that are shown, and none that
+        sleeps, since several may sleep at a page."""
         of = self.kernel.objects.get(found)
         if of and (of.features or 0) & THREAD_ID:
             return values["THREAD"]
-        return ("page", values["ADDRESS"] // self.log.page, values["FLAGS"])
+        threads = ((found, values["ADDRESS"] // self.log.page, values["FLAGS"], number) for number in itertools.count())
+        return next(it for it in threads if it not in self.kernel.faults or it not in shown and self.kernel.faults[it].phase != ASLEEP)
 
     def prepare_read(self, call):
         me = call.object
@@ -355,28 +394,35 @@ class Search:
             if self.kernel.faults.get(thread) is fault and fault.phase == UNREAD:
                 self.step("leaves", thread)
 
-    def wakes(self, call, fault):
-        if call.object != fault.object or call.answer != "ok" or call.word not in (*INSTALLS, "wake", "writeprotect", "unregister"):
+    def is_waking(self, call):
+        if call.answer != "ok" or call.word not in (*INSTALLS, "wake", "writeprotect", "unregister") or not call.judged:
             return False
-        if call.word in INSTALLS and call.arguments["MODE"] & DONTWAKE or call.word == "writeprotect" and call.arguments["MODE"]:
+        return not (call.word in INSTALLS and call.arguments["MODE"] & DONTWAKE or call.word == "writeprotect" and call.arguments["MODE"])
+
+    def wakes(self, call, fault):
+        if call.object != fault.object or not self.is_waking(call):
             return False
         start, length = call.range()
         return start <= fault.place[1] * self.log.page < start + length
 
     def show(self, me, values, shown):
         """A fault is to be the first that is read, after those of the threads that are shown. Returns its thread."""
-        thread, of = self.thread_of(me, values), self.kernel.objects.get(me)
+        thread, of = self.thread_of(me, values, shown), self.kernel.objects.get(me)
         if not of:
             return thread
         place = (of.space, values["ADDRESS"] // self.log.page)
         self.pass_by(me, thread, shown)
         held = self.kernel.faults.get(thread)
         if held and (held.place != place or held.phase == ASLEEP):
-            self.settle_where(lambda it: self.wakes(it, held))
-            if self.kernel.faults.get(thread) is held:
-                self.step("leaves", thread)
+            self.wait_no_more(thread, held)
         self.touch(thread, me, place, values["FLAGS"])
         return thread
+
+    def wait_no_more(self, thread, held):
+        """The thread waits at another page, or anew: it was woken by a call that is under way, or a signal came."""
+        self.settle_where(lambda it: self.wakes(it, held))
+        if self.kernel.faults.get(thread) is held:
+            self.step("leaves", thread)
 
     def pass_by(self, me, thread, shown):
         """The unread faults of other threads go."""
@@ -390,11 +436,17 @@ class Search:
     def touch(self, thread, me, place, flags):
         """The thread sees the page, if it has not yet, and queues its fault. Whether that was possible."""
         if thread not in self.kernel.faults:
+            if place not in self.kernel.pages:
+                self.settle_where(lambda it: self.is_moved_to(it, place))
             if not flags & FAULT_PROTECTED:
                 self.make_missing(place)
             if not self.step("sees", thread, me, place, flags):
                 return False
         return self.kernel.faults[thread].phase == SEEN and self.step("queues", thread)
+
+    def is_moved_to(self, call, place):
+        """Whether a mremap under way makes a page registered at this place."""
+        return call.word == "mremap" and call.answer == "ok" and place in self.kernel.places(call.space, call.values["ADDRESS"], call.arguments["NEW"])
 
     def make_missing(self, place):
         """A page that is present is cleared by a MADV_DONTNEED that is under way, where there is one."""
@@ -432,7 +484,13 @@ class Search:
             return False
         if self.vanishing_now(call, read):
             return False
-        return self.vanished(call)
+        if self.vanished(call):
+            return True
+        if not read:
+            self.never_read(me)
+        elif read.answer == "ok":
+            self.show_early(me, read, True)
+        return False
 
     def next_read(self, call):
         reads = self.reads[call.object]
@@ -448,7 +506,8 @@ class Search:
             self.ends_of[id(reads)] = [read.end for read in reads]
         return self.ends_of[id(reads)]
 
-    def show_early(self, me, read):
+    def show_early(self, me, read, leaves=False):
+        """The first message of a read waits already. With `leaves` its thread may have left another fault by a signal."""
         kind, values = read.messages[0]
         if kind != "fault":
             self.announce(me, kind, values)
@@ -458,20 +517,34 @@ class Search:
         place = (of.space, values["ADDRESS"] // self.log.page)
         if held and held.phase == ASLEEP:
             self.settle_where(lambda it: self.wakes(it, held))
+        if leaves and self.kernel.faults.get(thread) is held and held and (held.place != place or held.phase == ASLEEP):
+            self.step("leaves", thread)
         return self.touch(thread, me, place, values["FLAGS"])
 
     def vanishing_now(self, call, read):
-        """A page that is about to be put, while the poll or the read after it lasts: a thread had queued its fault, and was woken unread."""
+        """Those who wait at a page are about to be woken, while the poll or the read after it lasts: one of them had queued its fault."""
         until = read.end if read else 1 << 62
         at = bisect.bisect_right(self.begins, call.end)
         for it in [*self.open.values(), *self.log.calls[at:at + NEAR]]:
             if it.begin > until:
                 break
-            if it.word in INSTALLS and it.object == call.object and it.answer == "ok" and not it.arguments["MODE"] & DONTWAKE:
-                if self.touch(self.stranger(), call.object, self.places_of(it)[0], 0):
+            if it.object == call.object and self.is_waking(it):
+                if self.touch(self.stranger(), call.object, *self.woken_first(it)):
                     self.kind[call.key] = "differs"
                     return True
         return False
+
+    def woken_first(self, call):
+        """The first page of a call that wakes those who wait there, and the flags of a fault of it."""
+        place = self.first_place(call)
+        page = self.kernel.pages.get(place)
+        return place, FAULT_PROTECTED | FAULT_WRITE if page and page.presence == PRESENT else 0
+
+    def never_read(self, me):
+        """No read follows: a thread waits at a page that is missing or protected, and its fault is unread to the end."""
+        for place, page in self.kernel.pages.items():
+            if page.object == me and self.touch(self.stranger(), me, place, FAULT_PROTECTED if page.presence == PRESENT else 0):
+                break
 
     def stranger(self):
         self.strangers += 1
@@ -480,7 +553,7 @@ class Search:
     def vanished(self, call):
         """The same, of a page that was put while the poll lasted: the poll took effect before that."""
         for it in reversed(self.put[call.object]):
-            place, thread = self.places_of(it)[0], self.stranger()
+            place, thread = self.first_place(it), self.stranger()
             if it.node < self.begun[call.key]:
                 break
             if it.arguments["MODE"] & DONTWAKE or it.answer != "ok":

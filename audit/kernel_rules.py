@@ -28,6 +28,33 @@ TELLING = (*MAP_CALLS, "fork")
 NOT_JUDGED = ("continue", "poison", "move")
 
 
+class Places:
+    """The pages of a range of an address space, as (space, page); a range may have more of them than memory has room for."""
+
+    __slots__ = "space", "pages"
+
+    def __init__(self, space, first, end):
+        self.space, self.pages = space, range(first, max(first, end))
+
+    def count(self):  # (len() has a limit)
+        return self.pages.stop - self.pages.start
+
+    def __bool__(self):
+        return self.pages.start < self.pages.stop
+
+    def __iter__(self):
+        return ((self.space, page) for page in self.pages)
+
+    def __contains__(self, place):
+        return place[0] == self.space and place[1] in self.pages
+
+    def __getitem__(self, at):
+        if isinstance(at, slice):
+            part = self.pages[at]
+            return Places(self.space, part.start, part.stop)
+        return self.space, self.pages[at]
+
+
 @dataclass
 class Page:
     """A registered page. `guarded`: it is write-protected if it is present."""
@@ -68,7 +95,7 @@ class MapCall:
     removes: dict = field(default_factory=dict)  # for each object, [cursor, end) of the pages whose REMOVE is still to come
     told: set = field(default_factory=set)  # objects that have an event of it: changing until the call returns
     queued: set = field(default_factory=set)  # objects in whose queue its next event waits: a kernel queues one at a time
-    clear: tuple = ()  # the pages to be cleared
+    clear: Places = None  # the pages to be cleared
 
 
 class Refused(Exception):
@@ -94,7 +121,13 @@ class Kernel:
     # What steps share
 
     def places(self, space, start, length):
-        return [(space, page) for page in range(start // self.page, (start + length) // self.page)]
+        return Places(space, start // self.page, (start + length) // self.page)
+
+    def watched(self, places):
+        """Those that are registered, in their order."""
+        if places.count() <= len(self.pages):
+            return [it for it in places if it in self.pages]
+        return sorted(it for it in self.pages if it in places)
 
     def is_range(self, start, length):
         return start % self.page == 0 and length % self.page == 0 and length > 0 and start + length <= 1 << 64
@@ -128,7 +161,6 @@ class Kernel:
             page.guarded = False
 
     def wake(self, found, places, by_handler):
-        places = places if places is None else set(places)
         woken = [(thread, fault) for thread, fault in self.faults.items()
                  if fault.object == found and fault.phase != SEEN and (places is None or fault.place in places)]
         if any(fault.phase == UNREAD for _, fault in woken):
@@ -190,13 +222,13 @@ class Kernel:
         call = self.calls.get(key)
         need(call and call.clear and not any(call.events.values()), "nothing is to be cleared")
         self.clear(call.clear)
-        call.clear = ()
+        call.clear = None
 
     def clear(self, places, presence=MISSING):
-        for place in places:
-            page = self.pages.get(place)
-            if page:
-                page.presence, page.guarded = presence, False
+        for place in self.watched(places):
+            page = self.pages[place]
+            page.presence, page.guarded = presence, False
+            self.again.pop(place, None)  # its owner has given it back
 
     # Calls
 
@@ -262,7 +294,7 @@ class Kernel:
         need(of.features is not None, "no handshake")
         places = self.places(of.space, arguments["START"], arguments["LENGTH"])
         me = arguments["O"][0]
-        self.forget([it for it in places if it in self.pages and self.pages[it].object == me], call, True)
+        self.forget([it for it in self.watched(places) if self.pages[it].object == me], call, True)
         self.wake(me, places, False)
 
     def take_wake(self, call, arguments):
@@ -283,18 +315,18 @@ class Kernel:
     def install(self, call, me, start, length, mode, modes):
         of, done = self.object_of(call.arguments), call.values.get("BYTES")
         right = of.features is not None and mode & ~modes == 0 and self.is_range(start, length)
-        places = self.places(of.space, start, length) if right else []
-        for place in places:
-            self.again.pop(place, None)
-        watched = [it for it in places if it in self.pages]
+        places = self.places(of.space, start, length) if right else Places(of.space, 0, 0)
+        for place in [it for it in self.again if it in places]:
+            del self.again[place]
+        watched = self.watched(places)
         no_protect = mode & COPY_PROTECTS and any(not self.pages[it].modes & PROTECT_MODE for it in watched)
         if call.answer == "ok":
-            need(right and len(watched) == len(places) and not no_protect, "not registered, or wrong arguments")
+            need(right and len(watched) == places.count() and not no_protect, "not registered, or wrong arguments")
             need(done == length, f"done, and {done} of {length} bytes")
             need(not self.untold(me), "the space is changing")
             self.put(call, me, of, places, mode)
         elif call.answer == "EAGAIN" and done and 0 < done < length and done % self.page == 0:
-            need(right and len(watched) == len(places) and not no_protect, "not registered, or wrong arguments")
+            need(right and len(watched) == places.count() and not no_protect, "not registered, or wrong arguments")
             self.put(call, me, of, places[:done // self.page], mode)
             self.is_present(places[done // self.page], call)
         elif call.answer == "EAGAIN":
@@ -304,13 +336,13 @@ class Kernel:
             if places:
                 self.again[places[0]] = call
         elif call.answer == "EEXIST":
-            need(right and watched[:1] == places[:1], "not registered, or wrong arguments")
+            need(right and watched[:1] == [places[0]], "not registered, or wrong arguments")
             self.is_present(places[0], call)
         elif call.answer == "ENOENT":
-            need(right and (len(watched) < len(places) or len(places) > 1), "each page is registered")
-            if len(watched) < len(places):
+            need(right and (len(watched) < places.count() or places.count() > 1), "each page is registered")
+            if len(watched) < places.count():
                 self.outside.append(call)
-            if len(watched) == len(places):
+            if len(watched) == places.count():
                 self.differs.append("areas")
         elif call.answer == "EINVAL":
             need(not right or no_protect, "nothing is wrong with it")
@@ -339,12 +371,12 @@ class Kernel:
     def take_writeprotect(self, call, arguments):
         of, me, mode = self.object_of(arguments), arguments["O"][0], arguments["MODE"]
         right = of.features is not None and mode < 3 and self.is_range(arguments["START"], arguments["LENGTH"])
-        places = self.places(of.space, arguments["START"], arguments["LENGTH"]) if right else []
-        watched = [it for it in places if it in self.pages and self.pages[it].modes & PROTECT_MODE]
+        places = self.places(of.space, arguments["START"], arguments["LENGTH"]) if right else Places(of.space, 0, 0)
+        watched = [it for it in self.watched(places) if self.pages[it].modes & PROTECT_MODE]
         if call.answer == "ok":
             need(right and watched, "not registered for write-protect faults, or wrong arguments")
             need(not self.untold(me), "the space is changing")
-            if len(watched) < len(places):
+            if len(watched) < places.count():
                 self.differs.append("writeprotect-over-a-hole")
             for place in watched:
                 page = self.pages[place]
@@ -354,7 +386,7 @@ class Kernel:
         elif call.answer == "EAGAIN":
             need(self.changing(me), "no map call is under way that an event tells of")
         elif call.answer == "ENOENT":
-            need(right and len(watched) < len(places), "each page is registered for write-protect faults")
+            need(right and len(watched) < places.count(), "each page is registered for write-protect faults")
             for place in watched:  # those before the first that is not registered may be protected
                 self.pages[place].guarded = self.pages[place].guarded or bool(mode & PROTECTS)
         elif call.answer == "EINVAL":
@@ -370,9 +402,9 @@ class Kernel:
         for run in call.runs:
             for place in self.places(of.space, run["START"], run["LENGTH"]):
                 bits[place] = run["BITS"]
-        for place in self.places(of.space, arguments["START"], arguments["LENGTH"]):
-            page = self.pages.get(place)
-            if page and page.presence == UNKNOWN:
+        for place in self.watched(self.places(of.space, arguments["START"], arguments["LENGTH"])):
+            page = self.pages[place]
+            if page.presence == UNKNOWN:
                 if bits.get(place, 0) & 3:
                     page.presence = PRESENT
                 elif place not in bits and page.modes & MISSING_MODE:
@@ -465,7 +497,7 @@ class Kernel:
         return cursor <= first < last <= end and not self.watches(of.space, me, cursor, first) and self.watches(of.space, me, first, last)
 
     def watches(self, space, me, first, last):
-        return any((space, page) in self.pages and self.pages[space, page].object == me for page in range(first, last))
+        return any(self.pages[it].object == me for it in self.watched(Places(space, first, last)))
 
     def read_event(self, of, me, kind, values):
         of.queued.discard(me)
@@ -474,7 +506,7 @@ class Kernel:
             return
         cursor, end = of.removes[me]
         first, last = values["START"] // self.page, values["END"] // self.page
-        if (first, last) != (of.clear[0][1], of.clear[-1][1] + 1):
+        if not of.clear or (first, last) != (of.clear.pages.start, of.clear.pages.stop):
             self.differs.append("remove-of-each-area")
         of.removes[me] = (last, end) if self.watches(of.space, me, last, end) else ()
 
@@ -482,7 +514,7 @@ class Kernel:
 
     def told_by(self, call, places, feature):
         """The objects that watch one of the places, and asked to be told."""
-        found = {self.pages[it].object for it in places if it in self.pages}
+        found = {self.pages[it].object for it in self.watched(places)}
         return [it for it in found if self.objects[it].features & feature]
 
     def rounded(self, length):
@@ -500,7 +532,7 @@ class Kernel:
         length = self.rounded(length)
         places = self.places(call.space, start, length)
         told = self.told_by(call, places, UNMAP)
-        self.forget(places, call, False)
+        self.forget(self.watched(places), call, False)
         if told:
             events = {it: [("unmap", (start, start + length))] for it in told}
             self.calls[call.key] = MapCall(call.space, events, told=set(told))
@@ -511,7 +543,7 @@ class Kernel:
         old, new = self.rounded(arguments["OLD"]), self.rounded(arguments["NEW"])
         start, to = arguments["ADDRESS"], call.values["ADDRESS"]
         before = self.places(call.space, start, old)
-        kept = [self.pages.get(it) for it in before]
+        kept = {page - before.pages.start: self.pages[space, page] for space, page in self.watched(before)}
         events, told = {}, self.told_by(call, self.places(call.space, to, new), UNMAP) if to != start else []
         for it in told:
             events.setdefault(it, []).append(("unmap", (to, to + new)))
@@ -523,11 +555,13 @@ class Kernel:
             for it in self.told_by(call, before[:min(old, new) // self.page], UNMAP):
                 events.setdefault(it, []).append(("unmap", (start, start + min(old, new))))
                 self.differs.append("messages-of-mremap")
-        self.forget(self.places(call.space, to, new) + before, call, False)
-        for at, place in enumerate(self.places(call.space, to, new)):
-            page = kept[at] if at < len(kept) else kept[-1] and Page(kept[-1].object, kept[-1].modes, MISSING)
-            if page and (to == start or self.objects[page.object].features & REMAP):
-                self.pages[place] = page
+        after = self.places(call.space, to, new)
+        self.forget(self.watched(after) + self.watched(before), call, False)
+        if last := kept.get(before.count() - 1):
+            kept.update((at, Page(last.object, last.modes, MISSING)) for at in range(before.count(), after.count()))
+        for at, page in kept.items():
+            if at < after.count() and (to == start or self.objects[page.object].features & REMAP):
+                self.pages[after[at]] = page
         if events:
             self.calls[call.key] = MapCall(call.space, events, told=set(events))
 
@@ -538,8 +572,8 @@ class Kernel:
         places = self.places(call.space, arguments["ADDRESS"], self.rounded(arguments["LENGTH"]))
         told = self.told_by(call, places, REMOVE)
         if told and advice != MADV_FREE:
-            ends = (places[0][1], places[-1][1] + 1)
-            self.calls[call.key] = MapCall(call.space, {}, {it: ends for it in told}, set(told), clear=tuple(places))
+            ends = (places.pages.start, places.pages.stop)
+            self.calls[call.key] = MapCall(call.space, {}, {it: ends for it in told}, set(told), clear=places)
         else:
             self.clear(places, UNKNOWN if advice == MADV_FREE else MISSING)
 

@@ -5,6 +5,7 @@
 #include <sys/mman.h>
 
 #include "next.h"
+#include "objects.h"
 #include "recorder.h"
 #include "shared.h"
 
@@ -48,6 +49,7 @@ static struct call begin_map(const char *word, const void *place, size_t length,
     text_hex(&line, length);
     for (int i = 0; i < count; i++)
         text_hex(&line, more[i]);
+    objects_of_borrowed_memory();
     return log_begin(&line);
 }
 

@@ -162,6 +162,18 @@ void object_discover(int fd)
         (void)object_for_line(fd); /* for its `found` */
 }
 
+void objects_of_borrowed_memory(void)
+{
+    if (is_owner())
+        return;
+    for (int fd = 0; fd <= object_highest(); fd++) {
+        uint64_t held = atomic_load_explicit(&known[fd], memory_order_relaxed);
+
+        if (held & OWN && inode_of(fd) == (held & ~OWN))
+            note("found", held & ~OWN, fd);
+    }
+}
+
 void objects_after_fork(void)
 {
     atomic_store(&owner, raw_call(SYS_getpid, 0, 0, 0, 0, 0, 0));

@@ -37,6 +37,12 @@ void object_discover(int fd);
 /* The highest descriptor that was introduced. */
 int object_highest(void);
 
+/*
+ * Before a call without an object: a child of vfork(2) or clone(2) has another process's memory, and which one's, say lines `found` of the
+ * objects that this one has made.
+ */
+void objects_of_borrowed_memory(void);
+
 /* A new process: its descriptors are introduced again. */
 void objects_after_fork(void);
 void objects_after_exec(void);

@@ -181,6 +181,46 @@ def fault_of_an_unprotected_page(calls, rng):
     calls += [after(call, read, places, messages=[("fault", values)]) for places in (1, 3)]
 
 
+def event_reads(calls, *kinds):
+    return [call for call in calls if call.word == "read" and len(call.messages) == 1 and call.messages[0][0] in kinds]
+
+
+def event_never_read(calls, rng):
+    calls.remove(rng.choice(event_reads(calls, "remove", "unmap")))
+
+
+def event_of_another_range(calls, rng):
+    values = rng.choice(event_reads(calls, "remove")).messages[0][1]
+    values["START"] += 1 << 20
+    values["END"] += 1 << 20
+
+
+def map_call_for_ever(calls, rng):
+    """Nobody reads its event."""
+    read = rng.choice(event_reads(calls, "remove"))
+    start = read.messages[0][1]["START"]
+    calls.remove(read)
+    call = next(it for it in calls if it.word == "madvise" and it.arguments["ADDRESS"] == start and it.begin < read.end < it.end + 1000)
+    call.end, call.answer = None, None
+
+
+def installed_where_unmap_was_read(calls, rng):
+    read = rng.choice(event_reads(calls, "unmap"))
+    ends = [it.end for it in calls if it.word in ("munmap", "mmap") and it.end and it.begin < read.end <= it.end + 1000]
+    like = next(it for it in installs(calls) if it.object == read.object and it.word == "copy")
+    it = after(read, like)
+    it.begin, it.end = max([read.end, *ends]) + 1, max([read.end, *ends]) + 2
+    it.arguments["DESTINATION"], it.arguments["LENGTH"], it.values = read.messages[0][1]["START"], 4096, {"BYTES": 4096}
+    calls.append(it)
+
+
+def unprotection_left_out(calls, rng):
+    """Of a page that has faulted: only what unprotects all at the end is left."""
+    pages = faulted(calls)
+    place = rng.choice([start(it) for it in calls if it.word == "writeprotect" and it.arguments["MODE"] == 0 and start(it) in pages])
+    calls[:] = [it for it in calls if it.word != "writeprotect" or it.arguments["MODE"] or it.arguments["LENGTH"] != 4096 or start(it) != place]
+
+
 # Each with the log that it is planted in, and what the judge has to name.
 PLANTED = (
     ("qemu-strace", touched_before, "there before"), ("qemu-push", install_left_out, "unanswered"), ("qemu-push", no_wake, "unanswered"),
@@ -191,4 +231,6 @@ PLANTED = (
     ("qemu-push", two_stale_faults, "impossible"), ("qemu-push", fault_outside, "impossible"), ("qemu-push", event_not_asked_for, "impossible"),
     ("qemu-push", installed_page_discarded, "owed"), ("qemu-push", unregistered_early, "owed"),
     ("qemu-push", message_that_nobody_read, "impossible"), ("qemu-snapshot", fault_of_an_unprotected_page, "impossible"),
+    ("live-handler", event_never_read, "impossible"), ("live-handler", event_of_another_range, "impossible"),
+    ("live-handler", map_call_for_ever, "impossible"),
 )

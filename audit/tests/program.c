@@ -8,6 +8,7 @@
 #include <linux/userfaultfd.h>
 #include <poll.h>
 #include <pthread.h>
+#include <sched.h>
 #include <signal.h>
 #include <stdarg.h>
 #include <stdatomic.h>
@@ -267,6 +268,23 @@ static void await_child(pid_t child)
         fail("a child has status 0x%x", (unsigned)status);
 }
 
+static int drop_a_page(void *unused)
+{
+    (void)unused;
+    return madvise(area, PAGE, MADV_DONTNEED) != 0;
+}
+
+/* A child with this process's memory, whose call is one on it. */
+static void share_memory(void)
+{
+    static _Alignas(16) char stack[1 << 16];
+    pid_t child = clone(drop_a_page, stack + sizeof stack, CLONE_VM | CLONE_FILES | SIGCHLD, NULL);
+
+    if (child < 0)
+        fail("clone");
+    await_child(child);
+}
+
 /* The child has an object of its own, by the message FORK, and the parent's descriptors too. */
 static void fork_child(void)
 {
@@ -396,6 +414,7 @@ int main(void)
     run_workers();
     change_map();
     copy_descriptors();
+    share_memory();
     fork_child();
     pass_descriptor();
     take_signals();

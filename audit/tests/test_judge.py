@@ -17,14 +17,18 @@ WANTED = {
     "qemu-snapshot": (2015, 709, {"register-without-events": 2, "close": 1}),
     "qemu-strace": (1152, 1929, {"register-without-events": 8, "fault-taken-away": 11}),
     "stress-ng": (917, 300, {"register-without-events": 1}),
+    "live-handler": (676, 126, {"changing-longer": 7, "fault-of-each-thread": 18}),
 }
+# What is true of a stored log and harms nobody: pages that stress-ng leaves out in its last round; pages of zeros that the guest of live gave back or
+# never touched, and pages whose thread live wakes by a UFFDIO_ZEROPAGE that fails.
+HARMLESS = {("stress-ng", "owed"), ("live-handler", "owed"), ("live-handler", "twice"), ("live-handler", "there before")}
 
 
 def findings(kernel, search):
     """What the judge names, by kind."""
     put = Counter("twice" if by_log else "there before" for _, _, by_log in kernel.twice)
     return Counter({"impossible": len(search.impossible), "owed": len(kernel.owed), "unanswered": len(kernel.unanswered),
-                    "outside": len(kernel.outside), **put})
+                    "outside": len(kernel.outside), "unread": len(kernel.unread_events), **put})
 
 
 class Judge(unittest.TestCase):
@@ -35,7 +39,7 @@ class Judge(unittest.TestCase):
                 kinds = Counter(search.kind.values())
                 self.assertEqual((kinds["must"] + kinds["differs"], kinds["may"], dict(used), broken), (must, may, differs, None))
                 found = findings(kernel, search)
-                self.assertFalse(+Counter({kind: count for kind, count in found.items() if (name, kind) != ("stress-ng", "owed")}))
+                self.assertFalse(+Counter({kind: count for kind, count in found.items() if (name, kind) not in HARMLESS}))
 
     def test_planted_faults(self):
         logs = {name: judge.Log(str(LOGS / f"{name}.log.gz")) for name in WANTED}

@@ -79,6 +79,10 @@ class Preloaded(Kernel):
         self.assertEqual(len(holders), 3)
         self.assertEqual(sum(entry.kind == "forked" for entry in found), 2)
         self.assertEqual(sum(entry.kind == "exit" for entry in found), 3)
+        # A child of clone(2) with the parent's memory does not begin in the log: it finds the object that this memory is of.
+        begun = {entry.pid for entry in found if entry.kind in ("started", "forked")}
+        sharing = {entry.pid for entry in found if entry.kind == "begin" and entry.word == "madvise"} - begun
+        self.assertEqual([entry.values["O"][0] for entry in found if entry.kind == "found" and entry.pid in sharing], [first])
         errnos = {entry.word for entry in found if entry.kind == "end" and entry.call.word == "copy"}
         self.assertLessEqual({"ok", "EFAULT", "EINVAL"}, errnos)
 

@@ -1,0 +1,211 @@
+"""Runs that real programs have made and that are not found at the first look: small logs, each with nothing wrong in it."""
+
+import tempfile
+import unittest
+from pathlib import Path
+
+import common
+
+HEAD = "uffdlog 1\nrecorder preload 1\nkernel Linux 6.18.44 x86_64\npage 4096\nclock log\ncommand ./monitor\n"
+# An object that asks for no thread's number, and two pages of it, of which none is present.
+BEGIN = """70 70 started 69 ./monitor
+70 70 begin 1 open syscall 0x800
+70 70 end 1 ok 8:5
+70 70 begin 2 api 8:5 0xaa {features}
+70 70 end 2 ok 0x1ffff 0x8000000000000003
+70 70 begin 3 register 8:5 0x10000 0x2000 {mode}
+70 70 end 3 ok 0x17c
+70 70 begin 4 scan 8:5 0x10000 0x2000
+70 70 end 4 ok 0
+"""
+# A madvise of the thread that the copy has woken: it ends before the copy does.
+WOKEN_BY_A_COPY = """70 70 begin 5 read 8:5 32
+70 70 message 5 fault 0x10000 0 0
+70 70 end 5 ok 1
+70 70 begin 6 copy 8:5 0x10000 0x7000 0x1000 0x0
+70 71 begin 7 madvise 0x10000 0x1000 0x4
+70 71 end 7 ok
+70 70 end 6 ok 4096
+70 70 begin 8 read 8:5 32
+70 70 message 8 fault 0x10000 0 0
+70 70 end 8 ok 1
+70 70 begin 9 copy 8:5 0x10000 0x7000 0x1000 0x0
+70 70 end 9 ok 4096
+70 70 begin 10 copy 8:5 0x11000 0x7000 0x1000 0x0
+70 70 end 10 ok 4096
+"""
+# Two threads at one page, and a poll that finds the second one's message.
+TWO_AT_A_PAGE = """70 70 begin 5 read 8:5 32
+70 70 message 5 fault 0x10000 0 0
+70 70 end 5 ok 1
+70 70 begin 6 poll 8:5
+70 70 end 6 ok 0x1
+70 70 begin 7 read 8:5 32
+70 70 message 7 fault 0x10000 0 0
+70 70 end 7 ok 1
+70 70 begin 8 copy 8:5 0x10000 0x7000 0x1000 0x0
+70 70 end 8 ok 4096
+70 70 begin 9 copy 8:5 0x11000 0x7000 0x1000 0x0
+70 70 end 9 ok 4096
+"""
+# The monitor ends without a read.
+NEVER_READ = """70 70 begin 5 poll 8:5
+70 70 end 5 ok 0x1
+"""
+READ_IN_VAIN = NEVER_READ + """70 70 begin 6 read 8:5 32
+70 70 end 6 EAGAIN
+"""
+# A fault at the new place of a page, read before the messages of the mremap, which has not returned.
+MOVED = """70 70 begin 5 copy 8:5 0x10000 0x7000 0x1000 0x0
+70 70 end 5 ok 4096
+70 71 begin 6 mremap 0x11000 0x1000 0x1000 0x3 0x20000
+70 70 begin 7 poll 8:5
+70 70 end 7 ok 0x1
+70 70 begin 8 read 8:5 96
+70 70 message 8 fault 0x20000 1 0
+70 70 message 8 remap 0x11000 0x20000 0x1000
+70 70 end 8 ok 2
+70 70 begin 9 read 8:5 32
+70 70 message 9 unmap 0x11000 0x12000
+70 70 end 9 ok 1
+70 71 end 6 ok 0x20000
+70 70 begin 10 copy 8:5 0x20000 0x7000 0x1000 0x0
+70 70 end 10 ok 4096
+"""
+# The message that the second poll finds goes with a wake that is no install.
+WOKEN_BY_PROTECTION = """70 70 begin 5 copy 8:5 0x10000 0x7000 0x1000 0x2
+70 70 end 5 ok 4096
+70 70 begin 6 copy 8:5 0x11000 0x7000 0x1000 0x0
+70 70 end 6 ok 4096
+70 70 begin 7 poll 8:5
+70 70 end 7 ok 0x1
+70 70 begin 8 writeprotect 8:5 0x10000 0x1000 0x0
+70 70 end 8 ok
+70 70 begin 9 read 8:5 32
+70 70 end 9 EAGAIN
+"""
+# Two objects of two processes, with a thread at one page of each.
+TWO_OBJECTS = """72 72 started 69 ./monitor
+72 72 begin 1 open syscall 0x800
+72 72 end 1 ok 9:5
+72 72 begin 2 api 9:5 0xaa 0x0
+72 72 end 2 ok 0x1ffff 0x8000000000000003
+72 72 begin 3 register 9:5 0x10000 0x1000 0x1
+72 72 end 3 ok 0x17c
+70 70 begin 5 read 8:5 32
+70 70 message 5 fault 0x10000 0 0
+70 70 end 5 ok 1
+72 72 begin 4 read 9:5 32
+72 72 message 4 fault 0x10000 0 0
+72 72 end 4 ok 1
+70 70 begin 6 copy 8:5 0x10000 0x7000 0x2000 0x0
+70 70 end 6 ok 8192
+72 72 begin 5 copy 9:5 0x10000 0x7000 0x1000 0x0
+72 72 end 5 ok 4096
+"""
+# More pages than any memory has: the munmap ends far above the object's.
+LONG = """70 70 begin 5 copy 8:5 0x10000 0x7000 0x1000 0x0
+70 70 end 5 ok 4096
+70 70 begin 6 copy 8:5 0x11000 0x7000 0x1000 0x0
+70 70 end 6 ok 4096
+70 70 begin 7 mremap 0x30000 0x400000000000 0x1000 0x0 0x0
+70 70 end 7 ok 0x30000
+70 70 begin 8 mremap 0x12000 0x1000 0xfffffffffffff000 0x1 0x0
+70 70 end 8 EINVAL
+70 70 begin 9 madvise 0x30000 0x7ffffff00000 0x4
+70 70 end 9 ENOMEM
+"""
+# What EAGAIN was for has been given back.
+GIVEN_BACK = """70 71 begin 5 madvise 0x10000 0x1000 0x4
+70 70 begin 6 copy 8:5 0x10000 0x7000 0x1000 0x0
+70 70 end 6 EAGAIN -11
+70 70 begin 7 read 8:5 32
+70 70 message 7 remove 0x10000 0x11000
+70 70 end 7 ok 1
+70 71 end 5 ok
+70 70 begin 8 copy 8:5 0x11000 0x7000 0x1000 0x0
+70 70 end 8 ok 4096
+"""
+# The page is put again before the message of its madvise is read, which no kernel allows.
+PUT_AGAIN = """70 70 begin 5 copy 8:5 0x10000 0x7000 0x2000 0x0
+70 70 end 5 ok 8192
+70 71 begin 6 madvise 0x10000 0x1000 0x4
+70 70 begin 7 copy 8:5 0x10000 0x7000 0x1000 0x0
+70 70 end 7 ok 4096
+70 70 begin 8 read 8:5 32
+70 70 message 8 remove 0x10000 0x11000
+70 70 end 8 ok 1
+70 71 end 6 ok
+"""
+# Two processes with one address, and children that share the memory of each: what each has found tells whose it is.
+CHILDREN = """72 72 forked 70
+72 72 begin 1 open syscall 0x800
+72 72 end 1 ok 9:6
+72 72 begin 2 api 9:6 0xaa 0x0
+72 72 end 2 ok 0x1ffff 0x8000000000000003
+72 72 begin 3 register 9:6 0x10000 0x2000 0x1
+72 72 end 3 ok 0x17c
+72 72 begin 4 copy 9:6 0x10000 0x7000 0x2000 0x0
+72 72 end 4 ok 8192
+70 70 begin 5 copy 8:5 0x10000 0x7000 0x2000 0x0
+70 70 end 5 ok 8192
+73 73 found 9:6
+73 73 begin 6 madvise 0x10000 0x1000 0x4
+73 73 end 6 ok
+72 72 begin 7 copy 9:6 0x10000 0x7000 0x1000 0x0
+72 72 end 7 ok 4096
+"""
+
+
+def text_of(calls, features="0x0", mode="0x1"):
+    lines = (BEGIN.format(features=features, mode=mode) + calls).splitlines()
+    return HEAD + "".join(f"{time} {line}\n" for time, line in enumerate(lines, 1))
+
+
+class Search(unittest.TestCase):
+    def judged(self, text):
+        with tempfile.TemporaryDirectory() as folder:
+            log = Path(folder) / "log"
+            log.write_text(text)
+            done = common.run("judge", log)
+            return done.returncode, done.stdout + done.stderr
+
+    def assert_clean(self, text):
+        status, said = self.judged(text)
+        self.assertEqual(status, 0, said)
+        self.assertIn(" 0 impossible, 0 not judged", said)
+        self.assertNotIn("does not replay", said)
+
+    def test_clean(self):
+        self.assert_clean(text_of(WOKEN_BY_A_COPY))
+        self.assert_clean(text_of(TWO_AT_A_PAGE))
+        self.assert_clean(text_of(NEVER_READ))
+        self.assert_clean(text_of(MOVED, "0x4c"))
+        self.assert_clean(text_of(WOKEN_BY_PROTECTION, "0x1", "0x3"))
+        self.assert_clean(text_of(TWO_OBJECTS))
+        self.assert_clean(text_of(LONG))
+        self.assert_clean(text_of(CHILDREN))
+
+    def test_tried_again(self):
+        _, said = self.judged(text_of(GIVEN_BACK, "0x8"))
+        self.assertNotIn("not-tried-again", said)
+        other = GIVEN_BACK.replace("begin 6 copy 8:5 0x10000", "begin 6 copy 8:5 0x11000").replace("begin 8 copy 8:5 0x11000", "begin 8 copy 8:5 0x10000")
+        _, said = self.judged(text_of(other, "0x8"))
+        self.assertIn("the page 0x11000 was not tried again [not-tried-again]", said)
+
+    def test_wrong(self):
+        """Each with one change that no run explains, or that leaves a thread asleep."""
+        for text, old, new, wanted in (
+                (WOKEN_BY_A_COPY, "70 71 end 7 ok\n70 70 end 6 ok 4096\n", "70 70 end 6 ok 4096\n70 71 end 7 EINVAL\n", 3),
+                (TWO_AT_A_PAGE, "begin 8 copy 8:5 0x10000 0x7000 0x1000 0x0", "begin 8 copy 8:5 0x10000 0x7000 0x1000 0x1", 1),
+                (READ_IN_VAIN, "", "", 3),
+                (CHILDREN, "73 73 found 9:6", "73 73 found 8:5", 3)):
+            self.assertIn(old, text)
+            status, said = self.judged(text_of(text.replace(old, new)))
+            self.assertEqual(status, wanted, said)
+        status, said = self.judged(text_of(PUT_AGAIN, "0x8"))
+        self.assertEqual(status, 3, said)
+
+
+if __name__ == "__main__":
+    unittest.main()
