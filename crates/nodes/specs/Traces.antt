@@ -3,6 +3,8 @@ use Rattle.std.specs.Prelude.{◌≡◌, ℕ, ◌^◌, ◌-◌, ◌<◌, true, i
 use Rattle.std.specs.Option.{IsSome}
 use Rattle.std.specs.VecDeque.{deque_capacity, deque_len}
 use Rattle.std.specs.Coded.{Coded, code_by, coded×, coded_list, coded_option}
+use Rattle.mig_base.specs.declared.command.Command.{Command}
+use Rattle.mig_base.specs.declared.command.Reply.{Reply}
 use Rattle.mig_base.specs.declared.effect.Effect.{Effect}
 use Rattle.mig_base.specs.declared.schedule.Side.{Side}
 use Rattle.mig_base.specs.declared.schedule.Step.{Step}
@@ -71,6 +73,8 @@ line_of (Kept.PushedUrgent ticket addr) = record { step = Step.PushUrgent ticket
 line_of (Kept.Took n addr) = record { step = Step.Deliver n; effect = Effect.TookZero addr }
 line_of (Kept.TookUrgent n addr) = record { step = Step.DeliverUrgent n; effect = Effect.TookZero addr }
 line_of (Kept.Installed addr origin) = record { step = Step.Install; effect = Effect.Installed addr origin }
+line_of (Kept.Stored cpu width by addr value) =
+    record { step = Step.Issue cpu (Command.Store addr width value); effect = Effect.Answered by Reply.Done }
 line_of (Kept.Other place) = place.value
 
 -- bridges the lines of the code to these

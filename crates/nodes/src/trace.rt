@@ -1,12 +1,13 @@
 //! The trace of a node: the steps that it has made, as lines of a script.
 
 ghost use Rattle.std.specs.Prelude.{◌≡◌, ◌<◌, true, IfSome, IsSome, IsTrue, ◌↔◌, Some, OnOk, string_bytes};
+ghost use Rattle.mig_base.specs.declared.schedule.Step.TheVariants.{Issue};
 ghost use Rattle.nodes.specs.Traces.{HasRoom, and_line, begun, first_line, line_of, line_text, lines_in, trace_of, without_line};
 
 use grammar::{Order, OrderText};
 use mig_base::effect::Effect;
 use mig_base::schedule::{Step, Ticket};
-use mig_base::{Addr, NoMemory};
+use mig_base::{Addr, Command, NoMemory, Reply};
 use std::alloc::Global;
 use std::collections::VecDeque;
 
@@ -34,19 +35,43 @@ impl TraceLine {
     }
 }
 
-/// How a line is kept until it is taken: in 24 bytes where a page moves without a fault, else in a place of its own.
+/// How a line is kept until it is taken: in 24 bytes for the store of a page that is entered, and where a page moves without a fault; else in a
+/// place of its own.
 #[derive(Drop)]
 pub(crate) enum Kept {
     /// A page of zeros was pushed.
-    Pushed { ticket: Ticket, addr: Addr },
+    Pushed {
+        ticket: Ticket,
+        addr: Addr,
+    },
     /// One was pushed on the urgent wire.
-    PushedUrgent { ticket: Ticket, addr: Addr },
+    PushedUrgent {
+        ticket: Ticket,
+        addr: Addr,
+    },
     /// A page of zeros was taken.
-    Took { n: u64, addr: Addr },
+    Took {
+        n: u64,
+        addr: Addr,
+    },
     /// One was taken from the urgent wire.
-    TookUrgent { n: u64, addr: Addr },
+    TookUrgent {
+        n: u64,
+        addr: Addr,
+    },
     /// A copy was installed.
-    Installed { addr: Addr, origin: Addr },
+    Installed {
+        addr: Addr,
+        origin: Addr,
+    },
+    /// A processor stored, as for each page that is entered before a migration.
+    Stored {
+        cpu: u8,
+        width: u8,
+        by: u8,
+        addr: Addr,
+        value: u64,
+    },
     /// Any other line.
     Other(Box<TraceLine>),
 }
@@ -77,8 +102,33 @@ impl Kept {
                 Effect::Installed { addr, origin } => Some(Kept::Installed { addr, origin }),
                 _ => None,
             },
+            Step::Issue { cpu, command } => Kept::stored(cpu, command, line.effect),
             _ => None,
         }
+    }
+
+    /// The short form of the line of a store that was made at once.
+    fn stored(cpu: u8, command: Command, effect: Effect) -> Option<Kept>
+        ensures { IfSome result (λ kept.
+            line_of kept ≡ record { step = Issue cpu command; effect = effect }) }
+    {
+        let Command::Store { addr, width, value } = command else {
+            return None;
+        };
+        let Effect::Answered {
+            cpu: by,
+            reply: Reply::Done,
+        } = effect
+        else {
+            return None;
+        };
+        Some(Kept::Stored {
+            cpu,
+            width,
+            by,
+            addr,
+            value,
+        })
     }
 
     /// The line.
@@ -107,6 +157,24 @@ impl Kept {
                     origin: *origin,
                 },
             ),
+            Kept::Stored {
+                cpu,
+                width,
+                by,
+                addr,
+                value,
+            } => {
+                let command = Command::Store {
+                    addr: *addr,
+                    width: *width,
+                    value: *value,
+                };
+                let effect = Effect::Answered {
+                    cpu: *by,
+                    reply: Reply::Done,
+                };
+                (Step::Issue { cpu: *cpu, command }, effect)
+            }
             Kept::Other(line) => return **line,
         };
         TraceLine { step, effect }

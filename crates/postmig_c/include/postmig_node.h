@@ -166,8 +166,8 @@ uint32_t postmig_node_frame(postmig_handle *node, uint8_t *out, size_t room, siz
    any other refusal, and then nothing changed.
 
    A line waits until it is taken, as numbers: its words are made then, and are what costs. A trace of N lines takes 24 N bytes, which may be
-   48 N, since its room doubles where it is full, and 72 N while it does; and about 130 bytes more for each line that is not of a zero page
-   that was pushed or taken, on either wire, or of an install. */
+   48 N, since its room doubles where it is full, and 72 N while it does; and about 130 bytes more for each line that is not of a store that
+   met no fault, of a zero page that was pushed or taken, on either wire, or of an install. */
 uint32_t postmig_node_trace(postmig_handle *node, bool on);
 
 /* How many lines wait in the trace of a node, in *lines: 0 without a trace. It takes the same time for any number. */
