@@ -318,7 +318,8 @@ static void last(void) {
     DO(postmig_destination_counts(&destination, &to));
     WANT(from.phase == POSTMIG_SOURCE_RELEASED && from.switched == 1 && from.epoch == 2 && from.rounds == 1 && from.remaining == 0 && from.pages_sent == 8 && from.faults == 1);
     WANT(to.phase == POSTMIG_DESTINATION_ENDED && to.has_run == 1 && to.epoch == 2 && to.owed == 0 && to.arrivals == 0 && to.installed == 3 && to.faults == 1);
-    uint32_t status = postmig_source_push(&source, 2, 16, &effect);
+    uint32_t status;
+    while ((status = postmig_source_push(&source, 2, 16, &effect)) == POSTMIG_NO_MEMORY) WANT(refused); /* room for a line comes first */
     DO(postmig_refusal_name(status, text, sizeof text, &length));
     WANT(length == 5 && !memcmp(text, "Phase", 5));
     SAYS(postmig_refusal_name(POSTMIG_NO_MEMORY, text, sizeof text, &length), POSTMIG_NOT_A_LINE);
