@@ -5,6 +5,9 @@ use Rattle.std.specs.Fmt.{decimal}
 use Rattle.std.specs.Io.KnownBytes.{Appends}
 use Rattle.audit.specs.declared.audit.Verdict.{Verdict}
 use Rattle.audit.specs.declared.audit.Verdict.TheVariants as verdict
+use Rattle.audit.specs.declared.certificate.Certificate.{Certificate}
+use Rattle.audit.specs.declared.certificate.Certificate.TheVariants.{Certified}
+use Rattle.audit.specs.Certificates.{IsCertifiedInput}
 use Rattle.call_log.specs.Listing.{IsListed, IsRead}
 
 -- a finding: a name, the line of the log that it is of, and a text
@@ -23,11 +26,17 @@ pub record IsSummary (text : List ℕ) : Type 0 where
 
 -- what is said of a log of which this number of findings was written
 abbrev pub HasVerdict : Verdict → ℕ → Type 0
+HasVerdict verdict.Certified findings = findings ≡ 0
 HasVerdict verdict.Clean findings = findings ≡ 0
 HasVerdict verdict.Undecided findings = findings ≡ 0
 HasVerdict verdict.Found findings = 0 < findings
 HasVerdict verdict.Impossible findings = 0 < findings
 HasVerdict verdict.Wrong findings = ⊥
+
+-- a clean log with a run that is certified
+abbrev pub certified_verdict : Verdict → Certificate → Verdict
+certified_verdict verdict.Clean (Certified totals) = verdict.Certified
+certified_verdict said certificate = said
 
 -- the findings of a log without a wrong line were written, and its summary
 pub record IsJudged (name : List ℕ) (verdict : Verdict) (before after : Option (List ℕ)) : Type 0 where
@@ -41,6 +50,7 @@ pub record IsJudged (name : List ℕ) (verdict : Verdict) (before after : Option
 -- a whole log was read. Its wrong lines were written; or there is none, and its findings and its summary were written
 abbrev pub Audits : List ℕ → List ℕ → Verdict → Option (List ℕ) → Option (List ℕ) → Type 0
 Audits name input verdict.Wrong before after = (text : List ℕ) × (0 < length text) × IsRead name input text × Appends before after text
+Audits name input verdict.Certified before after = IsRead name input [] × IsJudged name verdict.Certified before after × IsCertifiedInput input
 Audits name input said before after = IsRead name input [] × IsJudged name said before after
 
 -- the lines of this number of findings

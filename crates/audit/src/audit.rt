@@ -1,11 +1,13 @@
 //! Reading a log from a reader, and writing what was found to a writer.
 
 ghost use Rattle.std.specs.Prelude.{length, OnOk, IfOk, IfSome};
-ghost use Rattle.audit.specs.Verdicts.{Audits, HasVerdict, IsFinding, Prints};
+ghost use Rattle.audit.specs.Verdicts.{Audits, HasVerdict, IsFinding, Prints, certified_verdict};
 
+use crate::certificate::{Certificate, certificate_of};
 use crate::findings::{Finding, list_findings};
 use crate::judging::{Judged, judge};
-use crate::summary::summary;
+use crate::summary::{front_of, summary};
+use call_log::ReadLog;
 use call_log::fault::LogFault;
 use call_log::input::{read_log, write_out};
 use call_log::split::first_line;
@@ -16,7 +18,9 @@ use std::io::{Read, Write};
 /// What is said of a log as a whole.
 #[derive(Clone, Copy, Debug, PartialEq, Eq)]
 pub enum Verdict {
-    /// Nothing was found.
+    /// Nothing was found, and the run is certified.
+    Certified,
+    /// Nothing was found, and the run is not certified.
     Clean,
     /// Something was found.
     Found,
@@ -52,16 +56,20 @@ pub fn audit_log<R: Read, W: Write>(
     ensures { IfOk result (λ verdict. IfSome (R.remaining reader.old) (λ input.
         Audits name.now input verdict (W.contents writer.old) (W.contents writer.new))) }
 {
-    let Some(log) = read_log(alloc, reader, writer, name)? else {
+    let Some(read) = read_log(alloc, reader, writer, name)? else {
         return Ok(Verdict::Wrong);
     };
+    let ReadLog { log, entries } = read;
     let judged = judge(alloc, log)?;
     let found = list_findings(alloc, &judged, asked.late_after)?;
     let output = print_findings(alloc, name, &found)?;
     write_out(writer, &output)?;
-    let text = summary(alloc, &judged, &found, asked.explains)?;
+    let verdict = verdict_of(&judged, &found);
+    let front = front_of(alloc, &judged, &found, asked.explains)?;
+    let certificate = certificate_of(alloc, judged, entries)?;
+    let text = summary(alloc, &front, &certificate)?;
     write_out(writer, text.as_bytes())?;
-    Ok(verdict_of(&judged, &found))
+    Ok(certified_verdict(verdict, certificate))
 }
 
 /// Puts the line of a finding in place of these bytes. The text is replaced.
@@ -113,5 +121,15 @@ fn verdict_of(judged: &Judged, found: &[Finding]) -> Verdict
         Verdict::Clean
     } else {
         Verdict::Undecided
+    }
+}
+
+/// The same, where a run of the log is certified.
+fn certified_verdict(verdict: Verdict, certificate: Certificate) -> Verdict
+    ensures { result ≡ certified_verdict verdict certificate }
+{
+    match (verdict, certificate) {
+        (Verdict::Clean, Certificate::Certified(_)) => Verdict::Certified,
+        (verdict, _) => verdict,
     }
 }

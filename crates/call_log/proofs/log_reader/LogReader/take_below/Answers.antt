@@ -6,5 +6,5 @@ use Rattle.call_log.proofs.log_reader.LogReader.take_below.Goals as goal
 pub returns : goal.returns
 returns c =
     on_ok_weaker c.list_any.result
-    (λ a. takes_below c.args.self.now _ c.list_any.new.self c.args.bytes.now _ _ (record { line = refl; name = refl; output = refl; right = refl }) refl c.requires c.in_ok-line.ensures.found c.in_ok-wrong.ensures a)
+    (λ a. takes_below c.args.self.now _ c.list_any.new.self c.args.bytes.now _ _ (record { line = refl; name = refl; output = refl; right = refl }) refl c.in_ok-enter.ensures.read c.requires c.in_ok-line.ensures.found c.in_ok-wrong.ensures a)
     c.list_any.ensures
