@@ -3,12 +3,13 @@
 
 bench/compare/audit.py [--seeds N] [--changed N] [--seed S] [--time] [--program PATH] [--keep FOLDER]
 
-The logs are those of audit/logs; one for each kind of planted fault and each of `--seeds` seeds; and `--changed` small ones, each a piece of a stored
-log or a log of bench/programs in which bytes, words, lines and calls were changed. Both judges run with --explain and --late, and every byte that they write has
-to be the same, and the status. Of a log with wrong lines it has to be the same lines that are listed, but for those whose form alone is wrong to
-audit/judge and those below a wrong head. A program that ends by a signal, or with a status that audit does not have, differs too. --time judges long
-logs instead, and prints the seconds and the memory for each. PATH is the program, crates/postmig/out/postmig unless it is named. With --keep the
-logs that differ are left in FOLDER. The status is 1 where anything differs, and 2 where the program cannot be run.
+The logs are those of audit/logs and of bench/programs; one for each kind of planted fault and each of `--seeds` seeds; and `--changed` small ones,
+each a piece of a stored log or a log of bench/programs in which bytes, words, lines and calls were changed. Both judges run with --explain and
+--late, and every byte that they write has to be the same, and the status. Of a log with wrong lines it has to be the same lines that are listed,
+but for those whose form alone is wrong to audit/judge and those below a wrong head. A program that ends by a signal, or with a status that audit
+does not have, differs too. --time judges long logs instead, and prints the seconds and the memory for each. PATH is the program,
+crates/postmig/out/postmig unless it is named. With --keep the logs that differ are left in FOLDER. The status is 1 where anything differs, and 2
+where the program cannot be run.
 """
 
 import argparse
@@ -70,10 +71,16 @@ def stored():
     return {path.name.removesuffix(".log.gz"): path for path in sorted((AUDIT / "logs").glob("*.log.gz"))}
 
 
+def of_programs():
+    return sorted((TOP / "bench" / "programs").glob("audit*/data/log"))
+
+
 def whole_cases(seeds):
-    """The name and the bytes of each stored log, and of each with a planted fault."""
+    """The name and the bytes of each stored log, of each log of bench/programs, and of each with a planted fault."""
     for name, path in stored().items():
         yield name, gzip.decompress(path.read_bytes())
+    for path in of_programs():
+        yield path.parts[-3], path.read_bytes()
     read = {}
     for name, plant, _ in planted.PLANTED:
         path = str(stored()[name])
@@ -91,7 +98,7 @@ def pieces():
         lines = gzip.decompress(path.read_bytes()).splitlines(keepends=True)
         for count in PIECE_LINES:
             yield lines[:HEAD_LINES + count]
-    for path in sorted((TOP / "bench" / "programs").glob("audit*/data/log")):
+    for path in of_programs():
         yield path.read_bytes().splitlines(keepends=True)
 
 

@@ -77,7 +77,7 @@ impl Rule {
             Rule::FaultNotResolved => {
                 "a thread of the guest waits for ever, or until the registration ends (LINUX.md, For authors of a handler)"
             }
-            Rule::Late => "a thread of the guest slept longer than was asked for",
+            Rule::Late => "a thread of the guest slept longer than --late allows",
             Rule::EventNotRead => {
                 "the thread that made the call slept until the object was closed, and calls on its pages went wrong meanwhile (LINUX.md, For authors of a handler)"
             }
