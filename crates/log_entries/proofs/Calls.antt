@@ -1,5 +1,5 @@
 -- The lines of a call among others.
-use Rattle.std.proofs.Common.{◌≡◌, ◌≢◌, ℕ, ◌==◌, ◌&&◌, Bool, true, false, List, [], ◌∷◌, ◌++◌, refl, sym, ap, subst, ◌∙◌, append-nil, inl, inr}
+use Rattle.std.proofs.Common.{◌≡◌, ℕ, ◌==◌, ◌&&◌, Bool, true, false, List, [], ◌∷◌, ◌++◌, refl, sym, ap, subst, ◌∙◌, append-nil, inl, inr}
 use Rattle.std.specs.Prelude.{if◌then◌else◌, not, filter}
 use Rattle.std.proofs.lemmas.Bool.{and_parts, and_from}
 use Rattle.std.proofs.lemmas.Bool.Decides.{eqb_tells}
@@ -90,10 +90,10 @@ pub own_push : (pid n : ℕ) (lines : List LogLine) (one : LogLine) → own pid 
 own_push pid n lines one =
     filter-append (λ (one : LogLine). is_of pid n one.line) lines (one ∷ [])
     ∙ ap (λ (l : List LogLine). own pid n lines ++ l) (
-      elim (is_of pid n one.line) as (λ b. is_of pid n one.line ≡ b → own pid n (one ∷ []) ≡ (if b then one ∷ [] else [])) [
-        | true ↦ λ e. rw e refl
-        | false ↦ λ e. rw e refl
-      ] refl
+    elim (is_of pid n one.line) as (λ b. is_of pid n one.line ≡ b → own pid n (one ∷ []) ≡ (if b then one ∷ [] else [])) [
+      | true ↦ λ e. rw e refl
+      | false ↦ λ e. rw e refl
+    ] refl
     )
 
 pub same_call : (pid n p m : ℕ) (l : Line) → is_of pid n l ≡ true → is_of p m l ≡ true → (p ≡ pid) × (m ≡ n)
@@ -107,8 +107,8 @@ pub own_begun : (pid n p m : ℕ) (kept : List LogLine) (one : LogLine) → is_o
     → own pid n (others p m kept ++ one ∷ []) ≡ (if is_of pid n one.line then one ∷ [] else own pid n kept)
 own_begun pid n p m kept one of =
     own_push pid n (others p m kept) one ∙ rw (own_others pid n p m kept, of) (
-      elim (p == pid && m == n) as (λ b. (if b then [] else own pid n kept) ++ (if b then one ∷ [] else []) ≡ (if b then one ∷ [] else own pid n kept)) [
-        | true ↦ refl
-        | false ↦ append-nil (own pid n kept)
-      ]
+    elim (p == pid && m == n) as (λ b. (if b then [] else own pid n kept) ++ (if b then one ∷ [] else []) ≡ (if b then one ∷ [] else own pid n kept)) [
+      | true ↦ refl
+      | false ↦ append-nil (own pid n kept)
+    ]
     )

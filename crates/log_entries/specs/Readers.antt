@@ -1,10 +1,10 @@
 -- What a reader of entries has read.
-use Rattle.std.specs.Prelude.{◌≡◌, ℕ, ◌++◌, IsTrue, List, [], ◌∷◌, filter, map, not}
+use Rattle.std.specs.Prelude.{◌≡◌, ℕ, IsTrue, List, [], ◌∷◌, filter, map, not}
 use Rattle.kernel_rules.specs.declared.run.Entry.{Entry}
-use Rattle.kernel_rules.specs.Runs.{Event, event_of}
+use Rattle.kernel_rules.specs.Runs.{event_of}
 use Rattle.log_entries.specs.declared.log_line.LogLine.{LogLine}
 use Rattle.log_entries.specs.declared.entry_reader.EntryReader.{EntryReader}
-use Rattle.log_entries.specs.Events.{is_of, lines_of, said_of, HasEvents}
+use Rattle.log_entries.specs.Events.{is_of, lines_of, HasEvents}
 
 -- the lines in the other order, before others
 abbrev pub onto : List LogLine → List LogLine → List LogLine

@@ -29,12 +29,7 @@ pub struct EntryReader {
 }
 
 /// The lines of the call that a process makes under a number, but the others.
-fn own_lines(
-    alloc: Global,
-    kept: &[LogLine],
-    pid: u32,
-    call: u64,
-) -> Result<Vec<LogLine>, NoMemory>
+fn own_lines(alloc: Global, kept: &[LogLine], pid: u32, call: u64) -> Result<Vec<LogLine>, NoMemory>
     ensures { IfOk result (λ found. found.items ≡ own pid call kept.now) }
 {
     let mut found = Vec::new(alloc);
@@ -162,7 +157,13 @@ impl EntryReader {
     }
 
     /// A call ends. It has begun, or lines are missing.
-    fn end(&mut self, one: LogLine, stamp: Stamp, number: u64, answer: Answer) -> Result<(), NoMemory>
+    fn end(
+        &mut self,
+        one: LogLine,
+        stamp: Stamp,
+        number: u64,
+        answer: Answer,
+    ) -> Result<(), NoMemory>
         requires { one.line ≡ line.End stamp number answer }
         ensures { OnOk result ((lines : List LogLineOf) →
             HasRead lines self.old → HasRead (lines ++ one ∷ []) self.new) }
@@ -193,7 +194,13 @@ impl EntryReader {
     }
 
     /// A descriptor is met first here. If its object is new, it was opened before.
-    fn find(&mut self, one: LogLine, stamp: Stamp, on: Descriptor, opens: bool) -> Result<(), NoMemory>
+    fn find(
+        &mut self,
+        one: LogLine,
+        stamp: Stamp,
+        on: Descriptor,
+        opens: bool,
+    ) -> Result<(), NoMemory>
         requires { one.line ≡ line.Found stamp on }
         ensures { OnOk result ((lines : List LogLineOf) →
             HasRead lines self.old → HasRead (lines ++ one ∷ []) self.new) }
@@ -242,9 +249,8 @@ impl EntryReader {
                 self.whole = false;
                 Ok(())
             }
-            Line::Dropped { .. } | Line::Started { .. } | Line::Forked { .. } | Line::Exit { .. } => {
-                Ok(())
-            }
+            Line::Dropped { .. } | Line::Started { .. } | Line::Forked { .. } | Line::Exit { .. } =>
+                { Ok(()) }
         }
     }
 
@@ -262,8 +268,9 @@ impl EntryReader {
         ensures whole { self.new.whole ≡ self.old.whole }
         ensures read { (lines : List LogLineOf) → HasRead lines self.old → HasRead lines self.new }
     {
-        if let Some(Entry::Begins(made)) = self.entries.get_mut(at) {
-            *made = settled(*made, space, last);
+        if let Some(Entry::Begins(made)) = self.entries.get(at) {
+            let made = settled(*made, space, last);
+            self.entries[at] = Entry::Begins(made);
         }
     }
 }

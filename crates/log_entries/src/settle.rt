@@ -11,7 +11,8 @@ fn is_map_call(call: Call) -> bool
     ensures { result ≡ is_map_call call }
 {
     match call {
-        Call::Mmap { .. } | Call::Munmap { .. } | Call::Mremap { .. } | Call::Madvise { .. } => true,
+        Call::Mmap { .. } | Call::Munmap { .. } | Call::Mremap { .. } | Call::Madvise { .. } =>
+            true,
         _ => false,
     }
 }
@@ -20,6 +21,14 @@ fn is_map_call(call: Call) -> bool
 pub(crate) fn settled(made: Made, space: u64, last: bool) -> Made
     ensures { said result ≡ said made }
 {
-    let space = if is_map_call(made.call) { space } else { made.space };
-    Made { space, last, ..made }
+    let space = if is_map_call(made.call) {
+        space
+    } else {
+        made.space
+    };
+    Made {
+        space,
+        last,
+        ..made
+    }
 }
