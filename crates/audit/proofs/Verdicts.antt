@@ -6,9 +6,15 @@ use Rattle.std.specs.Io.KnownBytes.{Appends}
 use Rattle.std.proofs.KnownBytes.{Appends-nil, Appends-trans}
 use Rattle.audit.specs.declared.audit.Verdict.{Verdict}
 use Rattle.audit.specs.declared.audit.Verdict.TheVariants as verdict
-use Rattle.call_log.specs.declared.log.Log.{Log}
+use Rattle.call_log.specs.declared.log.ReadLog.{ReadLog}
 use Rattle.call_log.specs.Listing.{IsRead, ReadsLog}
-use Rattle.audit.specs.Verdicts.{IsFinding, AreFindings, IsSummary, HasVerdict, IsJudged, Audits, Prints}
+use Rattle.audit.specs.Verdicts.{IsFinding, AreFindings, IsSummary, HasVerdict, IsJudged, Audits, Prints, certified_verdict, is_certified}
+use Rattle.log_entries.specs.declared.entry_reader.EntryReader.{EntryReader}
+use Rattle.audit.specs.declared.certificate.Certificate.{Certificate}
+use Rattle.audit.specs.declared.certificate.Certificate.TheVariants.{Certified, Missing}
+use Rattle.audit.specs.declared.certificate.Totals.{Totals}
+use Rattle.audit.specs.Certificates.{IsCertificate, IsCertifiedInput}
+use Rattle.log_entries.specs.Readers.{HasRead}
 
 -- Findings
 
@@ -52,19 +58,52 @@ whole_judged name input v w0 w1 w3 read none j = (
   record { findings = j.findings; summary = j.summary; are = j.are; is = j.is; fits = j.fits; appends = Appends-trans w0 w1 w3 [] (concat j.findings ++ j.summary) none j.appends },
 )
 
-said : (name input : List ℕ) (v : Verdict) (before after : Option (List ℕ)) → IsRead name input [] × IsJudged name v before after → Audits name input v before after
-said name input verdict.Clean before after p = p
-said name input verdict.Found before after p = p
-said name input verdict.Impossible before after p = p
-said name input verdict.Undecided before after p = p
-said name input verdict.Wrong before after p = absurd p.1.fits
+said : (name input : List ℕ) (v : Verdict) (before after : Option (List ℕ)) → is_certified v ≡ false → IsRead name input [] × IsJudged name v before after → Audits name input v before after
+said name input verdict.Certified before after e p = absurd (cc)
+said name input verdict.Clean before after e p = p
+said name input verdict.Found before after e p = p
+said name input verdict.Impossible before after e p = p
+said name input verdict.Undecided before after e p = p
+said name input verdict.Wrong before after e p = absurd p.1.fits
 
-pub audited : (r : Option (List ℕ)) (name : List ℕ) (log : Log) (v : Verdict) (n : ℕ) (output summary : List ℕ) (w0 w1 w2 w3 : Option (List ℕ)) → IfSome r (λ input. ReadsLog name input (Some log) w0 w1) → Prints name n output → Appends w1 w2 output → IsSummary summary
-    → Appends w2 w3 summary → HasVerdict v n → IfSome r (λ input. Audits name input v w0 w3)
-audited None name log v n output summary w0 w1 w2 w3 read g first sums wrote fits = tt
-audited (Some input) name log v n output summary w0 w1 w2 w3 read g first sums wrote fits =
+-- a clean log whose run is certified
+certified_input : (name input : List ℕ) (read : ReadLog) (entries : EntryReader) (totals : Totals) (w0 w1 : Option (List ℕ)) → ReadsLog name input (Some read) w0 w1 → read.entries ≡ entries → IsCertificate entries (Certified totals) → IsCertifiedInput input
+certified_input name input read entries totals w0 w1 log same made =
+    let has = log.4 in
+    (has.0, totals, has.1, made has.0 (subst (λ (e : EntryReader). HasRead has.0 e) same has.2))
+
+more_said : (name input : List ℕ) (read : ReadLog) (entries : EntryReader) (v : Verdict) (made : Certificate) (w0 w1 before after : Option (List ℕ)) → is_certified v ≡ false → ReadsLog name input (Some read) w0 w1 → read.entries ≡ entries → IsCertificate entries made
+    → Audits name input v before after → Audits name input (certified_verdict v made) before after
+more_said name input read entries verdict.Certified made w0 w1 before after e log same is p = absurd (cc)
+more_said name input read entries verdict.Clean (Certified totals) w0 w1 before after e log same is p =
+    let j = p.1 in
+    (
+      p.0,
+      record { findings = j.findings; summary = j.summary; are = j.are; is = j.is; fits = j.fits; appends = j.appends },
+      certified_input name input read entries totals w0 w1 log same is,
+    )
+more_said name input read entries verdict.Clean (Missing why) w0 w1 before after e log same is p = p
+more_said name input read entries verdict.Found (Certified totals) w0 w1 before after e log same is p = p
+more_said name input read entries verdict.Found (Missing why) w0 w1 before after e log same is p = p
+more_said name input read entries verdict.Impossible (Certified totals) w0 w1 before after e log same is p = p
+more_said name input read entries verdict.Impossible (Missing why) w0 w1 before after e log same is p = p
+more_said name input read entries verdict.Undecided (Certified totals) w0 w1 before after e log same is p = p
+more_said name input read entries verdict.Undecided (Missing why) w0 w1 before after e log same is p = p
+more_said name input read entries verdict.Wrong (Certified totals) w0 w1 before after e log same is p = p
+more_said name input read entries verdict.Wrong (Missing why) w0 w1 before after e log same is p = p
+
+pub certified_too : (r : Option (List ℕ)) (name : List ℕ) (read : ReadLog) (entries : EntryReader) (v said : Verdict) (made : Certificate) (w0 w1 w3 : Option (List ℕ)) → IfSome r (λ input. ReadsLog name input (Some read) w0 w1) → is_certified v ≡ false → read.entries ≡ entries
+    → IsCertificate entries made → said ≡ certified_verdict v made → IfSome r (λ input. Audits name input v w0 w3) → IfSome r (λ input. Audits name input said w0 w3)
+certified_too None name read entries v said made w0 w1 w3 log e same is by p = tt
+certified_too (Some input) name read entries v said made w0 w1 w3 log e same is by p =
+    subst (λ (k : Verdict). Audits name input k w0 w3) (sym by) (more_said name input read entries v made w0 w1 w0 w3 e log same is p)
+
+pub audited : (r : Option (List ℕ)) (name : List ℕ) (log : ReadLog) (v : Verdict) (n : ℕ) (output summary : List ℕ) (w0 w1 w2 w3 : Option (List ℕ)) → IfSome r (λ input. ReadsLog name input (Some log) w0 w1) → Prints name n output → Appends w1 w2 output → IsSummary summary
+    → Appends w2 w3 summary → HasVerdict v n → is_certified v ≡ false → IfSome r (λ input. Audits name input v w0 w3)
+audited None name log v n output summary w0 w1 w2 w3 read g first sums wrote fits plain = tt
+audited (Some input) name log v n output summary w0 w1 w2 w3 read g first sums wrote fits plain =
     let none : read.0 ≡ [] = read.2.0 refl in
-    said name input v w0 w3
+    said name input v w0 w3 plain
     (whole_judged name input v w0 w1 w3 (subst (λ (t : List ℕ). IsRead name input t) none read.1) (subst (λ (t : List ℕ). Appends w0 w1 t) none read.3) (judged name v n output summary w1 w2 w3 g first sums wrote fits))
 
 some_text : (text : List ℕ) → (text ≡ [] → ⊥) → 0 < length text

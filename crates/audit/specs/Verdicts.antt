@@ -1,5 +1,5 @@
 -- What is written of a log that was read, and what is said of it as a whole.
-use Rattle.std.specs.Prelude.{◌≡◌, ℕ, ◌<◌, List, [], ◌++◌, length, codes, Option}
+use Rattle.std.specs.Prelude.{◌≡◌, ℕ, ◌<◌, List, [], ◌++◌, length, codes, Option, Bool, true, false}
 use Rattle.std.specs.List.{concat, AllByRecursion}
 use Rattle.std.specs.Fmt.{decimal}
 use Rattle.std.specs.Io.KnownBytes.{Appends}
@@ -32,6 +32,11 @@ HasVerdict verdict.Undecided findings = findings ≡ 0
 HasVerdict verdict.Found findings = 0 < findings
 HasVerdict verdict.Impossible findings = 0 < findings
 HasVerdict verdict.Wrong findings = ⊥
+
+-- whether a run is said to be certified
+abbrev pub is_certified : Verdict → Bool
+is_certified verdict.Certified = true
+is_certified said = false
 
 -- a clean log with a run that is certified
 abbrev pub certified_verdict : Verdict → Certificate → Verdict

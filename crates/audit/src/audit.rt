@@ -1,7 +1,7 @@
 //! Reading a log from a reader, and writing what was found to a writer.
 
-ghost use Rattle.std.specs.Prelude.{length, OnOk, IfOk, IfSome};
-ghost use Rattle.audit.specs.Verdicts.{Audits, HasVerdict, IsFinding, Prints, certified_verdict};
+ghost use Rattle.std.specs.Prelude.{◌≡◌, false, length, OnOk, IfOk, IfSome};
+ghost use Rattle.audit.specs.Verdicts.{Audits, HasVerdict, IsFinding, Prints, certified_verdict, is_certified};
 
 use crate::certificate::{Certificate, certificate_of};
 use crate::findings::{Finding, list_findings};
@@ -107,7 +107,8 @@ fn print_findings(alloc: Global, name: &str, found: &[Finding]) -> Result<Vec<u8
 
 /// What is said of a log of which these are all findings.
 fn verdict_of(judged: &Judged, found: &[Finding]) -> Verdict
-    ensures { HasVerdict result (length found.now) }
+    ensures verdict { HasVerdict result (length found.now) }
+    ensures plain { is_certified result ≡ false }
 {
     if !found.is_empty() {
         return if judged.impossible.is_empty() {
