@@ -44,7 +44,7 @@ pub struct Asked {
 /// Reads a log and judges its calls. Of a log with wrong lines it writes `NAME:LINE: reason` for each of them. Else it writes
 /// `NAME:LINE: finding` for each finding, in the order of lines, and a summary.
 ///
-/// The calls of a log are kept until it ends: some 200 bytes for each. At most 4,294,967,295 reads are made, and as many lines are read; an
+/// The calls of a log, its entries and the run that was found are kept until it ends. At most 4,294,967,295 reads are made, and as many lines are read; an
 /// input that needs more ends with a read fault. An interrupted read or write is a fault. After a fault some of the text was written.
 pub fn audit_log<R: Read, W: Write>(
     alloc: Global,

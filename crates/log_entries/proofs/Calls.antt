@@ -10,7 +10,7 @@ use Rattle.log_entries.specs.declared.log_line.LogLine.{LogLine}
 use Rattle.log_entries.specs.Events.{is_of}
 use Rattle.log_entries.specs.Readers.{others, own}
 
--- numbers that are told equal are
+-- numbers that a test finds equal are equal
 equal : (a b : ℕ) → (a == b) ≡ true → a ≡ b
 equal a b e = elim (eqb_tells a b) [ inl t ↦ t.1 | inr f ↦ let g = f.0 in absurd (cc) ]
 

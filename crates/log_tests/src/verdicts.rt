@@ -44,7 +44,7 @@ static LOGS: [(&'static [u8], &'static [u8], Verdict, &'static [u8]); 11] = [
         b"1 7 7 begin 1 open syscall 0x80800\n2 7 7 end 1 ok 8:5\n3 7 7 begin 2 api 8:5 0xaa 0x8\n4 7 7 end 2 ok 0x1ffff 0x8000000000000003\n5 7 7 begin 3 register 8:5 0x10000 0x2000 0x1\n6 7 7 end 3 ok 0x15c\n7 7 7 begin 4 scan 8:5 0x10000 0x2000\n8 7 7 end 4 ok 0\n9 7 7 begin 5 copy 8:5 0x11000 0x51000 0x1000 0\n10 7 7 end 5 ok 4096\n",
         b"11 7 8 begin 6 madvise 0x11000 0x1000 4\n12 7 7 begin 7 copy 8:5 0x10000 0x50000 0x1000 0\n13 7 7 end 7 EAGAIN -11\n14 7 7 begin 8 close 8:5\n15 7 7 end 8 ok\n16 7 8 end 6 ok\n",
         Verdict::Found,
-        b"log:17: monitor: madvise: an event of this call was never read [event-not-read]\nlog:18: monitor: copy: EAGAIN, and the page 0x10000 was not tried again [not-tried-again]\nlog:20: monitor: close: 1 registered pages from 0x10000 on are still missing [page-owed]\n8 calls: 8 with the only answer that the rules allow, 0 that an access explains which the log does not show, 0 impossible, 0 not judged\nEVENT",
+        b"log:17: monitor: madvise: an event of this call was never read [event-not-read]\nlog:18: monitor: copy: EAGAIN, and the page 0x10000 was not tried again [not-tried-again]\nlog:20: monitor: close: 1 registered pages from 0x10000 on are still missing [page-owed]\n8 calls: 8 with the only answer that the rules allow, 0 that an access explains which the log does not show, 0 impossible, 0 not judged\nnot certified: a map call that tells an object is not followed\n",
     ),
     // It is never put, nor is the other page.
     (
