@@ -1,5 +1,5 @@
 use Rattle.std.proofs.Common.{◌≤◌, length}
-use Rattle.audit.specs.Reading.{Prints}
+use Rattle.audit.specs.Verdicts.{Prints}
 use Rattle.audit.proofs.audit.print_findings.Given as goal
 
 abbrev pub invariant-loop-finding : goal.invariant-loop-finding
