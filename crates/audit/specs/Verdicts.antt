@@ -1,13 +1,18 @@
 -- What is written of a log that was read, and what is said of it as a whole.
-use Rattle.std.specs.Prelude.{◌≡◌, ℕ, ◌<◌, List, [], ◌++◌, length, codes, Option, Bool, true, false}
+use Rattle.std.specs.Prelude.{◌≡◌, ℕ, ◌<◌, List, [], ◌++◌, length, codes, Option, Bool, true, false, string_bytes}
 use Rattle.std.specs.List.{concat, AllByRecursion}
 use Rattle.std.specs.Fmt.{decimal}
 use Rattle.std.specs.Io.KnownBytes.{Appends}
+use Rattle.audit.specs.declared.audit.Report.{Report}
 use Rattle.audit.specs.declared.audit.Verdict.{Verdict}
 use Rattle.audit.specs.declared.audit.Verdict.TheVariants as verdict
 use Rattle.audit.specs.declared.certificate.Certificate.{Certificate}
 use Rattle.audit.specs.declared.certificate.Certificate.TheVariants.{Certified}
-use Rattle.audit.specs.Certificates.{IsCertifiedInput}
+use Rattle.audit.specs.declared.certificate.Totals.{Totals}
+use Rattle.audit.specs.Certificates.{IsCertifiedInput, IsCertifiedLog}
+use Rattle.log_entries.specs.declared.log_line.LogLine.{LogLine}
+use Rattle.log_entries.specs.Readers.{HasRead}
+use Rattle.call_log.specs.declared.log.ReadLog.{ReadLog}
 use Rattle.call_log.specs.Listing.{IsListed, IsRead}
 
 -- a finding: a name, the line of the log that it is of, and a text
@@ -64,3 +69,12 @@ pub record Prints (name : List ℕ) (number : ℕ) (output : List ℕ) : Type 0 
   pub count : length texts ≡ number
   pub are : AreFindings name texts
   pub parts : output ≡ concat texts
+
+-- a report of a log that was read: the lines of some findings, a summary, and the verdict that goes with that number of findings; where it is
+-- certified, a kernel may have written the lines
+pub record IsReport (name : List ℕ) (read : ReadLog) (report : Report) : Type 0 where
+  pub number : ℕ
+  pub prints : Prints name number report.findings.items
+  pub is : IsSummary (string_bytes report.summary)
+  pub fits : HasVerdict report.verdict number
+  pub certified : is_certified report.verdict ≡ true → (lines : List LogLine) → HasRead lines read.entries → (totals : Totals) × IsCertifiedLog lines totals

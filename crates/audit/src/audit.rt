@@ -1,7 +1,9 @@
 //! Reading a log from a reader, and writing what was found to a writer.
 
 ghost use Rattle.std.specs.Prelude.{◌≡◌, false, length, OnOk, IfOk, IfSome};
-ghost use Rattle.audit.specs.Verdicts.{Audits, HasVerdict, IsFinding, Prints, certified_verdict, is_certified};
+ghost use Rattle.audit.specs.Verdicts.{
+    Audits, HasVerdict, IsFinding, IsReport, Prints, certified_verdict, is_certified
+};
 
 use crate::certificate::{Certificate, certificate_of};
 use crate::findings::{Finding, list_findings};
@@ -56,20 +58,42 @@ pub fn audit_log<R: Read, W: Write>(
     ensures { IfOk result (λ verdict. IfSome (R.remaining reader.old) (λ input.
         Audits name.now input verdict (W.contents writer.old) (W.contents writer.new))) }
 {
-    let Some(read) = read_log(alloc, reader, writer, name)? else {
-        return Ok(Verdict::Wrong);
+    let read = match read_log(alloc, reader, writer, name)? {
+        Some(read) => read,
+        None => return Ok(Verdict::Wrong),
     };
+    let report = report_of(alloc, name, read, asked)?;
+    write_out(writer, &report.findings)?;
+    write_out(writer, report.summary.as_bytes())?;
+    Ok(report.verdict)
+}
+
+/// What is written of a log without wrong lines, and what is said of it.
+#[derive(Drop)]
+struct Report {
+    findings: Vec<u8>,
+    summary: String,
+    verdict: Verdict,
+}
+
+/// Judges the calls of a log, and has the run that was found checked.
+fn report_of(alloc: Global, name: &str, read: ReadLog, asked: Asked) -> Result<Report, NoMemory>
+    ensures { IfOk result (λ report. IsReport name.now read report) }
+{
     let ReadLog { log, entries } = read;
     let judged = judge(alloc, log)?;
     let found = list_findings(alloc, &judged, asked.late_after)?;
-    let output = print_findings(alloc, name, &found)?;
-    write_out(writer, &output)?;
-    let verdict = verdict_of(&judged, &found);
+    let findings = print_findings(alloc, name, &found)?;
+    let judgement = verdict_of(&judged, &found);
     let front = front_of(alloc, &judged, &found, asked.explains)?;
     let certificate = certificate_of(alloc, judged, entries)?;
-    let text = summary(alloc, &front, &certificate)?;
-    write_out(writer, text.as_bytes())?;
-    Ok(certified_verdict(verdict, certificate))
+    let summary = summary(alloc, &front, &certificate)?;
+    let verdict = certified_verdict(judgement, certificate);
+    Ok(Report {
+        findings,
+        summary,
+        verdict,
+    })
 }
 
 /// Puts the line of a finding in place of these bytes. The text is replaced.
