@@ -24,7 +24,7 @@ ROWS = (
         ("tools over scripts and frames", "wiretap host_calls frames explain lint expected explore finishing", 4),
         ("threads", "threads rig pusher", 2),
         ("looking inside", "draw diagram show", 2),
-        ("logs of calls", "audit kernel_rules call_log uffd_log", 2),
+        ("logs of calls", "audit call_log log_entries kernel_rules uffd_log", 2),
     ),
     (52, ("steps to completion", "finish", 3), ("scripts, transcripts and replies as text", "engine grammar report hosts", 9)),
     (52, ("a migration: both nodes, three wires, and its recovery", "world recovery", 12)),

@@ -1,14 +1,17 @@
 //! Reading a log from a reader, and writing what was found to a writer.
 
-ghost use Rattle.std.specs.Prelude.{length, OnOk, IfOk, IfSome};
-ghost use Rattle.audit.specs.Verdicts.{Audits, HasVerdict, IsFinding, IsReport, Prints};
+ghost use Rattle.std.specs.Prelude.{◌≡◌, false, length, OnOk, IfOk, IfSome};
+ghost use Rattle.audit.specs.Verdicts.{
+    Audits, HasVerdict, IsFinding, IsReport, Prints, certified_verdict, is_certified
+};
 
+use crate::certificate::{Certificate, certificate_of};
 use crate::findings::{Finding, list_findings};
 use crate::judging::{Judged, judge};
-use crate::summary::summary;
+use crate::summary::{front_of, summary};
+use call_log::ReadLog;
 use call_log::fault::LogFault;
 use call_log::input::{read_log, write_out};
-use call_log::log::Log;
 use call_log::split::first_line;
 use mig_base::NoMemory;
 use std::alloc::Global;
@@ -17,7 +20,9 @@ use std::io::{Read, Write};
 /// What is said of a log as a whole.
 #[derive(Clone, Copy, Debug, PartialEq, Eq)]
 pub enum Verdict {
-    /// Nothing was found.
+    /// Nothing was found, and the run is certified.
+    Certified,
+    /// Nothing was found, and the run is not certified.
     Clean,
     /// Something was found.
     Found,
@@ -41,7 +46,7 @@ pub struct Asked {
 /// Reads a log and judges its calls. Of a log with wrong lines it writes `NAME:LINE: reason` for each of them. Else it writes
 /// `NAME:LINE: finding` for each finding, in the order of lines, and a summary.
 ///
-/// The calls of a log are kept until it ends: some 200 bytes for each. At most 4,294,967,295 reads are made, and as many lines are read; an
+/// The calls of a log, its entries and the run that was found are kept until it ends. At most 4,294,967,295 reads are made, and as many lines are read; an
 /// input that needs more ends with a read fault. An interrupted read or write is a fault. After a fault some of the text was written.
 pub fn audit_log<R: Read, W: Write>(
     alloc: Global,
@@ -53,11 +58,11 @@ pub fn audit_log<R: Read, W: Write>(
     ensures { IfOk result (λ verdict. IfSome (R.remaining reader.old) (λ input.
         Audits name.now input verdict (W.contents writer.old) (W.contents writer.new))) }
 {
-    let log = match read_log(alloc, reader, writer, name)? {
-        Some(log) => log,
+    let read = match read_log(alloc, reader, writer, name)? {
+        Some(read) => read,
         None => return Ok(Verdict::Wrong),
     };
-    let report = report_of(alloc, name, log, asked)?;
+    let report = report_of(alloc, name, read, asked)?;
     write_out(writer, &report.findings)?;
     write_out(writer, report.summary.as_bytes())?;
     Ok(report.verdict)
@@ -71,15 +76,19 @@ struct Report {
     verdict: Verdict,
 }
 
-/// Judges the calls of a log.
-fn report_of(alloc: Global, name: &str, log: Log, asked: Asked) -> Result<Report, NoMemory>
-    ensures { IfOk result (λ report. IsReport name.now report) }
+/// Judges the calls of a log, and has the run that was found checked.
+fn report_of(alloc: Global, name: &str, read: ReadLog, asked: Asked) -> Result<Report, NoMemory>
+    ensures { IfOk result (λ report. IsReport name.now read report) }
 {
+    let ReadLog { log, entries } = read;
     let judged = judge(alloc, log)?;
     let found = list_findings(alloc, &judged, asked.late_after)?;
     let findings = print_findings(alloc, name, &found)?;
-    let summary = summary(alloc, &judged, &found, asked.explains)?;
-    let verdict = verdict_of(&judged, &found);
+    let judgement = verdict_of(&judged, &found);
+    let front = front_of(alloc, &judged, &found, asked.explains)?;
+    let certificate = certificate_of(alloc, judged, entries)?;
+    let summary = summary(alloc, &front, &certificate)?;
+    let verdict = certified_verdict(judgement, certificate);
     Ok(Report {
         findings,
         summary,
@@ -122,7 +131,8 @@ fn print_findings(alloc: Global, name: &str, found: &[Finding]) -> Result<Vec<u8
 
 /// What is said of a log of which these are all findings.
 fn verdict_of(judged: &Judged, found: &[Finding]) -> Verdict
-    ensures { HasVerdict result (length found.now) }
+    ensures verdict { HasVerdict result (length found.now) }
+    ensures plain { is_certified result ≡ false }
 {
     if !found.is_empty() {
         return if judged.impossible.is_empty() {
@@ -136,5 +146,15 @@ fn verdict_of(judged: &Judged, found: &[Finding]) -> Verdict
         Verdict::Clean
     } else {
         Verdict::Undecided
+    }
+}
+
+/// The same, where a run of the log is certified.
+fn certified_verdict(verdict: Verdict, certificate: Certificate) -> Verdict
+    ensures { result ≡ certified_verdict verdict certificate }
+{
+    match (verdict, certificate) {
+        (Verdict::Clean, Certificate::Certified(_)) => Verdict::Certified,
+        (verdict, _) => verdict,
     }
 }

@@ -2,6 +2,7 @@
 
 use crate::kernel::Kernel;
 use crate::replay::{Broken, Replayed, replay_run};
+use crate::run::Run;
 use crate::search::{Impossible, Search};
 use call_log::log::Log;
 use mig_base::NoMemory;
@@ -15,6 +16,8 @@ pub(crate) struct Judged {
     pub(crate) kernel: Kernel,
     pub(crate) impossible: Vec<Impossible>,
     pub(crate) broken: Option<Broken>,
+    /// The run that was found.
+    pub(crate) run: Run,
 }
 
 impl Judged {
@@ -40,6 +43,7 @@ pub(crate) fn judge(alloc: Global, mut log: Log) -> Result<Judged, NoMemory> {
         log,
         kernel,
         impossible,
+        run,
         ..
     } = search;
     Ok(match replayed {
@@ -48,6 +52,7 @@ pub(crate) fn judge(alloc: Global, mut log: Log) -> Result<Judged, NoMemory> {
             kernel,
             impossible,
             broken: None,
+            run,
         },
         Some(
             Replayed {
@@ -59,6 +64,7 @@ pub(crate) fn judge(alloc: Global, mut log: Log) -> Result<Judged, NoMemory> {
             kernel,
             impossible,
             broken: Some(broken),
+            run,
         },
         Some(
             Replayed {
@@ -70,6 +76,7 @@ pub(crate) fn judge(alloc: Global, mut log: Log) -> Result<Judged, NoMemory> {
             kernel: replayed,
             impossible,
             broken: None,
+            run,
         },
     })
 }

@@ -10,9 +10,11 @@
 #![tactic(auto)]
 
 mod audit;
+mod certificate;
 mod findings;
 mod judging;
 mod kernel;
+mod moves;
 mod needs;
 mod polls;
 mod refusal;

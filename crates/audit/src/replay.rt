@@ -207,7 +207,7 @@ fn flags_of(alloc: Global, calls: &[LogCall]) -> Result<Vec<bool>, NoMemory> {
 }
 
 /// The steps that were put in later, in their order.
-fn sorted_late(alloc: Global, run: &Run) -> Result<Vec<Late>, NoMemory> {
+pub(crate) fn sorted_late(alloc: Global, run: &Run) -> Result<Vec<Late>, NoMemory> {
     let mut late = Vec::new(alloc);
     late.extend_from_slice(&run.late)?;
     late.sort_by_key(|step| step.before)?;

@@ -4,6 +4,7 @@ ghost use Rattle.std.specs.Prelude.{IfOk, string_bytes};
 ghost use Rattle.audit.specs.Verdicts.{IsSummary};
 
 use crate::findings::Finding;
+use crate::certificate::Certificate;
 use crate::judging::Judged;
 use crate::replay::Broken;
 use crate::rule_names::Rule;
@@ -135,8 +136,31 @@ fn add_explanation(
     Ok(())
 }
 
-/// Adds how many calls there are of each kind.
-fn add_counts(text: &mut String, judged: &Judged) -> Result<(), NoMemory> {
+/// What a summary says of a log that was judged, but for its certificate.
+#[derive(Drop)]
+pub(crate) struct Front {
+    calls: usize,
+    counts: String,
+    rest: String,
+}
+
+/// The parts of a summary before a certificate is made.
+pub(crate) fn front_of(
+    alloc: Global,
+    judged: &Judged,
+    found: &[Finding],
+    explains: bool,
+) -> Result<Front, NoMemory> {
+    Ok(Front {
+        calls: judged.log.calls.len(),
+        counts: counts(alloc, judged)?,
+        rest: details(alloc, judged, found, explains)?,
+    })
+}
+
+/// How many calls there are of each kind.
+fn counts(alloc: Global, judged: &Judged) -> Result<String, NoMemory> {
+    let mut text = String::new(alloc);
     let must = count_of(judged, Kind::Must);
     let may = count_of(judged, Kind::May);
     let impossible = count_of(judged, Kind::Impossible);
@@ -146,10 +170,10 @@ fn add_counts(text: &mut String, judged: &Judged) -> Result<(), NoMemory> {
         "{must} with the only answer that the rules allow, {may} that an access explains which the log does not show, "
     )?;
     write!(text, "{impossible} impossible, {unjudged} not judged\n")?;
-    Ok(())
+    Ok(text)
 }
 
-/// What a summary says after the number of calls.
+/// What a summary says after its first lines.
 fn details(
     alloc: Global,
     judged: &Judged,
@@ -157,7 +181,6 @@ fn details(
     explains: bool,
 ) -> Result<String, NoMemory> {
     let mut text = String::new(alloc);
-    add_counts(&mut text, judged)?;
     if let Some(broken) = &judged.broken {
         add_broken(&mut text, broken)?;
     }
@@ -168,17 +191,47 @@ fn details(
     Ok(text)
 }
 
+/// The counts, the certificate, and what else is said.
+fn with_certificate(
+    alloc: Global,
+    counts: &str,
+    certificate: &Certificate,
+    rest: &str,
+) -> Result<String, NoMemory> {
+    let mut text = String::new(alloc);
+    text.push_str(counts)?;
+    add_certificate(&mut text, certificate)?;
+    text.push_str(rest)?;
+    Ok(text)
+}
+
+/// Adds whether the run is certified.
+fn add_certificate(text: &mut String, certificate: &Certificate) -> Result<(), NoMemory> {
+    match certificate {
+        Certificate::Certified(totals) => {
+            let owed = totals.owed;
+            let twice = totals.twice;
+            write!(
+                text,
+                "certified: a kernel of the rules may have answered so; pages owed {owed}, put twice {twice}\n"
+            )?;
+        }
+        Certificate::Missing(missing) => write!(text, "not certified: {missing}\n")?,
+    }
+    Ok(())
+}
+
 /// What is said of a log in the end.
 pub(crate) fn summary(
     alloc: Global,
-    judged: &Judged,
-    found: &[Finding],
-    explains: bool,
+    judged: &Front,
+    certificate: &Certificate,
 ) -> Result<String, NoMemory>
     ensures { IfOk result (λ text. IsSummary (string_bytes text)) }
 {
-    let rest = details(alloc, judged, found, explains)?;
-    let calls = judged.log.calls.len();
+    let counts = judged.counts.as_str();
+    let rest = with_certificate(alloc, counts, certificate, judged.rest.as_str())?;
+    let calls = judged.calls;
     let mut text = String::new(alloc);
     write!(text, "{calls} calls: ")?;
     text.push_str(rest.as_str())?;

@@ -1,14 +1,17 @@
 -- What the reader of lines does with one line.
-use Rattle.std.proofs.Common.{◌≡◌, ℕ, ◌+◌, ◌<◌, ◌≤◌, IsTrue, Bool, true, false, List, [], ◌∷◌, ◌++◌, length, Option, Some, None, refl, sym, ap, subst, ◌∙◌, append_assoc, append-nil, inl, inr, arith}
+use Rattle.std.proofs.Common.{◌≡◌, ℕ, ◌+◌, ◌<◌, ◌≤◌, ◌↔◌, IsTrue, Bool, true, false, List, [], ◌∷◌, ◌++◌, length, Option, Some, None, refl, sym, ap, subst, ◌∙◌, append_assoc, append-nil, inl, inr, arith}
 use Rattle.std.specs.Prelude.{IsNone, IsSome, IfNone, IfSome, codes}
-use Rattle.std.specs.List.{concat}
+use Rattle.std.specs.List.{concat, AllByRecursion}
 use Rattle.uffd_log.specs.declared.line.Line.{Line}
 use Rattle.uffd_log.specs.Lines.{Spells}
 use Rattle.call_log.specs.declared.log_reader.LogReader.{LogReader}
 use Rattle.call_log.specs.declared.head.Head.{Head}
 use Rattle.call_log.specs.declared.wrong.Wrong.{Wrong}
 use Rattle.call_log.specs.Listing.{IsListed, AreListed, IsRight, BeginsWith, head_word}
-use Rattle.call_log.specs.Reading.{Adds, AddsAny, Takes, TakesLine}
+use Rattle.call_log.specs.Reading.{Adds, AddsAny, Enters, Reads, Takes, TakesLine}
+use Rattle.log_entries.specs.declared.entry_reader.EntryReader.{EntryReader}
+use Rattle.log_entries.specs.declared.log_line.LogLine.{LogLine}
+use Rattle.log_entries.specs.Readers.{HasRead}
 
 pub adds_one : (old new : LogReader) (text : List ℕ) → IsListed old.name.now old.line text → new.output.items ≡ old.output.items ++ text → new.is_right ≡ false → new.name.now ≡ old.name.now → new.line ≡ old.line
     → Adds old.line old (text ∷ []) new
@@ -53,9 +56,13 @@ adds_then a b c xs ys p q = record {
   line = q.line ∙ p.line;
 }
 
-pub spelled : (raw : List ℕ) (line : Option Line) → IsSome line → IfSome line (λ l. Spells raw l) → (l : Line) × Spells raw l
-spelled raw None some found = let e : false ≡ true = some in absurd (cc)
-spelled raw (Some l) some found = (l, found)
+spelled : (raw : List ℕ) (line : Option Line) (n : ℕ) (old new : EntryReader) → IsSome line → IfSome line (λ l. Spells raw l) → IfSome line (λ l. Reads n l old new) → (l : Line) × Spells raw l × Reads n l old new
+spelled raw None n old new some found read = let e : false ≡ true = some in absurd (cc)
+spelled raw (Some l) n old new some found read = (l, found, read)
+
+pub right_of : (n : ℕ) (head : Head) (entries : EntryReader) (raw : List ℕ) (new : LogReader) → Enters n head entries raw new → IsRight head.read raw new.head.read
+right_of n head entries raw new (inl h) = inl (h.0, h.1, h.2)
+right_of n head entries raw new (inr b) = inr (b.0, (b.1.0, b.1.1), b.2)
 
 -- The line after those that were read
 
@@ -66,9 +73,10 @@ pub record Numbers (old mid : LogReader) : Type 0 where
   pub output : mid.output.items ≡ old.output.items
   pub right : mid.is_right ≡ old.is_right
   pub head : mid.head ≡ old.head
+  pub entries : mid.entries ≡ old.entries
 
 taken : (old mid new : LogReader) (raw : List ℕ) (ended : Bool) (texts : List (List ℕ)) → Numbers old mid → (old.line ≡ 0 → raw ≡ codes "uffdlog 1") → Adds mid.line mid texts new
-    → (texts ≡ [] → (length raw < 4096) × (ended ≡ true) × IsRight old.head.read raw new.head.read) → old.head.read ≤ new.head.read → TakesLine old raw ended new
+    → (texts ≡ [] → (length raw < 4096) × (ended ≡ true) × Enters (old.line + 1) old.head old.entries raw new) → old.head.read ≤ new.head.read → TakesLine old raw ended new
 taken old mid new raw ended texts numbers first adds is_right more = record {
   texts = texts;
   listed = subst (λ (n : ℕ). AreListed old.name.now n texts) numbers.line (subst (λ (s : List ℕ). AreListed s mid.line texts) numbers.name adds.listed);
@@ -90,7 +98,7 @@ taken_listed old mid new raw ended text numbers first adds head =
 
 pub taken_whole : (old mid new : LogReader) (raw : List ℕ) (ended : Bool) → Numbers old mid → (old.line ≡ 0 → raw ≡ codes "uffdlog 1") → length raw < 4096 → ended ≡ true → Takes mid raw new → TakesLine old raw ended new
 taken_whole old mid new raw ended numbers first short whole takes =
-    taken old mid new raw ended takes.texts numbers first takes.adds (λ none. (short, whole, subst (λ (h : Head). IsRight h.read raw new.head.read) numbers.head (takes.is_right none)))
+    taken old mid new raw ended takes.texts numbers first takes.adds (λ none. (short, whole, subst (λ (n : ℕ). Enters n old.head old.entries raw new) numbers.line (subst (λ (h : Head). Enters mid.line h old.entries raw new) numbers.head (subst (λ (r : EntryReader). Enters mid.line mid.head r raw new) numbers.entries (takes.is_right none)))))
     (subst (λ (h : Head). h.read ≤ new.head.read) numbers.head takes.more)
 
 -- A line that has the form of one
@@ -102,7 +110,7 @@ pub record Same (old mid : LogReader) : Type 0 where
   pub output : mid.output.items ≡ old.output.items
   pub right : mid.is_right ≡ old.is_right
 
-pub takes_any : (old mid new : LogReader) (raw : List ℕ) (P : Type 0) → Same old mid → AddsAny P mid new → (P → IsRight old.head.read raw new.head.read) → old.head.read ≤ new.head.read → Takes old raw new
+pub takes_any : (old mid new : LogReader) (raw : List ℕ) (P : Type 0) → Same old mid → AddsAny P mid new → (P → Enters old.line old.head old.entries raw new) → old.head.read ≤ new.head.read → Takes old raw new
 takes_any old mid new raw P same any is_right more = record {
   texts = any.0;
   adds = record {
@@ -115,7 +123,7 @@ takes_any old mid new raw P same any is_right more = record {
     name = any.1.name ∙ same.name;
     line = any.1.line ∙ same.line;
   };
-  is_right = λ none. is_right (any.3 none);
+  is_right = λ none. is_right (any.4 none);
   more = more;
 }
 
@@ -128,20 +136,25 @@ takes_after old mid new raw text adds few six takes = record {
   more = omega (arith, takes.more);
 }
 
-pub adds_text : (old new : LogReader) (text : List ℕ) (P : Type 0) → Adds old.line old (text ∷ []) new × (new.head ≡ old.head) → AddsAny P old new
-adds_text old new text P adds = (text ∷ [], adds.0, adds.1, λ none. absurd (cc))
+pub adds_text : (old new : LogReader) (text : List ℕ) (P : Type 0) → Adds old.line old (text ∷ []) new × (new.head ≡ old.head) × (new.entries ≡ old.entries) → AddsAny P old new
+adds_text old new text P adds = (text ∷ [], adds.0, adds.1, adds.2, λ none. absurd (cc))
 
 from_none : {A : Type 0} (o : Option A) (P : Type 0) → IfNone o P → IsNone o → P
 from_none None P h is = h
 from_none (Some x) P h is = let e : true ≡ false = is in absurd (cc)
 
-pub takes_below : (old mid new : LogReader) (raw : List ℕ) (line : Option Line) (wrong : Option Wrong) → Same old mid → mid.head ≡ old.head → 6 ≤ old.head.read → IfSome line (λ l. Spells raw l) → IfNone wrong (IsSome line) → AddsAny (IsNone wrong) mid new
-    → Takes old raw new
-takes_below old mid new raw line wrong same head over found some any =
+pub takes_below : (old mid new : LogReader) (raw : List ℕ) (line : Option Line) (wrong : Option Wrong) → Same old mid → mid.head ≡ old.head → IfSome line (λ l. Reads old.line l old.entries mid.entries) → 6 ≤ old.head.read → IfSome line (λ l. Spells raw l)
+    → IfNone wrong (IsSome line) → AddsAny (IsNone wrong) mid new → Takes old raw new
+takes_below old mid new raw line wrong same head entered over found some any =
     let read : new.head.read ≡ old.head.read = ap (λ (h : Head). h.read) (any.2 ∙ head) in
-    takes_any old mid new raw (IsNone wrong) same any (λ none. inr (over, spelled raw line (from_none wrong (IsSome line) some none) found, read)) (omega (arith, read))
+    takes_any old mid new raw (IsNone wrong) same any
+    (λ none.
+        let s = spelled raw line old.line old.entries mid.entries (from_none wrong (IsSome line) some none) found entered in
+        inr (over, (s.0, s.1, subst (λ (r : EntryReader). Reads old.line s.0 old.entries r) (sym any.3) s.2), read))
+    (omega (arith, read))
 
-pub takes_head : (old mid new : LogReader) (raw : List ℕ) (wrong : Option Wrong) → Same old mid → mid.head.read ≡ old.head.read + 1 → old.head.read < 6 → BeginsWith (head_word old.head.read) raw → AddsAny (IsNone wrong) mid new → Takes old raw new
-takes_head old mid new raw wrong same head few begins any =
+pub takes_head : (old mid new : LogReader) (raw : List ℕ) (wrong : Option Wrong) → Same old mid → mid.entries ≡ old.entries → mid.head.read ≡ old.head.read + 1 → old.head.read < 6 → BeginsWith (head_word old.head.read) raw → AddsAny (IsNone wrong) mid new
+    → Takes old raw new
+takes_head old mid new raw wrong same entries head few begins any =
     let read : new.head.read ≡ old.head.read + 1 = ap (λ (h : Head). h.read) any.2 ∙ head in
-    takes_any old mid new raw (IsNone wrong) same any (λ none. inl (few, begins, read)) (omega (arith, read))
+    takes_any old mid new raw (IsNone wrong) same any (λ none. inl (few, begins, read, any.3 ∙ entries)) (omega (arith, read))

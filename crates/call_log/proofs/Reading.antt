@@ -1,19 +1,25 @@
 -- Lines of a log that are read in pieces: it does not matter where the pieces end.
-use Rattle.std.proofs.Common.{◌≡◌, ℕ, ◌+◌, ◌<◌, ◌≤◌, ◌↔◌, IsTrue, Bool, true, false, List, [], ◌∷◌, ◌++◌, length, take, Option, Some, None, refl, sym, ap, subst, ◌∙◌, append_assoc, append-nil, length-append, inl, inr, arith, ◌-◌, min, nat_lt, ◌⊎◌}
-use Rattle.std.specs.Prelude.{IfSome, codes}
+use Rattle.std.proofs.Common.{◌≡◌, ℕ, zero, suc, ◌+◌, ◌<◌, ◌≤◌, ◌↔◌, IsTrue, Bool, true, false, List, [], ◌∷◌, ◌++◌, length, take, Option, Some, None, refl, sym, ap, subst, ◌∙◌, append_assoc, append-nil, length-append, inl, inr, arith, ◌-◌, min, nat_lt, ◌⊎◌}
+use Rattle.std.specs.Prelude.{OnOk, IfSome, codes}
 use Rattle.std.specs.Fmt.{decimal}
 use Rattle.std.proofs.lemmas.List.{take_all, take_min, length-take, take-append-le}
 use Rattle.std.proofs.Math.Seq.{take-append-add}
 use Rattle.std.proofs.lemmas.Bool.Decides.{nat_tests}
 use Rattle.call_log.specs.declared.head.Head.{Head}
 use Rattle.std.specs.List.{concat}
-use Rattle.std.specs.Io.KnownBytes.{Consumes, IsAtEnd}
+use Rattle.std.specs.Io.KnownBytes.{Appends, Consumes, IsAtEnd}
 use Rattle.std.proofs.KnownBytes.{Appends-nil, Appends-trans, Consumes-nil, Consumes-trans}
 use Rattle.call_log.specs.declared.log_reader.LogReader.{LogReader}
 use Rattle.call_log.specs.declared.input.LineReader.{LineReader}
-use Rattle.call_log.specs.declared.log.Log.{Log}
-use Rattle.call_log.specs.Listing.{HasNoFeed, ListsLine, Lists, IsRead, ReadsLog, joined, AreListed, IsRight}
-use Rattle.call_log.specs.Reading.{At, Leads, EndsLine, Writes, Finished, ReadsLines, AddsAny}
+use Rattle.call_log.specs.declared.log.ReadLog.{ReadLog}
+use Rattle.uffd_log.specs.declared.line.Line.{Line}
+use Rattle.uffd_log.specs.Lines.{Spells}
+use Rattle.log_entries.specs.declared.entry_reader.EntryReader.{EntryReader}
+use Rattle.log_entries.specs.declared.log_line.LogLine.{LogLine}
+use Rattle.log_entries.specs.Readers.{HasRead}
+use Rattle.call_log.proofs.Lines.{right_of}
+use Rattle.call_log.specs.Listing.{AreLines, BeginsWith, IsLog, head_word, HasNoFeed, ListsLine, Lists, Ends, IsRead, ReadsLog, joined, AreListed, IsRight}
+use Rattle.call_log.specs.Reading.{At, Enters, Reads, Leads, EndsLine, TakesLine, Writes, Finished, ReadsLines, AddsAny}
 
 no_feed-append : (xs ys : List ℕ) → HasNoFeed xs → HasNoFeed ys → HasNoFeed (xs ++ ys)
 no_feed-append [] ys p q = q
@@ -33,8 +39,8 @@ lists_push name n m before [] t mid raw texts after p e one lists =
 lists_push name n m before (x ∷ xs) t mid raw texts after p e one lists =
     (p.0, p.1 ++ concat texts, p.2, p.3, p.4, ap (λ (z : List ℕ). z ++ concat texts) p.5 ∙ append_assoc (concat p.0) p.1 (concat texts), lists_push name (n + 1) m p.2 xs p.1 mid raw texts after p.6 (omega (arith, e)) one lists)
 
-pub at_new : (name : List ℕ) (p : LineReader) (w : Option (List ℕ)) → p.lines.name.now ≡ name → p.lines.output.items ≡ [] → p.lines.is_right ≡ true → p.lines.line ≡ 0 → p.lines.head.read ≡ 0 → p.held.items ≡ [] → At name [] w p w
-at_new name p w named output right line head held = record {
+pub at_new : (name : List ℕ) (p : LineReader) (w : Option (List ℕ)) → p.lines.name.now ≡ name → p.lines.output.items ≡ [] → p.lines.is_right ≡ true → p.lines.line ≡ 0 → p.lines.head.read ≡ 0 → HasRead [] p.lines.entries → p.held.items ≡ [] → At name [] w p w
+at_new name p w named output right line head entries held = record {
   raws = [];
   held = [];
   written = [];
@@ -46,6 +52,7 @@ at_new name p w named output right line head held = record {
   is_held = held;
   one = tt;
   appends = Appends-nil w;
+  entered = λ _. ([], (refl, head), entries);
 }
 
 -- The open line
@@ -94,6 +101,7 @@ leads_held p q w bytes room one is held same = λ name read before at. record {
   is_held = held ∙ front_then p.held.items at.held bytes room at.is_held is;
   one = no_feed-append at.held bytes at.one one;
   appends = at.appends;
+  entered = subst (λ (l : LogReader). IsTrue l.is_right → (lines : List LogLine) × AreLines 1 0 at.raws lines l.head.read × HasRead lines l.entries) (sym same) at.entered;
 }
 
 -- The end of a line
@@ -111,7 +119,7 @@ line_is name read before w p ended q at e = record {
   right = λ none.
       let is = e.takes.is_right none in
       let same = whole_line p.held.items at.held at.is_held (omega (arith, is.0)) in
-      (subst (λ (r : List ℕ). length r < 4096) same is.0, subst (λ (r : List ℕ). IsRight p.lines.head.read r q.lines.head.read) same is.2);
+      (subst (λ (r : List ℕ). length r < 4096) same is.0, subst (λ (r : List ℕ). IsRight p.lines.head.read r q.lines.head.read) same (right_of (p.lines.line + 1) p.lines.head p.lines.entries p.held.items q.lines is.2));
   more = e.takes.more;
 }
 
@@ -142,6 +150,45 @@ still_right name n Old New listing output out texts listed step old e =
           step.1 (old.1 (nil_left (listing ++ output) (concat texts) all), none_listed name n texts listed (nil_right (listing ++ output) (concat texts) all))),
     )
 
+-- a line more of a log
+are_head : (n before : ℕ) (raws : List (List ℕ)) (lines : List LogLine) (mid : ℕ) (raw : List ℕ) → AreLines n before raws lines mid → mid < 6 → BeginsWith (head_word mid) raw → AreLines n before (raws ++ raw ∷ []) lines (mid + 1)
+are_head n before [] lines mid raw are few begins =
+    inl (omega (arith, are.1), subst (λ (k : ℕ). BeginsWith (head_word k) raw) are.1 begins, (are.0, ap (λ (k : ℕ). k + 1) are.1))
+are_head n before (x ∷ raws) lines mid raw (inl h) few begins = inl (h.0, h.1, are_head (n + 1) (before + 1) raws lines mid raw h.2 few begins)
+are_head n before (x ∷ raws) lines mid raw (inr b) few begins =
+    inr (b.0, (b.1.0, b.1.1, b.1.2, b.1.3, are_head (n + 1) before raws b.1.1 mid raw b.1.4 few begins))
+
+are_line : (n m before : ℕ) (raws : List (List ℕ)) (lines : List LogLine) (mid : ℕ) (raw : List ℕ) (line : Line) → AreLines n before raws lines mid → m ≡ n + length raws → 6 ≤ mid → Spells raw line
+    → AreLines n before (raws ++ raw ∷ []) (lines ++ record { number = m; line = line } ∷ []) mid
+are_line n m before [] lines mid raw line are e over spells =
+    let number : m ≡ n = omega (arith, e) in
+    inr (omega (arith, are.1), (line, [], spells, ap (λ (l : List LogLine). l ++ record { number = m; line = line } ∷ []) are.0 ∙ ap (λ (k : ℕ). record { number = k; line = line } ∷ []) number, (refl, are.1)))
+are_line n m before (x ∷ raws) lines mid raw line (inl h) e over spells = inl (h.0, h.1, are_line (n + 1) m (before + 1) raws lines mid raw line h.2 (omega (arith, e)) over spells)
+are_line n m before (x ∷ raws) lines mid raw line (inr b) e over spells =
+    inr (b.0, (b.1.0, b.1.1 ++ record { number = m; line = line } ∷ [], b.1.2, ap (λ (l : List LogLine). l ++ record { number = m; line = line } ∷ []) b.1.3, are_line (n + 1) m before raws b.1.1 mid raw line b.1.4 (omega (arith, e)) over spells))
+
+entered_line : (raws : List (List ℕ)) (lines : List LogLine) (number : ℕ) (head : Head) (entries : EntryReader) (raw : List ℕ) (new : LogReader) → AreLines 1 0 raws lines head.read → HasRead lines entries → number ≡ 1 + length raws → Enters number head entries raw new
+    → (more : List LogLine) × AreLines 1 0 (raws ++ raw ∷ []) more new.head.read × HasRead more new.entries
+entered_line raws lines number head entries raw new are has e (inl h) =
+    (lines, subst (λ (k : ℕ). AreLines 1 0 (raws ++ raw ∷ []) lines k) (sym h.2) (are_head 1 0 raws lines head.read raw are h.0 h.1), subst (λ (r : EntryReader). HasRead lines r) (sym h.3) has)
+entered_line raws lines number head entries raw new are has e (inr b) =
+    (
+      lines ++ record { number = number; line = b.1.0 } ∷ [],
+      subst (λ (k : ℕ). AreLines 1 0 (raws ++ raw ∷ []) (lines ++ record { number = number; line = b.1.0 } ∷ []) k) (sym b.2) (are_line 1 number 0 raws lines head.read raw b.1.0 are e b.0 b.1.1),
+      b.1.2 lines has,
+    )
+
+-- what was read with the open line
+at_entered : (name read : List ℕ) (before w : Option (List ℕ)) (p q : LineReader) (at : At name read before p w) (e : EndsLine p true q)
+    → IsTrue q.lines.is_right → (lines : List LogLine) × AreLines 1 0 (at.raws ++ at.held ∷ []) lines q.lines.head.read × HasRead lines q.lines.entries
+at_entered name read before w p q at e right =
+    let r = e.takes.right.0 right in
+    let is = e.takes.is_right r.1 in
+    let was = at.entered r.0 in
+    let same : p.held.items ≡ at.held = whole_line p.held.items at.held at.is_held (omega (arith, is.0)) in
+    subst (λ (raw : List ℕ). (lines : List LogLine) × AreLines 1 0 (at.raws ++ raw ∷ []) lines q.lines.head.read × HasRead lines q.lines.entries) same
+    (entered_line at.raws was.0 (p.lines.line + 1) p.lines.head p.lines.entries p.held.items q.lines was.1 was.2 (omega (arith, at.number)) is.2)
+
 pub leads_ended : (p q : LineReader) (w : Option (List ℕ)) → EndsLine p true q → Leads p w (10 ∷ []) q w
 leads_ended p q w e = λ name read before at. record {
   raws = at.raws ++ at.held ∷ [];
@@ -156,6 +203,7 @@ leads_ended p q w e = λ name read before at. record {
   is_held = e.held;
   one = tt;
   appends = at.appends;
+  entered = at_entered name read before w p q at e;
 }
 
 -- Bytes that lead from one state to the other
@@ -198,6 +246,9 @@ at_written name read before u v p q at wrote =
       is_held = wrote.held ∙ at.is_held;
       one = at.one;
       appends = Appends-trans before u v at.written p.lines.output.items at.appends wrote.appends;
+      entered = λ right.
+          let was = at.entered (subst (λ (b : Bool). IsTrue b) wrote.right right) in
+          (was.0, subst (λ (k : ℕ). AreLines 1 0 at.raws was.0 k) (sym (ap (λ (h : Head). h.read) wrote.head)) was.1, subst (λ (r : EntryReader). HasRead was.0 r) (sym wrote.entries) was.2);
     }
 
 -- The end of the input
@@ -216,11 +267,19 @@ finished_none name input before w p q none adds at =
         whole = at.whole ∙ ap (λ (t : List ℕ). joined at.raws ++ t) nil;
         one = tt;
         lists = at.lists;
-        ends = record { cuts = []; shorts = adds.0; number = p.lines.line; cut = tt; short = subst (λ (s : List ℕ). AreListed s p.lines.line adds.0) at.named adds.1.listed; is_cut = λ _. refl; is_short = λ _ e. adds.3 e; parts = refl };
+        ends = record { cuts = []; shorts = adds.0; number = p.lines.line; cut = tt; short = subst (λ (s : List ℕ). AreListed s p.lines.line adds.0) at.named adds.1.listed; is_cut = λ _. refl; is_short = λ _ e. adds.4 e; parts = refl };
         parts = ap (λ (t : List ℕ). at.written ++ t) adds.1.output ∙ sym (append_assoc at.written p.lines.output.items (concat adds.0));
       };
       right = still_right p.lines.name.now p.lines.line (IsTrue p.lines.is_right) (IsTrue q.lines.is_right) at.written p.lines.output.items q.lines.output.items adds.0 adds.1.listed adds.1.right at.right adds.1.output;
       appends = at.appends;
+      entered = λ right.
+          let r = adds.1.right.0 right in
+          let was = at.entered r.0 in
+          (
+            was.0,
+            record { raws = at.raws; heads = p.lines.head.read; whole = at.whole ∙ ap (λ (t : List ℕ). joined at.raws ++ t) nil ∙ append-nil (joined at.raws); are = was.1; head = adds.4 r.1 },
+            subst (λ (e : EntryReader). HasRead was.0 e) (sym adds.3) was.2,
+          );
     }
 
 -- a last line without a line feed is listed
@@ -257,6 +316,7 @@ finished_last name input before w p q r e adds at =
       right = still_right q.lines.name.now q.lines.line (IsTrue q.lines.is_right) (IsTrue r.lines.is_right) at.written q.lines.output.items r.lines.output.items adds.0 adds.1.listed adds.1.right
           (still_right p.lines.name.now (p.lines.line + 1) (IsTrue p.lines.is_right) (IsTrue q.lines.is_right) at.written p.lines.output.items q.lines.output.items texts e.takes.listed e.takes.right at.right e.takes.output) adds.1.output;
       appends = at.appends;
+      entered = λ right. absurd (never_right p q e (e.takes.right.0 (adds.1.right.0 right).0).1);
     }
 
 -- The whole input
@@ -287,22 +347,28 @@ at_end : (r1 r2 : Option (List ℕ)) (n : ℕ) (buf : List ℕ) → n ≡ 0 → 
 at_end r1 r2 n buf none some p = (subst (λ (k : ℕ). Consumes r1 r2 (take k buf)) none p.0, p.1 none some)
 
 pub ran_end : (name : List ℕ) (r0 r1 r2 w0 w1 w2 : Option (List ℕ)) (p h q : LineReader) (n : ℕ) (buf : List ℕ) → Ran name r0 r1 p w0 w1 → n ≡ 0 → 0 < length buf → Consumes r1 r2 (take n buf) × (n ≡ 0 → 0 < length buf → IsAtEnd r2)
-    → ((name input : List ℕ) (before w : Option (List ℕ)) → At name input before p w → Finished name input before h w) → Writes h w1 q w2 → IfSome r0 (λ input. ReadsLines name input q.lines.is_right w0 w2)
+    → ((name input : List ℕ) (before w : Option (List ℕ)) → At name input before p w → Finished name input before h w) → Writes h w1 q w2 → IfSome r0 (λ input. ReadsLines name input q.lines.is_right q.lines.entries w0 w2)
 ran_end name None r1 r2 w0 w1 w2 p h q n buf ran none some last ends wrote = tt
 ran_end name (Some x) r1 r2 w0 w1 w2 p h q n buf ran none some last ends wrote =
     let end = at_end r1 r2 n buf none some last in
     let same : x ≡ ran.read = input_is x ran.read r1 r2 ran.consumes end.0 end.1 in
     let f = ends name ran.read w0 w1 ran.at in
     let text = f.written ++ h.lines.output.items in
-    (text, subst (λ (t : List ℕ). IsRead name t text) (sym same) f.read, subst (λ (b : Bool). IsTrue b ↔ (text ≡ [])) (sym wrote.right) f.right, Appends-trans w0 w1 w2 f.written h.lines.output.items f.appends wrote.appends)
+    (text, subst (λ (t : List ℕ). IsRead name t text) (sym same) f.read, subst (λ (b : Bool). IsTrue b ↔ (text ≡ [])) (sym wrote.right) f.right, Appends-trans w0 w1 w2 f.written h.lines.output.items f.appends wrote.appends,
+      λ right.
+          let was = f.entered (subst (λ (b : Bool). IsTrue b) wrote.right right) in
+          (was.0, subst (λ (t : List ℕ). IsLog t was.0) (sym same) was.1, subst (λ (e : EntryReader). HasRead was.0 e) (sym wrote.entries) was.2))
 
 -- The log that is returned
 
-pub found_none : (name : List ℕ) (right : Bool) (r w0 w1 : Option (List ℕ)) → right ≡ false → IfSome r (λ input. ReadsLines name input right w0 w1) → IfSome r (λ input. ReadsLog name input None w0 w1)
-found_none name right None w0 w1 wrong read = tt
-found_none name right (Some input) w0 w1 wrong read =
-    (read.0, read.1, ((λ t. let e : false ≡ true = t in absurd (cc)), (λ none. let e : false ≡ true = subst (λ (b : Bool). IsTrue b) wrong (read.2.1 none) in absurd (cc))), read.3)
+pub found_none : (name : List ℕ) (right : Bool) (entries : EntryReader) (r w0 w1 : Option (List ℕ)) → right ≡ false → IfSome r (λ input. ReadsLines name input right entries w0 w1) → IfSome r (λ input. ReadsLog name input None w0 w1)
+found_none name right entries None w0 w1 wrong read = tt
+found_none name right entries (Some input) w0 w1 wrong read =
+    (read.0, read.1, ((λ t. let e : false ≡ true = t in absurd (cc)), (λ none. let e : false ≡ true = subst (λ (b : Bool). IsTrue b) wrong (read.2.1 none) in absurd (cc))), read.3, tt)
 
-pub found_some : (name : List ℕ) (right : Bool) (log : Log) (r w0 w1 : Option (List ℕ)) → right ≡ true → IfSome r (λ input. ReadsLines name input right w0 w1) → IfSome r (λ input. ReadsLog name input (Some log) w0 w1)
-found_some name right log None w0 w1 is read = tt
-found_some name right log (Some input) w0 w1 is read = (read.0, read.1, ((λ t. read.2.0 (rw is refl)), (λ none. refl)), read.3)
+pub found_some : (name : List ℕ) (right : Bool) (entries : EntryReader) (log : ReadLog) (r w0 w1 : Option (List ℕ)) → right ≡ true → log.entries ≡ entries → IfSome r (λ input. ReadsLines name input right entries w0 w1)
+    → IfSome r (λ input. ReadsLog name input (Some log) w0 w1)
+found_some name right entries log None w0 w1 is same read = tt
+found_some name right entries log (Some input) w0 w1 is same read =
+    let was = read.4 (rw is refl) in
+    (read.0, read.1, ((λ t. read.2.0 (rw is refl)), (λ none. refl)), read.3, (was.0, was.1, subst (λ (e : EntryReader). HasRead was.0 e) (sym same) was.2))

@@ -1,12 +1,14 @@
 -- What is listed of a log: a line of the output for each fault that a line of the log has.
-use Rattle.std.specs.Prelude.{◌≡◌, ℕ, zero, suc, ◌+◌, ◌<◌, ◌≤◌, ◌⊎◌, List, [], ◌∷◌, ◌++◌, ◌↔◌, length, codes, Option, IsSome}
+use Rattle.std.specs.Prelude.{◌≡◌, ℕ, zero, suc, ◌+◌, ◌<◌, ◌≤◌, ◌⊎◌, List, [], ◌∷◌, ◌++◌, ◌↔◌, length, codes, Option, IsSome, IfSome}
 use Rattle.std.specs.List.{concat, AllByRecursion}
 use Rattle.std.specs.Fmt.{decimal}
 use Rattle.std.specs.Io.KnownBytes.{Appends}
 use Rattle.uffd_log.specs.declared.line.Line.{Line}
 use Rattle.uffd_log.specs.Words.{HasNone}
 use Rattle.uffd_log.specs.Lines.{Spells}
-use Rattle.call_log.specs.declared.log.Log.{Log}
+use Rattle.call_log.specs.declared.log.ReadLog.{ReadLog}
+use Rattle.log_entries.specs.declared.log_line.LogLine.{LogLine}
+use Rattle.log_entries.specs.Readers.{HasRead}
 
 -- no byte is a line feed
 abbrev pub HasNoFeed : List ℕ → Type 0
@@ -84,6 +86,26 @@ pub record IsRead (name input text : List ℕ) : Type 0 where
   pub ends : Ends name (length raws) heads last below
   pub parts : text ≡ above ++ below
 
+-- the lines below the head, each with its number; n is the number of the first of these, of which `before` lines of the head came before it
+abbrev pub AreLines : ℕ → ℕ → List (List ℕ) → List LogLine → ℕ → Type 0
+AreLines n before [] lines after = (lines ≡ []) × (after ≡ before)
+AreLines n before (raw ∷ raws) lines after =
+    (before < 6) × BeginsWith (head_word before) raw × AreLines (n + 1) (before + 1) raws lines after
+    ⊎ (6 ≤ before) × ((line : Line) × (rest : List LogLine) × Spells raw line × (lines ≡ record { number = n; line = line } ∷ rest) × AreLines (n + 1) before raws rest after)
+
+-- the input is a log with these lines below its head
+pub record IsLog (input : List ℕ) (lines : List LogLine) : Type 0 where
+  pub raws : List (List ℕ)
+  pub heads : ℕ
+  pub whole : input ≡ joined raws
+  pub are : AreLines 1 0 raws lines heads
+  pub head : 6 ≤ heads
+
+-- the input is a log, and the entries of its lines were read
+abbrev pub ReadsEntries : List ℕ → ReadLog → Type 0
+ReadsEntries input read = (lines : List LogLine) × IsLog input lines × HasRead lines read.entries
+
 -- the whole input was read, and what is listed of it written; a log is found exactly where that is nothing
-abbrev pub ReadsLog : List ℕ → List ℕ → Option Log → Option (List ℕ) → Option (List ℕ) → Type 0
-ReadsLog name input found before after = (text : List ℕ) × IsRead name input text × (IsSome found ↔ (text ≡ [])) × Appends before after text
+abbrev pub ReadsLog : List ℕ → List ℕ → Option ReadLog → Option (List ℕ) → Option (List ℕ) → Type 0
+ReadsLog name input found before after =
+    (text : List ℕ) × IsRead name input text × (IsSome found ↔ (text ≡ [])) × Appends before after text × IfSome found (λ read. ReadsEntries input read)

@@ -1,10 +1,16 @@
 -- The parts of the reader of a log, and what each does.
-use Rattle.std.specs.Prelude.{◌≡◌, ℕ, ◌+◌, ◌<◌, ◌≤◌, ◌↔◌, IsTrue, Bool, true, List, [], ◌++◌, length, take, codes, Option}
+use Rattle.std.specs.Prelude.{◌≡◌, ℕ, ◌+◌, ◌<◌, ◌≤◌, ◌↔◌, ◌⊎◌, IsTrue, Bool, true, List, [], ◌∷◌, ◌++◌, length, take, codes, Option}
 use Rattle.std.specs.List.{concat}
 use Rattle.std.specs.Io.KnownBytes.{Appends}
+use Rattle.uffd_log.specs.declared.line.Line.{Line}
+use Rattle.uffd_log.specs.Lines.{Spells}
+use Rattle.log_entries.specs.declared.entry_reader.EntryReader.{EntryReader}
+use Rattle.log_entries.specs.declared.log_line.LogLine.{LogLine}
+use Rattle.log_entries.specs.Readers.{HasRead}
+use Rattle.call_log.specs.declared.head.Head.{Head}
 use Rattle.call_log.specs.declared.log_reader.LogReader.{LogReader}
 use Rattle.call_log.specs.declared.input.LineReader.{LineReader}
-use Rattle.call_log.specs.Listing.{HasNoFeed, AreListed, IsRight, Lists, IsRead, joined}
+use Rattle.call_log.specs.Listing.{HasNoFeed, AreListed, AreLines, BeginsWith, IsLog, Lists, IsRead, head_word, joined}
 
 -- One line
 
@@ -18,13 +24,23 @@ pub record Adds (number : ℕ) (old : LogReader) (texts : List (List ℕ)) (new 
 
 -- lines were added; where none was, this holds
 abbrev pub AddsAny : Type 0 → LogReader → LogReader → Type 0
-AddsAny Right old new = (texts : List (List ℕ)) × Adds old.line old texts new × (new.head ≡ old.head) × (texts ≡ [] → Right)
+AddsAny Right old new = (texts : List (List ℕ)) × Adds old.line old texts new × (new.head ≡ old.head) × (new.entries ≡ old.entries) × (texts ≡ [] → Right)
+
+-- the entries of a line with this number were read
+abbrev pub Reads : ℕ → Line → EntryReader → EntryReader → Type 0
+Reads number line old new = (lines : List LogLine) → HasRead lines old → HasRead (lines ++ record { number = number; line = line } ∷ []) new
+
+-- a line with this number is the next of the head, or below it one of the language, and its entries were read
+abbrev pub Enters : ℕ → Head → EntryReader → List ℕ → LogReader → Type 0
+Enters number head entries raw new =
+    (head.read < 6) × BeginsWith (head_word head.read) raw × (new.head.read ≡ head.read + 1) × (new.entries ≡ entries)
+    ⊎ (6 ≤ head.read) × ((line : Line) × Spells raw line × Reads number line entries new.entries) × (new.head.read ≡ head.read)
 
 -- a line that has the form of one was taken
 pub record Takes (old : LogReader) (raw : List ℕ) (new : LogReader) : Type 0 where
   pub texts : List (List ℕ)
   pub adds : Adds old.line old texts new
-  pub is_right : texts ≡ [] → IsRight old.head.read raw new.head.read
+  pub is_right : texts ≡ [] → Enters old.line old.head old.entries raw new
   pub more : old.head.read ≤ new.head.read
 
 -- a line was taken
@@ -36,7 +52,7 @@ pub record TakesLine (old : LogReader) (raw : List ℕ) (ended : Bool) (new : Lo
   pub name : new.name.now ≡ old.name.now
   pub line : new.line ≡ old.line + 1
   pub first : old.line ≡ 0 → raw ≡ codes "uffdlog 1"
-  pub is_right : texts ≡ [] → (length raw < 4096) × (ended ≡ true) × IsRight old.head.read raw new.head.read
+  pub is_right : texts ≡ [] → (length raw < 4096) × (ended ≡ true) × Enters (old.line + 1) old.head old.entries raw new
   pub more : old.head.read ≤ new.head.read
 
 -- All lines
@@ -54,6 +70,7 @@ pub record At (name read : List ℕ) (before : Option (List ℕ)) (reader : Line
   pub is_held : reader.held.items ≡ take 4097 held
   pub one : HasNoFeed held
   pub appends : Appends before after written
+  pub entered : IsTrue reader.lines.is_right → (lines : List LogLine) × AreLines 1 0 raws lines reader.lines.head.read × HasRead lines reader.lines.entries
 
 -- the bytes lead from one state to the other
 abbrev pub Leads : LineReader → Option (List ℕ) → List ℕ → LineReader → Option (List ℕ) → Type 0
@@ -70,6 +87,7 @@ pub record Writes (old : LineReader) (u : Option (List ℕ)) (new : LineReader) 
   pub appends : Appends u v old.lines.output.items
   pub output : new.lines.output.items ≡ []
   pub head : new.lines.head ≡ old.lines.head
+  pub entries : new.lines.entries ≡ old.lines.entries
   pub line : new.lines.line ≡ old.lines.line
   pub name : new.lines.name.now ≡ old.lines.name.now
   pub right : new.lines.is_right ≡ old.lines.is_right
@@ -81,7 +99,9 @@ pub record Finished (name input : List ℕ) (before : Option (List ℕ)) (reader
   pub read : IsRead name input (written ++ reader.lines.output.items)
   pub right : IsTrue reader.lines.is_right ↔ (written ++ reader.lines.output.items ≡ [])
   pub appends : Appends before after written
+  pub entered : IsTrue reader.lines.is_right → (lines : List LogLine) × IsLog input lines × HasRead lines reader.lines.entries
 
--- the whole input was read, and its listing written; right says whether that is empty
-abbrev pub ReadsLines : List ℕ → List ℕ → Bool → Option (List ℕ) → Option (List ℕ) → Type 0
-ReadsLines name input right before after = (text : List ℕ) × IsRead name input text × (IsTrue right ↔ (text ≡ [])) × Appends before after text
+-- the whole input was read, and its listing written; right says whether that is empty, and these are the entries then
+abbrev pub ReadsLines : List ℕ → List ℕ → Bool → EntryReader → Option (List ℕ) → Option (List ℕ) → Type 0
+ReadsLines name input right entries before after =
+    (text : List ℕ) × IsRead name input text × (IsTrue right ↔ (text ≡ [])) × Appends before after text × (IsTrue right → (lines : List LogLine) × IsLog input lines × HasRead lines entries)

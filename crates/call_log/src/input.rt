@@ -7,7 +7,7 @@ ghost use Rattle.call_log.specs.Listing.{HasNoFeed, ReadsLog};
 ghost use Rattle.call_log.specs.Reading.{At, EndsLine, Finished, Leads, ReadsLines, Writes};
 
 use crate::fault::LogFault;
-use crate::log::Log;
+use crate::log::ReadLog;
 use crate::log_reader::{LONGEST_LINE, LogReader};
 use crate::split::split_line;
 use std::alloc::Global;
@@ -101,7 +101,8 @@ fn read_lines<'a, R: Read, W: Write>(
     name: &'a str,
 ) -> Result<LogReader<'a>, LogFault>
     ensures { IfOk result (λ lines. IfSome (R.remaining input.old) (λ bytes.
-        ReadsLines name.now bytes lines.is_right (W.contents writer.old) (W.contents writer.new))) }
+        ReadsLines name.now bytes lines.is_right lines.entries (W.contents writer.old)
+        (W.contents writer.new))) }
 {
     let mut reader = LineReader::new(alloc, name);
     let mut buffer = [0u8; PIECE];
@@ -132,7 +133,7 @@ pub fn read_log<R: Read, W: Write>(
     input: &mut R,
     writer: &mut W,
     name: &str,
-) -> Result<Option<Log>, LogFault>
+) -> Result<Option<ReadLog>, LogFault>
     ensures { IfOk result (λ found. IfSome (R.remaining input.old) (λ bytes.
         ReadsLog name.now bytes found (W.contents writer.old) (W.contents writer.new))) }
 {

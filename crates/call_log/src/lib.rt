@@ -25,6 +25,6 @@ mod wrong;
 
 pub use crate::fault::LogFault;
 pub use crate::input::{read_log, write_out};
-pub use crate::log::{Log, PageRun};
+pub use crate::log::{Log, PageRun, ReadLog};
 pub use crate::log_call::{Kind, LogCall};
 pub use crate::pages::{PageSize, Range};

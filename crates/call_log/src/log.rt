@@ -3,6 +3,7 @@
 use crate::log_call::LogCall;
 use crate::pages::{MOST_PAGES, PageSize, Range};
 use indexmap::{IndexMap, IndexSet};
+use log_entries::EntryReader;
 use mig_base::NoMemory;
 use std::alloc::Global;
 use uffd_log::{Answer, Call, Message};
@@ -34,6 +35,13 @@ pub struct Log {
     pub last_line: u32,
     /// The line of the head that begins with `command`.
     pub command: Vec<u8>,
+}
+
+/// A log that was read: its calls, and the entries that its lines are.
+#[derive(Drop)]
+pub struct ReadLog {
+    pub log: Log,
+    pub entries: EntryReader,
 }
 
 /// A range of registered bytes of an address space.

@@ -1,20 +1,22 @@
 //! The lines of a log: its head, the lines of the language below it, and the listing of those that are wrong.
 
-ghost use Rattle.std.specs.Prelude.{◌≡◌, ◌<◌, ◌≤◌, ℕ, List, [], ◌∷◌, OnOk, IfNone, IsNone, IsTrue, true, length, codes};
+ghost use Rattle.std.specs.Prelude.{◌≡◌, ◌<◌, ◌≤◌, ℕ, List, [], ◌∷◌, OnOk, IfNone, IfSome, IsNone, IsTrue, true, length, codes};
 ghost use Rattle.call_log.specs.Listing.{IsListed, BeginsWith, head_word};
-ghost use Rattle.call_log.specs.Reading.{Adds, AddsAny, Takes, TakesLine};
+ghost use Rattle.call_log.specs.Reading.{Adds, AddsAny, Reads, Takes, TakesLine};
+ghost use Rattle.log_entries.specs.Readers.{HasRead};
 
 use crate::fault::LogFault;
 use crate::head::Head;
-use crate::log::Log;
+use crate::log::ReadLog;
 use crate::pages::PageSize;
 use crate::reader::CallReader;
 use crate::split::first_line;
 use crate::strace::is_of_strace;
 use crate::wrong::Wrong;
+use log_entries::{EntryReader, LogLine};
 use mig_base::NoMemory;
 use std::alloc::Global;
-use uffd_log::Token;
+use uffd_log::{Line, Token};
 use uffd_log::parse::parse;
 
 /// The most bytes of a line, with its line feed.
@@ -28,6 +30,7 @@ const FIRST_LINE: &[u8] = b"uffdlog 1";
 pub(crate) struct LogReader<'a> {
     name: &'a str,
     calls: CallReader,
+    pub(crate) entries: EntryReader,
     /// The listing of wrong lines that is not written yet.
     pub(crate) output: Vec<u8>,
     /// Whether no line was wrong.
@@ -106,10 +109,12 @@ impl<'a> LogReader<'a> {
         ensures right { result.is_right ≡ true }
         ensures line { result.line ≡ 0 }
         ensures head { result.head.read ≡ 0 }
+        ensures entries { HasRead [] result.entries }
     {
         LogReader {
             name,
             calls: CallReader::new(alloc),
+            entries: EntryReader::new(alloc),
             output: Vec::new(alloc),
             is_right: true,
             line: 0,
@@ -123,7 +128,8 @@ impl<'a> LogReader<'a> {
     /// Lists the line that was read last.
     fn list(&mut self, wrong: &Wrong) -> Result<(), NoMemory>
         ensures { OnOk result ((text : List ℕ) ×
-            Adds self.old.line self.old (text ∷ []) self.new × (self.new.head ≡ self.old.head)) }
+            Adds self.old.line self.old (text ∷ []) self.new × (self.new.head ≡ self.old.head)
+            × (self.new.entries ≡ self.old.entries)) }
     {
         print_listed(
             &mut self.listed,
@@ -204,14 +210,34 @@ impl<'a> LogReader<'a> {
         ensures { OnOk result (Takes self.old bytes.now self.new) }
     {
         let line = parse(&mut self.tokens, bytes)?;
+        self.enter(line)?;
         let wrong = self.calls.take_line(self.line, line, self.head.one_clock)?;
         self.list_any(wrong)
     }
 
+    /// Takes the entries of a line, if it is one of the language.
+    fn enter(&mut self, line: Option<Line>) -> Result<(), NoMemory>
+        ensures read { OnOk result (IfSome line (λ one.
+            Reads self.old.line one self.old.entries self.new.entries)) }
+        ensures same { self.new ≡ record self.old { entries = self.new.entries } }
+    {
+        let Some(line) = line else {
+            return Ok(());
+        };
+        let opens = self.calls.is_new(&line);
+        let number = u64::from(self.line);
+        self.entries.take(LogLine { number, line }, opens)
+    }
+
     /// The log that was read.
-    pub(crate) fn into_log(self) -> Log {
-        let LogReader { calls, .. } = self;
-        calls.into_log()
+    pub(crate) fn into_log(self) -> ReadLog
+        ensures { result.entries ≡ self.entry.entries }
+    {
+        let LogReader { calls, entries, .. } = self;
+        ReadLog {
+            log: calls.into_log(),
+            entries,
+        }
     }
 
     /// After the last line: a log without its whole head is wrong.

@@ -69,6 +69,14 @@ impl CallReader {
         }
     }
 
+    /// Whether a line is of a descriptor that was found, of an object that no line above names.
+    pub(crate) fn is_new(&self, line: &Line) -> bool {
+        match line {
+            Line::Found { on, .. } => !self.processes.is_known(on.object),
+            _ => false,
+        }
+    }
+
     /// The log that was read.
     pub(crate) fn into_log(self) -> Log {
         let CallReader { log, .. } = self;

@@ -47,6 +47,7 @@ frames_fault_status frames.NoMemory = 4
 
 -- the status of a log that was judged
 abbrev pub verdict_status : Verdict → ℕ
+verdict_status verdict.Certified = 0
 verdict_status verdict.Clean = 0
 verdict_status verdict.Found = 1
 verdict_status verdict.Wrong = 2

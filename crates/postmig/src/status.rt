@@ -53,7 +53,7 @@ pub(crate) fn audit_status_of(outcome: Result<Verdict, LogFault>) -> u8
     ensures fault { IfErr outcome (λ fault. result ≡ audit_fault_status fault) }
 {
     match outcome {
-        Ok(Verdict::Clean) => ALL_DONE,
+        Ok(Verdict::Certified | Verdict::Clean) => ALL_DONE,
         Ok(Verdict::Found) => BAD_COMMAND_OR_SCRIPT,
         Ok(Verdict::Wrong) => READ_OR_WRITE_FAULT,
         Ok(Verdict::Impossible) => NO_FLAT_RUN,

@@ -1,4 +1,11 @@
+use Rattle.audit.proofs.Verdicts.{certified_fits, certified_lines}
 use Rattle.audit.proofs.audit.report_of.Goals as goal
 
 pub returns : goal.returns
-returns c = record { number = _; prints = rw c.deref.ensures.value at c.in_ok-findings.ensures; is = c.in_ok-summary.ensures; fits = rw c.deref-3.ensures.value at c.verdict_of-verdict.ensures }
+returns c = record {
+  number = _;
+  prints = rw c.deref.ensures.value at c.in_ok-findings.ensures;
+  is = c.in_ok-summary.ensures;
+  fits = certified_fits _ _ _ _ c.certified_verdict-verdict.ensures (rw c.deref-2.ensures.value at c.verdict_of-judgement.ensures.verdict);
+  certified = certified_lines _ _ _ _ c.certified_verdict-verdict.ensures c.verdict_of-judgement.ensures.plain c.in_ok-certificate.ensures;
+}

@@ -7,4 +7,5 @@ returns c = (
   c.print_listed.new.listed.items,
   adds_one c.args.self.now _ c.print_listed.new.listed.items c.in_ok-print_listed.ensures (rw c.deref.ensures.value at c.in_ok-extend_from_slice.ensures.items) refl refl refl,
   refl,
+  refl,
 )

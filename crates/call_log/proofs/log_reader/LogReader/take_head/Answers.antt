@@ -6,5 +6,5 @@ use Rattle.call_log.proofs.log_reader.LogReader.take_head.Goals as goal
 pub returns : goal.returns
 returns c =
     on_ok_weaker c.list_any.result
-    (λ a. takes_head c.args.self.now _ c.list_any.new.self c.args.bytes.now _ (record { line = refl; name = refl; output = refl; right = refl }) c.in_ok-wrong.ensures c.requires.left c.requires.word a)
+    (λ a. takes_head c.args.self.now _ c.list_any.new.self c.args.bytes.now _ (record { line = refl; name = refl; output = refl; right = refl }) refl c.in_ok-wrong.ensures c.requires.left c.requires.word a)
     c.list_any.ensures

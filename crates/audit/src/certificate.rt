@@ -1,0 +1,188 @@
+//! Certificates: a run that was found is handed to the checker of `kernel_rules`, which is proved.
+
+ghost use Rattle.std.specs.Prelude.{◌≡◌, true, map, List, IfNone, IfOk, IfSome};
+ghost use Rattle.kernel_rules.specs.Runs.{event_of};
+ghost use Rattle.log_entries.specs.declared.log_line.LogLine.{LogLine};
+ghost use Rattle.log_entries.specs.Readers.{HasRead};
+ghost use Rattle.audit.specs.Certificates.{IsCertificate, MayBe};
+
+use crate::judging::Judged;
+use crate::moves::moves_of;
+use call_log::log::Log;
+use call_log::log_call::LogCall;
+use kernel_rules::certify::certify;
+use kernel_rules::{Entry, Move};
+use log_entries::EntryReader;
+use mig_base::{NoMemory, PAGE_SIZE};
+use std::alloc::Global;
+use std::fmt;
+use uffd_log::{Answer, Call};
+
+/// What the kernel has at the end of a run.
+#[derive(Clone, Copy, PartialEq, Eq)]
+pub(crate) struct Totals {
+    /// How many pages are owed.
+    pub(crate) owed: usize,
+    /// How many calls stopped at a page that the log had put.
+    pub(crate) twice: usize,
+}
+
+/// Whether a run is certified.
+#[derive(Clone, Copy)]
+pub(crate) enum Certificate {
+    /// The checker took the run.
+    Certified(Totals),
+    Missing(Missing),
+}
+
+/// Why a run is not certified.
+#[derive(Clone, Copy)]
+pub(crate) enum Missing {
+    /// No run was found.
+    NoRun,
+    /// Lines are missing in the log.
+    Lost,
+    /// Pages are of another size than the rules'.
+    PageSize(u64),
+    /// The call of this line is not followed.
+    Call { line: u32, word: &'static str },
+    /// A map call has something to tell an object.
+    Told,
+    /// The checker takes no such run.
+    Refused,
+    /// The checker's kernel has other findings.
+    Differs,
+}
+
+impl fmt::Display for Missing {
+    fn fmt<W: fmt::Write>(&self, f: &mut fmt::Formatter<W>) -> fmt::Result {
+        match *self {
+            Missing::NoRun => write!(f, "no run was found"),
+            Missing::Lost => write!(f, "lines of the log were lost"),
+            Missing::PageSize(size) => write!(f, "pages of {size} bytes are not followed"),
+            Missing::Call { line, word } => write!(f, "line {line}: {word} is not followed"),
+            Missing::Told => write!(f, "a map call that tells an object is not followed"),
+            Missing::Refused => write!(f, "the checker does not follow the run"),
+            Missing::Differs => write!(f, "the checker finds other pages owed or put twice"),
+        }
+    }
+}
+
+/// Whether the checker follows a call, as far as the call alone shows.
+fn is_followed(call: &LogCall) -> bool {
+    if call.answer == Some(Answer::Interrupted) {
+        return true;
+    }
+    match call.call {
+        Call::Mremap { .. } => call.answer.is_none(),
+        Call::Api { features, .. } => features & 2 == 0,
+        _ => call.answer.is_none() || call.has_effect(),
+    }
+}
+
+/// The first call that is not followed.
+fn not_followed(log: &Log) -> Option<Missing> {
+    for call in &log.calls {
+        if !is_followed(call) {
+            return Some(Missing::Call {
+                line: call.begin,
+                word: call.word(),
+            });
+        }
+    }
+    None
+}
+
+/// Why a run cannot be certified, as far as the log alone shows.
+fn missing_of(judged: &Judged, entries: &EntryReader) -> Option<Missing>
+    ensures { IfNone result (entries.now.whole ≡ true) }
+{
+    if !judged.has_run() {
+        return Some(Missing::NoRun);
+    }
+    if !entries.whole {
+        return Some(Missing::Lost);
+    }
+    let size = judged.log.size.0;
+    if size != PAGE_SIZE {
+        return Some(Missing::PageSize(size));
+    }
+    not_followed(&judged.log)
+}
+
+/// Puts in what no line of a call says.
+fn settle(log: &Log, entries: &mut EntryReader)
+    ensures whole { entries.new.whole ≡ entries.old.whole }
+    ensures read { (lines : List LogLine) → HasRead lines entries.old → HasRead lines entries.new }
+{
+    let mut place = 0u32;
+    for at in 0..entries.entries.len() {
+        let Some(key) = entries.key_of_begin(at) else {
+            continue;
+        };
+        let Some(call) = log.call(place) else {
+            return;
+        };
+        if u64::from(call.begin) == key {
+            entries.settle(at, u64::from(call.space), call.last);
+            place = place.saturating_add(1);
+        }
+    }
+}
+
+/// What the search found.
+fn totals_of(judged: &Judged) -> Totals {
+    let mut owed = 0u64;
+    for range in &judged.kernel.owed {
+        owed = owed.saturating_add(range.range.count);
+    }
+    let mut twice = 0usize;
+    for there in &judged.kernel.there {
+        if there.put {
+            twice = twice.saturating_add(1);
+        }
+    }
+    Totals {
+        owed: owed as usize,
+        twice,
+    }
+}
+
+/// Has a run checked, and the kernel at its end judged as the log ends.
+fn check(alloc: Global, entries: &[Entry], moves: &[Move]) -> Result<Option<Totals>, NoMemory>
+    ensures { IfOk result (λ found. IfSome found (MayBe (map event_of entries.now))) }
+{
+    let Some(mut kernel) = certify(alloc, entries, moves)? else {
+        return Ok(None);
+    };
+    kernel.finish()?;
+    Ok(Some(Totals {
+        owed: kernel.owed.len(),
+        twice: kernel.twice.len(),
+    }))
+}
+
+/// Has the run that was found checked.
+pub(crate) fn certificate_of(
+    alloc: Global,
+    judged: Judged,
+    entries: EntryReader,
+) -> Result<Certificate, NoMemory>
+    ensures { IfOk result (IsCertificate entries) }
+{
+    if let Some(missing) = missing_of(&judged, &entries) {
+        return Ok(Certificate::Missing(missing));
+    }
+    let mut entries = entries;
+    settle(&judged.log, &mut entries);
+    let Some(moves) = moves_of(alloc, &judged, &entries.entries)? else {
+        return Ok(Certificate::Missing(Missing::Told));
+    };
+    let wanted = totals_of(&judged);
+    drop(judged);
+    match check(alloc, &entries.entries, &moves)? {
+        Some(totals) if totals == wanted => Ok(Certificate::Certified(totals)),
+        Some(_) => Ok(Certificate::Missing(Missing::Differs)),
+        None => Ok(Certificate::Missing(Missing::Refused)),
+    }
+}

@@ -1,0 +1,256 @@
+-- What a reader of entries has read after one line more.
+use Rattle.std.proofs.Common.{◌≡◌, ℕ, Bool, true, false, List, [], ◌∷◌, ◌++◌, refl, sym, ap, subst, ◌∙◌, append-nil, append_assoc, inl, inr, zero, suc, Some, ◌<◌, length, get_or, arith}
+use Rattle.std.proofs.Math.ListN.{set}
+use Rattle.std.proofs.lemmas.List.{map-append}
+use Rattle.std.specs.Prelude.{if◌then◌else◌, IsTrue, map, not, slice_get}
+use Rattle.uffd_log.specs.declared.call.Call.{Call}
+use Rattle.uffd_log.specs.declared.call.Call.TheVariants as call
+use Rattle.uffd_log.specs.declared.call.Descriptor.{Descriptor}
+use Rattle.uffd_log.specs.declared.line.Answer.{Answer}
+use Rattle.uffd_log.specs.declared.line.Answer.TheVariants as answer
+use Rattle.uffd_log.specs.declared.line.Line.{Line}
+use Rattle.uffd_log.specs.declared.line.Line.TheVariants as line
+use Rattle.uffd_log.specs.declared.line.Stamp.{Stamp}
+use Rattle.kernel_rules.specs.declared.run.Ending.{Ending}
+use Rattle.kernel_rules.specs.declared.run.Entry.{Entry}
+use Rattle.kernel_rules.specs.declared.run.Entry.TheVariants as entry
+use Rattle.kernel_rules.specs.declared.run.Made.{Made}
+use Rattle.mig_base.specs.Tests.{is_empty}
+use Rattle.kernel_rules.specs.Runs.{Event, Outcome, begins, ends, event_of, outcome_of}
+use Rattle.uffd_log.specs.declared.call.Message.{Message}
+use Rattle.kernel_rules.specs.declared.run.Run.{Run}
+use Rattle.log_entries.specs.declared.log_line.LogLine.{LogLine}
+use Rattle.log_entries.specs.declared.entry_reader.EntryReader.{EntryReader}
+use Rattle.log_entries.specs.Events.{is_of, is_read_line, after_some, with_line, lines_of, outcome_from, said, said_of, made_by, opening, AreOwn, AreEvents}
+use Rattle.log_entries.specs.Readers.{others, own, onto, Has, HasRead}
+use Rattle.log_entries.proofs.Calls.{own_begun, own_others, own_push, same_call}
+
+onto_push : (lines above : List LogLine) (one : LogLine) → onto (lines ++ one ∷ []) above ≡ one ∷ onto lines above
+onto_push [] above one = refl
+onto_push (x ∷ lines) above one = onto_push lines (x ∷ above) one
+
+events_push : (above lines : List LogLine) (one : LogLine) (events own : List Event) → AreEvents above lines events → AreOwn (onto lines above) one.number one.line own → AreEvents above (lines ++ one ∷ []) (events ++ own)
+events_push above [] one events own e o = (own, [], o, ap (λ (l : List Event). l ++ own) e ∙ sym (append-nil own), refl)
+events_push above (x ∷ lines) one events own e o =
+    (e.0, e.1 ++ own, e.2, ap (λ (l : List Event). l ++ own) e.3 ∙ append_assoc e.0 e.1 own, events_push (x ∷ above) lines one e.1 own e.4 o)
+
+-- a line more, with its events
+pub has_push : (lines kept after : List LogLine) (entries all : List Entry) (one : LogLine) (events : List Event) → Has lines entries kept → map said_of (map event_of all) ≡ map said_of (map event_of entries) ++ events
+    → AreOwn (onto lines []) one.number one.line events → ((pid n : ℕ) → own pid n after ≡ (if is_of pid n one.line then with_line one one.line (own pid n kept) else own pid n kept)) → Has (lines ++ one ∷ []) all after
+has_push lines kept after entries all one events has e o next = record {
+  events = subst (λ (l : List Event). AreEvents [] (lines ++ one ∷ []) l) (sym e) (events_push [] lines one (map said_of (map event_of entries)) events has.events o);
+  calls = λ pid n.
+      next pid n ∙ ap (λ (l : List LogLine). if is_of pid n one.line then with_line one one.line l else l) (has.calls pid n) ∙ ap (λ (l : List LogLine). lines_of l pid n) (sym (onto_push lines [] one));
+}
+
+pub events_more : (entries : List Entry) (entry : Entry) → map said_of (map event_of (entries ++ entry ∷ [])) ≡ map said_of (map event_of entries) ++ said_of (event_of entry) ∷ []
+events_more entries entry = ap (map said_of) (map-append event_of entries (entry ∷ [])) ∙ map-append said_of (map event_of entries) (event_of entry ∷ [])
+
+-- A call begins
+
+said_line : (one : LogLine) (l : Line) (lines after : List LogLine) → with_line one l lines ≡ after → (l2 : Line) → l2 ≡ l → with_line one l2 lines ≡ after
+said_line one l lines after e l2 is = ap (λ (k : Line). with_line one k lines) is ∙ e
+
+pub begun : (lines : List LogLine) (old new : EntryReader) (one : LogLine) (stamp : Stamp) (n : ℕ) (c : Call) → one.line ≡ line.Begin stamp n c → new.whole ≡ old.whole → new.kept.items ≡ others stamp.pid n old.kept.items ++ one ∷ []
+    → new.entries.items ≡ old.entries.items ++ entry.Begins (made_by one.number stamp c) ∷ [] → HasRead lines old → HasRead (lines ++ one ∷ []) new
+begun lines old new one stamp n c is whole kept entries has = λ w.
+    let h = has (subst (λ (b : Bool). IsTrue b) whole w) in
+    let own_events : List Event = begins (said (made_by one.number stamp c)) ∷ [] in
+    has_push lines old.kept.items new.kept.items old.entries.items new.entries.items one own_events h
+    (ap (λ (l : List Entry). map said_of (map event_of l)) entries ∙ events_more old.entries.items (entry.Begins (made_by one.number stamp c)))
+    (let P : Line → Type 0 = λ l. AreOwn (onto lines []) one.number l own_events in subst P (sym is) refl)
+    (λ pid m.
+    ap (λ (l : List LogLine). own pid m l) kept ∙ own_begun pid m stamp.pid n old.kept.items one (ap (λ (l : Line). is_of pid m l) is)
+    ∙ ap (λ (l : List LogLine). if is_of pid m one.line then l else own pid m old.kept.items) (sym (said_line one (line.Begin stamp n c) (own pid m old.kept.items) (one ∷ []) refl one.line is)))
+
+-- A call ends
+
+pub first_rest : (xs : List LogLine) (x : LogLine) → Some x ≡ slice_get xs 0 → (rest : List LogLine) × (xs ≡ x ∷ rest)
+first_rest [] x e = absurd (cc)
+first_rest (y ∷ ys) x e = let same : y ≡ x = cc in (ys, ap (λ (k : LogLine). k ∷ ys) same)
+
+pub ended : (lines : List LogLine) (old new : EntryReader) (one first : LogLine) (rest : List LogLine) (stamp : Stamp) (n : ℕ) (a : Answer) (key : ℕ) (ending : Ending) → one.line ≡ line.End stamp n a → new.whole ≡ old.whole
+    → own stamp.pid n old.kept.items ≡ first ∷ rest → key ≡ first.number → outcome_of ending ≡ outcome_from (first ∷ rest) a → new.kept.items ≡ others stamp.pid n old.kept.items
+    → new.entries.items ≡ old.entries.items ++ entry.Ends key ending ∷ [] → HasRead lines old → HasRead (lines ++ one ∷ []) new
+ended lines old new one first rest stamp n a key ending is whole found named out kept entries has = λ w.
+    let h = has (subst (λ (b : Bool). IsTrue b) whole w) in
+    let own_events : List Event = ends key (outcome_of ending) ∷ [] in
+    has_push lines old.kept.items new.kept.items old.entries.items new.entries.items one own_events h
+    (ap (λ (l : List Entry). map said_of (map event_of l)) entries ∙ events_more old.entries.items (entry.Ends key ending))
+    (let P : Line → Type 0 = λ l. AreOwn (onto lines []) one.number l own_events in
+    subst P (sym is) (first, rest, sym (h.calls stamp.pid n) ∙ found, ap (λ (k : ℕ). ends k (outcome_of ending) ∷ []) named ∙ ap (λ (o : Outcome). ends first.number o ∷ []) out))
+    (λ pid m.
+    ap (λ (l : List LogLine). own pid m l) kept ∙ own_others pid m stamp.pid n old.kept.items
+    ∙ ap (λ (b : Bool). if b then [] else own pid m old.kept.items) (sym (ap (λ (l : Line). is_of pid m l) is))
+    ∙ ap (λ (l : List LogLine). if is_of pid m one.line then l else own pid m old.kept.items) (sym (said_line one (line.End stamp n a) (own pid m old.kept.items) [] refl one.line is)))
+
+pub lost : (lines : List LogLine) (old new : EntryReader) (one : LogLine) → new.whole ≡ false → HasRead lines old → HasRead (lines ++ one ∷ []) new
+lost lines old new one none has = λ w. let e : false ≡ true = subst (λ (b : Bool). IsTrue b) none w in absurd (cc)
+
+-- A line of a call that is under way
+
+read_line : (one : LogLine) (l : Line) (lines : List LogLine) → is_read_line l ≡ true → with_line one l lines ≡ after_some lines one
+read_line one (line.Begin stamp k c) lines e = absurd (cc)
+read_line one (line.End stamp k a) lines e = absurd (cc)
+read_line one (line.Read stamp k message) lines e = refl
+read_line one (line.Have stamp k start len bits) lines e = refl
+read_line one (line.Found stamp on) lines e = absurd (cc)
+read_line one (line.Dropped stamp on) lines e = absurd (cc)
+read_line one (line.Started stamp parent) lines e = absurd (cc)
+read_line one (line.Forked stamp parent) lines e = absurd (cc)
+read_line one (line.Exit stamp) lines e = absurd (cc)
+read_line one (line.Lost count) lines e = absurd (cc)
+
+no_events : (above : List LogLine) (number : ℕ) (l : Line) → is_read_line l ≡ true → AreOwn above number l []
+no_events above number (line.Begin stamp k c) e = absurd (cc)
+no_events above number (line.End stamp k a) e = absurd (cc)
+no_events above number (line.Read stamp k message) e = refl
+no_events above number (line.Have stamp k start len bits) e = refl
+no_events above number (line.Found stamp on) e = absurd (cc)
+no_events above number (line.Dropped stamp on) e = absurd (cc)
+no_events above number (line.Started stamp parent) e = absurd (cc)
+no_events above number (line.Forked stamp parent) e = absurd (cc)
+no_events above number (line.Exit stamp) e = absurd (cc)
+no_events above number (line.Lost count) e = absurd (cc)
+
+not_empty : (lines : List LogLine) (one : LogLine) → not (is_empty lines) ≡ true → after_some lines one ≡ lines ++ one ∷ []
+not_empty [] one e = absurd (cc)
+not_empty (x ∷ lines) one e = refl
+
+empty : (lines : List LogLine) (one : LogLine) → not (is_empty lines) ≡ false → after_some lines one ≡ lines
+empty [] one e = refl
+empty (x ∷ lines) one e = absurd (cc)
+
+same_own : (pid m p n : ℕ) (l : Line) (kept : List LogLine) → is_of pid m l ≡ true → is_of p n l ≡ true → own p n kept ≡ own pid m kept
+same_own pid m p n l kept e f =
+    let s = same_call pid m p n l e f in
+    ap (λ (k : ℕ). own k n kept) s.0 ∙ ap (λ (k : ℕ). own pid k kept) s.1
+
+unread : (pid m p n : ℕ) (kept : List LogLine) (one : LogLine) → is_of p n one.line ≡ true → is_read_line one.line ≡ true → not (is_empty (own p n kept)) ≡ false
+    → own pid m kept ≡ (if is_of pid m one.line then with_line one one.line (own pid m kept) else own pid m kept)
+unread pid m p n kept one of kind none =
+    elim (is_of pid m one.line) as (λ b. is_of pid m one.line ≡ b → own pid m kept ≡ (if b then with_line one one.line (own pid m kept) else own pid m kept)) [
+      | true ↦ λ e.
+          let Q : List LogLine → Type 0 = λ l. not (is_empty l) ≡ false in
+          sym (read_line one one.line (own pid m kept) kind ∙ empty (own pid m kept) one (subst Q (same_own pid m p n one.line kept e of) none))
+      | false ↦ λ e. refl
+    ] refl
+
+added : (pid m p n : ℕ) (kept : List LogLine) (one : LogLine) → is_of p n one.line ≡ true → is_read_line one.line ≡ true → not (is_empty (own p n kept)) ≡ true
+    → own pid m (kept ++ one ∷ []) ≡ (if is_of pid m one.line then with_line one one.line (own pid m kept) else own pid m kept)
+added pid m p n kept one of kind some =
+    own_push pid m kept one ∙ (
+    elim (is_of pid m one.line) as (λ b. is_of pid m one.line ≡ b → own pid m kept ++ (if b then one ∷ [] else []) ≡ (if b then with_line one one.line (own pid m kept) else own pid m kept)) [
+      | true ↦ λ e.
+          let Q : List LogLine → Type 0 = λ l. not (is_empty l) ≡ true in
+          sym (read_line one one.line (own pid m kept) kind ∙ not_empty (own pid m kept) one (subst Q (same_own pid m p n one.line kept e of) some))
+      | false ↦ λ e. append-nil (own pid m kept)
+    ] refl
+    )
+
+pub read_more : (lines : List LogLine) (old new : EntryReader) (one : LogLine) (p n : ℕ) (some : Bool) → is_of p n one.line ≡ true → is_read_line one.line ≡ true → some ≡ not (is_empty (own p n old.kept.items)) → some ≡ true → new.whole ≡ old.whole
+    → new.entries.items ≡ old.entries.items → new.kept.items ≡ old.kept.items ++ one ∷ [] → HasRead lines old → HasRead (lines ++ one ∷ []) new
+read_more lines old new one p n some of kind test is whole entries kept has = λ w.
+    has_push lines old.kept.items new.kept.items old.entries.items new.entries.items one [] (has (subst (λ (b : Bool). IsTrue b) whole w))
+    (ap (λ (l : List Entry). map said_of (map event_of l)) entries ∙ sym (append-nil (map said_of (map event_of old.entries.items)))) (no_events (onto lines []) one.number one.line kind)
+    (λ pid m. ap (λ (l : List LogLine). own pid m l) kept ∙ added pid m p n old.kept.items one of kind (sym test ∙ is))
+
+pub read_none : (lines : List LogLine) (old new : EntryReader) (one : LogLine) (p n : ℕ) (some : Bool) → is_of p n one.line ≡ true → is_read_line one.line ≡ true → some ≡ not (is_empty (own p n old.kept.items)) → some ≡ false → new ≡ old
+    → HasRead lines old → HasRead (lines ++ one ∷ []) new
+read_none lines old new one p n some of kind test is same has = subst (λ (r : EntryReader). HasRead (lines ++ one ∷ []) r) (sym same) (λ w.
+    has_push lines old.kept.items old.kept.items old.entries.items old.entries.items one [] (has w) (sym (append-nil (map said_of (map event_of old.entries.items)))) (no_events (onto lines []) one.number one.line kind)
+    (λ pid m. unread pid m p n old.kept.items one of kind (sym test ∙ is)))
+
+-- A line of no call
+
+pub passed : (lines : List LogLine) (old new : EntryReader) (one : LogLine) (events : List Event) → ((pid n : ℕ) → is_of pid n one.line ≡ false) → AreOwn (onto lines []) one.number one.line events → new.whole ≡ old.whole
+    → map said_of (map event_of new.entries.items) ≡ map said_of (map event_of old.entries.items) ++ events → new.kept.items ≡ old.kept.items → HasRead lines old → HasRead (lines ++ one ∷ []) new
+passed lines old new one events of o whole entries kept has = λ w.
+    has_push lines old.kept.items new.kept.items old.entries.items new.entries.items one events (has (subst (λ (b : Bool). IsTrue b) whole w)) entries o
+    (λ pid m.
+    ap (λ (l : List LogLine). own pid m l) kept ∙ ap (λ (b : Bool). if b then with_line one one.line (own pid m old.kept.items) else own pid m old.kept.items) (sym (of pid m)))
+
+-- An object is found
+
+pub outcome_is : (a : Answer) (ending : Ending) → ending.answer ≡ a → ending.messages.items ≡ [] → ending.runs.items ≡ [] → outcome_of ending ≡ record { answer = a; messages = []; runs = [] }
+outcome_is a ending e m r =
+    let mk : Answer → List Message → List Run → Outcome = λ x l k. record { answer = x; messages = l; runs = k } in
+    ap (λ (x : Answer). mk x ending.messages.items ending.runs.items) e ∙ ap (λ (l : List Message). mk a l ending.runs.items) m ∙ ap (λ (k : List Run). mk a [] k) r
+
+pub found_old : (lines : List LogLine) (old new : EntryReader) (one : LogLine) (stamp : Stamp) (on : Descriptor) → one.line ≡ line.Found stamp on → new ≡ old → HasRead lines old → HasRead (lines ++ one ∷ []) new
+found_old lines old new one stamp on is same has =
+    passed lines old new one [] (λ pid n. ap (λ (l : Line). is_of pid n l) is) (let P : Line → Type 0 = λ l. AreOwn (onto lines []) one.number l [] in subst P (sym is) (inl refl)) (ap (λ (r : EntryReader). r.whole) same)
+    (ap (λ (r : EntryReader). map said_of (map event_of r.entries.items)) same ∙ sym (append-nil (map said_of (map event_of old.entries.items)))) (ap (λ (r : EntryReader). r.kept.items) same) has
+
+pub found_new : (lines : List LogLine) (old mid new : EntryReader) (one : LogLine) (stamp : Stamp) (on : Descriptor) (made : Made) (ending : Ending) → one.line ≡ line.Found stamp on → made ≡ made_by one.number stamp (call.Open false 2048)
+    → outcome_of ending ≡ record { answer = answer.Opened on; messages = []; runs = [] } → mid ≡ record old { entries = mid.entries } → new ≡ record mid { entries = new.entries } → mid.entries.items ≡ old.entries.items ++ entry.Begins made ∷ []
+    → new.entries.items ≡ mid.entries.items ++ entry.Ends one.number ending ∷ [] → HasRead lines old → HasRead (lines ++ one ∷ []) new
+found_new lines old mid new one stamp on made ending is by out first second begins_is ends_is has =
+    let events : List Event = opening one.number stamp on in
+    let whole : new.whole ≡ old.whole = ap (λ (r : EntryReader). r.whole) second ∙ ap (λ (r : EntryReader). r.whole) first in
+    let kept : new.kept.items ≡ old.kept.items = ap (λ (r : EntryReader). r.kept.items) second ∙ ap (λ (r : EntryReader). r.kept.items) first in
+    let front : map said_of (map event_of mid.entries.items) ≡ map said_of (map event_of old.entries.items) ++ begins (made_by one.number stamp (call.Open false 2048)) ∷ [] =
+    ap (λ (l : List Entry). map said_of (map event_of l)) begins_is ∙ events_more old.entries.items (entry.Begins made)
+    ∙ ap (λ (m : Made). map said_of (map event_of old.entries.items) ++ begins (said m) ∷ []) by
+    in
+    let all : map said_of (map event_of new.entries.items) ≡ map said_of (map event_of old.entries.items) ++ events =
+    ap (λ (l : List Entry). map said_of (map event_of l)) ends_is ∙ events_more mid.entries.items (entry.Ends one.number ending)
+    ∙ ap (λ (l : List Event). l ++ ends one.number (outcome_of ending) ∷ []) front
+    ∙ ap (λ (o : Outcome). (map said_of (map event_of old.entries.items) ++ begins (made_by one.number stamp (call.Open false 2048)) ∷ []) ++ ends one.number o ∷ []) out
+    ∙ append_assoc (map said_of (map event_of old.entries.items)) (begins (made_by one.number stamp (call.Open false 2048)) ∷ []) (ends one.number (record { answer = answer.Opened on; messages = []; runs = [] }) ∷ [])
+    in
+    passed lines old new one events (λ pid n. ap (λ (l : Line). is_of pid n l) is) (let P : Line → Type 0 = λ l. AreOwn (onto lines []) one.number l events in subst P (sym is) (inr refl)) whole all kept has
+
+-- Another line
+
+-- whether a line says nothing of calls
+abbrev pub is_other : Line → Bool
+is_other (line.Dropped stamp on) = true
+is_other (line.Started stamp parent) = true
+is_other (line.Forked stamp parent) = true
+is_other (line.Exit stamp) = true
+is_other _ = false
+
+other_of : (l : Line) (pid n : ℕ) → is_other l ≡ true → is_of pid n l ≡ false
+other_of (line.Begin stamp k c) pid n e = absurd (cc)
+other_of (line.End stamp k a) pid n e = absurd (cc)
+other_of (line.Read stamp k message) pid n e = absurd (cc)
+other_of (line.Have stamp k start len bits) pid n e = absurd (cc)
+other_of (line.Found stamp on) pid n e = absurd (cc)
+other_of (line.Dropped stamp on) pid n e = refl
+other_of (line.Started stamp parent) pid n e = refl
+other_of (line.Forked stamp parent) pid n e = refl
+other_of (line.Exit stamp) pid n e = refl
+other_of (line.Lost count) pid n e = absurd (cc)
+
+other_own : (l : Line) (above : List LogLine) (number : ℕ) → is_other l ≡ true → AreOwn above number l []
+other_own (line.Begin stamp k c) above number e = absurd (cc)
+other_own (line.End stamp k a) above number e = absurd (cc)
+other_own (line.Read stamp k message) above number e = absurd (cc)
+other_own (line.Have stamp k start len bits) above number e = absurd (cc)
+other_own (line.Found stamp on) above number e = absurd (cc)
+other_own (line.Dropped stamp on) above number e = refl
+other_own (line.Started stamp parent) above number e = refl
+other_own (line.Forked stamp parent) above number e = refl
+other_own (line.Exit stamp) above number e = refl
+other_own (line.Lost count) above number e = absurd (cc)
+
+pub other : (lines : List LogLine) (old : EntryReader) (one : LogLine) → is_other one.line ≡ true → HasRead lines old → HasRead (lines ++ one ∷ []) old
+other lines old one is has =
+    passed lines old old one [] (λ pid n. other_of one.line pid n is) (other_own one.line (onto lines []) one.number is) refl (sym (append-nil (map said_of (map event_of old.entries.items)))) refl has
+
+-- What no line says is put in
+
+said_set : (xs : List Entry) (i : ℕ) (x y : Entry) → i < length xs → ((d : Entry) → x ≡ get_or xs i d) → said_of (event_of y) ≡ said_of (event_of x) → map said_of (map event_of (set xs i y)) ≡ map said_of (map event_of xs)
+said_set [] i x y few at same = absurd (omega arith)
+said_set (z ∷ xs) zero x y few at same = ap (λ (v : Event). v ∷ map said_of (map event_of xs)) (same ∙ ap (λ (k : Entry). said_of (event_of k)) (at x))
+said_set (z ∷ xs) (suc i) x y few at same = ap (λ (l : List Event). said_of (event_of z) ∷ l) (said_set xs i x y (omega arith) at same)
+
+pub settled : (lines : List LogLine) (old : EntryReader) (i : ℕ) (x y : Entry) → i < length old.entries.items → ((d : Entry) → x ≡ get_or old.entries.items i d) → said_of (event_of y) ≡ said_of (event_of x) → HasRead lines old → IsTrue old.whole
+    → Has lines (set old.entries.items i y) old.kept.items
+settled lines old i x y few at same has w =
+    let h = has w in
+    record {
+      events = subst (λ (l : List Event). AreEvents [] lines l) (sym (said_set old.entries.items i x y few at same)) h.events;
+      calls = h.calls;
+    }

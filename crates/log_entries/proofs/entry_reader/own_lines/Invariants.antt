@@ -1,0 +1,6 @@
+use Rattle.std.proofs.Common.{◌≡◌, ◌++◌, drop}
+use Rattle.log_entries.specs.Readers.{own}
+use Rattle.log_entries.proofs.entry_reader.own_lines.Given as goal
+
+abbrev pub invariant-loop-one : goal.invariant-loop-one
+invariant-loop-one l = l.found.items ++ own l.pid l.call (drop l.one-index l.kept) ≡ own l.pid l.call l.kept
