@@ -85,30 +85,30 @@ fits_too verdict.Wrong (Certified totals) n fits = fits
 fits_too verdict.Wrong (Missing why) n fits = fits
 
 shown : (entries : EntryReader) (v : Verdict) (made : Certificate) → is_certified v ≡ false → IsCertificate entries made → is_certified (certified_verdict v made) ≡ true → (lines : List LogLine) → HasRead lines entries → (totals : Totals) × IsCertifiedLog lines totals
-shown entries verdict.Certified (Certified totals) plain is yes lines has = absurd (cc)
-shown entries verdict.Certified (Missing why) plain is yes lines has = absurd (cc)
-shown entries verdict.Clean (Certified totals) plain is yes lines has = (totals, is lines has)
-shown entries verdict.Clean (Missing why) plain is yes lines has = absurd (cc)
-shown entries verdict.Found (Certified totals) plain is yes lines has = absurd (cc)
-shown entries verdict.Found (Missing why) plain is yes lines has = absurd (cc)
-shown entries verdict.Impossible (Certified totals) plain is yes lines has = absurd (cc)
-shown entries verdict.Impossible (Missing why) plain is yes lines has = absurd (cc)
-shown entries verdict.Undecided (Certified totals) plain is yes lines has = absurd (cc)
-shown entries verdict.Undecided (Missing why) plain is yes lines has = absurd (cc)
-shown entries verdict.Wrong (Certified totals) plain is yes lines has = absurd (cc)
-shown entries verdict.Wrong (Missing why) plain is yes lines has = absurd (cc)
+shown entries verdict.Certified (Certified totals) plain is claim lines has = absurd (cc)
+shown entries verdict.Certified (Missing why) plain is claim lines has = absurd (cc)
+shown entries verdict.Clean (Certified totals) plain is claim lines has = (totals, is lines has)
+shown entries verdict.Clean (Missing why) plain is claim lines has = absurd (cc)
+shown entries verdict.Found (Certified totals) plain is claim lines has = absurd (cc)
+shown entries verdict.Found (Missing why) plain is claim lines has = absurd (cc)
+shown entries verdict.Impossible (Certified totals) plain is claim lines has = absurd (cc)
+shown entries verdict.Impossible (Missing why) plain is claim lines has = absurd (cc)
+shown entries verdict.Undecided (Certified totals) plain is claim lines has = absurd (cc)
+shown entries verdict.Undecided (Missing why) plain is claim lines has = absurd (cc)
+shown entries verdict.Wrong (Certified totals) plain is claim lines has = absurd (cc)
+shown entries verdict.Wrong (Missing why) plain is claim lines has = absurd (cc)
 
 pub certified_fits : (v said : Verdict) (made : Certificate) (n : ℕ) → said ≡ certified_verdict v made → HasVerdict v n → HasVerdict said n
 certified_fits v said made n by fits = subst (λ (k : Verdict). HasVerdict k n) (sym by) (fits_too v made n fits)
 
 pub certified_lines : (entries : EntryReader) (v said : Verdict) (made : Certificate) → said ≡ certified_verdict v made → is_certified v ≡ false → IsCertificate entries made → is_certified said ≡ true → (lines : List LogLine) → HasRead lines entries
     → (totals : Totals) × IsCertifiedLog lines totals
-certified_lines entries v said made by plain is yes lines has = shown entries v made plain is (subst (λ (k : Verdict). is_certified k ≡ true) by yes) lines has
+certified_lines entries v said made by plain is claim lines has = shown entries v made plain is (subst (λ (k : Verdict). is_certified k ≡ true) by claim) lines has
 
 certified_input : (name input : List ℕ) (read : ReadLog) (report : Report) (w0 w1 : Option (List ℕ)) → ReadsLog name input (Some read) w0 w1 → IsReport name read report → is_certified report.verdict ≡ true → IsCertifiedInput input
-certified_input name input read report w0 w1 log is yes =
+certified_input name input read report w0 w1 log is claim =
     let has = log.4 in
-    let made = is.certified yes has.0 has.2 in
+    let made = is.certified claim has.0 has.2 in
     (has.0, made.0, has.1, made.1)
 
 -- The report is written

@@ -7,5 +7,5 @@ returns c = record {
   prints = rw c.deref.ensures.value at c.in_ok-findings.ensures;
   is = c.in_ok-summary.ensures;
   fits = certified_fits _ _ _ _ c.certified_verdict-verdict.ensures (rw c.deref-2.ensures.value at c.verdict_of-judgement.ensures.verdict);
-  certified = certified_lines _ _ _ _ c.certified_verdict-verdict.ensures c.verdict_of-judgement.ensures.plain c.in_ok-certificate.ensures;
+  certified = certified_lines c.args.read.entries _ _ _ c.certified_verdict-verdict.ensures c.verdict_of-judgement.ensures.plain c.in_ok-certificate.ensures;
 }
