@@ -2,7 +2,13 @@
 
 ghost use Rattle.std.specs.Prelude.{◌≡◌, false, length, OnOk, IfOk, IfSome};
 ghost use Rattle.audit.specs.Verdicts.{
-    Audits, HasVerdict, IsFinding, IsReport, Prints, certified_verdict, is_certified
+  Audits,
+  HasVerdict,
+  IsFinding,
+  IsReport,
+  Prints,
+  certified_verdict,
+  is_certified,
 };
 
 use crate::certificate::{Certificate, certificate_of};

@@ -3,8 +3,8 @@
 ghost use Rattle.std.specs.Prelude.{IfOk, string_bytes};
 ghost use Rattle.audit.specs.Verdicts.{IsSummary};
 
-use crate::findings::Finding;
 use crate::certificate::Certificate;
+use crate::findings::Finding;
 use crate::judging::Judged;
 use crate::replay::Broken;
 use crate::rule_names::Rule;

@@ -149,8 +149,8 @@ takes_below old mid new raw line wrong same head entered over found some any =
     let read : new.head.read ≡ old.head.read = ap (λ (h : Head). h.read) (any.2 ∙ head) in
     takes_any old mid new raw (IsNone wrong) same any
     (λ none.
-        let s = spelled raw line old.line old.entries mid.entries (from_none wrong (IsSome line) some none) found entered in
-        inr (over, (s.0, s.1, subst (λ (r : EntryReader). Reads old.line s.0 old.entries r) (sym any.3) s.2), read))
+    let s = spelled raw line old.line old.entries mid.entries (from_none wrong (IsSome line) some none) found entered in
+    inr (over, (s.0, s.1, subst (λ (r : EntryReader). Reads old.line s.0 old.entries r) (sym any.3) s.2), read))
     (omega (arith, read))
 
 pub takes_head : (old mid new : LogReader) (raw : List ℕ) (wrong : Option Wrong) → Same old mid → mid.entries ≡ old.entries → mid.head.read ≡ old.head.read + 1 → old.head.read < 6 → BeginsWith (head_word old.head.read) raw → AddsAny (IsNone wrong) mid new

@@ -171,12 +171,11 @@ entered_line : (raws : List (List ℕ)) (lines : List LogLine) (number : ℕ) (h
     → (more : List LogLine) × AreLines 1 0 (raws ++ raw ∷ []) more new.head.read × HasRead more new.entries
 entered_line raws lines number head entries raw new are has e (inl h) =
     (lines, subst (λ (k : ℕ). AreLines 1 0 (raws ++ raw ∷ []) lines k) (sym h.2) (are_head 1 0 raws lines head.read raw are h.0 h.1), subst (λ (r : EntryReader). HasRead lines r) (sym h.3) has)
-entered_line raws lines number head entries raw new are has e (inr b) =
-    (
-      lines ++ record { number = number; line = b.1.0 } ∷ [],
-      subst (λ (k : ℕ). AreLines 1 0 (raws ++ raw ∷ []) (lines ++ record { number = number; line = b.1.0 } ∷ []) k) (sym b.2) (are_line 1 number 0 raws lines head.read raw b.1.0 are e b.0 b.1.1),
-      b.1.2 lines has,
-    )
+entered_line raws lines number head entries raw new are has e (inr b) = (
+  lines ++ record { number = number; line = b.1.0 } ∷ [],
+  subst (λ (k : ℕ). AreLines 1 0 (raws ++ raw ∷ []) (lines ++ record { number = number; line = b.1.0 } ∷ []) k) (sym b.2) (are_line 1 number 0 raws lines head.read raw b.1.0 are e b.0 b.1.1),
+  b.1.2 lines has,
+)
 
 -- what was read with the open line
 at_entered : (name read : List ℕ) (before w : Option (List ℕ)) (p q : LineReader) (at : At name read before p w) (e : EndsLine p true q)
@@ -274,8 +273,7 @@ finished_none name input before w p q none adds at =
       appends = at.appends;
       entered = λ right.
           let r = adds.1.right.0 right in
-          let was = at.entered r.0 in
-          (
+          let was = at.entered r.0 in (
             was.0,
             record { raws = at.raws; heads = p.lines.head.read; whole = at.whole ∙ ap (λ (t : List ℕ). joined at.raws ++ t) nil ∙ append-nil (joined at.raws); are = was.1; head = adds.4 r.1 },
             subst (λ (e : EntryReader). HasRead was.0 e) (sym adds.3) was.2,
@@ -353,11 +351,15 @@ ran_end name (Some x) r1 r2 w0 w1 w2 p h q n buf ran none some last ends wrote =
     let end = at_end r1 r2 n buf none some last in
     let same : x ≡ ran.read = input_is x ran.read r1 r2 ran.consumes end.0 end.1 in
     let f = ends name ran.read w0 w1 ran.at in
-    let text = f.written ++ h.lines.output.items in
-    (text, subst (λ (t : List ℕ). IsRead name t text) (sym same) f.read, subst (λ (b : Bool). IsTrue b ↔ (text ≡ [])) (sym wrote.right) f.right, Appends-trans w0 w1 w2 f.written h.lines.output.items f.appends wrote.appends,
+    let text = f.written ++ h.lines.output.items in (
+      text,
+      subst (λ (t : List ℕ). IsRead name t text) (sym same) f.read,
+      subst (λ (b : Bool). IsTrue b ↔ (text ≡ [])) (sym wrote.right) f.right,
+      Appends-trans w0 w1 w2 f.written h.lines.output.items f.appends wrote.appends,
       λ right.
           let was = f.entered (subst (λ (b : Bool). IsTrue b) wrote.right right) in
-          (was.0, subst (λ (t : List ℕ). IsLog t was.0) (sym same) was.1, subst (λ (e : EntryReader). HasRead was.0 e) (sym wrote.entries) was.2))
+          (was.0, subst (λ (t : List ℕ). IsLog t was.0) (sym same) was.1, subst (λ (e : EntryReader). HasRead was.0 e) (sym wrote.entries) was.2),
+    )
 
 -- The log that is returned
 

@@ -16,8 +16,8 @@ use crate::wrong::Wrong;
 use log_entries::{EntryReader, LogLine};
 use mig_base::NoMemory;
 use std::alloc::Global;
-use uffd_log::{Line, Token};
 use uffd_log::parse::parse;
+use uffd_log::{Line, Token};
 
 /// The most bytes of a line, with its line feed.
 pub(crate) const LONGEST_LINE: usize = 4096;

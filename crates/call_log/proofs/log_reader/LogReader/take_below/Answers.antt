@@ -9,12 +9,12 @@ returns c =
     let same = c.enter.ensures.same in
     on_ok_weaker c.list_any.result
     (λ a.
-        takes_below c.args.self.now _ c.list_any.new.self c.args.bytes.now _ _
-        (record {
-          line = ap (λ (r : LogReader). r.line) same;
-          name = ap (λ (r : LogReader). r.name.now) same;
-          output = ap (λ (r : LogReader). r.output.items) same;
-          right = ap (λ (r : LogReader). r.is_right) same;
-        })
-        (ap (λ (r : LogReader). r.head) same) c.in_ok-enter.ensures.read c.requires c.in_ok-line.ensures.found c.in_ok-wrong.ensures a)
+    takes_below c.args.self.now _ c.list_any.new.self c.args.bytes.now _ _
+    (record {
+      line = ap (λ (r : LogReader). r.line) same;
+      name = ap (λ (r : LogReader). r.name.now) same;
+      output = ap (λ (r : LogReader). r.output.items) same;
+      right = ap (λ (r : LogReader). r.is_right) same;
+    })
+    (ap (λ (r : LogReader). r.head) same) c.in_ok-enter.ensures.read c.requires c.in_ok-line.ensures.found c.in_ok-wrong.ensures a)
     c.list_any.ensures
