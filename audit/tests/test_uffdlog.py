@@ -193,6 +193,14 @@ class Wrong(unittest.TestCase):
             with self.assertRaises(uffdlog.Unreadable):
                 read(lines)
 
+    def test_strace_is_named(self):
+        for line, is_of_strace in ((b'71 1764282000.000001 execve("./a", ["./a"], 0x7ffc /* 20 vars */) = 0\n', True),
+                                   (b"[pid  71] userfaultfd(O_CLOEXEC <unfinished ...>\n", True), (b"brk(NULL)    = 0x55\n", True),
+                                   (b"int main(void)\n", False), (b"main(void)\n", False), (b"(a = b)\n", False)):
+            with self.assertRaises(uffdlog.Unreadable) as refused:
+                read([line])
+            self.assertEqual("strace" in str(refused.exception), is_of_strace, line)
+
     def test_long_lines_are_not_read_whole(self):
         with tempfile.NamedTemporaryFile() as file:
             file.write(b"".join(log()) + b"1 7 7 started 1 " + b"x" * 10_000_000 + b"\n2 7 7 exit\n3 7 7 ex")

@@ -20,12 +20,13 @@ PICTURE = page.TOP / "docs" / "architecture.svg"
 ROWS = (
     (52, ("the program", "postmig", 10), ("library for C", "postmig_c nodes", 2)),
     (
-        68,
-        ("tools over scripts and frames", "wiretap host_calls frames explain lint expected explore finishing", 5),
-        ("threads and a lock", "threads rig pusher", 3),
+        84,
+        ("tools over scripts and frames", "wiretap host_calls frames explain lint expected explore finishing", 4),
+        ("threads", "threads rig pusher", 2),
         ("pictures", "draw diagram", 2),
+        ("logs of calls", "audit kernel_rules call_log uffd_log", 2),
     ),
-    (52, ("the steps to completion", "finish", 4), ("scripts, transcripts and replies as text", "engine grammar report hosts", 8)),
+    (52, ("steps to completion", "finish", 3), ("scripts, transcripts and replies as text", "engine grammar report hosts", 9)),
     (52, ("a migration: both nodes, three wires, and its recovery", "world recovery", 12)),
     (52, ("the source", "precopy dirty_log", 6), ("the destination", "fault_handler owed_pages", 6)),
     (52, ("frames, and the wires that carry them", "wires frame_decoder page_stream", 12)),

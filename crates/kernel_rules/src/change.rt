@@ -141,7 +141,7 @@ fn faulted(page: Page, protected: bool) -> Page
 
 impl Change {
     /// What becomes of a page.
-    pub(crate) fn apply(self, page: Option<Page>) -> Option<Page>
+    pub fn apply(self, page: Option<Page>) -> Option<Page>
         ensures { result ≡ changed self page }
     {
         if let Change::Register {

@@ -32,14 +32,14 @@ pub enum Reach {
 }
 
 /// Whether the flags are those of a write-protected page.
-pub(crate) fn is_protection(flags: u64) -> bool
+pub fn is_protection(flags: u64) -> bool
     ensures { result ≡ is_of_protection flags }
 {
     has_bit(flags, 1)
 }
 
 /// Whether an access with these flags has to wait at a page that is registered with the object.
-pub(crate) fn stops(object: u64, flags: u64, page: Page) -> bool
+pub fn stops(object: u64, flags: u64, page: Page) -> bool
     ensures { result ≡ stops_at object flags page }
 {
     if page.object != object {
@@ -53,7 +53,7 @@ pub(crate) fn stops(object: u64, flags: u64, page: Page) -> bool
 }
 
 /// The fault of a thread, if it waits.
-pub(crate) fn find(faults: &[Fault], thread: u64) -> Option<Fault>
+pub fn find(faults: &[Fault], thread: u64) -> Option<Fault>
     ensures { result ≡ fault_of faults.now thread }
 {
     for fault in faults {
@@ -65,7 +65,7 @@ pub(crate) fn find(faults: &[Fault], thread: u64) -> Option<Fault>
 }
 
 /// The unread fault of an object that was queued first.
-pub(crate) fn find_unread(faults: &[Fault], object: u64) -> Option<Fault>
+pub fn find_unread(faults: &[Fault], object: u64) -> Option<Fault>
     ensures { result ≡ first_unread faults.now object }
 {
     for fault in faults {
@@ -87,7 +87,7 @@ fn are_twins(fault: Fault, other: Fault) -> bool
 }
 
 /// Whether a fault of the same object, page and kind is unread.
-pub(crate) fn has_twin(faults: &[Fault], fault: Fault) -> bool
+pub fn has_twin(faults: &[Fault], fault: Fault) -> bool
     ensures { result ≡ list_any (is_twin fault) faults.now }
 {
     for other in faults {
@@ -99,7 +99,7 @@ pub(crate) fn has_twin(faults: &[Fault], fault: Fault) -> bool
 }
 
 /// Whether a fault sleeps in the object's pages.
-pub(crate) fn is_asleep(object: u64, reach: Reach, fault: Fault) -> bool
+pub fn is_asleep(object: u64, reach: Reach, fault: Fault) -> bool
     ensures { result ≡ sleeps object reach fault }
 {
     if fault.object != object || matches!(fault.phase, Phase::Seen) {
@@ -112,21 +112,21 @@ pub(crate) fn is_asleep(object: u64, reach: Reach, fault: Fault) -> bool
 }
 
 /// Whether a thread has queued no message yet.
-pub(crate) fn has_seen(fault: Fault) -> bool
+pub fn has_seen(fault: Fault) -> bool
     ensures { result ≡ is_seen fault.phase }
 {
     matches!(fault.phase, Phase::Seen)
 }
 
 /// Takes the fault of a thread away.
-pub(crate) fn remove(faults: &mut Vec<Fault>, thread: u64)
+pub fn remove(faults: &mut Vec<Fault>, thread: u64)
     ensures { faults.new.items ≡ faults_without faults.old.items thread }
 {
     faults.retain(|fault| fault.thread != thread);
 }
 
 /// Whether an unread fault sleeps in the object's pages.
-pub(crate) fn has_unread_in(faults: &[Fault], object: u64, reach: Reach) -> bool
+pub fn has_unread_in(faults: &[Fault], object: u64, reach: Reach) -> bool
     ensures { result ≡ list_any (is_unread_in object reach) faults.now }
 {
     for fault in faults {
@@ -161,11 +161,7 @@ pub(crate) fn note_unanswered(
 }
 
 /// Adds the read of the fault of a thread, where it is to be answered. After `NoMemory` it may be missing.
-pub(crate) fn note_thread(
-    unanswered: &mut Vec<u64>,
-    faults: &[Fault],
-    thread: u64,
-) -> Result<(), NoMemory>
+pub fn note_thread(unanswered: &mut Vec<u64>, faults: &[Fault], thread: u64) -> Result<(), NoMemory>
     ensures { OnOk result (unanswered.new.items ≡
         unanswered.old.items ++ filter_map (left_unanswered (is_of_thread thread)) faults.now) }
 {
@@ -182,7 +178,7 @@ pub(crate) fn note_thread(
 }
 
 /// Adds the reads as `note_unanswered` does, unless a call of the handler answers them.
-pub(crate) fn note_left(
+pub fn note_left(
     unanswered: &mut Vec<u64>,
     faults: &[Fault],
     object: u64,
@@ -201,7 +197,7 @@ pub(crate) fn note_left(
 }
 
 /// Takes the faults away that sleep in the object's pages.
-pub(crate) fn wake_in(faults: &mut Vec<Fault>, object: u64, reach: Reach)
+pub fn wake_in(faults: &mut Vec<Fault>, object: u64, reach: Reach)
     ensures { faults.new.items ≡
         filter (λ fault. not (sleeps object reach fault)) faults.old.items }
 {

@@ -1,5 +1,5 @@
-//! Tests of logs of userfaultfd calls: what their lines say (`uffd_log`), and which runs they have
-//! (`kernel_rules`).
+//! Tests of logs of userfaultfd calls: what their lines say (`uffd_log`), which runs they have
+//! (`kernel_rules`), and what is found in them (`audit`).
 //!
 //! A test is a table of texts with what is wanted of them, and one loop plays it. Where memory is refused the call is made again, so a test
 //! passes whichever allocation is refused.
@@ -9,3 +9,5 @@
 mod lines;
 #[cfg(test)]
 mod runs;
+#[cfg(test)]
+mod verdicts;

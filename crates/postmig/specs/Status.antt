@@ -4,6 +4,10 @@ use Rattle.engine.specs.declared.fault.RunFault.{RunFault}
 use Rattle.engine.specs.declared.fault.RunFault.TheVariants.{Line, ReadFault, WriteFault, NoMemory}
 use Rattle.frames.specs.declared.fault.FramesFault.{FramesFault}
 use Rattle.frames.specs.declared.fault.FramesFault.TheVariants as frames
+use Rattle.audit.specs.declared.audit.Verdict.{Verdict}
+use Rattle.audit.specs.declared.audit.Verdict.TheVariants as verdict
+use Rattle.call_log.specs.declared.fault.LogFault.{LogFault}
+use Rattle.call_log.specs.declared.fault.LogFault.TheVariants as audit
 use Rattle.wiretap.specs.declared.fault.TapFault.{TapFault}
 use Rattle.wiretap.specs.declared.fault.TapFault.TheVariants as taps
 
@@ -40,6 +44,23 @@ frames_fault_status frames.Truncated = 1
 frames_fault_status frames.ReadFault = 2
 frames_fault_status frames.WriteFault = 2
 frames_fault_status frames.NoMemory = 4
+
+-- the status of a log that was judged
+abbrev pub verdict_status : Verdict → ℕ
+verdict_status verdict.Clean = 0
+verdict_status verdict.Found = 1
+verdict_status verdict.Wrong = 2
+verdict_status verdict.Impossible = 3
+verdict_status verdict.Undecided = 5
+
+-- the status of a log that could not be judged
+abbrev pub audit_fault_status : LogFault → ℕ
+audit_fault_status audit.NotALog = 2
+audit_fault_status audit.StraceOutput = 2
+audit_fault_status audit.Empty = 2
+audit_fault_status audit.ReadFault = 2
+audit_fault_status audit.WriteFault = 2
+audit_fault_status audit.NoMemory = 4
 
 -- the status of a run with files for its wires that ended with a fault
 abbrev pub tap_fault_status : TapFault → ℕ

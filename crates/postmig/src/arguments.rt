@@ -17,11 +17,13 @@ const WHY_IT_IS_WRONG: &str =
 /// How a command ends.
 const STATUSES: &str = "Exit status:
   0  all was done, or a check wrote ok
-  1  a line, a frame or the command line is wrong
-  2  a read or a write failed
-  3  a check wrote wrong, a test differs, finish has no epoch left, or threads ended with a fault;
+  1  a line, a frame or the command line is wrong, or an audit found something
+  2  a read or a write failed, or an audit had no log to judge
+  3  a check wrote wrong, a test differs, finish has no epoch left, threads ended with a fault, or
+     an audit found an answer that no kernel gives;
      with --strict also: no entry was checked, a frame was refused, or a test compared no answer
   4  memory ran out, or a thread could not be started
+  5  an audit found nothing, and could not judge all calls
 
 docs/SCRIPT.md has the lines of scripts and transcripts.";
 
@@ -170,6 +172,25 @@ fn lint_command<'a>(alloc: Global) -> Result<Command<'a>, AllocError> {
         .about("Lists the wrong lines of a script, and what is wrong with each")
         .arg(transcript)?
         .arg(explain_argument(alloc, WHY_IT_FAILED))?
+        .arg(file_argument(alloc))
+}
+
+/// `postmig audit [--late MICROSECONDS] [--explain] [FILE]`.
+fn audit_command<'a>(alloc: Global) -> Result<Command<'a>, AllocError> {
+    let late = Arg::new(alloc, "late")
+        .long("late")
+        .value_name("MICROSECONDS")
+        .help(
+            "Names each page fault that waited longer, from its read to the call that woke its thread",
+        )
+        .value_parser(value_parser!(u64));
+    Command::new(alloc, "audit")
+        .about("Judges the userfaultfd calls of a log, and names what is wrong with them")
+        .arg(explain_argument(
+            alloc,
+            "Says what the findings mean, how long faults waited, and why a read or a write failed",
+        ))?
+        .arg(late)?
         .arg(file_argument(alloc))
 }
 
@@ -335,6 +356,7 @@ pub(crate) fn command_line<'a>(alloc: Global) -> Result<Command<'a>, AllocError>
         .subcommand(finish_command(alloc)?)?
         .subcommand(check_command(alloc)?)?
         .subcommand(lint_command(alloc)?)?
+        .subcommand(audit_command(alloc)?)?
         .subcommand(frames_command(alloc)?)?
         .subcommand(draw_command(alloc)?)?
         .subcommand(explore_command(alloc)?)?

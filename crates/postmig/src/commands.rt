@@ -8,10 +8,13 @@ use crate::reasons::{say_wrong_line, say_wrong_lines};
 use crate::status::{
     ALL_DONE, BAD_COMMAND_OR_SCRIPT, NO_MEMORY, READ_OR_WRITE_FAULT, strict_status_of,
 };
-use crate::streams::{end, end_frames, end_lint, end_tapped, open_input, open_output, open_script};
+use crate::streams::{
+    end, end_audit, end_frames, end_lint, end_tapped, open_input, open_output, open_script,
+};
 use crate::tally::test;
 use crate::tap::{has_taps, make_taps};
 use crate::watched::Watched;
+use audit::{Asked, audit_log};
 use clap::ArgMatches;
 use clap::error::ErrorKind;
 use draw::run_draw;
@@ -173,6 +176,21 @@ fn lint(rt: &HostRuntime, matches: &ArgMatches) -> u8 {
     end_lint(rt, matches, &input, &output, outcome)
 }
 
+/// Judges the calls of a log, by the name of its file, or `-`.
+fn audit(rt: &HostRuntime, matches: &ArgMatches) -> u8 {
+    let name = matches.get_str("file").unwrap_or("-");
+    let asked = Asked {
+        explains: matches.get_flag("explain"),
+        late_after: matches.get_one::<u64>("late"),
+    };
+    let Some(mut input) = open_input(rt, matches) else {
+        return READ_OR_WRITE_FAULT;
+    };
+    let mut output = open_output(rt);
+    let outcome = audit_log(rt.alloc(), &mut input, &mut output, name, asked);
+    end_audit(rt, matches, &input, &output, outcome)
+}
+
 /// Hands frames to a destination. A strict command differs where one was refused.
 fn take_frames(rt: &HostRuntime, matches: &ArgMatches) -> u8 {
     let Some(cpus @ 1..=16) = matches.get_one::<u8>("cpus") else {
@@ -307,6 +325,7 @@ fn do_command<T: Threads + Wait + Sync>(rt: &HostRuntime, handle: &T, matches: &
         Some(("finish", matches)) => finish(rt, matches),
         Some(("check", matches)) => check_input(rt, matches),
         Some(("lint", matches)) => lint(rt, matches),
+        Some(("audit", matches)) => audit(rt, matches),
         Some(("frames", matches)) => take_frames(rt, matches),
         Some(("draw", matches)) => draw_script(rt, matches),
         Some(("explore", matches)) => explore(rt, matches),

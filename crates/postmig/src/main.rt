@@ -7,14 +7,15 @@
 //! - `postmig check` reads such a transcript, and says whether it is that of one flat memory, or with `--explain` or `--all` what is
 //!   wrong with it.
 //! - `postmig lint` lists the wrong lines of a script or a transcript.
+//! - `postmig audit` judges the userfaultfd calls of a real program, by a log of them.
 //! - `postmig frames` reads frames, and writes a destination's answer to each.
 //! - `postmig draw` runs a script, and writes a picture of the run.
 //! - `postmig explore` writes a random script.
 //! - `postmig test` runs scripts whose lines have answers, and names the answers that differ, or with `--write` replaces them.
 //! - `postmig threads` reads nothing, runs a migration in threads, and writes a report.
 //!
-//! `docs/SCRIPT.md` defines scripts and transcripts, `docs/FORMATS.md` frames, `docs/EXPLORE.md` random scripts, and `docs/THREADS.md` a
-//! run in threads.
+//! `docs/SCRIPT.md` defines scripts and transcripts, `docs/FORMATS.md` frames, `docs/EXPLORE.md` random scripts, `docs/THREADS.md` a run in
+//! threads, `docs/UFFDLOG.md` logs, and `docs/AUDIT.md` what is found in them.
 //!
 //! The exit statuses are those of `specs/Status.antt`. Reading and writing is done by `engine` for scripts and transcripts, and by the
 //! crate of the same name for each other command. `bench/check/programs.py` runs the program on arguments, files and input of many kinds.

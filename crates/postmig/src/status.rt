@@ -1,8 +1,10 @@
 //! The exit statuses of the program.
 
 ghost use Rattle.std.specs.Prelude.{◌≡◌, IfOk, IfErr, OnOk};
-ghost use Rattle.postmig.specs.Status.{answer_status, fault_status, frames_fault_status, strict_status};
+ghost use Rattle.postmig.specs.Status.{answer_status, audit_fault_status, fault_status, frames_fault_status, strict_status, verdict_status};
 
+use audit::Verdict;
+use call_log::LogFault;
 use engine::RunFault;
 use frames::FramesFault;
 
@@ -15,6 +17,8 @@ pub(crate) const READ_OR_WRITE_FAULT: u8 = 2;
 pub(crate) const NO_FLAT_RUN: u8 = 3;
 
 pub(crate) const NO_MEMORY: u8 = 4;
+
+pub(crate) const UNDECIDED: u8 = 5;
 
 /// The exit status of a run or a check: whether all is well, or the fault that ended it.
 pub(crate) fn status_of(outcome: Result<bool, RunFault>) -> u8
@@ -40,6 +44,22 @@ pub(crate) fn frames_status_of(outcome: Result<u64, FramesFault>) -> u8
         Err(FramesFault::Stream(_) | FramesFault::Truncated) => BAD_COMMAND_OR_SCRIPT,
         Err(FramesFault::ReadFault | FramesFault::WriteFault) => READ_OR_WRITE_FAULT,
         Err(FramesFault::NoMemory) => NO_MEMORY,
+    }
+}
+
+/// The exit status of a log that was judged.
+pub(crate) fn audit_status_of(outcome: Result<Verdict, LogFault>) -> u8
+    ensures verdict { IfOk outcome (λ verdict. result ≡ verdict_status verdict) }
+    ensures fault { IfErr outcome (λ fault. result ≡ audit_fault_status fault) }
+{
+    match outcome {
+        Ok(Verdict::Clean) => ALL_DONE,
+        Ok(Verdict::Found) => BAD_COMMAND_OR_SCRIPT,
+        Ok(Verdict::Wrong) => READ_OR_WRITE_FAULT,
+        Ok(Verdict::Impossible) => NO_FLAT_RUN,
+        Ok(Verdict::Undecided) => UNDECIDED,
+        Err(LogFault::NoMemory) => NO_MEMORY,
+        Err(_) => READ_OR_WRITE_FAULT,
     }
 }
 

@@ -1,14 +1,18 @@
 //! What a command reads and writes, and how it says why it ended early.
 
 ghost use Rattle.std.specs.Prelude.{◌≡◌, IfOk, IfErr, OnOk};
-ghost use Rattle.postmig.specs.Status.{answer_status, fault_status, frames_fault_status, lint_status, tap_fault_status};
+ghost use Rattle.postmig.specs.Status.{answer_status, audit_fault_status, fault_status, frames_fault_status, lint_status, tap_fault_status, verdict_status};
 
 use crate::input::Input;
 use crate::reasons::{gives_reasons, say_wrong_line, say_wrong_lines};
-use crate::status::{BAD_COMMAND_OR_SCRIPT, READ_OR_WRITE_FAULT, frames_status_of, status_of};
+use crate::status::{
+    BAD_COMMAND_OR_SCRIPT, READ_OR_WRITE_FAULT, audit_status_of, frames_status_of, status_of,
+};
 use crate::tap::Tap;
 use crate::terminal::Terminal;
 use crate::watched::{Watched, say_reason};
+use audit::Verdict;
+use call_log::LogFault;
 use clap::ArgMatches;
 use engine::RunFault;
 use frames::FramesFault;
@@ -140,6 +144,39 @@ pub(crate) fn end_frames(
         }
     }
     frames_status_of(outcome)
+}
+
+/// The same of a log. Which file is none is said in the form of a finding.
+pub(crate) fn end_audit(
+    rt: &HostRuntime,
+    matches: &ArgMatches,
+    input: &Watched<'_, Input>,
+    output: &Watched<'_, Stdout>,
+    outcome: Result<Verdict, LogFault>,
+) -> u8
+    ensures verdict { IfOk outcome (λ verdict. result ≡ verdict_status verdict) }
+    ensures fault { IfErr outcome (λ fault. result ≡ audit_fault_status fault) }
+{
+    if let Err(fault) = outcome {
+        let name = matches.get_str("file").unwrap_or("-");
+        match fault {
+            LogFault::NotALog | LogFault::StraceOutput | LogFault::Empty => {
+                let _ = eprintln!(rt; "{name}:1: {fault}");
+            }
+            LogFault::ReadFault => {
+                let _ = eprintln!(rt; "{fault}");
+                say_input(rt, matches, input);
+            }
+            LogFault::WriteFault => {
+                let _ = eprintln!(rt; "{fault}");
+                say_output(rt, matches, output);
+            }
+            LogFault::NoMemory => {
+                let _ = eprintln!(rt; "{fault}");
+            }
+        }
+    }
+    audit_status_of(outcome)
 }
 
 /// The same of a run with files for its wires. Says which of them could not be written, and why.

@@ -1,0 +1,117 @@
+//! Reading a log from a reader, and writing what was found to a writer.
+
+ghost use Rattle.std.specs.Prelude.{length, OnOk, IfOk, IfSome};
+ghost use Rattle.audit.specs.Verdicts.{Audits, HasVerdict, IsFinding, Prints};
+
+use crate::findings::{Finding, list_findings};
+use crate::judging::{Judged, judge};
+use crate::summary::summary;
+use call_log::fault::LogFault;
+use call_log::input::{read_log, write_out};
+use call_log::split::first_line;
+use mig_base::NoMemory;
+use std::alloc::Global;
+use std::io::{Read, Write};
+
+/// What is said of a log as a whole.
+#[derive(Clone, Copy, Debug, PartialEq, Eq)]
+pub enum Verdict {
+    /// Nothing was found.
+    Clean,
+    /// Something was found.
+    Found,
+    /// A line is wrong, and the log was not judged.
+    Wrong,
+    /// An answer is impossible.
+    Impossible,
+    /// A call cannot be judged, and nothing was found.
+    Undecided,
+}
+
+/// What a caller asks for.
+#[derive(Clone, Copy, Debug, PartialEq, Eq)]
+pub struct Asked {
+    /// A longer summary.
+    pub explains: bool,
+    /// The microseconds after which a page fault is late, if any is to be.
+    pub late_after: Option<u64>,
+}
+
+/// Reads a log and judges its calls. Of a log with wrong lines it writes `NAME:LINE: reason` for each of them. Else it writes
+/// `NAME:LINE: finding` for each finding, in the order of lines, and a summary.
+///
+/// The calls of a log are kept until it ends: some 200 bytes for each. At most 4,294,967,295 reads are made, and as many lines are read; an
+/// input that needs more ends with a read fault. An interrupted read or write is a fault. After a fault some of the text was written.
+pub fn audit_log<R: Read, W: Write>(
+    alloc: Global,
+    reader: &mut R,
+    writer: &mut W,
+    name: &str,
+    asked: Asked,
+) -> Result<Verdict, LogFault>
+    ensures { IfOk result (λ verdict. IfSome (R.remaining reader.old) (λ input.
+        Audits name.now input verdict (W.contents writer.old) (W.contents writer.new))) }
+{
+    let Some(log) = read_log(alloc, reader, writer, name)? else {
+        return Ok(Verdict::Wrong);
+    };
+    let judged = judge(alloc, log)?;
+    let found = list_findings(alloc, &judged, asked.late_after)?;
+    let output = print_findings(alloc, name, &found)?;
+    write_out(writer, &output)?;
+    let text = summary(alloc, &judged, &found, asked.explains)?;
+    write_out(writer, text.as_bytes())?;
+    Ok(verdict_of(&judged, &found))
+}
+
+/// Puts the line of a finding in place of these bytes. The text is replaced.
+fn print_finding(
+    line: &mut Vec<u8>,
+    text: &mut String,
+    name: &str,
+    finding: &Finding,
+) -> Result<(), NoMemory>
+    ensures { OnOk result (IsFinding name.now line.new.items) }
+{
+    let number = finding.line;
+    text.clear();
+    write!(text, "{name}:{number}: ")?;
+    line.clear();
+    line.extend_from_slice(text.as_bytes())?;
+    line.extend_from_slice(first_line(finding.text.as_bytes()))?;
+    line.extend_from_slice(b"\n")?;
+    Ok(())
+}
+
+/// The lines of all findings.
+fn print_findings(alloc: Global, name: &str, found: &[Finding]) -> Result<Vec<u8>, NoMemory>
+    ensures { IfOk result (λ output. Prints name.now (length found.now) output.items) }
+{
+    let mut output = Vec::new(alloc);
+    let mut line = Vec::new(alloc);
+    let mut text = String::new(alloc);
+    for finding in found {
+        print_finding(&mut line, &mut text, name, finding)?;
+        output.extend_from_slice(&line)?;
+    }
+    Ok(output)
+}
+
+/// What is said of a log of which these are all findings.
+fn verdict_of(judged: &Judged, found: &[Finding]) -> Verdict
+    ensures { HasVerdict result (length found.now) }
+{
+    if !found.is_empty() {
+        return if judged.impossible.is_empty() {
+            Verdict::Found
+        } else {
+            Verdict::Impossible
+        };
+    }
+    let all_judged = judged.log.calls.iter().all(|call| call.judged);
+    if all_judged && judged.impossible.is_empty() && judged.broken.is_none() {
+        Verdict::Clean
+    } else {
+        Verdict::Undecided
+    }
+}

@@ -1,0 +1,528 @@
+//! What a kernel has, as far as a log has shown it: userfault objects, registered pages, threads that wait, and map calls under way.
+
+use crate::space::Space;
+use call_log::pages::{PageSize, Range};
+use indexmap::IndexMap;
+use kernel_rules::fault::{has_unread_in, is_asleep, note_left, stops, wake_in};
+use kernel_rules::{Change, Difference, Fault, Object, Page, Phase, Reach};
+use mig_base::NoMemory;
+use std::alloc::Global;
+use uffd_log::Message;
+
+/// A map call that has changed the map and has not returned.
+#[derive(Drop)]
+pub(crate) struct Calling {
+    pub(crate) key: u32,
+    pub(crate) space: u32,
+    /// Its events that are not read, each with its object, in the order in which the kernel queues them.
+    pub(crate) events: Vec<(u64, Message)>,
+    /// Whether the next of them waits to be read.
+    pub(crate) queued: bool,
+    /// Of MADV_DONTNEED: the pages of which no REMOVE was read yet.
+    pub(crate) untold: Range,
+    /// Those that are to be cleared then.
+    pub(crate) clears: Range,
+    /// The objects to which it has anything to tell, until it returns.
+    pub(crate) tells: Vec<u64>,
+}
+
+/// Pages that were registered with an object at some time.
+#[derive(Clone, Copy, PartialEq, Eq)]
+pub(crate) struct Registered {
+    pub(crate) object: u64,
+    pub(crate) space: u32,
+    pub(crate) range: Range,
+}
+
+/// Pages that were registered, and still missing when that ended: by a call, or by the end of the log.
+#[derive(Clone, Copy)]
+pub(crate) struct Owed {
+    pub(crate) call: Option<u32>,
+    pub(crate) space: u32,
+    pub(crate) range: Range,
+}
+
+/// A page that was there when a call was to put it.
+#[derive(Clone, Copy)]
+pub(crate) struct There {
+    pub(crate) call: u32,
+    pub(crate) page: u64,
+    /// Whether a call of the log has put it.
+    pub(crate) put: bool,
+}
+
+/// A call that was refused with EAGAIN, the first page of which no later call was to put.
+#[derive(Clone, Copy)]
+pub(crate) struct Again {
+    pub(crate) call: u32,
+    pub(crate) space: u32,
+    pub(crate) page: u64,
+}
+
+/// A fault that a call has resolved, from the read that returned it on.
+#[derive(Clone, Copy)]
+pub(crate) struct Waited {
+    pub(crate) read: u64,
+    /// The call that woke its thread.
+    pub(crate) by: u32,
+    pub(crate) flags: u64,
+}
+
+#[derive(Drop)]
+pub(crate) struct Kernel {
+    pub(crate) alloc: Global,
+    pub(crate) size: PageSize,
+    pub(crate) objects: IndexMap<u64, Object>,
+    pub(crate) spaces: IndexMap<u32, Space>,
+    /// In the order in which the unread ones were queued.
+    pub(crate) faults: Vec<Fault>,
+    pub(crate) calls: Vec<Calling>,
+    pub(crate) registered: Vec<Registered>,
+    /// What was done otherwise than by the model, the oldest first.
+    pub(crate) differs: Vec<Difference>,
+    pub(crate) owed: Vec<Owed>,
+    /// The reads whose fault nobody has resolved.
+    pub(crate) unanswered: Vec<u64>,
+    pub(crate) there: Vec<There>,
+    /// The calls on pages that are not registered.
+    pub(crate) outside: Vec<u32>,
+    pub(crate) waits: Vec<Waited>,
+    /// The map calls an event of which was never read.
+    pub(crate) untold: Vec<u32>,
+    pub(crate) again: Vec<Again>,
+    /// The call that takes effect.
+    pub(crate) now: u32,
+    /// How many pages it has shown of which nothing was known.
+    pub(crate) resolved: u64,
+}
+
+impl Calling {
+    /// Whether all its events are read.
+    pub(crate) fn has_told_all(&self) -> bool {
+        self.events.is_empty() && self.untold.count == 0
+    }
+
+    /// Whether it has told an object anything, or is about to.
+    pub(crate) fn tells_object(&self, object: u64) -> bool {
+        self.tells.contains(&object)
+    }
+
+    /// Whether it has something to tell an object which is not read.
+    pub(crate) fn has_untold(&self, object: u64) -> bool {
+        if !self.tells_object(object) {
+            return false;
+        }
+        if self.untold.count > 0 {
+            return true;
+        }
+        for (other, _) in &self.events {
+            if *other == object {
+                return true;
+            }
+        }
+        false
+    }
+
+    /// Whether a message of it waits to be read by an object's reader.
+    pub(crate) fn is_queued_for(&self, object: u64) -> bool {
+        match self.events.first() {
+            Some((other, _)) => self.queued && *other == object,
+            None => self.queued && self.tells_object(object),
+        }
+    }
+}
+
+impl Kernel {
+    /// A kernel with these objects, which were open before the log began, each with the address space that it watches.
+    pub(crate) fn new(
+        alloc: Global,
+        size: PageSize,
+        found: &IndexMap<u64, u32>,
+    ) -> Result<Kernel, NoMemory> {
+        let mut objects = IndexMap::new(alloc);
+        for (object, space) in found.iter() {
+            objects.insert(
+                *object,
+                Object {
+                    space: u64::from(*space),
+                    waits: false,
+                    features: None,
+                    puts: false,
+                },
+            )?;
+        }
+        Ok(Kernel {
+            alloc,
+            size,
+            objects,
+            spaces: IndexMap::new(alloc),
+            faults: Vec::new(alloc),
+            calls: Vec::new(alloc),
+            registered: Vec::new(alloc),
+            differs: Vec::new(alloc),
+            owed: Vec::new(alloc),
+            unanswered: Vec::new(alloc),
+            there: Vec::new(alloc),
+            outside: Vec::new(alloc),
+            waits: Vec::new(alloc),
+            untold: Vec::new(alloc),
+            again: Vec::new(alloc),
+            now: 0,
+            resolved: 0,
+        })
+    }
+
+    /// An object that is open.
+    pub(crate) fn object(&self, object: u64) -> Option<Object> {
+        self.objects.get(&object).copied()
+    }
+
+    /// The address space that an open object watches.
+    pub(crate) fn space_of(&self, object: u64) -> Option<u32> {
+        match self.objects.get(&object) {
+            Some(found) => u32::try_from(found.space).ok(),
+            None => None,
+        }
+    }
+
+    /// A page, if it is registered.
+    pub(crate) fn page(&self, space: u32, page: u64) -> Option<Page> {
+        match self.spaces.get(&space) {
+            Some(pages) => pages.look(page),
+            None => None,
+        }
+    }
+
+    /// Changes the pages of a range that are registered, or registers them.
+    pub(crate) fn change(
+        &mut self,
+        space: u32,
+        range: Range,
+        change: Change,
+    ) -> Result<(), NoMemory> {
+        match self.spaces.get_mut(&space) {
+            Some(pages) => pages.change(range, change),
+            None => Ok(()),
+        }
+    }
+
+    /// Puts a page in place of what is known of it.
+    pub(crate) fn set(
+        &mut self,
+        space: u32,
+        page: u64,
+        found: Option<Page>,
+    ) -> Result<(), NoMemory> {
+        match self.spaces.get_mut(&space) {
+            Some(pages) => pages.set(page, found),
+            None => Ok(()),
+        }
+    }
+
+    /// Whether a thread still has to wait.
+    pub(crate) fn must_wait(&self, fault: Fault) -> bool {
+        let Some(space) = self.space_of(fault.object) else {
+            return false;
+        };
+        match self.page(space, fault.page) {
+            Some(page) => stops(fault.object, fault.flags, page),
+            None => false,
+        }
+    }
+
+    /// Notes what was done otherwise than by the model.
+    pub(crate) fn note_if(
+        &mut self,
+        differs: bool,
+        difference: Difference,
+    ) -> Result<(), NoMemory> {
+        if differs {
+            self.differs.push(difference)?;
+        }
+        Ok(())
+    }
+
+    /// Notes that pages were registered with an object.
+    pub(crate) fn note_registered(
+        &mut self,
+        object: u64,
+        space: u32,
+        range: Range,
+    ) -> Result<(), NoMemory> {
+        let registered = Registered {
+            object,
+            space,
+            range,
+        };
+        if self.registered.contains(&registered) {
+            return Ok(());
+        }
+        self.registered.push(registered)?;
+        if self.spaces.contains_key(&space) {
+            return Ok(());
+        }
+        self.spaces.insert(space, Space::new(self.alloc))?;
+        Ok(())
+    }
+
+    /// Whether a map call is under way that has told the object: COPY, ZEROPAGE and WRITEPROTECT may be EAGAIN.
+    pub(crate) fn may_be_changing(&self, object: u64) -> bool {
+        for calling in &self.calls {
+            if calling.tells_object(object) {
+                return true;
+            }
+        }
+        false
+    }
+
+    /// Whether an event of such a call is unread: they are EAGAIN.
+    pub(crate) fn is_changing(&self, object: u64) -> bool {
+        for calling in &self.calls {
+            if calling.has_untold(object) {
+                return true;
+            }
+        }
+        false
+    }
+
+    /// Whether the fault of an object is unread.
+    pub(crate) fn has_unread_fault(&self, object: u64) -> bool {
+        for fault in &self.faults {
+            if fault.object == object && matches!(fault.phase, Phase::Unread) {
+                return true;
+            }
+        }
+        false
+    }
+
+    /// Whether anything waits to be read.
+    pub(crate) fn has_unread(&self, object: u64) -> bool {
+        for calling in &self.calls {
+            if calling.is_queued_for(object) {
+                return true;
+            }
+        }
+        self.has_unread_fault(object)
+    }
+
+    /// The threads that sleep in a range of an object's pages are woken; `answered` says whether a call of the handler wakes them.
+    pub(crate) fn wake(
+        &mut self,
+        object: u64,
+        range: Range,
+        answered: bool,
+    ) -> Result<(), NoMemory> {
+        let reach = reach_of(range);
+        let unread = has_unread_in(&self.faults, object, reach);
+        if answered {
+            self.note_waits(object, range)?;
+        }
+        note_left(&mut self.unanswered, &self.faults, object, reach, answered)?;
+        wake_in(&mut self.faults, object, reach);
+        self.note_if(unread, Difference::FaultTakenAway)
+    }
+
+    /// Notes the faults in a range of an object's pages that the call resolves.
+    fn note_waits(&mut self, object: u64, range: Range) -> Result<(), NoMemory> {
+        let by = self.now;
+        for fault in &self.faults {
+            if let Some(read) = fault.read_by {
+                if is_asleep(object, reach_of(range), *fault) {
+                    let flags = fault.flags;
+                    self.waits.push(Waited { read, by, flags })?;
+                }
+            }
+        }
+        Ok(())
+    }
+
+    /// The range of pages of a list, if it meets another.
+    fn meeting(&self, place: usize, space: u32, range: Range) -> Option<Registered> {
+        let registered = self.registered.get(place)?;
+        let common = registered.range.common(range);
+        if registered.space != space || common.count == 0 {
+            return None;
+        }
+        Some(Registered {
+            range: common,
+            ..*registered
+        })
+    }
+
+    /// Whether any page of a range may be registered.
+    pub(crate) fn may_be_registered(&self, space: u32, range: Range) -> bool {
+        for place in 0..self.registered.len() {
+            if self.meeting(place, space, range).is_some() {
+                return true;
+            }
+        }
+        false
+    }
+
+    /// Whether a page of a range is registered with an object.
+    pub(crate) fn watches(&self, object: u64, space: u32, range: Range) -> bool {
+        for place in 0..self.registered.len() {
+            if let Some(found) = self.meeting(place, space, range) {
+                if self.has_page_of(object, space, found.range) {
+                    return true;
+                }
+            }
+        }
+        false
+    }
+
+    fn has_page_of(&self, object: u64, space: u32, range: Range) -> bool {
+        for number in range.first..range.end() {
+            if let Some(page) = self.page(space, number) {
+                if page.object == object {
+                    return true;
+                }
+            }
+        }
+        false
+    }
+
+    /// The objects that watch a page of a range and asked for a feature, by its bit.
+    pub(crate) fn told(
+        &self,
+        space: u32,
+        range: Range,
+        feature: u64,
+    ) -> Result<Vec<u64>, NoMemory> {
+        let mut told = Vec::new(self.alloc);
+        for (name, object) in self.objects.iter() {
+            let asks = object.features.unwrap_or(0) & feature != 0;
+            if asks && self.watches(*name, space, range) {
+                told.push(*name)?;
+            }
+        }
+        Ok(told)
+    }
+
+    /// Notes that pages are owed, by a call or by the end of the log.
+    fn owe(&mut self, call: Option<u32>, space: u32, page: u64) -> Result<(), NoMemory> {
+        if let Some(last) = self.owed.last_mut() {
+            if last.call == call && last.space == space && last.range.end() == page {
+                last.range.count = last.range.count.saturating_add(1);
+                return Ok(());
+            }
+        }
+        self.owed.push(Owed {
+            call,
+            space,
+            range: Range {
+                first: page,
+                count: 1,
+            },
+        })?;
+        Ok(())
+    }
+
+    /// The pages of a range are no longer registered with an object. Those that it owes are noted.
+    pub(crate) fn end_registration(
+        &mut self,
+        object: u64,
+        range: Range,
+        call: Option<u32>,
+    ) -> Result<(), NoMemory> {
+        let Some(space) = self.space_of(object) else {
+            return Ok(());
+        };
+        for place in 0..self.registered.len() {
+            let Some(found) = self.meeting(place, space, range) else {
+                continue;
+            };
+            if found.object == object {
+                self.note_owed(object, found.range, space, call)?;
+                self.change(space, found.range, Change::ForgetObject { object })?;
+            }
+        }
+        Ok(())
+    }
+
+    fn note_owed(
+        &mut self,
+        object: u64,
+        range: Range,
+        space: u32,
+        call: Option<u32>,
+    ) -> Result<(), NoMemory> {
+        let puts = match self.objects.get(&object) {
+            Some(object) => object.puts,
+            None => false,
+        };
+        if !puts {
+            return Ok(());
+        }
+        for number in range.first..range.end() {
+            if self.is_owed(object, space, number) {
+                self.owe(call, space, number)?;
+            }
+        }
+        Ok(())
+    }
+
+    /// Whether a page is registered with an object for missing faults, and missing.
+    fn is_owed(&self, object: u64, space: u32, number: u64) -> bool {
+        match self.page(space, number) {
+            Some(page) => page.object == object && page.missing && is_missing(page),
+            None => false,
+        }
+    }
+
+    /// A call is to put the pages of a range: those that were refused with EAGAIN are tried again.
+    pub(crate) fn note_tried(&mut self, space: u32, range: Range) {
+        self.again.retain(|again| again.space != space || !range.contains(again.page));
+    }
+
+    /// The log ends: what is registered is judged as it is, who sleeps was not answered, and what is unread was not read.
+    pub(crate) fn finish(&mut self) -> Result<(), NoMemory> {
+        for place in 0..self.objects.len() {
+            let Some((object, _)) = self.objects.get_index(place) else {
+                continue;
+            };
+            let object = *object;
+            self.end_registration(object, ALL, None)?;
+        }
+        for fault in &self.faults {
+            if let Some(read) = fault.read_by {
+                self.unanswered.push(read)?;
+            }
+        }
+        for calling in &self.calls {
+            if !calling.has_told_all() && !self.untold.contains(&calling.key) {
+                self.untold.push(calling.key)?;
+            }
+        }
+        Ok(())
+    }
+}
+
+/// All pages.
+pub(crate) const ALL: Range = Range {
+    first: 0,
+    count: u64::MAX,
+};
+
+/// A range as `kernel_rules` takes it.
+fn reach_of(range: Range) -> Reach {
+    Reach::Within {
+        first: range.first,
+        count: range.count,
+    }
+}
+
+/// Whether a page is known to be missing.
+pub(crate) fn is_missing(page: Page) -> bool {
+    matches!(page.presence, kernel_rules::Presence::Missing)
+}
+
+/// Whether a page is known to be present.
+pub(crate) fn is_present(page: Page) -> bool {
+    matches!(page.presence, kernel_rules::Presence::Present)
+}
+
+/// Whether nothing is known of a page.
+pub(crate) fn is_unknown(page: Page) -> bool {
+    matches!(page.presence, kernel_rules::Presence::Unknown)
+}

@@ -1,0 +1,338 @@
+//! Looking for a run of the rules that has exactly the answers of a log.
+//!
+//! Each call takes effect somewhere between its begin and its end: as late as that, unless another call's answer needs it earlier.
+
+pub(crate) mod index;
+
+use crate::kernel::{Kernel, is_present};
+use crate::refusal::{Refusal, Stop};
+use crate::rules::Made;
+use crate::run::{Run, Unseen};
+use crate::search::index::Index;
+use crate::unseen::Unreturned;
+use call_log::log::Log;
+use call_log::log_call::{Kind, LogCall};
+use mig_base::NoMemory;
+use std::alloc::Global;
+use uffd_log::Call;
+
+/// A call that has begun and has not taken effect.
+#[derive(Clone, Copy)]
+pub(crate) struct Open {
+    pub(crate) call: u32,
+    /// The number of steps before its begin.
+    pub(crate) begun: u32,
+}
+
+/// A call that is to take effect, after those above it.
+#[derive(Clone, Copy)]
+struct Frame {
+    call: u32,
+    /// The number of steps before those that it needs.
+    first: u32,
+}
+
+/// An install that took effect, by the place of its step.
+#[derive(Clone, Copy)]
+pub(crate) struct Put {
+    pub(crate) call: u32,
+    pub(crate) step: u32,
+}
+
+/// A call whose answer no rule allows, and why.
+#[derive(Clone, Copy)]
+pub(crate) struct Impossible {
+    pub(crate) call: u32,
+    pub(crate) reason: Refusal,
+}
+
+#[derive(Drop)]
+pub(crate) struct Search {
+    pub(crate) log: Log,
+    pub(crate) kernel: Kernel,
+    pub(crate) run: Run,
+    /// In the order in which they began.
+    pub(crate) open: Vec<Open>,
+    agenda: Vec<Frame>,
+    pub(crate) index: Index,
+    pub(crate) put: Vec<Put>,
+    /// Of a read that is being shown: the threads of its messages so far.
+    pub(crate) shown: Vec<u64>,
+    pub(crate) strangers: u64,
+    pub(crate) impossible: Vec<Impossible>,
+}
+
+impl Search {
+    pub(crate) fn new(alloc: Global, log: Log) -> Result<Search, NoMemory> {
+        let index = Index::new(alloc, &log)?;
+        let kernel = Kernel::new(alloc, log.size, &log.found)?;
+        Ok(Search {
+            log,
+            kernel,
+            run: Run::new(alloc),
+            open: Vec::new(alloc),
+            agenda: Vec::new(alloc),
+            index,
+            put: Vec::new(alloc),
+            shown: Vec::new(alloc),
+            strangers: 0,
+            impossible: Vec::new(alloc),
+        })
+    }
+
+    /// Goes through the lines of the log.
+    pub(crate) fn search(&mut self) -> Result<(), NoMemory> {
+        let mut begun = 0u32;
+        for place in 0..self.log.ends.len() {
+            let Some(end) = self.log.ends.get(place).copied() else {
+                break;
+            };
+            begun = self.begin_before(begun, end)?;
+            self.end(end)?;
+            self.run.add_line();
+        }
+        self.begin_before(begun, u32::MAX)?;
+        self.kernel.finish()
+    }
+
+    /// The calls from a place on begin whose lines are above the end of another call. Returns the place of the first that does not.
+    fn begin_before(&mut self, first: u32, end: u32) -> Result<u32, NoMemory> {
+        let until = match self.log.call(end) {
+            Some(call) => call.end,
+            None => u32::MAX,
+        };
+        for place in first..u32::MAX {
+            match self.log.call(place) {
+                Some(call) if call.begin < until => {}
+                _ => return Ok(place),
+            }
+            self.begin(place)?;
+            self.run.add_line();
+        }
+        Ok(first)
+    }
+
+    fn begin(&mut self, place: u32) -> Result<(), NoMemory> {
+        let Some(call) = self.log.call(place) else {
+            return Ok(());
+        };
+        if call.has_effect() {
+            let begun = self.run.len()?;
+            self.open.push(Open { call: place, begun })?;
+        }
+        Ok(())
+    }
+
+    fn end(&mut self, place: u32) -> Result<(), NoMemory> {
+        let Some(call) = self.log.call(place) else {
+            return Ok(());
+        };
+        if call.has_effect() && !call.done {
+            self.settle(place)?;
+        }
+        if self.kernel.may_return(place).is_err() {
+            self.settle_events()?;
+        }
+        match self.kernel.may_return(place) {
+            Err(Unreturned::Untold) => self.refuse(
+                place,
+                Refusal::Plain(Unreturned::Untold.text()),
+            )?,
+            Err(Unreturned::Uncleared) => {
+                self.step(Unseen::Clears { key: place })?;
+            }
+            Ok(()) => {}
+        }
+        self.kernel.returned(place);
+        Ok(())
+    }
+
+    /// The open reads of events take effect.
+    fn settle_events(&mut self) -> Result<(), NoMemory> {
+        for _ in 0..self.open.len() {
+            let Some(read) = self.open_read_of_events() else {
+                break;
+            };
+            self.settle(read)?;
+        }
+        Ok(())
+    }
+
+    /// A step that the log does not show. Whether the rules allow it.
+    pub(crate) fn step(&mut self, unseen: Unseen) -> Result<bool, NoMemory> {
+        let made = self.kernel.make(unseen)?;
+        if made {
+            self.run.add_unseen(unseen)?;
+        }
+        Ok(made)
+    }
+
+    /// No rule allows the answer of a call.
+    fn refuse(&mut self, place: u32, reason: Refusal) -> Result<(), NoMemory> {
+        self.impossible.push(Impossible {
+            call: place,
+            reason,
+        })?;
+        self.set_kind(place, Kind::Impossible);
+        Ok(())
+    }
+
+    pub(crate) fn set_kind(&mut self, place: u32, kind: Kind) {
+        if let Some(call) = self.log.calls.get_mut(place as usize) {
+            call.kind = kind;
+        }
+    }
+
+    /// Whether a call is to take effect after others, which its answer needs.
+    pub(crate) fn is_settling(&self, place: u32) -> bool {
+        for frame in &self.agenda {
+            if frame.call == place {
+                return true;
+            }
+        }
+        false
+    }
+
+    /// A call takes effect now, after what its answer needs.
+    fn settle(&mut self, place: u32) -> Result<(), NoMemory> {
+        self.agenda.clear();
+        self.await_effect(place)?;
+        // Each turn begins an open call, or ends one that was begun.
+        let turns = self.open.len().saturating_mul(2);
+        for _ in 0..turns {
+            let Some(frame) = self.agenda.last().copied() else {
+                return Ok(());
+            };
+            match self.needed(frame.call) {
+                Some(other) => self.await_effect(other)?,
+                None => {
+                    self.take_effect(frame)?;
+                    self.agenda.pop();
+                }
+            }
+        }
+        Ok(())
+    }
+
+    /// A call is to take effect next.
+    fn await_effect(&mut self, call: u32) -> Result<(), NoMemory> {
+        let first = self.run.len()?;
+        self.agenda.push(Frame { call, first })?;
+        Ok(())
+    }
+
+    fn take_effect(&mut self, frame: Frame) -> Result<(), NoMemory> {
+        let place = frame.call;
+        let Some(call) = self.log.call(place).copied() else {
+            return Ok(());
+        };
+        let is_placed = self.put_in(place, &call)?;
+        let step = self.run.len()?;
+        if !is_placed {
+            self.judge(frame, &call)?;
+            self.run.add_effect(place)?;
+        }
+        self.finish(place, &call, step)
+    }
+
+    /// Judges the answer of a call, which takes effect.
+    fn judge(&mut self, frame: Frame, call: &LogCall) -> Result<(), NoMemory> {
+        let made = Made {
+            key: frame.call,
+            call,
+            messages: self.log.messages_of(call),
+            runs: self.log.runs_of(call),
+        };
+        match self.kernel.take(made) {
+            Ok(()) => {
+                self.note_kind(frame, call);
+                Ok(())
+            }
+            Err(Stop::Refused(reason)) => {
+                self.refuse(frame.call, reason)?;
+                self.force(call)
+            }
+            Err(Stop::NoMemory) => Err(NoMemory),
+        }
+    }
+
+    /// Notes how sure the answer of a call is, unless that is known.
+    fn note_kind(&mut self, frame: Frame, call: &LogCall) {
+        let is_noted = match self.log.call(frame.call) {
+            Some(call) => call.kind != Kind::Unjudged,
+            None => true,
+        };
+        if is_noted {
+            return;
+        }
+        let has_messages = matches!(call.call, Call::Read { .. }) && call.count > 0;
+        let may = has_messages || self.kernel.resolved > 0 || self.run.has_access_from(frame.first);
+        self.set_kind(frame.call, if may { Kind::May } else { Kind::Must });
+    }
+
+    /// After an impossible call: what it says of pages is taken for true, so that later calls are judged on their own.
+    fn force(&mut self, call: &LogCall) -> Result<(), NoMemory> {
+        let is_there = call.is_ok() || matches!(call.errno(), Some(uffd_log::Errno::Eexist));
+        let (Some(object), Some(range)) = (call.object(), self.log.pages_of(call)) else {
+            return Ok(());
+        };
+        let Some(space) = self.kernel.space_of(object) else {
+            return Ok(());
+        };
+        if call.install_mode().is_none() || !is_there {
+            return Ok(());
+        }
+        let count = if call.is_ok() { range.count } else { 1 };
+        for number in range.first..range.first.saturating_add(count) {
+            self.force_page(space, number)?;
+        }
+        Ok(())
+    }
+
+    fn force_page(&mut self, space: u32, number: u64) -> Result<(), NoMemory> {
+        let Some(page) = self.kernel.page(space, number) else {
+            return Ok(());
+        };
+        self.kernel.set(
+            space,
+            number,
+            Some(kernel_rules::Page {
+                presence: kernel_rules::Presence::Present,
+                ..page
+            }),
+        )
+    }
+
+    /// A call has taken effect, by this step.
+    fn finish(&mut self, place: u32, call: &LogCall, step: u32) -> Result<(), NoMemory> {
+        if let Some(call) = self.log.calls.get_mut(place as usize) {
+            call.done = true;
+        }
+        self.open.retain(|open| open.call != place);
+        if call.install_mode().is_some() && has_put(call) {
+            self.put.push(Put { call: place, step })?;
+        }
+        Ok(())
+    }
+
+    /// Whether a page is registered, and known to be present.
+    pub(crate) fn is_there(&self, space: u32, number: u64) -> bool {
+        match self.kernel.page(space, number) {
+            Some(page) => is_present(page),
+            None => false,
+        }
+    }
+}
+
+/// Whether a call has put a page.
+fn has_put(call: &LogCall) -> bool {
+    match call.answer {
+        Some(
+            uffd_log::Answer::Failed {
+                bytes: Some(bytes),
+                ..
+            },
+        ) => bytes > 0,
+        _ => call.is_ok(),
+    }
+}

@@ -1,0 +1,147 @@
+-- What the reader of lines does with one line.
+use Rattle.std.proofs.Common.{◌≡◌, ℕ, ◌+◌, ◌<◌, ◌≤◌, IsTrue, Bool, true, false, List, [], ◌∷◌, ◌++◌, length, Option, Some, None, refl, sym, ap, subst, ◌∙◌, append_assoc, append-nil, inl, inr, arith}
+use Rattle.std.specs.Prelude.{IsNone, IsSome, IfNone, IfSome, codes}
+use Rattle.std.specs.List.{concat}
+use Rattle.uffd_log.specs.declared.line.Line.{Line}
+use Rattle.uffd_log.specs.Lines.{Spells}
+use Rattle.call_log.specs.declared.log_reader.LogReader.{LogReader}
+use Rattle.call_log.specs.declared.head.Head.{Head}
+use Rattle.call_log.specs.declared.wrong.Wrong.{Wrong}
+use Rattle.call_log.specs.Listing.{IsListed, AreListed, IsRight, BeginsWith, head_word}
+use Rattle.call_log.specs.Reading.{Adds, AddsAny, Takes, TakesLine}
+
+pub adds_one : (old new : LogReader) (text : List ℕ) → IsListed old.name.now old.line text → new.output.items ≡ old.output.items ++ text → new.is_right ≡ false → new.name.now ≡ old.name.now → new.line ≡ old.line
+    → Adds old.line old (text ∷ []) new
+adds_one old new text listed output wrong name line = record {
+  listed = (listed, tt);
+  output = output ∙ ap (λ (t : List ℕ). old.output.items ++ t) (sym (append-nil text));
+  right = ((λ t. let f : false ≡ true = subst (λ (b : Bool). IsTrue b) wrong t in absurd (cc)), (λ p. let e : text ∷ [] ≡ [] = p.1 in absurd (cc)));
+  name = name;
+  line = line;
+}
+
+pub adds_none : (old new : LogReader) → new.output.items ≡ old.output.items → new.is_right ≡ old.is_right → new.name.now ≡ old.name.now → new.line ≡ old.line → Adds old.line old [] new
+adds_none old new output right name line = record {
+  listed = tt;
+  output = output ∙ sym (append-nil old.output.items);
+  right = ((λ t. (subst (λ (b : Bool). IsTrue b) right t, refl)), (λ p. subst (λ (b : Bool). IsTrue b) (sym right) p.0));
+  name = name;
+  line = line;
+}
+
+listed_then : (name : List ℕ) (n : ℕ) (xs ys : List (List ℕ)) → AreListed name n xs → AreListed name n ys → AreListed name n (xs ++ ys)
+listed_then name n [] ys p q = q
+listed_then name n (x ∷ xs) ys p q = (p.0, listed_then name n xs ys p.1 q)
+
+concat_then : (xs ys : List (List ℕ)) → concat (xs ++ ys) ≡ concat xs ++ concat ys
+concat_then [] ys = refl
+concat_then (x ∷ xs) ys = ap (λ (t : List ℕ). x ++ t) (concat_then xs ys) ∙ sym (append_assoc x (concat xs) (concat ys))
+
+both_none : (xs ys : List (List ℕ)) → xs ++ ys ≡ [] → (xs ≡ []) × (ys ≡ [])
+both_none [] ys e = (refl, e)
+both_none (x ∷ xs) ys e = absurd (cc)
+
+pub adds_then : (a b c : LogReader) (xs ys : List (List ℕ)) → Adds a.line a xs b → Adds b.line b ys c → Adds a.line a (xs ++ ys) c
+adds_then a b c xs ys p q = record {
+  listed = listed_then a.name.now a.line xs ys p.listed (subst (λ (n : ℕ). AreListed a.name.now n ys) p.line (subst (λ (s : List ℕ). AreListed s b.line ys) p.name q.listed));
+  output = q.output ∙ ap (λ (t : List ℕ). t ++ concat ys) p.output ∙ append_assoc a.output.items (concat xs) (concat ys) ∙ ap (λ (t : List ℕ). a.output.items ++ t) (sym (concat_then xs ys));
+  right = (
+    (λ t. let s = q.right.0 t in let r = p.right.0 s.0 in (r.0, rw (r.1, s.1) refl)),
+    (λ t. let e = both_none xs ys t.1 in q.right.1 (p.right.1 (t.0, e.0), e.1)),
+  );
+  name = q.name ∙ p.name;
+  line = q.line ∙ p.line;
+}
+
+pub spelled : (raw : List ℕ) (line : Option Line) → IsSome line → IfSome line (λ l. Spells raw l) → (l : Line) × Spells raw l
+spelled raw None some found = let e : false ≡ true = some in absurd (cc)
+spelled raw (Some l) some found = (l, found)
+
+-- The line after those that were read
+
+-- the reader is as it was, but for the number of the line, and for what no contract speaks of
+pub record Numbers (old mid : LogReader) : Type 0 where
+  pub line : mid.line ≡ old.line + 1
+  pub name : mid.name.now ≡ old.name.now
+  pub output : mid.output.items ≡ old.output.items
+  pub right : mid.is_right ≡ old.is_right
+  pub head : mid.head ≡ old.head
+
+taken : (old mid new : LogReader) (raw : List ℕ) (ended : Bool) (texts : List (List ℕ)) → Numbers old mid → (old.line ≡ 0 → raw ≡ codes "uffdlog 1") → Adds mid.line mid texts new
+    → (texts ≡ [] → (length raw < 4096) × (ended ≡ true) × IsRight old.head.read raw new.head.read) → old.head.read ≤ new.head.read → TakesLine old raw ended new
+taken old mid new raw ended texts numbers first adds is_right more = record {
+  texts = texts;
+  listed = subst (λ (n : ℕ). AreListed old.name.now n texts) numbers.line (subst (λ (s : List ℕ). AreListed s mid.line texts) numbers.name adds.listed);
+  output = adds.output ∙ ap (λ (t : List ℕ). t ++ concat texts) numbers.output;
+  right = (
+    (λ t. let r = adds.right.0 t in (subst (λ (b : Bool). IsTrue b) numbers.right r.0, r.1)),
+    (λ r. adds.right.1 (subst (λ (b : Bool). IsTrue b) (sym numbers.right) r.0, r.1)),
+  );
+  name = adds.name ∙ numbers.name;
+  line = adds.line ∙ numbers.line;
+  first = first;
+  is_right = is_right;
+  more = more;
+}
+
+pub taken_listed : (old mid new : LogReader) (raw : List ℕ) (ended : Bool) (text : List ℕ) → Numbers old mid → (old.line ≡ 0 → raw ≡ codes "uffdlog 1") → Adds mid.line mid (text ∷ []) new → new.head ≡ mid.head → TakesLine old raw ended new
+taken_listed old mid new raw ended text numbers first adds head =
+    taken old mid new raw ended (text ∷ []) numbers first adds (λ none. absurd (cc)) (subst (λ (h : Head). old.head.read ≤ h.read) (sym (head ∙ numbers.head)) (omega arith))
+
+pub taken_whole : (old mid new : LogReader) (raw : List ℕ) (ended : Bool) → Numbers old mid → (old.line ≡ 0 → raw ≡ codes "uffdlog 1") → length raw < 4096 → ended ≡ true → Takes mid raw new → TakesLine old raw ended new
+taken_whole old mid new raw ended numbers first short whole takes =
+    taken old mid new raw ended takes.texts numbers first takes.adds (λ none. (short, whole, subst (λ (h : Head). IsRight h.read raw new.head.read) numbers.head (takes.is_right none)))
+    (subst (λ (h : Head). h.read ≤ new.head.read) numbers.head takes.more)
+
+-- A line that has the form of one
+
+-- the reader is as it was, but for its head, and for what no contract speaks of
+pub record Same (old mid : LogReader) : Type 0 where
+  pub line : mid.line ≡ old.line
+  pub name : mid.name.now ≡ old.name.now
+  pub output : mid.output.items ≡ old.output.items
+  pub right : mid.is_right ≡ old.is_right
+
+pub takes_any : (old mid new : LogReader) (raw : List ℕ) (P : Type 0) → Same old mid → AddsAny P mid new → (P → IsRight old.head.read raw new.head.read) → old.head.read ≤ new.head.read → Takes old raw new
+takes_any old mid new raw P same any is_right more = record {
+  texts = any.0;
+  adds = record {
+    listed = subst (λ (n : ℕ). AreListed old.name.now n any.0) same.line (subst (λ (s : List ℕ). AreListed s mid.line any.0) same.name any.1.listed);
+    output = any.1.output ∙ ap (λ (t : List ℕ). t ++ concat any.0) same.output;
+    right = (
+      (λ t. let r = any.1.right.0 t in (subst (λ (b : Bool). IsTrue b) same.right r.0, r.1)),
+      (λ r. any.1.right.1 (subst (λ (b : Bool). IsTrue b) (sym same.right) r.0, r.1)),
+    );
+    name = any.1.name ∙ same.name;
+    line = any.1.line ∙ same.line;
+  };
+  is_right = λ none. is_right (any.3 none);
+  more = more;
+}
+
+-- after a head that is not whole
+pub takes_after : (old mid new : LogReader) (raw text : List ℕ) → Adds old.line old (text ∷ []) mid → old.head.read < 6 → mid.head.read ≡ 6 → Takes mid raw new → Takes old raw new
+takes_after old mid new raw text adds few six takes = record {
+  texts = text ∷ takes.texts;
+  adds = adds_then old mid new (text ∷ []) takes.texts adds takes.adds;
+  is_right = λ none. absurd (cc);
+  more = omega (arith, takes.more);
+}
+
+pub adds_text : (old new : LogReader) (text : List ℕ) (P : Type 0) → Adds old.line old (text ∷ []) new × (new.head ≡ old.head) → AddsAny P old new
+adds_text old new text P adds = (text ∷ [], adds.0, adds.1, λ none. absurd (cc))
+
+from_none : {A : Type 0} (o : Option A) (P : Type 0) → IfNone o P → IsNone o → P
+from_none None P h is = h
+from_none (Some x) P h is = let e : true ≡ false = is in absurd (cc)
+
+pub takes_below : (old mid new : LogReader) (raw : List ℕ) (line : Option Line) (wrong : Option Wrong) → Same old mid → mid.head ≡ old.head → 6 ≤ old.head.read → IfSome line (λ l. Spells raw l) → IfNone wrong (IsSome line) → AddsAny (IsNone wrong) mid new
+    → Takes old raw new
+takes_below old mid new raw line wrong same head over found some any =
+    let read : new.head.read ≡ old.head.read = ap (λ (h : Head). h.read) (any.2 ∙ head) in
+    takes_any old mid new raw (IsNone wrong) same any (λ none. inr (over, spelled raw line (from_none wrong (IsSome line) some none) found, read)) (omega (arith, read))
+
+pub takes_head : (old mid new : LogReader) (raw : List ℕ) (wrong : Option Wrong) → Same old mid → mid.head.read ≡ old.head.read + 1 → old.head.read < 6 → BeginsWith (head_word old.head.read) raw → AddsAny (IsNone wrong) mid new → Takes old raw new
+takes_head old mid new raw wrong same head few begins any =
+    let read : new.head.read ≡ old.head.read + 1 = ap (λ (h : Head). h.read) any.2 ∙ head in
+    takes_any old mid new raw (IsNone wrong) same any (λ none. inl (few, begins, read)) (omega (arith, read))
