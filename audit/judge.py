@@ -120,8 +120,9 @@ class Log:
     def is_long(self, call):
         """Of map calls the pages that may become registered count: what they take away is never more than there is."""
         found = call.range()
-        pages = call.arguments["NEW"] if call.word == "mremap" else 0 if call.word in MAP_CALLS or not found else found[1]
-        return pages // self.page > MOST_PAGES
+        if call.word in MAP_CALLS:
+            return call.word == "mremap" and call.answer == "ok" and call.arguments["NEW"] // self.page > MOST_PAGES
+        return bool(found) and found[1] // self.page > MOST_PAGES
 
 
 class Search:
