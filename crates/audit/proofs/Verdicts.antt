@@ -1,9 +1,9 @@
 -- What is written of a log, from its parts.
-use Rattle.std.proofs.Common.{◌≡◌, ℕ, ◌+◌, ◌<◌, ◌↔◌, IsTrue, Bool, true, false, List, [], ◌∷◌, ◌++◌, length, Option, Some, None, refl, sym, ap, subst, ◌∙◌, append_assoc, append-nil, length-append, arith}
-use Rattle.std.specs.Prelude.{IfSome}
+use Rattle.std.proofs.Common.{◌≡◌, ℕ, ◌+◌, ◌<◌, true, false, List, [], ◌∷◌, ◌++◌, length, Option, Some, None, refl, sym, ap, subst, ◌∙◌, append_assoc, append-nil, length-append, arith}
+use Rattle.std.specs.Prelude.{IfSome, IsSome}
 use Rattle.std.specs.List.{concat}
 use Rattle.std.specs.Io.KnownBytes.{Appends}
-use Rattle.std.proofs.KnownBytes.{Appends-nil, Appends-trans}
+use Rattle.std.proofs.KnownBytes.{Appends-trans}
 use Rattle.audit.specs.declared.audit.Verdict.{Verdict}
 use Rattle.audit.specs.declared.audit.Verdict.TheVariants as verdict
 use Rattle.call_log.specs.declared.log.Log.{Log}
@@ -59,11 +59,11 @@ said name input verdict.Impossible before after p = p
 said name input verdict.Undecided before after p = p
 said name input verdict.Wrong before after p = absurd p.1.fits
 
-pub audited : (r : Option (List ℕ)) (name : List ℕ) (log : Log) (v : Verdict) (n : ℕ) (output summary : List ℕ) (w0 w1 w2 w3 : Option (List ℕ)) → IfSome r (λ input. ReadsLog name input (Some log) w0 w1) → Prints name n output → Appends w1 w2 output → IsSummary summary
+pub audited : (r : Option (List ℕ)) (name : List ℕ) (found : Option Log) (v : Verdict) (n : ℕ) (output summary : List ℕ) (w0 w1 w2 w3 : Option (List ℕ)) → IfSome r (λ input. ReadsLog name input found w0 w1) → IsSome found → Prints name n output → Appends w1 w2 output → IsSummary summary
     → Appends w2 w3 summary → HasVerdict v n → IfSome r (λ input. Audits name input v w0 w3)
-audited None name log v n output summary w0 w1 w2 w3 read g first sums wrote fits = tt
-audited (Some input) name log v n output summary w0 w1 w2 w3 read g first sums wrote fits =
-    let none : read.0 ≡ [] = read.2.0 refl in
+audited None name found v n output summary w0 w1 w2 w3 read some g first sums wrote fits = tt
+audited (Some input) name found v n output summary w0 w1 w2 w3 read some g first sums wrote fits =
+    let none : read.0 ≡ [] = read.2.0 some in
     said name input v w0 w3
     (whole_judged name input v w0 w1 w3 (subst (λ (t : List ℕ). IsRead name input t) none read.1) (subst (λ (t : List ℕ). Appends w0 w1 t) none read.3) (judged name v n output summary w1 w2 w3 g first sums wrote fits))
 
@@ -71,6 +71,6 @@ some_text : (text : List ℕ) → (text ≡ [] → ⊥) → 0 < length text
 some_text [] h = absurd (h refl)
 some_text (x ∷ xs) h = omega arith
 
-pub audited_wrong : (r : Option (List ℕ)) (name : List ℕ) (w0 w1 : Option (List ℕ)) → IfSome r (λ input. ReadsLog name input None w0 w1) → IfSome r (λ input. Audits name input verdict.Wrong w0 w1)
-audited_wrong None name w0 w1 read = tt
-audited_wrong (Some input) name w0 w1 read = (read.0, some_text read.0 (λ none. let e : false ≡ true = read.2.1 none in cc), read.1, read.3)
+pub audited_wrong : (r : Option (List ℕ)) (name : List ℕ) (found : Option Log) (w0 w1 : Option (List ℕ)) → IfSome r (λ input. ReadsLog name input found w0 w1) → found ≡ None → IfSome r (λ input. Audits name input verdict.Wrong w0 w1)
+audited_wrong None name found w0 w1 read never = tt
+audited_wrong (Some input) name found w0 w1 read never = (read.0, some_text read.0 (λ none. let e : false ≡ true = subst (λ (f : Option Log). IsSome f) never (read.2.1 none) in cc), read.1, read.3)

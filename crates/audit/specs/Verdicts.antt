@@ -1,8 +1,9 @@
 -- What is written of a log that was read, and what is said of it as a whole.
-use Rattle.std.specs.Prelude.{◌≡◌, ℕ, ◌<◌, List, [], ◌++◌, length, codes, Option}
+use Rattle.std.specs.Prelude.{◌≡◌, ℕ, ◌<◌, List, [], ◌++◌, length, codes, Option, string_bytes}
 use Rattle.std.specs.List.{concat, AllByRecursion}
 use Rattle.std.specs.Fmt.{decimal}
 use Rattle.std.specs.Io.KnownBytes.{Appends}
+use Rattle.audit.specs.declared.audit.Report.{Report}
 use Rattle.audit.specs.declared.audit.Verdict.{Verdict}
 use Rattle.audit.specs.declared.audit.Verdict.TheVariants as verdict
 use Rattle.call_log.specs.Listing.{IsListed, IsRead}
@@ -49,3 +50,10 @@ pub record Prints (name : List ℕ) (number : ℕ) (output : List ℕ) : Type 0 
   pub count : length texts ≡ number
   pub are : AreFindings name texts
   pub parts : output ≡ concat texts
+
+-- a report has the lines of some findings, a summary, and the verdict that goes with that number of findings
+pub record IsReport (name : List ℕ) (report : Report) : Type 0 where
+  pub number : ℕ
+  pub prints : Prints name number report.findings.items
+  pub is : IsSummary (string_bytes report.summary)
+  pub fits : HasVerdict report.verdict number

@@ -1,13 +1,14 @@
 //! Reading a log from a reader, and writing what was found to a writer.
 
 ghost use Rattle.std.specs.Prelude.{length, OnOk, IfOk, IfSome};
-ghost use Rattle.audit.specs.Verdicts.{Audits, HasVerdict, IsFinding, Prints};
+ghost use Rattle.audit.specs.Verdicts.{Audits, HasVerdict, IsFinding, IsReport, Prints};
 
 use crate::findings::{Finding, list_findings};
 use crate::judging::{Judged, judge};
 use crate::summary::summary;
 use call_log::fault::LogFault;
 use call_log::input::{read_log, write_out};
+use call_log::log::Log;
 use call_log::split::first_line;
 use mig_base::NoMemory;
 use std::alloc::Global;
@@ -52,16 +53,38 @@ pub fn audit_log<R: Read, W: Write>(
     ensures { IfOk result (λ verdict. IfSome (R.remaining reader.old) (λ input.
         Audits name.now input verdict (W.contents writer.old) (W.contents writer.new))) }
 {
-    let Some(log) = read_log(alloc, reader, writer, name)? else {
-        return Ok(Verdict::Wrong);
+    let log = match read_log(alloc, reader, writer, name)? {
+        Some(log) => log,
+        None => return Ok(Verdict::Wrong),
     };
+    let report = report_of(alloc, name, log, asked)?;
+    write_out(writer, &report.findings)?;
+    write_out(writer, report.summary.as_bytes())?;
+    Ok(report.verdict)
+}
+
+/// What is written of a log without wrong lines, and what is said of it.
+#[derive(Drop)]
+struct Report {
+    findings: Vec<u8>,
+    summary: String,
+    verdict: Verdict,
+}
+
+/// Judges the calls of a log.
+fn report_of(alloc: Global, name: &str, log: Log, asked: Asked) -> Result<Report, NoMemory>
+    ensures { IfOk result (λ report. IsReport name.now report) }
+{
     let judged = judge(alloc, log)?;
     let found = list_findings(alloc, &judged, asked.late_after)?;
-    let output = print_findings(alloc, name, &found)?;
-    write_out(writer, &output)?;
-    let text = summary(alloc, &judged, &found, asked.explains)?;
-    write_out(writer, text.as_bytes())?;
-    Ok(verdict_of(&judged, &found))
+    let findings = print_findings(alloc, name, &found)?;
+    let summary = summary(alloc, &judged, &found, asked.explains)?;
+    let verdict = verdict_of(&judged, &found);
+    Ok(Report {
+        findings,
+        summary,
+        verdict,
+    })
 }
 
 /// Puts the line of a finding in place of these bytes. The text is replaced.
