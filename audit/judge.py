@@ -133,7 +133,6 @@ class Search:
         self.nodes = []  # [steps before, the step]
         self.begun = {}  # for each call the place of its begin line among the nodes
         self.open = {}  # the calls that have begun and have not taken effect
-        self.readers = defaultdict(list)  # the open reads of an object's page
         self.faults = defaultdict(list)  # for each object and page, the reads that return its missing faults, by their ends
         self.reads = defaultdict(list)  # the reads of each object, by their ends
         self.put = defaultdict(list)  # for each object, the installs that took effect, in order
@@ -162,9 +161,6 @@ class Search:
     def begin(self, call):
         self.open[call.key] = call
         self.begun[call.key] = len(self.nodes)
-        if call.word == "read" and call.answer == "ok":
-            for place, _ in self.fault_places(call):
-                self.readers[call.object, place].append(call)
 
     def end(self, call):
         if call.answer == "interrupted" or call.word in NOT_JUDGED or not call.judged:
@@ -222,12 +218,6 @@ class Search:
         call.done = True
         self.open.pop(call.key, None)
         self.settling.discard(call.key)
-        for place, _ in self.fault_places(call):
-            reads = self.readers.get((call.object, place), [])
-            if call in reads:
-                reads.remove(call)
-            if not reads:
-                self.readers.pop((call.object, place), None)
         if call.word in INSTALLS and (call.answer == "ok" or call.values.get("BYTES", 0) > 0):
             self.put[call.object].append(call)
 
@@ -244,6 +234,9 @@ class Search:
     def prepare_other(self, call):
         return False
 
+    def space_of(self, found):
+        return self.kernel.objects[found].space if found in self.kernel.objects else None
+
     def places_of(self, call):
         of = self.kernel.objects.get(call.object)
         return self.kernel.places(of.space, *call.range()) if of else Places(None, 0, 0)
@@ -254,13 +247,11 @@ class Search:
         return places[0] if places else (None, 0)
 
     def read_first(self, found, places):
-        """The open reads that return a fault of these pages take effect before the page changes."""
-        pages = places.pages
-        if places.count() > len(self.readers):
-            pages = [page for (of, page) in list(self.readers) if of == found and page in places.pages]
-        for page in pages:
-            for read in list(self.readers.get((found, page), ())):
-                self.settle(read)
+        """The open reads that return a fault of these pages of an object take effect before the page changes."""
+        self.settle_where(lambda it: it.object == found and self.reads_fault_in(it, places))
+
+    def reads_fault_in(self, call, places):
+        return call.word == "read" and call.answer == "ok" and any(place in places.pages for place, _ in self.fault_places(call))
 
     def prepare_copy(self, call):
         places = self.places_of(call)
@@ -343,8 +334,7 @@ class Search:
         found = call.range()
         if call.answer == "ok" and found:
             places = self.kernel.places(call.space, *found)
-            for me in {page.object for page in self.kernel.pages.values()} if self.readers else ():
-                self.read_first(me, places)
+            self.settle_where(lambda it: self.space_of(it.object) == call.space and self.reads_fault_in(it, places))
             self.settle_where(lambda it: self.is_put_in(it, places) and (call.word != "madvise" or self.is_missing_after(it, call)))
         return False
 
@@ -357,19 +347,22 @@ class Search:
     def is_missing_after(self, install, call):
         """Whether the next fault of a page that is read after a call which clears it says that the page was missing: its install came before."""
         place = self.first_place(install)
-        for read, values in self.faults.get((install.object, place[1]), ()):
+        for read, values in self.faults.get((install.object, place[1]), ()) if call.end else ():
             if read.end > call.end:
                 return not values["FLAGS"] & FAULT_PROTECTED and not self.is_discarded(place, call.end + 1, read)
         return False
 
     def thread_of(self, found, values, shown=()):
-        """The thread of a fault. Where the object names none it is one that the log has not seen: not one of those that are shown, and none that
-        sleeps, since several may sleep at a page."""
+        """The thread of a fault. Where the object names none it is one whose fault is not read and not shown: the first that is queued, or else the
+        first that has seen the page. Where there is none it is one that the log has not seen."""
         of = self.kernel.objects.get(found)
         if of and (of.features or 0) & THREAD_ID:
             return values["THREAD"]
-        threads = ((found, values["ADDRESS"] // self.log.page, values["FLAGS"], number) for number in itertools.count())
-        return next(it for it in threads if it not in self.kernel.faults or it not in shown and self.kernel.faults[it].phase != ASLEEP)
+        key, faults = (found, values["ADDRESS"] // self.log.page, values["FLAGS"]), self.kernel.faults
+        for it in itertools.chain(self.kernel.queue.get(found, ()), faults):
+            if isinstance(it, tuple) and it[:3] == key and it not in shown and faults[it].phase != ASLEEP:
+                return it
+        return next(it for it in ((*key, number) for number in itertools.count()) if it not in faults)
 
     def prepare_read(self, call):
         me = call.object
@@ -454,7 +447,7 @@ class Search:
         if page and page.presence == PRESENT:
             self.settle_where(lambda it: it.word == "madvise")
             for key, call in list(self.kernel.calls.items()):
-                if place in call.clear:
+                if call.clear and place in call.clear:
                     self.step("clears", key)
 
     def announce(self, me, kind, values):
@@ -542,8 +535,8 @@ class Search:
 
     def never_read(self, me):
         """No read follows: a thread waits at a page that is missing or protected, and its fault is unread to the end."""
-        for place, page in self.kernel.pages.items():
-            if page.object == me and self.touch(self.stranger(), me, place, FAULT_PROTECTED if page.presence == PRESENT else 0):
+        for place, page in sorted((it for it in self.kernel.pages.items() if it[1].object == me), key=lambda it: it[0]):
+            if self.touch(self.stranger(), me, place, FAULT_PROTECTED if page.presence == PRESENT else 0):
                 break
 
     def stranger(self):

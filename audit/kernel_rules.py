@@ -457,8 +457,8 @@ class Kernel:
         of, me = self.object_of(arguments), arguments["O"][0]
         if call.answer == "ok":
             need(of.features is not None, "no handshake")
-            for message in call.messages:
-                self.take_message(call, me, message)
+            for at, message in enumerate(call.messages):
+                self.take_message(call, me, message, sum(kind == "fault" for kind, _ in call.messages[at:]))
         elif call.answer == "EAGAIN":
             need(of.features is not None and not of.waits, "no handshake, or no O_NONBLOCK")
             need(not self.has_unread(me), "a message waits")
@@ -467,7 +467,8 @@ class Kernel:
         else:
             need(call.answer in ("EFAULT", "EINTR"), "no such error of read")
 
-    def take_message(self, call, me, message):
+    def take_message(self, call, me, message, faults):
+        """`faults` of this message and those after it are faults. Those may have been queued once an event before them was read."""
         kind, values = message
         waiting = self.queue.get(me, [])
         if kind == "fault":
@@ -480,7 +481,7 @@ class Kernel:
             waiting.pop(0)
             fault.phase, fault.call = ASLEEP, (call if self.may_fault(fault) else None)
             return
-        need(not waiting, "a fault is read before events")
+        need(len(waiting) <= faults, "a fault is read before events")
         keys = [key for key, of in self.calls.items() if me in of.queued and self.is_next(of, me, kind, values)]
         need(keys, "no map call has queued this event")
         if keys[0] != next(key for key, of in self.calls.items() if of.events.get(me) or of.removes.get(me)):

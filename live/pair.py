@@ -1,7 +1,10 @@
 """A source and a destination of live: both are started here, and what they print is read."""
 
+import collections
 import os
 import pathlib
+import shlex
+import shutil
 import subprocess
 import tempfile
 import threading
@@ -17,6 +20,8 @@ POSTMIG = FOLDER.parent / "postmig"
 DONE, LOST, REFUSED, WRONG = range(4)
 # A migration that makes progress may take so many times as long as one that makes none.
 MOST_PATIENT = 3
+# The last lines of a side that are kept.
+MOST_LINES = 2000
 
 
 def figures_of(line):
@@ -25,10 +30,12 @@ def figures_of(line):
 
 
 class Side:
-    """One of the two programs. Its lines are read by a thread: `figures` has the last line of each kind, such as `verdict`."""
+    """One of the two programs. Its lines are read by a thread: `lines` has the last of them, and `figures` the last of each kind, such as
+    `verdict`. `text` is its standard error, once it has ended."""
 
     def __init__(self, words, on_progress=None):
         self.words, self.figures, self.on_progress = words, {}, on_progress
+        self.lines, self.text = collections.deque(maxlen=MOST_LINES), ""
         self.process = subprocess.Popen(words, stdin=subprocess.PIPE, stdout=subprocess.PIPE, stderr=subprocess.PIPE, text=True)
         self.listening = threading.Event()
         self.reader = threading.Thread(target=self.read, daemon=True)
@@ -36,6 +43,7 @@ class Side:
 
     def read(self):
         for line in self.process.stdout:
+            self.lines.append(line)
             kind, found = line.split(" ", 1)[0], figures_of(line)
             if kind == "progress" and self.on_progress:
                 self.on_progress(line.split()[1], found)
@@ -57,26 +65,29 @@ class Side:
             pass
 
     def end(self, patience):
-        """The status, and the text of the standard error; a program that does not end is killed, and has status None."""
-        status = None
+        """The status, and the text of the standard error; a program that does not end is killed, and has status None: the text says then
+        what it was doing."""
+        status, stuck = None, ""
         try:
             status = self.process.wait(patience)
         except subprocess.TimeoutExpired:
+            stuck = f"(killed after {patience} s: {self.state()}) "
             self.process.kill()
             self.process.wait()
         self.reader.join()
-        text = self.process.stderr.read().strip()
+        self.text = stuck + self.process.stderr.read().strip()
         self.process.stderr.close()
         self.close_input()
-        return status, text
+        return status, self.text
 
     def state(self):
-        """Its last line of progress, and in which function of the kernel each thread sleeps."""
-        tasks = pathlib.Path(f"/proc/{self.process.pid}/task")
+        """Its last line of progress, and in which function of the kernel each thread sleeps, with its system call."""
+        where = []
         try:
-            where = [(task / "wchan").read_text() for task in tasks.iterdir()]
+            for task in pathlib.Path(f"/proc/{self.process.pid}/task").iterdir():
+                where.append(f"{(task / 'wchan').read_text()} {(task / 'syscall').read_text().strip()}")
         except OSError:
-            where = []
+            pass
         return f"{self.figures.get('progress')} in {where}"
 
 
@@ -135,8 +146,25 @@ class Migration:
                 return
             time.sleep(0.002)
 
-    def finish(self, patience=60):
-        """What is wrong, or None. The destination hears that the source is gone once it is; one that gives up ends both."""
+    def finish(self, patience=60, keep=None, look=None):
+        """What is wrong, or None; `look` may find more. The destination hears that the source is gone once it is; one that gives up ends both.
+        What is left of a migration that is wrong goes to the folder `keep`, if there is one."""
+        wrong = None
+        try:
+            wrong = self.end_all(patience) or (look and look(self))
+        except Exception as fault:
+            wrong = f"{type(fault).__name__}: {fault}"
+            raise
+        finally:
+            for side in self.sides().values():
+                if side.is_running():
+                    side.process.kill()
+            if wrong and keep:
+                self.keep(keep, wrong)
+            self.folder.cleanup()
+        return wrong
+
+    def end_all(self, patience):
         begun, hang = time.time(), None
         self.wait(patience)
         if self.source.is_running() and self.dest.is_running():
@@ -155,8 +183,25 @@ class Migration:
             self.relay.close()
         if self.traces and not hang and not is_killed:
             self.judge()
-        self.folder.cleanup()
         return hang or self.wrong() or self.judged
+
+    def sides(self):
+        return {name: side for name, side in (("source", self.source), ("dest", self.dest), ("monitor", self.monitor)) if side}
+
+    def keep(self, folder, wrong):
+        """Files with what is wrong, what each program was called with and has said, the traces, and their merge."""
+        shutil.rmtree(folder, ignore_errors=True)
+        folder.mkdir(parents=True)
+        report = [wrong, f"at {time.strftime('%F %T')}, with a load of {os.getloadavg()[0]:.1f}"]
+        for name, side in self.sides().items():
+            report.append(f"{name}, status {side.process.poll()}: {shlex.join(side.words)}")
+            (folder / f"{name}.out").write_text("".join(side.lines))
+            (folder / f"{name}.err").write_text(side.text)
+        for trace in filter(os.path.exists, self.traces or ()):
+            shutil.copy(trace, folder)
+        if self.script:
+            (folder / "merged.test").write_text(self.script.text())
+        (folder / "wrong").write_text("\n".join(report) + "\n")
 
     def judge(self):
         """Both traces in one script, which `postmig test` judges if there is a proved program."""

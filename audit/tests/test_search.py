@@ -137,6 +137,20 @@ PUT_AGAIN = """70 70 begin 5 copy 8:5 0x10000 0x7000 0x2000 0x0
 70 70 end 8 ok 1
 70 71 end 6 ok
 """
+# A read of an event and then of a fault, which was queued meanwhile.
+EVENT_FIRST = """70 70 begin 5 copy 8:5 0x10000 0x7000 0x1000 0x0
+70 70 end 5 ok 4096
+70 71 begin 6 madvise 0x10000 0x1000 0x4
+70 70 begin 7 read 8:5 64
+70 70 message 7 remove 0x10000 0x11000
+70 70 message 7 fault 0x11000 0 0
+70 70 end 7 ok 2
+70 71 end 6 ok
+70 70 begin 8 copy 8:5 0x11000 0x7000 0x1000 0x0
+70 70 end 8 ok 4096
+70 70 begin 9 copy 8:5 0x10000 0x7000 0x1000 0x0
+70 70 end 9 ok 4096
+"""
 # Two processes with one address, and children that share the memory of each: what each has found tells whose it is.
 CHILDREN = """72 72 forked 70
 72 72 begin 1 open syscall 0x800
@@ -184,6 +198,7 @@ class Search(unittest.TestCase):
         self.assert_clean(text_of(WOKEN_BY_PROTECTION, "0x1", "0x3"))
         self.assert_clean(text_of(TWO_OBJECTS))
         self.assert_clean(text_of(LONG))
+        self.assert_clean(text_of(EVENT_FIRST, "0x8"))
         self.assert_clean(text_of(CHILDREN))
 
     def test_tried_again(self):

@@ -70,6 +70,8 @@ def in_c(work, loads):
         print("the traces of its nodes, as one script:", run(PROGRAM, "test", "--strict", work / "nodes.test").decode().strip())
     else:
         print("the traces of its nodes: left out, the program is not proved and built")
+    asks = built(work / "asks", "-g", "-fsanitize=address,undefined", TOP / "bench/embed/asks.c")
+    print("C:", run(asks, *(script for script, _ in SCRIPTS)).decode().strip())
     fast = built(work / "fast", "-O2", TOP / "bench/embed/lines.c")
     print("C:", run(fast, loads).decode().strip().split("\n")[-1])
 
@@ -90,6 +92,12 @@ def in_python(loads):
         got = [(numbers.tag, numbers.addr, numbers.count, part) for at in range(0, len(text), 777) for numbers, part in frames.feed(text[at : at + 777])]
     if b"".join(part for *_, part in got) != text or [(tag, addr, count) for tag, addr, count, _ in got][1:3] != [(3, 0x10000, 1), (8, 0x20000, 2)]:
         sys.exit("embed: Python: the frames differ")
+    with postmig.World() as world, world.copy() as copy:
+        copy.line(b"start")
+        asked = [world.would(b"switch"), copy.would(b"switch")]
+    wanted = [b"Phase", None]
+    if asked != wanted:
+        sys.exit(f"embed: Python: asked: {asked}")
     with postmig.World() as world:
         world.line(b"cpu 0 mmap 65536 rw")
         begun = time.perf_counter()

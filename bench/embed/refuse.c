@@ -79,6 +79,42 @@ static bool whole(const uint8_t *script, size_t length) {
     return status != POSTMIG_OK;
 }
 
+/* The status of a question that is asked once more where memory was short for it. */
+#define AGAIN(call) \
+    do { \
+        while ((status = (call)) == POSTMIG_NO_MEMORY) lacked = true; \
+    } while (0)
+
+/* Plays a script, and after every seventh line and the last asks all that may be asked. Where memory is short the handle that was to have a
+   copy keeps what it had, and the same call then has its answer. */
+static bool questions(const uint8_t *script, size_t length) {
+    static uint8_t out[1 << 20];
+    postmig_handle world = POSTMIG_NONE, copy = POSTMIG_NONE;
+    size_t written, number = 0;
+    bool lacked = false;
+    uint32_t status;
+    AGAIN(postmig_world_new(2, false, &world));
+    WANT(status == POSTMIG_OK);
+    for (size_t at = 0; at < length;) {
+        const uint8_t *end = memchr(script + at, '\n', length - at);
+        size_t count = end ? (size_t)(end - (script + at)) : length - at;
+        lacked |= postmig_world_line(&world, script + at, count, out, sizeof out, &written) == POSTMIG_NO_MEMORY;
+        at += count + 1;
+        if (++number % 7 && at < length) continue;
+        void *had = copy.at;
+        while ((status = postmig_world_copy(&world, false, &copy)) == POSTMIG_NO_MEMORY) {
+            lacked = true;
+            WANT(copy.at == had && world.at);
+        }
+        WANT(status == POSTMIG_OK && copy.at != had);
+        AGAIN(postmig_world_would(&copy, (const uint8_t *)"start", 5));
+        WANT(status == POSTMIG_OK || status == POSTMIG_REFUSED_PHASE);
+    }
+    postmig_free(&world);
+    postmig_free(&copy);
+    return lacked;
+}
+
 /* Decodes a stream in pieces; where memory is short the same call is made again, so that no frame is lost. */
 static bool frames(const uint8_t *stream, size_t length) {
     postmig_handle open = POSTMIG_NONE;
@@ -110,12 +146,15 @@ int main(int argc, char **argv) {
     long refusals = 0;
     for (int i = 2; i + 1 < argc; i += 2) {
         size_t length = bytes_of(argv[i], script, sizeof script), wanted = bytes_of(argv[i + 1], answers, sizeof answers);
-        for (int part = 0; part < (i == 2 ? 3 : 2); part++)
+        for (int part = 0; part < (i == 2 ? 4 : 3); part++)
             for (turn = 0;; turn++) {
                 live = 0;
                 refused = false;
                 left = turn;
-                bool lacked = part == 0 ? lines(script, length, answers, wanted) : part == 1 ? whole(script, length) : frames(stream, bytes);
+                bool lacked = part == 0   ? lines(script, length, answers, wanted)
+                              : part == 1 ? whole(script, length)
+                              : part == 2 ? questions(script, length)
+                                          : frames(stream, bytes);
                 left = -1;
                 WANT(lacked == refused && live == 0);
                 if (!refused) break;

@@ -6,6 +6,7 @@ import pathlib
 
 BUILT = pathlib.Path(__file__).resolve().parents[2] / "dist/libpostmig.so"
 OK, NO_ROOM, NOT_OPEN, NOT_A_LINE, NO_MEMORY, NO_CPU, NO_FRAME, FRAMES_WAIT, BAD_TAG, BAD_LENGTH, BAD_FIELD = range(11)
+REFUSED = 64
 IDLE, PRECOPY, SWITCHING, POSTCOPY, COMPLETE = range(5)
 library = ctypes.CDLL(os.environ.get("POSTMIG_LIBRARY", BUILT))
 
@@ -17,6 +18,9 @@ for name, takes in {
     "world_line": [POINTER, ctypes.c_char_p, SIZE, POINTER, SIZE, POINTER],
     "world_answer": [POINTER, POINTER, SIZE, POINTER],
     "world_counts": [POINTER, POINTER],
+    "world_copy": [POINTER, BOOL, POINTER],
+    "world_would": [POINTER, ctypes.c_char_p, SIZE],
+    "refusal_name": [WORD, POINTER, SIZE, POINTER],
     "run": [BYTE, BOOL, ctypes.c_char_p, SIZE, POINTER, SIZE, POINTER],
     "check": [ctypes.c_char_p, SIZE, POINTER, POINTER, SIZE, POINTER],
     "frames_new": [POINTER],
@@ -110,6 +114,20 @@ class World(Handle):
         counts = Counts()
         ensure(library.postmig_world_counts(self.handle, ctypes.byref(counts)))
         return counts
+
+    def copy(self, transcript=False):
+        """An equal world of its own, of which no line has printed anything."""
+        copy = World.__new__(World)
+        Handle.__init__(copy)
+        ensure(library.postmig_world_copy(self.handle, transcript, copy.handle))
+        return copy
+
+    def would(self, text):
+        """The name of the refusal that a line would print, without doing it; None if it would not be refused."""
+        status = library.postmig_world_would(self.handle, text, len(text))
+        if status > REFUSED:
+            return Room(64).filled(lambda *room: library.postmig_refusal_name(status, *room))
+        ensure(status)
 
 
 class Frame(ctypes.Structure):

@@ -1,18 +1,21 @@
 -- What the checker of runs has shown of a log.
-use Rattle.std.proofs.Common.{◌≡◌, ◌∙◌, Bool, true, List, length, sym, ap, subst}
-use Rattle.std.specs.Prelude.{map}
+use Rattle.std.proofs.Common.{◌≡◌, ◌==◌, ◌&&◌, ◌∙◌, ℕ, Bool, true, false, List, length, Option, Some, None, if◌then◌else◌, refl, sym, ap, subst}
+use Rattle.std.specs.Prelude.{IfSome, map, option_map}
 use Rattle.kernel_rules.specs.declared.kernel_table.KernelTable.{KernelTable}
 use Rattle.kernel_rules.specs.declared.run.Entry.{Entry}
 use Rattle.kernel_rules.specs.declared.run.Move.{Move}
-use Rattle.kernel_rules.specs.Certified.{IsCertified, steps_of}
+use Rattle.kernel_rules.specs.Certified.{IsCertified, certified, steps_of}
 use Rattle.kernel_rules.specs.Held.{kernel_of}
 use Rattle.kernel_rules.specs.Runs.{event_of, finished}
 use Rattle.kernel_rules.specs.State.{Kernel}
 use Rattle.log_entries.specs.declared.entry_reader.EntryReader.{EntryReader}
 use Rattle.log_entries.specs.declared.log_line.LogLine.{LogLine}
 use Rattle.log_entries.specs.Readers.{HasRead}
+use Rattle.audit.specs.declared.certificate.Certificate.{Certificate}
+use Rattle.audit.specs.declared.certificate.Certificate.TheVariants.{Certified, Missing}
+use Rattle.audit.specs.declared.certificate.Missing.TheVariants.{Differs}
 use Rattle.audit.specs.declared.certificate.Totals.{Totals}
-use Rattle.audit.specs.Certificates.{IsCertifiedLog, MayBe}
+use Rattle.audit.specs.Certificates.{IsCertificate, IsCertifiedLog, MayBe, certificate_from, totals_at_end}
 
 pub may_be : (log : List Entry) (run : List Move) (old new : KernelTable) (totals : Totals) → IsCertified log run (kernel_of old) → kernel_of new ≡ finished (kernel_of old) → totals.owed ≡ length new.owed.items → totals.twice ≡ length new.twice.items
     → MayBe (map event_of log) totals
@@ -21,8 +24,44 @@ may_be log run old new totals made done owed twice =
     let end : finished made.0.kernel ≡ kernel_of new = ap finished made.2 ∙ sym done in
     (steps_of log 0 run, made.0, made.1, owed ∙ sym (ap (λ (k : Kernel). length k.owed) end), twice ∙ sym (ap (λ (k : Kernel). length k.twice) end))
 
-pub certified : (old new : EntryReader) (entries : List Entry) (totals : Totals) → old.whole ≡ true → new.whole ≡ old.whole → ((lines : List LogLine) → HasRead lines old → HasRead lines new) → entries ≡ new.entries.items → MayBe (map event_of entries) totals
+-- The numbers that the checker finds
+
+pub none_found : (log : List Entry) (run : List Move) (found : Option KernelTable) → option_map kernel_of found ≡ certified log run → found ≡ None → None ≡ option_map totals_at_end (certified log run)
+none_found log run found exact none = subst (λ (f : Option KernelTable). None ≡ option_map totals_at_end (option_map kernel_of f)) (sym none) refl ∙ ap (option_map totals_at_end) exact
+
+abbrev pub totals_with : ℕ → ℕ → Totals
+totals_with owed twice = record { owed = owed; twice = twice }
+
+same_totals : (a b c d : ℕ) → a ≡ c → b ≡ d → totals_with a b ≡ totals_with c d
+same_totals a b c d e f = ap (λ (x : ℕ). totals_with x b) e ∙ ap (λ (y : ℕ). totals_with c y) f
+
+pub some_found : (log : List Entry) (run : List Move) (found : Option KernelTable) (old new : KernelTable) (owed twice : ℕ) → option_map kernel_of found ≡ certified log run → found ≡ Some old → kernel_of new ≡ finished (kernel_of old) → owed ≡ length new.owed.items → twice ≡ length new.twice.items
+    → Some (totals_with owed twice) ≡ option_map totals_at_end (certified log run)
+unfolding kernel_of
+some_found log run found old new owed twice exact some done is_owed is_twice =
+    let here : Some (kernel_of old) ≡ certified log run = ap (option_map kernel_of) (sym some) ∙ exact in
+    let owes : owed ≡ length (finished (kernel_of old)).owed = is_owed ∙ ap (λ (k : Kernel). length k.owed) done in
+    let puts : twice ≡ length (finished (kernel_of old)).twice = is_twice ∙ ap (λ (k : Kernel). length k.twice) done in
+    ap (λ (t : Totals). Some t) (same_totals _ _ _ _ owes puts) ∙ ap (option_map totals_at_end) here
+
+-- A certificate
+
+made_of : (old new : EntryReader) (entries : List Entry) (totals : Totals) → old.whole ≡ true → new.whole ≡ old.whole → ((lines : List LogLine) → HasRead lines old → HasRead lines new) → entries ≡ new.entries.items → MayBe (map event_of entries) totals
     → (lines : List LogLine) → HasRead lines old → IsCertifiedLog lines totals
-certified old new entries totals whole same keeps is may lines has =
+made_of old new entries totals whole same keeps is may lines has =
     let h = keeps lines has (same ∙ whole) in
     (map event_of new.entries.items, h.events, subst (λ (l : List Entry). MayBe (map event_of l) totals) is may)
+
+decided : (old : EntryReader) (found : Totals) (same : Bool) → ((lines : List LogLine) → HasRead lines old → IsCertifiedLog lines found) → IsCertificate old (if same then Certified found else Missing Differs)
+decided old found true is = is
+decided old found false is = tt
+
+from_found : (old new : EntryReader) (entries : List Entry) (found : Option Totals) (wanted : Totals) → old.whole ≡ true → new.whole ≡ old.whole → ((lines : List LogLine) → HasRead lines old → HasRead lines new) → entries ≡ new.entries.items
+    → IfSome found (MayBe (map event_of entries)) → IsCertificate old (certificate_from found wanted)
+from_found old new entries None wanted whole same keeps is may = tt
+from_found old new entries (Some totals) wanted whole same keeps is may =
+    decided old totals (totals.owed == wanted.owed && totals.twice == wanted.twice) (made_of old new entries totals whole same keeps is may)
+
+pub certificate : (old new : EntryReader) (entries : List Entry) (found : Option Totals) (wanted : Totals) (made : Certificate) → made ≡ certificate_from found wanted → old.whole ≡ true → new.whole ≡ old.whole → ((lines : List LogLine) → HasRead lines old → HasRead lines new)
+    → entries ≡ new.entries.items → IfSome found (MayBe (map event_of entries)) → IsCertificate old made
+certificate old new entries found wanted made by whole same keeps is may = subst (λ (m : Certificate). IsCertificate old m) (sym by) (from_found old new entries found wanted whole same keeps is may)

@@ -1,6 +1,6 @@
 -- What is written of a log, from its parts.
 use Rattle.std.proofs.Common.{◌≡◌, ℕ, ◌+◌, ◌<◌, true, false, List, [], ◌∷◌, ◌++◌, length, Option, Some, None, refl, sym, ap, subst, ◌∙◌, append_assoc, append-nil, length-append, arith}
-use Rattle.std.specs.Prelude.{IfSome, IsSome, string_bytes}
+use Rattle.std.specs.Prelude.{IfSome, IsSome}
 use Rattle.std.specs.List.{concat}
 use Rattle.std.specs.Io.KnownBytes.{Appends}
 use Rattle.std.proofs.KnownBytes.{Appends-trans}
@@ -10,10 +10,10 @@ use Rattle.audit.specs.declared.audit.Verdict.TheVariants as verdict
 use Rattle.audit.specs.declared.certificate.Certificate.{Certificate}
 use Rattle.audit.specs.declared.certificate.Certificate.TheVariants.{Certified, Missing}
 use Rattle.audit.specs.declared.certificate.Totals.{Totals}
-use Rattle.audit.specs.Certificates.{IsCertificate, IsCertifiedInput, IsCertifiedLog}
-use Rattle.audit.specs.Verdicts.{IsFinding, AreFindings, IsSummary, HasVerdict, IsJudged, Audits, Prints, IsReport, certified_verdict, is_certified}
+use Rattle.audit.specs.Certificates.{IsCertificate, IsCertifiedInput, Shows}
+use Rattle.audit.specs.Verdicts.{IsFinding, AreFindings, HasVerdict, GoesWith, IsJudged, Audits, Prints, IsReport, certified_verdict, is_certified}
 use Rattle.call_log.specs.declared.log.ReadLog.{ReadLog}
-use Rattle.call_log.specs.Listing.{IsRead, ReadsLog}
+use Rattle.call_log.specs.Listing.{IsLog, IsRead, ReadsEntries, ReadsLog}
 use Rattle.log_entries.specs.declared.entry_reader.EntryReader.{EntryReader}
 use Rattle.log_entries.specs.declared.log_line.LogLine.{LogLine}
 use Rattle.log_entries.specs.Readers.{HasRead}
@@ -42,32 +42,6 @@ prints_more name n old new text so_far is added = record {
 pub prints_all : (name output : List ℕ) (n m : ℕ) → Prints name n output → n ≡ m → Prints name m output
 prints_all name output n m p e = record { texts = p.texts; count = p.count ∙ e; are = p.are; parts = p.parts }
 
--- The whole log
-
-judged : (name : List ℕ) (v : Verdict) (n : ℕ) (output summary : List ℕ) (w1 w2 w3 : Option (List ℕ)) → Prints name n output → Appends w1 w2 output → IsSummary summary → Appends w2 w3 summary → HasVerdict v n → IsJudged name v w1 w3
-judged name v n output summary w1 w2 w3 g first is wrote fits = record {
-  findings = g.texts;
-  summary = summary;
-  are = g.are;
-  is = is;
-  fits = subst (λ (k : ℕ). HasVerdict v k) (sym g.count) fits;
-  appends = Appends-trans w1 w2 w3 (concat g.texts) summary (subst (λ (t : List ℕ). Appends w1 w2 t) g.parts first) wrote;
-}
-
-whole_judged : (name input : List ℕ) (v : Verdict) (w0 w1 w3 : Option (List ℕ)) → IsRead name input [] → Appends w0 w1 [] → (j : IsJudged name v w1 w3) → IsRead name input [] × IsJudged name v w0 w3
-whole_judged name input v w0 w1 w3 read none j = (
-  read,
-  record { findings = j.findings; summary = j.summary; are = j.are; is = j.is; fits = j.fits; appends = Appends-trans w0 w1 w3 [] (concat j.findings ++ j.summary) none j.appends },
-)
-
-said : (name input : List ℕ) (v : Verdict) (before after : Option (List ℕ)) → (is_certified v ≡ true → IsCertifiedInput input) → IsRead name input [] × IsJudged name v before after → Audits name input v before after
-said name input verdict.Certified before after shown p = (p.0, p.1, shown refl)
-said name input verdict.Clean before after shown p = p
-said name input verdict.Found before after shown p = p
-said name input verdict.Impossible before after shown p = p
-said name input verdict.Undecided before after shown p = p
-said name input verdict.Wrong before after shown p = absurd p.1.fits
-
 -- Certificates
 
 fits_too : (v : Verdict) (made : Certificate) (n : ℕ) → HasVerdict v n → HasVerdict (certified_verdict v made) n
@@ -84,44 +58,70 @@ fits_too verdict.Undecided (Missing why) n fits = fits
 fits_too verdict.Wrong (Certified totals) n fits = fits
 fits_too verdict.Wrong (Missing why) n fits = fits
 
-shown : (entries : EntryReader) (v : Verdict) (made : Certificate) → is_certified v ≡ false → IsCertificate entries made → is_certified (certified_verdict v made) ≡ true → (lines : List LogLine) → HasRead lines entries → (totals : Totals) × IsCertifiedLog lines totals
-shown entries verdict.Certified (Certified totals) plain is claim lines has = absurd (cc)
-shown entries verdict.Certified (Missing why) plain is claim lines has = absurd (cc)
-shown entries verdict.Clean (Certified totals) plain is claim lines has = (totals, is lines has)
-shown entries verdict.Clean (Missing why) plain is claim lines has = absurd (cc)
-shown entries verdict.Found (Certified totals) plain is claim lines has = absurd (cc)
-shown entries verdict.Found (Missing why) plain is claim lines has = absurd (cc)
-shown entries verdict.Impossible (Certified totals) plain is claim lines has = absurd (cc)
-shown entries verdict.Impossible (Missing why) plain is claim lines has = absurd (cc)
-shown entries verdict.Undecided (Certified totals) plain is claim lines has = absurd (cc)
-shown entries verdict.Undecided (Missing why) plain is claim lines has = absurd (cc)
-shown entries verdict.Wrong (Certified totals) plain is claim lines has = absurd (cc)
-shown entries verdict.Wrong (Missing why) plain is claim lines has = absurd (cc)
+goes_too : (v : Verdict) (made : Certificate) → is_certified v ≡ false → GoesWith made (certified_verdict v made)
+goes_too verdict.Certified (Certified totals) plain = tt
+goes_too verdict.Certified (Missing why) plain = absurd (cc)
+goes_too verdict.Clean (Certified totals) plain = tt
+goes_too verdict.Clean (Missing why) plain = tt
+goes_too verdict.Found (Certified totals) plain = tt
+goes_too verdict.Found (Missing why) plain = tt
+goes_too verdict.Impossible (Certified totals) plain = tt
+goes_too verdict.Impossible (Missing why) plain = tt
+goes_too verdict.Undecided (Certified totals) plain = tt
+goes_too verdict.Undecided (Missing why) plain = tt
+goes_too verdict.Wrong (Certified totals) plain = tt
+goes_too verdict.Wrong (Missing why) plain = tt
 
 pub certified_fits : (v said : Verdict) (made : Certificate) (n : ℕ) → said ≡ certified_verdict v made → HasVerdict v n → HasVerdict said n
 certified_fits v said made n by fits = subst (λ (k : Verdict). HasVerdict k n) (sym by) (fits_too v made n fits)
 
-pub certified_lines : (entries : EntryReader) (v said : Verdict) (made : Certificate) → said ≡ certified_verdict v made → is_certified v ≡ false → IsCertificate entries made → is_certified said ≡ true → (lines : List LogLine) → HasRead lines entries
-    → (totals : Totals) × IsCertifiedLog lines totals
-certified_lines entries v said made by plain is claim lines has = shown entries v made plain is (subst (λ (k : Verdict). is_certified k ≡ true) by claim) lines has
+pub certified_goes : (v said : Verdict) (made : Certificate) → said ≡ certified_verdict v made → is_certified v ≡ false → GoesWith made said
+certified_goes v said made by plain = subst (λ (k : Verdict). GoesWith made k) (sym by) (goes_too v made plain)
 
-certified_input : (name input : List ℕ) (read : ReadLog) (report : Report) (w0 w1 : Option (List ℕ)) → ReadsLog name input (Some read) w0 w1 → IsReport name read report → is_certified report.verdict ≡ true → IsCertifiedInput input
-certified_input name input read report w0 w1 log is claim =
-    let has = log.4 in
-    let made = is.certified claim has.0 has.2 in
-    (has.0, made.0, has.1, made.1)
+shows_input : (entries : EntryReader) (made : Certificate) (input : List ℕ) (lines : List LogLine) → IsCertificate entries made → IsLog input lines → HasRead lines entries → Shows made input
+shows_input entries (Certified totals) input lines is log has = (lines, log, is lines has)
+shows_input entries (Missing why) input lines is log has = tt
+
+with_totals : (made : Certificate) (input : List ℕ) → GoesWith made verdict.Certified → Shows made input → (totals : Totals) × IsCertifiedInput input totals
+with_totals (Certified totals) input goes shows = (totals, shows)
+with_totals (Missing why) input goes shows = absurd goes
+
+-- The whole log
+
+judged : (name input : List ℕ) (read : ReadLog) (report : Report) (w0 w1 w2 w3 : Option (List ℕ)) → ReadsEntries input read → IsReport name read report → Appends w0 w1 [] → Appends w1 w2 report.findings.items → Appends w2 w3 report.summary.items → IsJudged name input report.verdict w0 w3
+judged name input read report w0 w1 w2 w3 has is none first wrote =
+    let p = is.prints in
+    let found : Appends w1 w2 (concat p.texts) = subst (λ (t : List ℕ). Appends w1 w2 t) p.parts first in
+    record {
+      findings = p.texts;
+      summary = report.summary.items;
+      made = is.made;
+      are = p.are;
+      is = is.is;
+      fits = subst (λ (k : ℕ). HasVerdict report.verdict k) (sym p.count) is.fits;
+      goes = is.goes;
+      shows = shows_input read.entries is.made input has.0 is.shows has.1 has.2;
+      appends = Appends-trans w0 w1 w3 [] (concat p.texts ++ report.summary.items) none (Appends-trans w1 w2 w3 (concat p.texts) report.summary.items found wrote);
+    }
+
+said : (name input : List ℕ) (v : Verdict) (before after : Option (List ℕ)) → IsRead name input [] → IsJudged name input v before after → Audits name input v before after
+said name input verdict.Certified before after read j = (read, j, with_totals j.made input j.goes j.shows)
+said name input verdict.Clean before after read j = (read, j)
+said name input verdict.Found before after read j = (read, j)
+said name input verdict.Impossible before after read j = (read, j)
+said name input verdict.Undecided before after read j = (read, j)
+said name input verdict.Wrong before after read j = absurd j.fits
 
 -- The report is written
 
-written : (name input : List ℕ) (read : ReadLog) (report : Report) (w0 w1 w2 w3 : Option (List ℕ)) → ReadsLog name input (Some read) w0 w1 → IsReport name read report → Appends w1 w2 report.findings.items → Appends w2 w3 (string_bytes report.summary) → Audits name input report.verdict w0 w3
+written : (name input : List ℕ) (read : ReadLog) (report : Report) (w0 w1 w2 w3 : Option (List ℕ)) → ReadsLog name input (Some read) w0 w1 → IsReport name read report → Appends w1 w2 report.findings.items → Appends w2 w3 report.summary.items → Audits name input report.verdict w0 w3
 written name input read report w0 w1 w2 w3 log is first wrote =
     let none : log.0 ≡ [] = log.2.0 refl in
-    said name input report.verdict w0 w3 (certified_input name input read report w0 w1 log is)
-    (whole_judged name input report.verdict w0 w1 w3 (subst (λ (t : List ℕ). IsRead name input t) none log.1) (subst (λ (t : List ℕ). Appends w0 w1 t) none log.3)
-    (judged name report.verdict is.number report.findings.items (string_bytes report.summary) w1 w2 w3 is.prints first is.is wrote is.fits))
+    said name input report.verdict w0 w3 (subst (λ (t : List ℕ). IsRead name input t) none log.1)
+    (judged name input read report w0 w1 w2 w3 log.4 is (subst (λ (t : List ℕ). Appends w0 w1 t) none log.3) first wrote)
 
 pub audited : (r : Option (List ℕ)) (name : List ℕ) (found : Option ReadLog) (read : ReadLog) (report : Report) (w0 w1 w2 w3 : Option (List ℕ)) → IfSome r (λ input. ReadsLog name input found w0 w1) → found ≡ Some read → IsReport name read report → Appends w1 w2 report.findings.items
-    → Appends w2 w3 (string_bytes report.summary) → IfSome r (λ input. Audits name input report.verdict w0 w3)
+    → Appends w2 w3 report.summary.items → IfSome r (λ input. Audits name input report.verdict w0 w3)
 audited None name found read report w0 w1 w2 w3 log some is first wrote = tt
 audited (Some input) name found read report w0 w1 w2 w3 log some is first wrote =
     written name input read report w0 w1 w2 w3 (subst (λ (f : Option ReadLog). ReadsLog name input f w0 w1) some log) is first wrote

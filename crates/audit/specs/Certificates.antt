@@ -1,8 +1,7 @@
 -- Certificates: what the checker of runs has shown of a log.
-use Rattle.std.specs.Prelude.{◌≡◌, ℕ, List, length, map}
-use Rattle.kernel_rules.specs.declared.difference.Difference.{Difference}
-use Rattle.kernel_rules.specs.declared.run.Entry.{Entry}
-use Rattle.kernel_rules.specs.Runs.{Event, Step, World, IsRun, event_of, finished}
+use Rattle.std.specs.Prelude.{◌≡◌, ℕ, ◌==◌, ◌&&◌, if◌then◌else◌, List, length, Option, Some, None}
+use Rattle.kernel_rules.specs.Runs.{Event, Step, World, IsRun, finished}
+use Rattle.kernel_rules.specs.State.{Kernel}
 use Rattle.log_entries.specs.declared.entry_reader.EntryReader.{EntryReader}
 use Rattle.log_entries.specs.declared.log_line.LogLine.{LogLine}
 use Rattle.log_entries.specs.Events.{HasEvents}
@@ -10,6 +9,7 @@ use Rattle.log_entries.specs.Readers.{HasRead}
 use Rattle.call_log.specs.Listing.{IsLog}
 use Rattle.audit.specs.declared.certificate.Certificate.{Certificate}
 use Rattle.audit.specs.declared.certificate.Certificate.TheVariants.{Certified, Missing}
+use Rattle.audit.specs.declared.certificate.Missing.TheVariants.{Refused, Differs}
 use Rattle.audit.specs.declared.certificate.Totals.{Totals}
 
 -- a kernel may have written a log with these events, and owes at its end and has put twice as many pages as this
@@ -26,6 +26,22 @@ abbrev pub IsCertificate : EntryReader → Certificate → Type 0
 IsCertificate entries (Certified totals) = (lines : List LogLine) → HasRead lines entries → IsCertifiedLog lines totals
 IsCertificate entries (Missing why) = Unit {0}
 
--- a kernel may have written this input
-abbrev pub IsCertifiedInput : List ℕ → Type 0
-IsCertifiedInput input = (lines : List LogLine) × (totals : Totals) × IsLog input lines × IsCertifiedLog lines totals
+-- a kernel may have written this input, and owes at its end and has put twice as many pages as this
+abbrev pub IsCertifiedInput : List ℕ → Totals → Type 0
+IsCertifiedInput input totals = (lines : List LogLine) × IsLog input lines × IsCertifiedLog lines totals
+
+-- what a certificate promises of an input
+abbrev pub Shows : Certificate → List ℕ → Type 0
+Shows (Certified totals) input = IsCertifiedInput input totals
+Shows (Missing why) input = Unit {0}
+
+-- The checker's word
+
+-- how many pages a kernel owes and has put twice at the end of a log
+abbrev pub totals_at_end : Kernel → Totals
+totals_at_end kernel = record { owed = length (finished kernel).owed; twice = length (finished kernel).twice }
+
+-- the certificate where the checker has found these numbers, or has not taken the run, and the search has found those
+abbrev pub certificate_from : Option Totals → Totals → Certificate
+certificate_from None wanted = Missing Refused
+certificate_from (Some found) wanted = if found.owed == wanted.owed && found.twice == wanted.twice then Certified found else Missing Differs

@@ -1,5 +1,5 @@
 -- What is written of a log that was read, and what is said of it as a whole.
-use Rattle.std.specs.Prelude.{◌≡◌, ℕ, ◌<◌, List, [], ◌++◌, length, codes, Option, Bool, true, false, string_bytes}
+use Rattle.std.specs.Prelude.{◌≡◌, ℕ, ◌<◌, List, [], ◌∷◌, ◌++◌, length, codes, Option, Bool, true, false}
 use Rattle.std.specs.List.{concat, AllByRecursion}
 use Rattle.std.specs.Fmt.{decimal}
 use Rattle.std.specs.Io.KnownBytes.{Appends}
@@ -7,13 +7,11 @@ use Rattle.audit.specs.declared.audit.Report.{Report}
 use Rattle.audit.specs.declared.audit.Verdict.{Verdict}
 use Rattle.audit.specs.declared.audit.Verdict.TheVariants as verdict
 use Rattle.audit.specs.declared.certificate.Certificate.{Certificate}
-use Rattle.audit.specs.declared.certificate.Certificate.TheVariants.{Certified}
+use Rattle.audit.specs.declared.certificate.Certificate.TheVariants.{Certified, Missing}
 use Rattle.audit.specs.declared.certificate.Totals.{Totals}
-use Rattle.audit.specs.Certificates.{IsCertifiedInput, IsCertifiedLog}
-use Rattle.log_entries.specs.declared.log_line.LogLine.{LogLine}
-use Rattle.log_entries.specs.Readers.{HasRead}
+use Rattle.audit.specs.Certificates.{IsCertificate, IsCertifiedInput, Shows}
 use Rattle.call_log.specs.declared.log.ReadLog.{ReadLog}
-use Rattle.call_log.specs.Listing.{IsListed, IsRead}
+use Rattle.call_log.specs.Listing.{HasNoFeed, IsListed, IsRead}
 
 -- a finding: a name, the line of the log that it is of, and a text
 abbrev pub IsFinding : List ℕ → List ℕ → Type 0
@@ -23,11 +21,28 @@ IsFinding name text = (line : ℕ) × IsListed name line text
 abbrev pub AreFindings : List ℕ → List (List ℕ) → Type 0
 AreFindings name texts = AllByRecursion (λ text. IsFinding name text) texts
 
--- a summary begins with a number of calls
-pub record IsSummary (text : List ℕ) : Type 0 where
+-- the numbers of a certificate
+abbrev pub numbers_text : Totals → List ℕ
+numbers_text totals = decimal totals.owed ++ (codes ", put twice " ++ decimal totals.twice)
+
+-- the line of a run that is certified, with what its kernel owes at the end and has put twice
+abbrev pub certified_line : Totals → List ℕ
+certified_line totals = codes "certified: a kernel of the rules may have answered so; pages owed " ++ numbers_text totals
+
+-- the line that says whether a run is certified
+abbrev pub IsCertificateLine : Certificate → List ℕ → Type 0
+IsCertificateLine (Certified totals) line = line ≡ certified_line totals
+IsCertificateLine (Missing why) line = (reason : List ℕ) × HasNoFeed reason × (line ≡ codes "not certified: " ++ reason)
+
+-- a summary: a line that begins with a number of calls, the line of a certificate, and what else is said
+pub record IsSummary (made : Certificate) (text : List ℕ) : Type 0 where
   pub calls : ℕ
+  pub counts : List ℕ
+  pub line : List ℕ
   pub rest : List ℕ
-  pub parts : text ≡ decimal calls ++ codes " calls: " ++ rest
+  pub one : HasNoFeed counts
+  pub is : IsCertificateLine made line
+  pub parts : text ≡ decimal calls ++ codes " calls: " ++ counts ++ 10 ∷ line ++ 10 ∷ rest
 
 -- what is said of a log of which this number of findings was written
 abbrev pub HasVerdict : Verdict → ℕ → Type 0
@@ -48,20 +63,30 @@ abbrev pub certified_verdict : Verdict → Certificate → Verdict
 certified_verdict verdict.Clean (Certified totals) = verdict.Certified
 certified_verdict said certificate = said
 
--- the findings of a log without a wrong line were written, and its summary
-pub record IsJudged (name : List ℕ) (verdict : Verdict) (before after : Option (List ℕ)) : Type 0 where
+-- a log is not said to be certified without a certificate, nor clean with one
+abbrev pub GoesWith : Certificate → Verdict → Type 0
+GoesWith (Certified totals) verdict.Clean = ⊥
+GoesWith (Missing why) verdict.Certified = ⊥
+GoesWith made said = Unit {0}
+
+-- the findings of a log without a wrong line were written, and its summary with the line of a certificate, which this input has
+pub record IsJudged (name input : List ℕ) (verdict : Verdict) (before after : Option (List ℕ)) : Type 0 where
   pub findings : List (List ℕ)
   pub summary : List ℕ
+  pub made : Certificate
   pub are : AreFindings name findings
-  pub is : IsSummary summary
+  pub is : IsSummary made summary
   pub fits : HasVerdict verdict (length findings)
+  pub goes : GoesWith made verdict
+  pub shows : Shows made input
   pub appends : Appends before after (concat findings ++ summary)
 
 -- a whole log was read. Its wrong lines were written; or there is none, and its findings and its summary were written
 abbrev pub Audits : List ℕ → List ℕ → Verdict → Option (List ℕ) → Option (List ℕ) → Type 0
 Audits name input verdict.Wrong before after = (text : List ℕ) × (0 < length text) × IsRead name input text × Appends before after text
-Audits name input verdict.Certified before after = IsRead name input [] × IsJudged name verdict.Certified before after × IsCertifiedInput input
-Audits name input said before after = IsRead name input [] × IsJudged name said before after
+Audits name input verdict.Certified before after =
+    IsRead name input [] × IsJudged name input verdict.Certified before after × ((totals : Totals) × IsCertifiedInput input totals)
+Audits name input said before after = IsRead name input [] × IsJudged name input said before after
 
 -- the lines of this number of findings
 pub record Prints (name : List ℕ) (number : ℕ) (output : List ℕ) : Type 0 where
@@ -70,11 +95,12 @@ pub record Prints (name : List ℕ) (number : ℕ) (output : List ℕ) : Type 0 
   pub are : AreFindings name texts
   pub parts : output ≡ concat texts
 
--- a report of a log that was read: the lines of some findings, a summary, and the verdict that goes with that number of findings; where it is
--- certified, a kernel may have written the lines
+-- a report of a log that was read: the lines of some findings, a summary with the line of a certificate, and the verdict that goes with both
 pub record IsReport (name : List ℕ) (read : ReadLog) (report : Report) : Type 0 where
   pub number : ℕ
+  pub made : Certificate
   pub prints : Prints name number report.findings.items
-  pub is : IsSummary (string_bytes report.summary)
+  pub is : IsSummary made report.summary.items
   pub fits : HasVerdict report.verdict number
-  pub certified : is_certified report.verdict ≡ true → (lines : List LogLine) → HasRead lines read.entries → (totals : Totals) × IsCertifiedLog lines totals
+  pub goes : GoesWith made report.verdict
+  pub shows : IsCertificate read.entries made

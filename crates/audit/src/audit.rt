@@ -70,7 +70,7 @@ pub fn audit_log<R: Read, W: Write>(
     };
     let report = report_of(alloc, name, read, asked)?;
     write_out(writer, &report.findings)?;
-    write_out(writer, report.summary.as_bytes())?;
+    write_out(writer, &report.summary)?;
     Ok(report.verdict)
 }
 
@@ -78,7 +78,7 @@ pub fn audit_log<R: Read, W: Write>(
 #[derive(Drop)]
 struct Report {
     findings: Vec<u8>,
-    summary: String,
+    summary: Vec<u8>,
     verdict: Verdict,
 }
 
@@ -93,7 +93,7 @@ fn report_of(alloc: Global, name: &str, read: ReadLog, asked: Asked) -> Result<R
     let judgement = verdict_of(&judged, &found);
     let front = front_of(alloc, &judged, &found, asked.explains)?;
     let certificate = certificate_of(alloc, judged, entries)?;
-    let summary = summary(alloc, &front, &certificate)?;
+    let summary = summary(alloc, &front, certificate)?;
     let verdict = certified_verdict(judgement, certificate);
     Ok(Report {
         findings,

@@ -1,10 +1,11 @@
 //! Certificates: a run that was found is handed to the checker of `kernel_rules`, which is proved.
 
-ghost use Rattle.std.specs.Prelude.{◌≡◌, true, map, List, IfNone, IfOk, IfSome};
+ghost use Rattle.std.specs.Prelude.{◌≡◌, true, map, option_map, List, IfNone, IfOk, IfSome};
+ghost use Rattle.kernel_rules.specs.Certified.{certified};
 ghost use Rattle.kernel_rules.specs.Runs.{event_of};
 ghost use Rattle.log_entries.specs.declared.log_line.LogLine.{LogLine};
 ghost use Rattle.log_entries.specs.Readers.{HasRead};
-ghost use Rattle.audit.specs.Certificates.{IsCertificate, MayBe};
+ghost use Rattle.audit.specs.Certificates.{IsCertificate, MayBe, certificate_from, totals_at_end};
 
 use crate::judging::Judged;
 use crate::moves::moves_of;
@@ -19,7 +20,7 @@ use std::fmt;
 use uffd_log::{Answer, Call};
 
 /// What the kernel has at the end of a run.
-#[derive(Clone, Copy, PartialEq, Eq)]
+#[derive(Clone, Copy)]
 pub(crate) struct Totals {
     /// How many pages are owed.
     pub(crate) owed: usize,
@@ -150,7 +151,9 @@ fn totals_of(judged: &Judged) -> Totals {
 
 /// Has a run checked, and the kernel at its end judged as the log ends.
 fn check(alloc: Global, entries: &[Entry], moves: &[Move]) -> Result<Option<Totals>, NoMemory>
-    ensures { IfOk result (λ found. IfSome found (MayBe (map event_of entries.now))) }
+    ensures run { IfOk result (λ found. IfSome found (MayBe (map event_of entries.now))) }
+    ensures exact { IfOk result (λ found.
+        found ≡ option_map totals_at_end (certified entries.now moves.now)) }
 {
     let Some(mut kernel) = certify(alloc, entries, moves)? else {
         return Ok(None);
@@ -160,6 +163,18 @@ fn check(alloc: Global, entries: &[Entry], moves: &[Move]) -> Result<Option<Tota
         owed: kernel.owed.len(),
         twice: kernel.twice.len(),
     }))
+}
+
+/// The certificate of a run of which the checker has found these numbers, if it took the run, and the search those.
+fn decide(found: Option<Totals>, wanted: Totals) -> Certificate
+    ensures { result ≡ certificate_from found wanted }
+{
+    match found {
+        Some(found) if found.owed == wanted.owed && found.twice == wanted.twice =>
+            Certificate::Certified(found),
+        Some(_) => Certificate::Missing(Missing::Differs),
+        None => Certificate::Missing(Missing::Refused),
+    }
 }
 
 /// Has the run that was found checked.
@@ -180,9 +195,6 @@ pub(crate) fn certificate_of(
     };
     let wanted = totals_of(&judged);
     drop(judged);
-    match check(alloc, &entries.entries, &moves)? {
-        Some(totals) if totals == wanted => Ok(Certificate::Certified(totals)),
-        Some(_) => Ok(Certificate::Missing(Missing::Differs)),
-        None => Ok(Certificate::Missing(Missing::Refused)),
-    }
+    let found = check(alloc, &entries.entries, &moves)?;
+    Ok(decide(found, wanted))
 }

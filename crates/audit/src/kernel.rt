@@ -9,21 +9,27 @@ use mig_base::NoMemory;
 use std::alloc::Global;
 use uffd_log::Message;
 
+/// What a map call has to tell an object, until it returns.
+#[derive(Drop)]
+pub(crate) struct Told {
+    pub(crate) object: u64,
+    /// The events that are not read, the next first.
+    pub(crate) events: Vec<Message>,
+    /// Of MADV_DONTNEED: the pages of which no REMOVE was read yet.
+    pub(crate) removes: Range,
+    /// Whether the next of its events waits to be read: a kernel queues one at a time.
+    pub(crate) queued: bool,
+}
+
 /// A map call that has changed the map and has not returned.
 #[derive(Drop)]
 pub(crate) struct Calling {
     pub(crate) key: u32,
     pub(crate) space: u32,
-    /// Its events that are not read, each with its object, in the order in which the kernel queues them.
-    pub(crate) events: Vec<(u64, Message)>,
-    /// Whether the next of them waits to be read.
-    pub(crate) queued: bool,
-    /// Of MADV_DONTNEED: the pages of which no REMOVE was read yet.
-    pub(crate) untold: Range,
-    /// Those that are to be cleared then.
+    /// The objects that it tells of itself, once each.
+    pub(crate) told: Vec<Told>,
+    /// Of MADV_DONTNEED: the pages that are to be cleared.
     pub(crate) clears: Range,
-    /// The objects to which it has anything to tell, until it returns.
-    pub(crate) tells: Vec<u64>,
 }
 
 /// Pages that were registered with an object at some time.
@@ -96,28 +102,49 @@ pub(crate) struct Kernel {
     pub(crate) resolved: u64,
 }
 
+impl Told {
+    /// Whether an event of the call is unread.
+    pub(crate) fn is_unread(&self) -> bool {
+        !self.events.is_empty() || self.removes.count > 0
+    }
+}
+
 impl Calling {
     /// Whether all its events are read.
     pub(crate) fn has_told_all(&self) -> bool {
-        self.events.is_empty() && self.untold.count == 0
+        for told in &self.told {
+            if told.is_unread() {
+                return false;
+            }
+        }
+        true
+    }
+
+    /// Whether it may clear its pages: no list of events is left to be read.
+    pub(crate) fn may_clear(&self) -> bool {
+        for told in &self.told {
+            if !told.events.is_empty() {
+                return false;
+            }
+        }
+        self.clears.count > 0
     }
 
     /// Whether it has told an object anything, or is about to.
     pub(crate) fn tells_object(&self, object: u64) -> bool {
-        self.tells.contains(&object)
+        for told in &self.told {
+            if told.object == object {
+                return true;
+            }
+        }
+        false
     }
 
     /// Whether it has something to tell an object which is not read.
     pub(crate) fn has_untold(&self, object: u64) -> bool {
-        if !self.tells_object(object) {
-            return false;
-        }
-        if self.untold.count > 0 {
-            return true;
-        }
-        for (other, _) in &self.events {
-            if *other == object {
-                return true;
+        for told in &self.told {
+            if told.object == object {
+                return told.is_unread();
             }
         }
         false
@@ -125,10 +152,12 @@ impl Calling {
 
     /// Whether a message of it waits to be read by an object's reader.
     pub(crate) fn is_queued_for(&self, object: u64) -> bool {
-        match self.events.first() {
-            Some((other, _)) => self.queued && *other == object,
-            None => self.queued && self.tells_object(object),
+        for told in &self.told {
+            if told.object == object {
+                return told.queued;
+            }
         }
+        false
     }
 }
 
@@ -285,14 +314,15 @@ impl Kernel {
         false
     }
 
-    /// Whether the fault of an object is unread.
-    pub(crate) fn has_unread_fault(&self, object: u64) -> bool {
+    /// How many faults of an object are unread.
+    pub(crate) fn unread_faults(&self, object: u64) -> usize {
+        let mut count = 0usize;
         for fault in &self.faults {
             if fault.object == object && matches!(fault.phase, Phase::Unread) {
-                return true;
+                count = count.saturating_add(1);
             }
         }
-        false
+        count
     }
 
     /// Whether anything waits to be read.
@@ -302,7 +332,7 @@ impl Kernel {
                 return true;
             }
         }
-        self.has_unread_fault(object)
+        self.unread_faults(object) > 0
     }
 
     /// The threads that sleep in a range of an object's pages are woken; `answered` says whether a call of the handler wakes them.
@@ -349,6 +379,18 @@ impl Kernel {
         })
     }
 
+    /// The ranges that were registered with an object, in the order of their addresses; they may overlap.
+    pub(crate) fn ranges_of(&self, object: u64) -> Result<Vec<Range>, NoMemory> {
+        let mut ranges = Vec::new(self.alloc);
+        for registered in &self.registered {
+            if registered.object == object {
+                ranges.push(registered.range)?;
+            }
+        }
+        ranges.sort_by_key(|range| range.first)?;
+        Ok(ranges)
+    }
+
     /// Whether any page of a range may be registered.
     pub(crate) fn may_be_registered(&self, space: u32, range: Range) -> bool {
         for place in 0..self.registered.len() {
@@ -363,7 +405,7 @@ impl Kernel {
     pub(crate) fn watches(&self, object: u64, space: u32, range: Range) -> bool {
         for place in 0..self.registered.len() {
             if let Some(found) = self.meeting(place, space, range) {
-                if self.has_page_of(object, space, found.range) {
+                if found.object == object && self.has_page_of(object, space, found.range) {
                     return true;
                 }
             }
@@ -475,6 +517,19 @@ impl Kernel {
         self.again.retain(|again| again.space != space || !range.contains(again.page));
     }
 
+    /// The owner of pages gives them back: those that a call was refused with EAGAIN need not be put.
+    pub(crate) fn note_given_back(&mut self, space: u32, range: Range) {
+        for place in (0..self.again.len()).rev() {
+            let Some(again) = self.again.get(place).copied() else {
+                return;
+            };
+            let is_in = again.space == space && range.contains(again.page);
+            if is_in && self.page(space, again.page).is_some() {
+                self.again.remove(place);
+            }
+        }
+    }
+
     /// The log ends: what is registered is judged as it is, who sleeps was not answered, and what is unread was not read.
     pub(crate) fn finish(&mut self) -> Result<(), NoMemory> {
         for place in 0..self.objects.len() {
@@ -503,6 +558,9 @@ pub(crate) const ALL: Range = Range {
     first: 0,
     count: u64::MAX,
 };
+
+/// No page.
+pub(crate) const NO_PAGES: Range = Range { first: 0, count: 0 };
 
 /// A range as `kernel_rules` takes it.
 fn reach_of(range: Range) -> Reach {

@@ -9,6 +9,7 @@
 //! The crate names no file, no command line and no exit status: readers and writers are its callers'.
 #![tactic(auto)]
 
+mod accesses;
 mod audit;
 mod certificate;
 mod findings;
@@ -25,6 +26,7 @@ mod run;
 mod search;
 mod space;
 mod summary;
+mod tasks;
 mod threads;
 mod unseen;
 mod waits;

@@ -1,75 +1,97 @@
-//! Which open calls have to take effect before another one, for its answer.
+//! Open calls that take effect before another one, for its answer.
 
-use crate::kernel::{Kernel, is_missing};
-use crate::rules::has_next;
+use crate::kernel::is_missing;
 use crate::search::Search;
-use crate::threads::unnamed;
-use call_log::log_call::{LogCall, PROTECTS, is_event};
+use call_log::log_call::{LogCall, is_event};
 use call_log::pages::Range;
-use kernel_rules::fault::{find, find_unread, is_protection};
-use kernel_rules::{Fault, Phase};
-use uffd_log::{Answer, Call, Errno, Message};
+use kernel_rules::Fault;
+use kernel_rules::fault::is_protection;
+use uffd_log::{Call, Message};
 
-const THREAD_ID: u64 = 0x100;
-
-/// Which open call is looked for.
+/// Which open calls are looked for.
 #[derive(Clone, Copy)]
-enum Wanted {
-    /// One that wakes the threads at a page of an object.
-    Waker {
+pub(crate) enum Wanted {
+    /// Those that wake the threads at a page of an object.
+    Wakers {
         object: u64,
         page: u64,
     },
-    /// A read that returns a fault of some pages of an object.
+    /// Reads that return a fault of some pages of an object.
     Faults {
         object: u64,
         range: Range,
     },
-    /// A read that returns a fault of some pages of an address space.
+    /// Reads that return a fault of some pages of an address space.
     FaultsOfSpace {
         space: u32,
         range: Range,
     },
-    /// A read that returns an event.
+    /// Reads that return an event.
     Events,
-    /// One that events tell of.
+    /// Those that events tell of.
     Tellers,
     /// madvise.
     Madvise,
-    /// A call on an object.
+    /// mremap, which moves pages to this one.
+    MovesTo {
+        space: u32,
+        page: u64,
+    },
+    /// Those on an object.
     OfObject(u64),
-    /// One that puts a page of an object.
+    /// Those that put a page of an object.
     Installs {
         object: u64,
         page: u64,
     },
-    /// One that puts a page of a range which is protected by a call that ends at this line.
+    /// Those that put a page of a range which is protected by a call that ends at this line.
     Protected {
         object: u64,
         range: Range,
         line: u32,
     },
+    /// Those that put a page which loses its registration.
+    PutIn {
+        space: u32,
+        range: Range,
+    },
+    /// Those that put a page which is cleared by a call that ends at this line, and is missing after it.
+    PutBefore {
+        space: u32,
+        range: Range,
+        line: u32,
+    },
 }
 
-/// The thread of a fault. Where the object names none it is one that the log has not seen.
-pub(crate) fn thread_of(kernel: &Kernel, object: u64, page: u64, flags: u64, thread: u32) -> u64 {
-    let features = match kernel.object(object) {
-        Some(found) => found.features.unwrap_or(0),
-        None => 0,
-    };
-    if features & THREAD_ID != 0 {
-        u64::from(thread)
-    } else {
-        unnamed(page, flags)
+/// The calls that wake the thread of a fault.
+pub(crate) fn wakers_of(fault: Fault) -> Wanted {
+    Wanted::Wakers {
+        object: fault.object,
+        page: fault.page,
     }
 }
 
 impl Search {
+    /// The first open call from this place of the log on that is looked for.
+    pub(crate) fn next_open(&self, wanted: Wanted, from: u32) -> Option<u32> {
+        for open in &self.open {
+            if open.call < from {
+                continue;
+            }
+            if let Some(call) = self.log.call(open.call) {
+                if self.is_wanted(wanted, call) {
+                    return Some(open.call);
+                }
+            }
+        }
+        None
+    }
+
     /// Whether a call is what is looked for.
     fn is_wanted(&self, wanted: Wanted, call: &LogCall) -> bool {
         let size = self.log.size;
         match wanted {
-            Wanted::Waker { object, page } => call.wakes(size, object, page),
+            Wanted::Wakers { object, page } => call.wakes(size, object, page),
             Wanted::Faults { object, range } => {
                 call.object() == Some(object) && self.reads_fault(call, range)
             }
@@ -79,16 +101,32 @@ impl Search {
             Wanted::Events => self.reads_event(call),
             Wanted::Tellers => call.is_map_call() || matches!(call.call, Call::Fork),
             Wanted::Madvise => matches!(call.call, Call::Madvise { .. }),
+            Wanted::MovesTo { space, page } => self.moves_to(call, space, page),
             Wanted::OfObject(object) => call.object() == Some(object),
+            _ => self.is_wanted_install(wanted, call),
+        }
+    }
+
+    /// The same of one that puts pages.
+    fn is_wanted_install(&self, wanted: Wanted, call: &LogCall) -> bool {
+        let size = self.log.size;
+        if call.install_mode().is_none() {
+            return false;
+        }
+        match wanted {
+            Wanted::Installs { object, page } => {
+                call.object() == Some(object) && call.covers(size, page)
+            }
             Wanted::Protected {
                 object,
                 range,
                 line,
-            } => self.is_put_before(call, object, range, line),
-            Wanted::Installs { object, page } => {
-                let is_install = call.install_mode().is_some();
-                is_install && call.object() == Some(object) && call.covers(size, page)
+            } => self.is_put_before_protection(call, object, range, line),
+            Wanted::PutIn { space, range } => self.is_put_in(call, space, range),
+            Wanted::PutBefore { space, range, line } => {
+                self.is_put_in(call, space, range) && self.is_missing_after(call, space, line)
             }
+            _ => false,
         }
     }
 
@@ -121,318 +159,89 @@ impl Search {
         false
     }
 
-    /// The first open call that is looked for.
-    fn first_open(&self, wanted: Wanted) -> Option<u32> {
-        for open in &self.open {
-            if let Some(call) = self.log.call(open.call) {
-                if !self.is_settling(open.call) && self.is_wanted(wanted, call) {
-                    return Some(open.call);
-                }
-            }
-        }
-        None
+    /// Whether a call is an mremap that makes a page registered at this place.
+    fn moves_to(&self, call: &LogCall, space: u32, page: u64) -> bool {
+        let (Call::Mremap { new_len, .. }, Some(target)) = (call.call, call.value()) else {
+            return false;
+        };
+        call.space == space && self.log.size.range(target, new_len).contains(page)
     }
 
-    pub(crate) fn open_read_of_events(&self) -> Option<u32> {
-        self.first_open(Wanted::Events)
-    }
-
-    /// An open call that has to take effect before this one.
-    pub(crate) fn needed(&self, place: u32) -> Option<u32> {
-        let call = self.log.call(place)?;
-        match call.call {
-            Call::Mmap { .. } | Call::Munmap { .. } | Call::Mremap { .. } | Call::Madvise { .. } =>
-                self.needed_by_map_call(call),
-            Call::Copy { .. } | Call::ZeroPage { .. } => self.needed_by_install(call),
-            Call::WriteProtect { mode, .. } => self.needed_by_protect(call, mode),
-            Call::Wake { .. } | Call::Unregister { .. } => self.read_of_fault(call),
-            Call::Close { on } => if call.last {
-                self.first_open(Wanted::OfObject(on.object))
-            } else {
-                None
-            },
-            Call::Read { on, .. } => self.needed_by_read(call, on.object),
-            Call::Poll { on } => self.needed_by_poll(call, on.object),
-            _ => None,
-        }
-    }
-
-    /// An open read that returns a fault of the pages of a call takes effect before these change.
-    fn read_of_fault(&self, call: &LogCall) -> Option<u32> {
-        let object = call.object()?;
-        let range = self.log.pages_of(call)?;
-        self.first_open(Wanted::Faults { object, range })
-    }
-
-    fn needed_by_protect(&self, call: &LogCall, mode: u64) -> Option<u32> {
-        let object = call.object()?;
-        if matches!(call.errno(), Some(Errno::Eagain)) && !self.kernel.may_be_changing(object) {
-            return self.first_open(Wanted::Tellers);
-        }
-        if !call.is_ok() {
-            return None;
-        }
-        if mode != PROTECTS {
-            return self.read_of_fault(call);
-        }
-        let range = self.log.pages_of(call)?;
-        let line = call.end;
-        self.first_open(Wanted::Protected {
-            object,
-            range,
-            line,
-        })
+    /// The first page that a call of an open object puts, with its address space.
+    pub(crate) fn first_page(&self, call: &LogCall) -> Option<(u32, u64)> {
+        let space = self.kernel.space_of(call.object()?)?;
+        Some((space, self.log.pages_of(call)?.first))
     }
 
     /// Whether a call puts a page that is protected after it: the next fault of it that is read says so.
-    fn is_put_before(&self, call: &LogCall, object: u64, range: Range, line: u32) -> bool {
-        let is_install = call.install_mode().is_some() && call.is_ok();
-        if !is_install || call.object() != Some(object) {
+    fn is_put_before_protection(
+        &self,
+        call: &LogCall,
+        object: u64,
+        range: Range,
+        line: u32,
+    ) -> bool {
+        if !call.is_ok() || call.object() != Some(object) {
             return false;
         }
         match self.log.pages_of(call) {
             Some(pages) => range.contains(pages.first)
-                && self.is_protected_after(object, pages.first, line),
+                && matches!(
+                    self.is_next_protected(object, pages.first, line),
+                    Some(true)
+                ),
             None => false,
         }
     }
 
-    /// Whether the next fault of a page that is read after a line says that it is write-protected.
-    fn is_protected_after(&self, object: u64, page: u64, line: u32) -> bool {
-        let first = self.index.first_fault(object, page, line);
-        let Some(fault) = self.index.faults.get(first) else {
-            return false;
-        };
+    /// Whether the next fault of a page that is read after a line says that it is write-protected, if one is read.
+    fn is_next_protected(&self, object: u64, page: u64, line: u32) -> Option<bool> {
+        let fault = self
+            .index
+            .faults
+            .get(self.index.first_fault(object, page, line))?;
         if fault.object != object || fault.page != page {
-            return false;
+            return None;
         }
         match self.log.messages.get(fault.message as usize) {
-            Some(Message::Fault { flags, .. }) => is_protection(*flags),
-            _ => false,
-        }
-    }
-
-    fn needed_by_map_call(&self, call: &LogCall) -> Option<u32> {
-        if !call.is_ok() {
-            return None;
-        }
-        let range = self.log.pages_of(call)?;
-        let space = call.space;
-        self.first_open(Wanted::FaultsOfSpace { space, range })
-    }
-
-    fn needed_by_install(&self, call: &LogCall) -> Option<u32> {
-        if let Some(read) = self.read_of_fault(call) {
-            return Some(read);
-        }
-        let object = call.object()?;
-        let range = self.log.pages_of(call)?;
-        match call.answer {
-            Some(
-                Answer::Failed {
-                    errno: Errno::Eexist,
-                    ..
-                },
-            ) => self.needed_by_twice(object, range.first),
-            Some(
-                Answer::Failed {
-                    errno: Errno::Eagain,
-                    ..
-                },
-            ) => if self.kernel.may_be_changing(object) {
-                None
-            } else {
-                self.first_open(Wanted::Tellers)
-            },
-            Some(Answer::Failed { .. }) => None,
-            _ => self.needed_by_put(object, range),
-        }
-    }
-
-    /// EEXIST: another call has put the page.
-    fn needed_by_twice(&self, object: u64, page: u64) -> Option<u32> {
-        let space = self.kernel.space_of(object)?;
-        let found = self.kernel.page(space, page)?;
-        if is_missing(found) {
-            self.first_open(Wanted::Installs { object, page })
-        } else {
-            None
-        }
-    }
-
-    /// The pages of a call were missing, and all events of its object were read.
-    fn needed_by_put(&self, object: u64, range: Range) -> Option<u32> {
-        let space = self.kernel.space_of(object)?;
-        for number in range.first..range.end() {
-            if self.is_there(space, number) {
-                if let Some(madvise) = self.first_open(Wanted::Madvise) {
-                    return Some(madvise);
-                }
-            }
-        }
-        if self.kernel.is_changing(object) {
-            self.first_open(Wanted::Events)
-        } else {
-            None
-        }
-    }
-
-    fn needed_by_read(&self, call: &LogCall, object: u64) -> Option<u32> {
-        match call.answer {
-            Some(
-                Answer::Failed {
-                    errno: Errno::Eagain,
-                    ..
-                },
-            ) => self.needed_to_drain(object),
-            Some(Answer::Value(_)) => {
-                for message in self.log.messages_of(call) {
-                    if let Some(other) = self.needed_to_show(object, message) {
-                        return Some(other);
-                    }
-                }
-                None
-            }
+            Some(Message::Fault { flags, .. }) => Some(is_protection(*flags)),
             _ => None,
         }
     }
 
-    /// An open call that wakes a thread whose fault is unread.
-    fn needed_to_drain(&self, object: u64) -> Option<u32> {
-        for fault in &self.kernel.faults {
-            let is_unread = fault.object == object && matches!(fault.phase, Phase::Unread);
-            if is_unread && let Some(waker) = self.waker_of(*fault) {
-                return Some(waker);
-            }
-        }
-        None
-    }
-
-    fn waker_of(&self, fault: Fault) -> Option<u32> {
-        let object = fault.object;
-        let page = fault.page;
-        self.first_open(Wanted::Waker { object, page })
-    }
-
-    /// A message is to be the first that is read.
-    fn needed_to_show(&self, object: u64, message: &Message) -> Option<u32> {
-        let Message::Fault {
-            addr,
-            flags,
-            thread,
-        } = *message
-        else {
-            return match self.needed_to_drain(object) {
-                Some(waker) => Some(waker),
-                None => self.needed_to_announce(object, message),
-            };
-        };
-        let page = self.log.size.number(addr);
-        let thread = thread_of(&self.kernel, object, page, flags, thread);
-        if self.is_first(object, thread, page) {
-            return None;
-        }
-        if let Some(waker) = self.needed_to_pass(object, thread) {
-            return Some(waker);
-        }
-        if let Some(held) = find(&self.kernel.faults, thread) {
-            if held.page == page && !matches!(held.phase, Phase::Asleep) {
-                return None;
-            }
-            if let Some(waker) = self.waker_of(held) {
-                return Some(waker);
-            }
-        }
-        self.needed_to_touch(object, page, flags)
-    }
-
-    /// Whether the first unread fault of an object is a thread's, at a page.
-    pub(crate) fn is_first(&self, object: u64, thread: u64, page: u64) -> bool {
-        match find_unread(&self.kernel.faults, object) {
-            Some(fault) => fault.thread == thread && fault.page == page,
+    /// Whether a call puts a page of a range that loses its registration, or its bytes, by another call: it may only have been put before.
+    fn is_put_in(&self, call: &LogCall, space: u32, range: Range) -> bool {
+        match self.first_page(call) {
+            Some((of, page)) => call.is_ok() && of == space && range.contains(page),
             None => false,
         }
     }
 
-    /// An open call that wakes another thread than this, whose fault is unread.
-    fn needed_to_pass(&self, object: u64, thread: u64) -> Option<u32> {
-        for fault in &self.kernel.faults {
-            let is_other = fault.thread != thread && !self.shown.contains(&fault.thread);
-            let is_unread = fault.object == object && matches!(fault.phase, Phase::Unread);
-            if is_other
-                && is_unread
-                && let Some(waker) = self.waker_of(*fault)
-            {
-                return Some(waker);
-            }
-        }
-        None
-    }
-
-    /// A page that is present is cleared by a MADV_DONTNEED that is under way, where there is one.
-    fn needed_to_touch(&self, object: u64, page: u64, flags: u64) -> Option<u32> {
-        let space = self.kernel.space_of(object)?;
-        if !is_protection(flags) && self.is_there(space, page) {
-            self.first_open(Wanted::Madvise)
-        } else {
-            None
-        }
-    }
-
-    /// An event is one of a map call.
-    fn needed_to_announce(&self, object: u64, message: &Message) -> Option<u32> {
-        for calling in &self.kernel.calls {
-            if has_next(&self.kernel, calling, object, message) {
-                return None;
-            }
-        }
-        self.first_open(Wanted::Tellers)
-    }
-
-    fn needed_by_poll(&self, call: &LogCall, object: u64) -> Option<u32> {
-        match call.answer {
-            Some(Answer::Value(0)) => self.needed_to_drain(object),
-            Some(Answer::Value(1)) if !self.kernel.has_unread(object) => {
-                let read = self.read_after(call)?;
-                let message = self.first_message(read)?;
-                self.needed_to_show_early(object, &message)
-            }
-            _ => None,
-        }
-    }
-
-    /// The first message of a read that succeeds.
-    pub(crate) fn first_message(&self, read: u32) -> Option<Message> {
-        let call = self.log.call(read)?;
-        if call.is_ok() {
-            self.log.messages_of(call).first().copied()
-        } else {
-            None
-        }
-    }
-
-    /// A message waits that a later read returns.
-    fn needed_to_show_early(&self, object: u64, message: &Message) -> Option<u32> {
-        let Message::Fault {
-            addr,
-            flags,
-            thread,
-        } = *message
-        else {
-            return self.needed_to_announce(object, message);
+    /// Whether the next fault of a call's page that is read after a line says that the page was missing, and nothing took it away meanwhile.
+    fn is_missing_after(&self, call: &LogCall, space: u32, line: u32) -> bool {
+        let (Some(object), Some((_, page))) = (call.object(), self.first_page(call)) else {
+            return false;
         };
-        let page = self.log.size.number(addr);
-        let thread = thread_of(&self.kernel, object, page, flags, thread);
-        match find(&self.kernel.faults, thread) {
-            Some(held) => if matches!(held.phase, Phase::Asleep) {
-                match self.waker_of(held) {
-                    Some(waker) => Some(waker),
-                    None => None,
-                }
-            } else {
-                None
-            },
-            None => self.needed_to_touch(object, page, flags),
+        let Some(fault) = self
+            .index
+            .faults
+            .get(self.index.first_fault(object, page, line))
+        else {
+            return false;
+        };
+        let addr = self.log.size.address(page);
+        let is_same = matches!(self.is_next_protected(object, page, line), Some(false));
+        is_same
+            && !self
+                .index
+                .is_gone(space, addr, line.saturating_add(1), fault.end)
+    }
+
+    /// Whether a page is registered, and known to be missing.
+    pub(crate) fn is_known_missing(&self, space: u32, number: u64) -> bool {
+        match self.kernel.page(space, number) {
+            Some(page) => is_missing(page),
+            None => false,
         }
     }
 }

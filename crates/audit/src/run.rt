@@ -22,9 +22,10 @@ pub(crate) enum Unseen {
     Leaves {
         thread: u64,
     },
-    /// The next event of a map call is queued.
+    /// The next event that a map call tells an object is queued.
     Tells {
         key: u32,
+        object: u64,
     },
     /// A map call clears its pages.
     Clears {

@@ -4,11 +4,14 @@
 
 pub(crate) mod index;
 
+use crate::accesses::Shown;
 use crate::kernel::{Kernel, is_present};
+use crate::needs::Wanted;
 use crate::refusal::{Refusal, Stop};
 use crate::rules::Made;
 use crate::run::{Run, Unseen};
 use crate::search::index::Index;
+use crate::tasks::{Frame, Task, others};
 use crate::unseen::Unreturned;
 use call_log::log::Log;
 use call_log::log_call::{Kind, LogCall};
@@ -22,14 +25,6 @@ pub(crate) struct Open {
     pub(crate) call: u32,
     /// The number of steps before its begin.
     pub(crate) begun: u32,
-}
-
-/// A call that is to take effect, after those above it.
-#[derive(Clone, Copy)]
-struct Frame {
-    call: u32,
-    /// The number of steps before those that it needs.
-    first: u32,
 }
 
 /// An install that took effect, by the place of its step.
@@ -53,11 +48,20 @@ pub(crate) struct Search {
     pub(crate) run: Run,
     /// In the order in which they began.
     pub(crate) open: Vec<Open>,
-    agenda: Vec<Frame>,
+    /// What is to be done, the next at the end.
+    pub(crate) agenda: Vec<Task>,
+    /// The calls that are to take effect once what they need is done.
+    pub(crate) settling: Vec<u32>,
     pub(crate) index: Index,
     pub(crate) put: Vec<Put>,
-    /// Of a read that is being shown: the threads of its messages so far.
-    pub(crate) shown: Vec<u64>,
+    /// Of the reads among them: the threads of their messages so far.
+    pub(crate) shown: Vec<Shown>,
+    /// Whether the thread that touched a page last has queued its fault.
+    pub(crate) touched: bool,
+    /// A poll whose effect was put in before an install.
+    pub(crate) placed: Option<u32>,
+    /// How many threads were made up for messages that name none, and for messages that nobody reads.
+    pub(crate) unnamed: u64,
     pub(crate) strangers: u64,
     pub(crate) impossible: Vec<Impossible>,
 }
@@ -72,9 +76,13 @@ impl Search {
             run: Run::new(alloc),
             open: Vec::new(alloc),
             agenda: Vec::new(alloc),
+            settling: Vec::new(alloc),
             index,
             put: Vec::new(alloc),
             shown: Vec::new(alloc),
+            touched: false,
+            placed: None,
+            unnamed: 0,
             strangers: 0,
             impossible: Vec::new(alloc),
         })
@@ -128,10 +136,10 @@ impl Search {
             return Ok(());
         };
         if call.has_effect() && !call.done {
-            self.settle(place)?;
+            self.carry_out(Task::Settle(place))?;
         }
         if self.kernel.may_return(place).is_err() {
-            self.settle_events()?;
+            self.carry_out(others(Wanted::Events))?;
         }
         match self.kernel.may_return(place) {
             Err(Unreturned::Untold) => self.refuse(
@@ -144,17 +152,6 @@ impl Search {
             Ok(()) => {}
         }
         self.kernel.returned(place);
-        Ok(())
-    }
-
-    /// The open reads of events take effect.
-    fn settle_events(&mut self) -> Result<(), NoMemory> {
-        for _ in 0..self.open.len() {
-            let Some(read) = self.open_read_of_events() else {
-                break;
-            };
-            self.settle(read)?;
-        }
         Ok(())
     }
 
@@ -183,52 +180,16 @@ impl Search {
         }
     }
 
-    /// Whether a call is to take effect after others, which its answer needs.
-    pub(crate) fn is_settling(&self, place: u32) -> bool {
-        for frame in &self.agenda {
-            if frame.call == place {
-                return true;
-            }
-        }
-        false
-    }
-
-    /// A call takes effect now, after what its answer needs.
-    fn settle(&mut self, place: u32) -> Result<(), NoMemory> {
-        self.agenda.clear();
-        self.await_effect(place)?;
-        // Each turn begins an open call, or ends one that was begun.
-        let turns = self.open.len().saturating_mul(2);
-        for _ in 0..turns {
-            let Some(frame) = self.agenda.last().copied() else {
-                return Ok(());
-            };
-            match self.needed(frame.call) {
-                Some(other) => self.await_effect(other)?,
-                None => {
-                    self.take_effect(frame)?;
-                    self.agenda.pop();
-                }
-            }
-        }
-        Ok(())
-    }
-
-    /// A call is to take effect next.
-    fn await_effect(&mut self, call: u32) -> Result<(), NoMemory> {
-        let first = self.run.len()?;
-        self.agenda.push(Frame { call, first })?;
-        Ok(())
-    }
-
-    fn take_effect(&mut self, frame: Frame) -> Result<(), NoMemory> {
+    /// A call takes effect, and its answer is judged.
+    pub(crate) fn take_effect(&mut self, frame: Frame) -> Result<(), NoMemory> {
         let place = frame.call;
         let Some(call) = self.log.call(place).copied() else {
             return Ok(());
         };
-        let is_placed = self.put_in(place, &call)?;
         let step = self.run.len()?;
-        if !is_placed {
+        if self.placed == Some(place) {
+            self.placed = None;
+        } else {
             self.judge(frame, &call)?;
             self.run.add_effect(place)?;
         }
@@ -309,6 +270,8 @@ impl Search {
             call.done = true;
         }
         self.open.retain(|open| open.call != place);
+        self.settling.retain(|other| *other != place);
+        self.shown.retain(|shown| shown.read != place);
         if call.install_mode().is_some() && has_put(call) {
             self.put.push(Put { call: place, step })?;
         }

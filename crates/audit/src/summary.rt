@@ -1,15 +1,17 @@
 //! What is said of a whole log.
 
-ghost use Rattle.std.specs.Prelude.{IfOk, string_bytes};
-ghost use Rattle.audit.specs.Verdicts.{IsSummary};
+ghost use Rattle.std.specs.Prelude.{◌≡◌, ◌++◌, IfOk, OnOk, string_bytes};
+ghost use Rattle.std.specs.Fmt.{decimal};
+ghost use Rattle.audit.specs.Verdicts.{IsCertificateLine, IsSummary, certified_line, numbers_text};
 
-use crate::certificate::Certificate;
+use crate::certificate::{Certificate, Missing, Totals};
 use crate::findings::Finding;
 use crate::judging::Judged;
 use crate::replay::Broken;
 use crate::rule_names::Rule;
 use crate::waits::{KINDS, Microseconds, waits_of};
 use call_log::log_call::Kind;
+use call_log::split::first_line;
 use kernel_rules::Difference;
 use mig_base::NoMemory;
 use std::alloc::Global;
@@ -169,7 +171,7 @@ fn counts(alloc: Global, judged: &Judged) -> Result<String, NoMemory> {
         text,
         "{must} with the only answer that the rules allow, {may} that an access explains which the log does not show, "
     )?;
-    write!(text, "{impossible} impossible, {unjudged} not judged\n")?;
+    write!(text, "{impossible} impossible, {unjudged} not judged")?;
     Ok(text)
 }
 
@@ -191,49 +193,78 @@ fn details(
     Ok(text)
 }
 
-/// The counts, the certificate, and what else is said.
-fn with_certificate(
-    alloc: Global,
-    counts: &str,
-    certificate: &Certificate,
-    rest: &str,
-) -> Result<String, NoMemory> {
+/// Adds a number.
+fn add_number(text: &mut String, number: usize) -> Result<(), NoMemory>
+    ensures { OnOk result (string_bytes text.new ≡ string_bytes text.old ++ decimal number) }
+{
+    write!(text, "{number}")?;
+    Ok(())
+}
+
+/// Adds the numbers of a certificate.
+fn add_numbers(text: &mut String, totals: Totals) -> Result<(), NoMemory>
+    ensures { OnOk result (string_bytes text.new ≡ string_bytes text.old ++ numbers_text totals) }
+{
+    add_number(text, totals.owed)?;
+    text.push_str(", put twice ")?;
+    add_number(text, totals.twice)?;
+    Ok(())
+}
+
+/// The line of a run that is certified.
+fn certified_line(alloc: Global, totals: Totals) -> Result<String, NoMemory>
+    ensures { IfOk result (λ text. string_bytes text ≡ certified_line totals) }
+{
     let mut text = String::new(alloc);
-    text.push_str(counts)?;
-    add_certificate(&mut text, certificate)?;
-    text.push_str(rest)?;
+    text.push_str("certified: a kernel of the rules may have answered so; pages owed ")?;
+    add_numbers(&mut text, totals)?;
     Ok(text)
 }
 
-/// Adds whether the run is certified.
-fn add_certificate(text: &mut String, certificate: &Certificate) -> Result<(), NoMemory> {
+/// Why a run is not certified.
+fn reason_of(alloc: Global, missing: Missing) -> Result<String, NoMemory> {
+    let mut text = String::new(alloc);
+    write!(text, "{missing}")?;
+    Ok(text)
+}
+
+/// The line that says whether a run is certified.
+fn certificate_line(alloc: Global, certificate: Certificate) -> Result<Vec<u8>, NoMemory>
+    ensures { IfOk result (λ line. IsCertificateLine certificate line.items) }
+{
+    let mut line = Vec::new(alloc);
     match certificate {
         Certificate::Certified(totals) => {
-            let owed = totals.owed;
-            let twice = totals.twice;
-            write!(
-                text,
-                "certified: a kernel of the rules may have answered so; pages owed {owed}, put twice {twice}\n"
-            )?;
+            let text = certified_line(alloc, totals)?;
+            line.extend_from_slice(text.as_bytes())?;
+            Ok(line)
         }
-        Certificate::Missing(missing) => write!(text, "not certified: {missing}\n")?,
+        Certificate::Missing(missing) => {
+            let text = reason_of(alloc, missing)?;
+            line.extend_from_slice(b"not certified: ")?;
+            line.extend_from_slice(first_line(text.as_bytes()))?;
+            Ok(line)
+        }
     }
-    Ok(())
 }
 
 /// What is said of a log in the end.
 pub(crate) fn summary(
     alloc: Global,
-    judged: &Front,
-    certificate: &Certificate,
-) -> Result<String, NoMemory>
-    ensures { IfOk result (λ text. IsSummary (string_bytes text)) }
+    front: &Front,
+    certificate: Certificate,
+) -> Result<Vec<u8>, NoMemory>
+    ensures { IfOk result (λ text. IsSummary certificate text.items) }
 {
-    let counts = judged.counts.as_str();
-    let rest = with_certificate(alloc, counts, certificate, judged.rest.as_str())?;
-    let calls = judged.calls;
-    let mut text = String::new(alloc);
-    write!(text, "{calls} calls: ")?;
-    text.push_str(rest.as_str())?;
+    let line = certificate_line(alloc, certificate)?;
+    let calls = front.calls;
+    let first = format!(in alloc; "{calls} calls: ")?;
+    let mut text = Vec::new(alloc);
+    text.extend_from_slice(first.as_bytes())?;
+    text.extend_from_slice(first_line(front.counts.as_bytes()))?;
+    text.extend_from_slice(b"\n")?;
+    text.extend_from_slice(&line)?;
+    text.extend_from_slice(b"\n")?;
+    text.extend_from_slice(front.rest.as_bytes())?;
     Ok(text)
 }

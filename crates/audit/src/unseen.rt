@@ -19,7 +19,7 @@ impl Kernel {
             } => self.sees(thread, object, page, flags),
             Unseen::Queues { thread } => self.queues(thread),
             Unseen::Leaves { thread } => self.leaves(thread),
-            Unseen::Tells { key } => Ok(self.tells(key)),
+            Unseen::Tells { key, object } => Ok(self.tells(key, object)),
             Unseen::Clears { key } => self.clears(key),
         }
     }
@@ -93,30 +93,28 @@ impl Kernel {
         Ok(true)
     }
 
-    /// The next event of a map call is queued: a kernel queues one at a time, and the next when that is read.
-    fn tells(&mut self, key: u32) -> bool {
+    /// The next event that a map call tells an object is queued: a kernel queues one at a time, and the next when that is read.
+    fn tells(&mut self, key: u32, object: u64) -> bool {
         for calling in self.calls.iter_mut() {
             if calling.key == key {
-                let may_be = !calling.queued && !calling.has_told_all();
-                calling.queued = calling.queued || may_be;
-                return may_be;
+                for told in calling.told.iter_mut() {
+                    if told.object == object {
+                        let may_be = !told.queued && told.is_unread();
+                        told.queued = told.queued || may_be;
+                        return may_be;
+                    }
+                }
             }
         }
         false
     }
 
-    /// A map call clears its pages, once its events are read.
+    /// A map call clears its pages. It has told of them then, but the read of a REMOVE may end later.
     fn clears(&mut self, key: u32) -> Result<bool, NoMemory> {
         let Some((space, range)) = self.cleared_by(key) else {
             return Ok(false);
         };
-        self.change(
-            space,
-            range,
-            Change::Clear {
-                presence: Presence::Missing,
-            },
-        )?;
+        self.clear(space, range, Presence::Missing)?;
         Ok(true)
     }
 
@@ -124,7 +122,7 @@ impl Kernel {
     fn cleared_by(&mut self, key: u32) -> Option<(u32, Range)> {
         for calling in self.calls.iter_mut() {
             if calling.key == key {
-                if !calling.events.is_empty() || calling.clears.count == 0 {
+                if !calling.may_clear() {
                     return None;
                 }
                 let range = calling.clears;

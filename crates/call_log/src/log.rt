@@ -29,6 +29,8 @@ pub struct Log {
     pub runs: Vec<PageRun>,
     /// The processes that the log has seen begin.
     pub own: IndexSet<u32>,
+    /// Processes, each with an object that it has found.
+    pub met: IndexSet<(u32, u64)>,
     /// The objects whose handshake is in the log and whose opening is not, with the address space of the first call on each.
     pub found: IndexMap<u64, u32>,
     /// The number of the last line of a call.
@@ -50,6 +52,32 @@ struct Registered {
     space: u32,
     start: u64,
     len: u64,
+}
+
+impl Registered {
+    /// Whether it has a byte of another range.
+    fn meets(self, start: u64, len: u64) -> bool {
+        self.start < start.saturating_add(len) && start < self.start.saturating_add(self.len)
+    }
+}
+
+/// The address spaces that were met.
+#[derive(Clone, Copy)]
+enum Met {
+    Nobody,
+    One(u32),
+    Several,
+}
+
+impl Met {
+    /// Those, and this one.
+    fn and(self, space: u32) -> Met {
+        match self {
+            Met::Nobody => Met::One(space),
+            Met::One(other) if other == space => self,
+            _ => Met::Several,
+        }
+    }
 }
 
 /// The place of a thing among as many before it, as a log keeps it.
@@ -78,6 +106,7 @@ impl Log {
             messages: Vec::new(alloc),
             runs: Vec::new(alloc),
             own: IndexSet::new(alloc),
+            met: IndexSet::new(alloc),
             found: IndexMap::new(alloc),
             last_line: 1,
             command: Vec::new(alloc),
@@ -123,11 +152,12 @@ impl Log {
     pub fn complete(&mut self, alloc: Global) -> Result<(), NoMemory> {
         let ranges = self.registered(alloc)?;
         let (opened, shaken) = self.known_objects(alloc)?;
+        let openers = self.openers(alloc)?;
         for place in 0..self.calls.len() {
             let Some(call) = self.calls.get(place).copied() else {
                 continue;
             };
-            let space = self.space_of(&call, &ranges);
+            let space = self.space_of(&call, &ranges, &openers);
             let judged = self.is_judged(&call, &opened, &shaken);
             if let Some(call) = self.calls.get_mut(place) {
                 call.space = space;
@@ -173,42 +203,76 @@ impl Log {
         Ok((opened, shaken))
     }
 
-    /// The address space that a call changes. A process that the log has not seen begin may share that whose registered pages it meets.
-    fn space_of(&self, call: &LogCall, ranges: &IndexSet<Registered>) -> u32 {
+    /// The objects that the log has seen open, with the address space of each.
+    fn openers(&self, alloc: Global) -> Result<IndexMap<u64, u32>, NoMemory> {
+        let mut openers = IndexMap::new(alloc);
+        for call in &self.calls {
+            if let Some(Answer::Opened(on)) = call.answer {
+                openers.insert(on.object, call.space)?;
+            }
+        }
+        Ok(openers)
+    }
+
+    /// The address space that a call changes. A process that the log has not seen begin may share that whose registered pages it meets, and
+    /// where there are several, that of an object that it has found.
+    fn space_of(
+        &self,
+        call: &LogCall,
+        ranges: &IndexSet<Registered>,
+        openers: &IndexMap<u64, u32>,
+    ) -> u32 {
         if !call.is_map_call() || self.own.contains(&call.space) {
             return call.space;
         }
         let Some((start, len)) = call.bytes() else {
             return call.space;
         };
-        let mut met = None;
+        let mut met = Met::Nobody;
+        let mut found = Met::Nobody;
         for range in ranges.iter() {
-            if range.start < start.saturating_add(len)
-                && start < range.start.saturating_add(range.len)
-            {
-                if met.is_some() && met != Some(range.space) {
-                    return call.space;
+            if range.meets(start, len) {
+                met = met.and(range.space);
+                if self.has_found(call.space, range.space, openers) {
+                    found = found.and(range.space);
                 }
-                met = Some(range.space);
             }
         }
-        met.unwrap_or(call.space)
+        match (met, found) {
+            (Met::One(space), _) | (Met::Several, Met::One(space)) => space,
+            _ => call.space,
+        }
+    }
+
+    /// Whether a process has found an object that was opened in an address space.
+    fn has_found(&self, process: u32, space: u32, openers: &IndexMap<u64, u32>) -> bool {
+        for (met, object) in self.met.iter() {
+            if *met == process && openers.get(object) == Some(&space) {
+                return true;
+            }
+        }
+        false
     }
 
     /// Whether the rules speak of a call: not where the log has seen its object neither open nor make its handshake, and not where its range
-    /// is too long.
+    /// is too long. A map call takes no more pages away than there are, and only mremap makes any registered.
     fn is_judged(&self, call: &LogCall, opened: &IndexSet<u64>, shaken: &IndexSet<u64>) -> bool {
+        if call.is_map_call() {
+            return match call.call {
+                Call::Mremap { new_len, .. } => {
+                    !call.is_ok() || self.size.number(new_len) <= MOST_PAGES
+                }
+                _ => true,
+            };
+        }
         if let Some((start, len)) = call.bytes() {
-            if self.size.range(start, len).count > MOST_PAGES {
+            if self.size.number(len) > MOST_PAGES {
                 return false;
             }
         }
-        if let Some(object) = call.object() {
-            return opened.contains(&object) || shaken.contains(&object);
-        }
-        match call.call {
-            Call::Mremap { new_len, .. } => self.size.number(new_len) < MOST_PAGES,
-            _ => true,
+        match call.object() {
+            Some(object) => opened.contains(&object) || shaken.contains(&object),
+            None => true,
         }
     }
 

@@ -159,15 +159,20 @@ impl LogCall {
         }
     }
 
-    /// Whether it wakes the threads that sleep at a page of an object.
-    pub fn wakes(&self, size: PageSize, object: u64, page: u64) -> bool {
-        let is_waking = match self.call {
+    /// Whether it wakes the threads that sleep at its pages.
+    pub fn is_waking(&self) -> bool {
+        let wakes = match self.call {
             Call::Copy { mode, .. } | Call::ZeroPage { mode, .. } => mode & DONTWAKE == 0,
             Call::WriteProtect { mode, .. } => mode == 0,
             Call::Wake { .. } | Call::Unregister { .. } => true,
             _ => false,
         };
-        is_waking && self.is_ok() && self.object() == Some(object) && self.covers(size, page)
+        wakes && self.is_ok()
+    }
+
+    /// Whether it wakes the threads that sleep at a page of an object.
+    pub fn wakes(&self, size: PageSize, object: u64, page: u64) -> bool {
+        self.is_waking() && self.object() == Some(object) && self.covers(size, page)
     }
 
     /// Whether a page is among those that it is of.

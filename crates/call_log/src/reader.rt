@@ -475,10 +475,16 @@ impl CallReader {
     // Descriptors
 
     fn take_found(&mut self, pid: u32, on: Descriptor) -> Result<(), Fault> {
+        self.note_met(pid, on)?;
         if self.processes.is_bound(pid, on) {
             return Ok(());
         }
         self.take_number(pid, on)
+    }
+
+    fn note_met(&mut self, pid: u32, on: Descriptor) -> Result<(), NoMemory> {
+        self.log.met.insert((pid, on.object))?;
+        Ok(())
     }
 
     fn take_dropped(&mut self, pid: u32, on: Descriptor) -> Result<(), Fault> {

@@ -121,7 +121,7 @@ fn new_sheet(memory: &mut Memory, width: u64, height: u64) -> Result<Sheet, NoMe
     Sheet::new(memory.alloc, &attributes)
 }
 
-/// Writes what stands behind all bands.
+/// Writes what lies behind all bands.
 fn ground(pen: &mut Pen, name: &str, width: u64, height: u64) {
     pen.element(Tag::Title, name.as_bytes());
     pen.element(Tag::Style, STYLE.as_bytes());
@@ -135,7 +135,7 @@ fn ground(pen: &mut Pen, name: &str, width: u64, height: u64) {
     pen.rectangle(Class::Ground, frame);
 }
 
-/// All that is drawn, and where it stands.
+/// All that is drawn, and where it is.
 struct Layout {
     plan: Plan,
     labels: marks::Labels,

@@ -1,4 +1,4 @@
-//! Which pages stand in which row.
+//! Which pages are in which row.
 
 use crate::memory::Memory;
 use crate::record::{Dot, Track};
@@ -10,14 +10,14 @@ use mig_base::schedule::Side;
 /// The most rows of a band.
 const MOST_ROWS: usize = 256;
 
-/// A row of a band: a page, or several that stand together.
+/// A row of a band: a page, or several side by side.
 #[derive(Clone, Copy)]
 pub(crate) struct Row {
     /// The first page, or the processor.
     pub first: u32,
     /// From the first page to the last.
     pub pages: u32,
-    /// Whether the page before it stands in no row.
+    /// Whether the page before it is in no row.
     pub gap: bool,
     /// Whether nothing has happened to its pages but that they were mapped.
     pub dull: bool,
@@ -38,7 +38,7 @@ impl Row {
 pub(crate) struct Rows {
     pub rows: Vec<Row>,
     pub of: Vec<u32>,
-    /// How many neighbours stand in one row.
+    /// How many neighbours share a row.
     pub together: u32,
 }
 

@@ -12,7 +12,7 @@ use mig_base::NoMemory;
 use std::alloc::Global;
 use std::marker::Model;
 
-/// A picture that is being written: an `svg` element, and what stands inside it up to now.
+/// A picture that is being written: an `svg` element, and its content so far.
 #[derive(Drop)]
 pub(crate) struct Sheet {
     bytes: Vec<u8>,

@@ -2,7 +2,7 @@
 
 use crate::class::Class;
 
-/// The state of a page at a node, or of a processor, from one line to the next. The states of each band stand in the order of their rank:
+/// The state of a page at a node, or of a processor, from one line to the next. The states of each band are in the order of their rank:
 /// where pages or lines are merged, the last of this list is shown.
 #[derive(Clone, Copy, PartialEq, Eq)]
 pub enum State {

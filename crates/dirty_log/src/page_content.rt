@@ -7,8 +7,7 @@ ghost use Rattle.mig_model.specs.Guest.{is_present};
 ghost use Rattle.mig_model.specs.Wire.{page_frame};
 ghost use Rattle.dirty_log.specs.Sending.{frame_sent};
 
-use crate::bytes::{are_bytes, bytes_at};
-use mig_base::zeros::are_zeros;
+use crate::bytes::are_bytes;
 use mig_base::{PAGE_BYTES, PageNo};
 use uffd_ioctl::Space;
 
@@ -30,12 +29,12 @@ impl<'a> PageContent<'a> {
             page_frame page (contents space.now.host.bytes page) }
         ensures frame { IsPage page → IsFrame (frame_sent page result) }
     {
-        let bytes = bytes_at(space, page);
-        are_bytes(bytes);
-        if are_zeros(bytes) {
-            PageContent::Zero
-        } else {
-            PageContent::Page(bytes)
+        match space.page_unless_zeros(page) {
+            Some(bytes) => {
+                are_bytes(bytes);
+                PageContent::Page(bytes)
+            }
+            None => PageContent::Zero,
         }
     }
 }

@@ -10,4 +10,6 @@ mod lines;
 #[cfg(test)]
 mod runs;
 #[cfg(test)]
+mod searches;
+#[cfg(test)]
 mod verdicts;

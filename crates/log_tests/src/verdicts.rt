@@ -184,19 +184,30 @@ fn log_of(alloc: Global, front: &[u8], lines: &[u8]) -> Result<Vec<u8>, AllocErr
     Ok(log)
 }
 
+/// Plays a log that can be read whole.
+pub(crate) fn play_whole(
+    rt: &impl Abort,
+    alloc: Global,
+    front: &[u8],
+    lines: &[u8],
+    verdict: Verdict,
+    written: &[u8],
+) -> Result<(), Fail> {
+    let log = log_of(alloc, front, lines)?;
+    let case = Case {
+        input: &log,
+        read_fails_at: 0,
+        write_fails_at: 0,
+        answer: Ok(verdict),
+        written,
+    };
+    play(rt, alloc, &case)
+}
+
 #[test]
 fn whole_logs(rt: HostRuntime) -> Result<(), Fail> {
-    let alloc = rt.alloc();
     for (front, lines, verdict, written) in &LOGS {
-        let log = log_of(alloc, front, lines)?;
-        let case = Case {
-            input: &log,
-            read_fails_at: 0,
-            write_fails_at: 0,
-            answer: Ok(*verdict),
-            written,
-        };
-        play(&rt, alloc, &case)?;
+        play_whole(&rt, rt.alloc(), front, lines, *verdict, written)?;
     }
     Ok(())
 }

@@ -76,6 +76,9 @@ impl TracedDestination {
             IsRefusedFor (answer step self.old.node) refusal) }
         ensures err { OnErr result (self.new ≡ self.old) }
     {
+        if !self.trace.on {
+            return self.node.step(step);
+        }
         self.trace.reserve()?;
         let effect = self.node.step(step)?;
         self.trace.add(step_of(step), effect);
@@ -94,6 +97,9 @@ impl TracedDestination {
         ensures left { OnErr result (IsLeft bytes.now self.old.node self.new.node) }
         ensures no_line { OnErr result (self.new.trace ≡ self.old.trace) }
     {
+        if !self.trace.on {
+            return self.node.take(bytes);
+        }
         if self.trace.reserve().is_err() {
             return Err(FrameFault::NoMemory);
         }
@@ -113,6 +119,9 @@ impl TracedDestination {
             MayNotTakeUrgently bytes.now self.old.node fault) }
         ensures err { OnErr result (self.new ≡ self.old) }
     {
+        if !self.trace.on {
+            return self.node.take_urgent(bytes);
+        }
         if self.trace.reserve().is_err() {
             return Err(FrameFault::NoMemory);
         }

@@ -86,6 +86,9 @@ impl TracedSource {
             (refusal ≡ refusals.Refusal.NoMemory) ⊎ MayBeRefused step self.old.node refusal) }
         ensures err { OnErr result (self.new ≡ self.old) }
     {
+        if !self.trace.on {
+            return self.node.step(step);
+        }
         self.trace.reserve()?;
         let effect = self.node.step(step)?;
         self.trace.add(step_of(step), effect);
@@ -102,6 +105,9 @@ impl TracedSource {
         ensures refused { IfErr result (λ fault. MayNotReturn bytes.now self.old.node fault) }
         ensures err { OnErr result (self.new ≡ self.old) }
     {
+        if !self.trace.on {
+            return self.node.back(bytes);
+        }
         if self.trace.reserve().is_err() {
             return Err(FrameFault::NoMemory);
         }

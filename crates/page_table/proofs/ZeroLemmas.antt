@@ -1,10 +1,11 @@
 -- Zeros written into a page of zeros.
-use Rattle.std.proofs.Common.{◌≡◌, ℕ, ◌+◌, ◌-◌, ◌≤◌, eqb, true, refl, ap, ◌∙◌, arith, List, [], ◌∷◌, ◌++◌, length, drop}
+use Rattle.std.proofs.Common.{◌≡◌, ℕ, zero, suc, if◌then◌else◌, Some, None, ◌+◌, ◌-◌, ◌≤◌, eqb, true, refl, ap, ◌∙◌, arith, List, [], ◌∷◌, ◌++◌, length, drop}
 use Rattle.std.specs.Prelude.{replicate}
 use Rattle.std.specs.List.{list_all}
 use Rattle.std.proofs.lemmas.Bool.{and_parts, eqb-true}
 use Rattle.std.proofs.lemmas.List.{take-replicate, drop-replicate, replicate-append-replicate}
 use Rattle.mig_base.specs.Bytes.{overwrite, zero_page}
+use Rattle.page_table.specs.Bytes.{unless_zeros}
 
 zeros : ℕ → List ℕ
 zeros n = replicate {A = ℕ} n 0
@@ -15,6 +16,16 @@ all_zero [] h = refl
 all_zero (byte ∷ bytes) h =
     let tests = and_parts (eqb byte 0) (list_all (λ x. eqb x 0) bytes) h in
     ap (λ x. x ∷ bytes) (eqb-true byte 0 tests.0) ∙ ap (λ xs. 0 ∷ xs) (all_zero bytes tests.1)
+
+zeros_pass : (n : ℕ) → list_all (λ byte. eqb byte 0) (zeros n) ≡ true
+unfolding zeros
+zeros_pass zero = refl
+zeros_pass (suc n) = zeros_pass n
+
+-- a page of zeros has no other byte
+pub none_of_zeros : unless_zeros (Some zero_page) ≡ None
+unfolding zero_page zeros
+none_of_zeros = ap (λ all. if all then None else Some (zeros 4096)) (zeros_pass 4096)
 
 three_zeros : (a b c : ℕ) → zeros a ++ (zeros b ++ zeros c) ≡ zeros (a + (b + c))
 unfolding zeros

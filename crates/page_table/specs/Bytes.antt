@@ -1,5 +1,6 @@
 -- The bytes of pages.
-use Rattle.std.specs.Prelude.{◌≡◌, ℕ, List, Option, Some, None, Result, Ok, Err, unwrap_or, length, slice_index_or}
+use Rattle.std.specs.Prelude.{◌≡◌, ◌==◌, if◌then◌else◌, ℕ, List, Option, Some, None, Result, Ok, Err, unwrap_or, length, slice_index_or}
+use Rattle.std.specs.List.{list_all}
 use Rattle.mig_base.specs.Bytes.{overwrite, zero_page}
 use Rattle.mig_base.specs.declared.TheConstants.{PAGE_SIZE}
 
@@ -14,6 +15,11 @@ IsWhole page = (bytes : List ℕ) → page ≡ Some bytes → length bytes ≡ P
 -- each present page of a list has PAGE_SIZE bytes
 abbrev pub AreWhole : List Page → Type 0
 AreWhole pages = (i : ℕ) → IsWhole (slice_index_or pages i None)
+
+-- a page that is present and has another byte than zero, else none
+abbrev pub unless_zeros : Page → Page
+unless_zeros None = None
+unless_zeros (Some bytes) = if list_all (λ byte. byte == 0) bytes then None else Some bytes
 
 -- a page after bytes were to be written from byte offset on: a missing page is written as a page of zeros, and a refused write changes
 -- nothing

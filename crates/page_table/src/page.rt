@@ -4,7 +4,7 @@ ghost use Rattle.std.specs.Prelude.{◌≡◌, ℕ, ◌+◌, ◌≤◌, is_some,
 ghost use Rattle.std.specs.Option.{option_copied};
 ghost use Rattle.mig_base.specs.Bytes.{overwrite, zero_page};
 ghost use Rattle.mig_base.specs.declared.TheConstants.{PAGE_SIZE};
-ghost use Rattle.page_table.specs.Bytes.{stored_page};
+ghost use Rattle.page_table.specs.Bytes.{stored_page, unless_zeros};
 ghost use Rattle.page_table.specs.Contents.{bytes_in};
 
 use mig_base::zeros::{are_zeros, zero_bytes};
@@ -75,6 +75,20 @@ impl Page {
             Content::Missing => None,
             Content::Zeros => Some(zero_bytes()),
             Content::Bytes(bytes) => Some(bytes.as_array()),
+        }
+    }
+
+    /// The bytes of the page, if it is present and not all of them are zero. Zeros without memory of their own are not compared.
+    pub fn bytes_unless_zeros(&self) -> Option<&[u8; PAGE_BYTES]>
+        ensures { option_copied result ≡ unless_zeros self.now }
+    {
+        match &self.content {
+            Content::Missing => None,
+            Content::Zeros => None,
+            Content::Bytes(bytes) => {
+                let bytes = bytes.as_array();
+                if are_zeros(bytes) { None } else { Some(bytes) }
+            }
         }
     }
 

@@ -10,14 +10,15 @@ ghost use Rattle.mig_base.specs.Pages.{remove_range};
 ghost use Rattle.mig_base.specs.Sets.{without};
 ghost use Rattle.mig_base.specs.declared.TheConstants.{HIGH_PAGE, PAGE_SIZE};
 ghost use Rattle.mig_base.specs.Bytes.{zero_page, contents, overwrite};
+ghost use Rattle.page_table.specs.Bytes.{unless_zeros};
 
 mod ranges;
 
 use crate::leaf::Place;
 use crate::page::Page;
 use crate::table::{
-    bytes_at, clear_range, copy_places, is_present_at, is_protected_at, make_place, make_places,
-    move_cells, present_of, protect_at, put_at, write_at,
+    bytes_at, bytes_unless_zeros_at, clear_range, copy_places, is_present_at, is_protected_at,
+    make_place, make_places, move_cells, present_of, protect_at, put_at, write_at,
 };
 use mig_base::page_set::PageSet;
 use mig_base::{NoMemory, PAGE_BYTES, PageBytes, PageNo};
@@ -74,6 +75,14 @@ impl PageTable {
         ensures { option_copied result ≡ map.get self.now.bytes page }
     {
         bytes_at(&self.places, page)
+    }
+
+    /// The 4096 bytes of a page, or `None` if it is missing or all of them are zero. Any page number is allowed. Zeros that have no memory
+    /// of their own are not compared.
+    pub fn get_unless_zeros(&self, page: PageNo) -> Option<&[u8; PAGE_BYTES]>
+        ensures { option_copied result ≡ unless_zeros (map.get self.now.bytes page) }
+    {
+        bytes_unless_zeros_at(&self.places, page)
     }
 
     /// Whether a page is present and protected. Any page number is allowed.

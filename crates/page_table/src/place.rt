@@ -8,7 +8,7 @@ ghost use Rattle.mig_base.specs.Bytes.{zero_page};
 ghost use Rattle.mig_base.specs.Ranges.{in_range};
 ghost use Rattle.mig_base.specs.declared.TheConstants.{PAGE_SIZE};
 ghost use Rattle.mig_base.specs.declared.chunk.TheConstants.{CHUNK};
-ghost use Rattle.page_table.specs.Bytes.{IsWhole};
+ghost use Rattle.page_table.specs.Bytes.{IsWhole, unless_zeros};
 ghost use Rattle.page_table.specs.Leaves.{Cell, cell_in, leaf_cell, is_place, no_cell, with_protection, stored_cell};
 
 use crate::leaf::{
@@ -141,6 +141,17 @@ pub fn place_get(place: &Place, i: u32) -> Option<&[u8; PAGE_BYTES]>
 {
     match place {
         Some(leaf) => leaf.pages[i as usize].bytes(),
+        None => None,
+    }
+}
+
+/// The bytes of a page, if it is present and not all of them are zero.
+pub fn place_get_unless_zeros(place: &Place, i: u32) -> Option<&[u8; PAGE_BYTES]>
+    requires { i < CHUNK }
+    ensures { option_copied result ≡ unless_zeros (cell_in place.now i).0 }
+{
+    match place {
+        Some(leaf) => leaf.pages[i as usize].bytes_unless_zeros(),
         None => None,
     }
 }

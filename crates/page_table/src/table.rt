@@ -7,14 +7,14 @@ ghost use Rattle.mig_base.specs.Bytes.{zero_page};
 ghost use Rattle.mig_base.specs.Ranges.{in_range};
 ghost use Rattle.mig_base.specs.declared.TheConstants.{HIGH_PAGE, PAGE_SIZE};
 ghost use Rattle.mig_base.specs.declared.chunk.TheConstants.{CHUNKS};
-ghost use Rattle.page_table.specs.Bytes.{IsWhole};
+ghost use Rattle.page_table.specs.Bytes.{IsWhole, unless_zeros};
 ghost use Rattle.page_table.specs.Leaves.{Cell, cell_at, has_place, no_cell, with_protection, stored_cell, moved_cell, put_cell};
 
 use crate::leaf::Place;
 use crate::page::Page;
 use crate::place::{
-    place_clear, place_copy, place_gather, place_get, place_is_protected, place_make,
-    place_protect, place_put, place_take, place_write,
+    place_clear, place_copy, place_gather, place_get, place_get_unless_zeros, place_is_protected,
+    place_make, place_protect, place_put, place_take, place_write,
 };
 use mig_base::chunk::CHUNK;
 use mig_base::page_set::PageSet;
@@ -28,6 +28,18 @@ pub fn bytes_at(places: &Vec<Place>, page: PageNo) -> Option<&[u8; PAGE_BYTES]>
     let at = (page / CHUNK) as usize;
     if at < places.len() {
         place_get(&places[at], page % CHUNK)
+    } else {
+        None
+    }
+}
+
+/// The bytes of a page, if it is present and not all of them are zero.
+pub fn bytes_unless_zeros_at(places: &Vec<Place>, page: PageNo) -> Option<&[u8; PAGE_BYTES]>
+    ensures { option_copied result ≡ unless_zeros (cell_at places.now.items page).0 }
+{
+    let at = (page / CHUNK) as usize;
+    if at < places.len() {
+        place_get_unless_zeros(&places[at], page % CHUNK)
     } else {
         None
     }

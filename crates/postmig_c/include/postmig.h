@@ -22,8 +22,31 @@ enum {
     POSTMIG_FRAMES_WAIT = 7, /* frames wait: postmig_frames_next has to take them first */
     POSTMIG_BAD_TAG = 8,     /* the stream has a version or tag that is not known, */
     POSTMIG_BAD_LENGTH = 9,  /* a length that no body of such a frame has, */
-    POSTMIG_BAD_FIELD = 10   /* or another field with a value that no frame has there */
+    POSTMIG_BAD_FIELD = 10,  /* or another field with a value that no frame has there */
+
+    POSTMIG_REFUSED = 64, /* an answer from here on is a refusal, and nothing changed. The first that applies is given, in this order: */
+    POSTMIG_REFUSED_NO_CPU = 65,            /* the guest has no such processor */
+    POSTMIG_REFUSED_BUSY = 66,              /* the processor has a command under way */
+    POSTMIG_REFUSED_NOT_ASLEEP = 67,        /* the processor has no load or store to retry */
+    POSTMIG_REFUSED_NOT_WOKEN = 68,         /* the processor still sleeps */
+    POSTMIG_REFUSED_PHASE = 69,             /* the node is not in a phase that allows the step */
+    POSTMIG_REFUSED_BROKEN = 70,            /* (a world's alone) the channel is lost */
+    POSTMIG_REFUSED_NOT_BROKEN = 71,        /* (a world's alone) the channel is not lost */
+    POSTMIG_REFUSED_STALE_EPOCH = 72,       /* the ticket or the frame is of another epoch */
+    POSTMIG_REFUSED_NOTHING_THERE = 73,     /* no page, message, fault, copy, request or frame is there */
+    POSTMIG_REFUSED_CHANGING = 74,          /* an event of the address space is unread */
+    POSTMIG_REFUSED_INSTALL_FIRST = 75,     /* an End came, and a copy has to be installed first: hand the same frame in again then */
+    POSTMIG_REFUSED_PAGE_NOT_SENDABLE = 76, /* the source does not have the page */
+    POSTMIG_REFUSED_NOT_REMAINING = 77,     /* the page is not owed, or was pushed in this epoch */
+    POSTMIG_REFUSED_PAGES_LEFT = 78,        /* owed pages are still to be pushed */
+    POSTMIG_REFUSED_COUNT_USED = 79,        /* a count is at its greatest value */
+    /* 80, out of memory, is answered as POSTMIG_NO_MEMORY */
+    POSTMIG_REFUSED_URGENT_FIRST = 81       /* an End came, and frames of the urgent wire have to be taken first: hand it in again then */
 };
+
+/* Writes the name of a refusal, as a script's output has it ("Phase" of 69), for any status from POSTMIG_REFUSED on.
+   POSTMIG_NOT_A_LINE: there is no refusal of this number. */
+uint32_t postmig_refusal_name(uint32_t status, uint8_t *out, size_t room, size_t *written);
 
 /* A world or a decoder. Initialise it to POSTMIG_NONE before the first call; from then on only these functions write it. It is not copied,
    it stays on the thread that opened it, and one call at a time uses it. */
@@ -52,6 +75,17 @@ uint32_t postmig_world_line(postmig_handle *world, const uint8_t *line, size_t l
 
 /* Writes again what the last line printed: nothing after POSTMIG_NOT_A_LINE or POSTMIG_NO_MEMORY. */
 uint32_t postmig_world_answer(postmig_handle *world, uint8_t *out, size_t room, size_t *written);
+
+/* Puts a copy of a world into another handle: an equal world, of which no line has printed anything. Its lines print the outcomes of their
+   steps, or with is_transcript the entries that these add. No line of the one changes the other, and each is freed for itself. The copy takes
+   as much memory as the world has. What the handle `copy` had is freed; it keeps that if the answer is not POSTMIG_OK. The two handles are
+   two variables. */
+uint32_t postmig_world_copy(postmig_handle *world, bool is_transcript, postmig_handle *copy);
+
+/* Says what a line of a script would do, without doing it: POSTMIG_OK, or the refusal that it would print (POSTMIG_REFUSED_..). Whether there
+   is memory for it is not considered. A comment, an empty line and progress are never refused. What the last line printed stays.
+   POSTMIG_NOT_A_LINE; POSTMIG_NO_MEMORY: there was none to read the line. */
+uint32_t postmig_world_would(postmig_handle *world, const uint8_t *line, size_t length);
 
 enum { POSTMIG_IDLE = 0, POSTMIG_PRECOPY = 1, POSTMIG_SWITCHING = 2, POSTMIG_POSTCOPY = 3, POSTMIG_COMPLETE = 4 };
 

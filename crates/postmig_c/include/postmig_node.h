@@ -22,32 +22,11 @@ enum {
     POSTMIG_NO_PAGE = 13,       /* there is no such page */
     POSTMIG_NO_TRACE = 14,      /* the node has no trace */
 
-    POSTMIG_REFUSED = 64, /* an answer from here on is a refusal, and nothing changed. The first that applies is given, in this order: */
-    POSTMIG_REFUSED_NO_CPU = 65,            /* the guest has no such processor */
-    POSTMIG_REFUSED_BUSY = 66,              /* the processor has a command under way */
-    POSTMIG_REFUSED_NOT_ASLEEP = 67,        /* the processor has no load or store to retry */
-    POSTMIG_REFUSED_NOT_WOKEN = 68,         /* the processor still sleeps */
-    POSTMIG_REFUSED_PHASE = 69,             /* the node is not in a phase that allows the step */
-    POSTMIG_REFUSED_BROKEN = 70,            /* (a world's alone) */
-    POSTMIG_REFUSED_NOT_BROKEN = 71,        /* (a world's alone) */
-    POSTMIG_REFUSED_STALE_EPOCH = 72,       /* the ticket or the frame is of another epoch */
-    POSTMIG_REFUSED_NOTHING_THERE = 73,     /* no page, message, fault, copy or request is there */
-    POSTMIG_REFUSED_CHANGING = 74,          /* an event of the address space is unread */
-    POSTMIG_REFUSED_INSTALL_FIRST = 75,     /* an End came, and a copy has to be installed first: hand the same frame in again then */
-    POSTMIG_REFUSED_PAGE_NOT_SENDABLE = 76, /* the source does not have the page */
-    POSTMIG_REFUSED_NOT_REMAINING = 77,     /* the page is not owed, or was pushed in this epoch */
-    POSTMIG_REFUSED_PAGES_LEFT = 78,        /* owed pages are still to be pushed */
-    POSTMIG_REFUSED_COUNT_USED = 79,        /* a count is at its greatest value */
-    /* 80, out of memory, is answered as POSTMIG_NO_MEMORY */
-    POSTMIG_REFUSED_URGENT_FIRST = 81,      /* an End came, and frames of the urgent wire have to be taken first: hand it in again then */
+    /* refusals beside those of a world, POSTMIG_REFUSED_.. of postmig.h, where nothing changed either */
     POSTMIG_REFUSED_OUT_OF_PLACE = 82,      /* no such frame may come now */
     POSTMIG_REFUSED_BAD_FRAME = 83,         /* what the frame says does not fit what the destination has */
     POSTMIG_REFUSED_BAD_OWED = 84           /* a Recv contradicts the source */
 };
-
-/* Writes the name of a refusal, as a script's output has it ("Phase" of 69), for any status of these calls from POSTMIG_REFUSED on.
-   POSTMIG_NOT_A_LINE: there is no refusal of this number. */
-uint32_t postmig_refusal_name(uint32_t status, uint8_t *out, size_t room, size_t *written);
 
 /* EFFECTS */
 

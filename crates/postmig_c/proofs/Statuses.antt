@@ -1,5 +1,5 @@
 -- The statuses of outcomes: 0 for an effect, and the status of its reason for anything else.
-use Rattle.std.proofs.Common.{◌≡◌, ◌⊎◌, ℕ, ◌<◌, ◌≤◌, Result, Ok, Err, IfOk, IfErr, OnErr, List, inl, inr, ⊎_elim, sym, subst, arith}
+use Rattle.std.proofs.Common.{◌≡◌, ◌⊎◌, ℕ, ◌<◌, Result, Ok, Err, IfOk, IfErr, OnErr, List, inl, inr, ⊎_elim, sym, subst, arith}
 use Rattle.std.specs.Prelude.{◌≢◌}
 use Rattle.mig_base.specs.declared.effect.Effect.{Effect}
 use Rattle.mig_base.specs.declared.refusal.Refusal.{Refusal}

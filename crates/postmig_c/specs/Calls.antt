@@ -1,5 +1,5 @@
 -- The effect of the calls on a world.
-use Rattle.std.specs.Prelude.{◌≡◌, ◌⊎◌, ℕ, List, []}
+use Rattle.std.specs.Prelude.{◌≡◌, ◌⊎◌, ℕ, Bool, List, []}
 use Rattle.std.specs.declared.option.Option.{Option}
 use Rattle.std.specs.declared.option.Option.TheVariants.{None, Some}
 use Rattle.mig_base.specs.declared.phase.WorldPhase.{WorldPhase}
@@ -9,7 +9,7 @@ use Rattle.grammar.specs.Spelling.{Spells}
 use Rattle.engine.specs.declared.fault.RunFault.TheVariants as faults
 use Rattle.engine.specs.declared.line_runner.Mode.{Mode}
 use Rattle.engine.specs.Checking.{CheckStops}
-use Rattle.engine.specs.Engine.{Work, Gathered, Made, Loses, language_of, run_world}
+use Rattle.engine.specs.Engine.{Work, Gathered, Made, Loses, Running, language_of, run_world, tested_mode}
 use Rattle.engine.specs.Script.{ScriptStops}
 use Rattle.mig_model.specs.Migration.{World as Machine}
 use Rattle.engine.specs.Worlds.{epoch_in, progress_in}
@@ -26,6 +26,11 @@ abbrev pub HasNoWorld : Option Content → Type 0
 HasNoWorld (Some (World runner)) = ⊥
 HasNoWorld content = Unit {0}
 
+-- the handle has no world that is run
+abbrev pub HasNoRun : Option Content → Type 0
+HasNoRun (Some (World runner)) = run_world runner.work ≡ None
+HasNoRun content = Unit {0}
+
 -- the handle has a world, and this holds of it
 abbrev pub OfWorld : Option Content → (Gathered → Type 0) → Type 0
 OfWorld (Some (World runner)) P = P runner
@@ -34,6 +39,12 @@ OfWorld content P = ⊥
 -- the handle had a world and has one, and this holds of the two
 abbrev pub Has : Option Content → Option Content → (Gathered → Gathered → Type 0) → Type 0
 Has old new P = OfWorld old (λ before. OfWorld new (P before))
+
+-- the handle has the world that is run, for lines or for a transcript, and no line has printed anything
+pub record HasCopy (runner : Gathered) (is_transcript : Bool) (content : Option Content) : Type 0 where
+  pub state : Machine
+  pub runs : run_world runner.work ≡ Some state
+  pub has : content ≡ Some (a_world (Running (tested_mode is_transcript) state))
 
 -- A line
 

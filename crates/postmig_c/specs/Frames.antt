@@ -1,7 +1,7 @@
 -- The effect of the calls on a decoder.
 use Rattle.std.specs.Prelude.{◌≡◌, ℕ, List, ◌∷◌}
 use Rattle.std.specs.declared.option.Option.{Option}
-use Rattle.std.specs.declared.option.Option.TheVariants.{None, Some}
+use Rattle.std.specs.declared.option.Option.TheVariants.{Some}
 use Rattle.mig_model.specs.Wire.{Sent}
 use Rattle.frame_texts.specs.Texts.{text}
 use Rattle.frame_texts.specs.Texts.Version.{Two}

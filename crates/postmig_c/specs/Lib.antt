@@ -8,6 +8,7 @@ pub mod Effects
 pub mod Commands
 pub mod Refusals
 pub mod NodeCalls
+pub mod Lines
 pub mod Heads
 pub mod Questions
 pub mod Traces

@@ -1,9 +1,9 @@
 -- The effect of the calls on a node of its own.
-use Rattle.std.specs.Prelude.{◌≡◌, ◌⊎◌, ◌<◌, ℕ, not, Bool, Result, Ok, Err, List, [], length}
+use Rattle.std.specs.Prelude.{◌≡◌, ℕ, not, Result, Ok, Err, List, length}
 use Rattle.std.specs.FinSet as finset
 use Rattle.std.specs.FinMap as finmap
 use Rattle.std.specs.declared.option.Option.{Option}
-use Rattle.std.specs.declared.option.Option.TheVariants.{None, Some}
+use Rattle.std.specs.declared.option.Option.TheVariants.{Some}
 use Rattle.mig_base.specs.Tests.{is_empty}
 use Rattle.mig_base.specs.Userfault.{changing}
 use Rattle.mig_base.specs.declared.phase.DestPhase.{DestPhase}
@@ -23,7 +23,7 @@ use Rattle.nodes.specs.declared.steps.SourceStep.{SourceStep}
 use Rattle.postmig_c.specs.declared.destination_calls.DestinationCounts.{DestinationCounts}
 use Rattle.postmig_c.specs.declared.effects.EffectNumbers.{EffectNumbers}
 use Rattle.postmig_c.specs.declared.handle.Content.{Content}
-use Rattle.postmig_c.specs.declared.handle.Content.TheVariants.{World, Frames, Source, Destination}
+use Rattle.postmig_c.specs.declared.handle.Content.TheVariants.{Source, Destination}
 use Rattle.postmig_c.specs.declared.source_calls.SourceCounts.{SourceCounts}
 use Rattle.postmig_c.specs.Effects.{bool_number, effect_numbers}
 use Rattle.postmig_c.specs.Refusals.{fault_status, refusal_status}

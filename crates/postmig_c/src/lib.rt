@@ -1,8 +1,9 @@
 //! `postmig` for C: worlds and decoders behind handles, whole scripts and transcripts.
 //!
 //! A [`Handle`](handle::Handle) is a word that C sets to null before the first call, and leaves to these functions after that. `worlds` has
-//! the calls on a world, `frames` those on a decoder of frames, and `scripts` those on a whole script or transcript. Each returns a status
-//! of `status`. `include/postmig.h` declares them, and `docs/USING.md` says what a caller owes.
+//! the calls on a world, with `copies` and `would` for what leaves it as it is, `frames` those on a decoder of frames, and `scripts` those
+//! on a whole script or transcript. Each returns a status of `status`. `include/postmig.h` declares them, and `docs/USING.md` says what a
+//! caller owes.
 //!
 //! A decoder is a [`FrameQueue`](queue::FrameQueue): C has none of the types of a frame, and takes one frame at a time, as the numbers of
 //! `numbers` and the bytes of its text. `specs/Queues.antt` defines the effect of its calls, and `specs/Numbers.antt` the numbers.
@@ -11,6 +12,7 @@
 #![tactic(auto)]
 
 mod commands;
+mod copies;
 mod destination_calls;
 mod destination_steps;
 mod effects;
@@ -31,3 +33,4 @@ mod told;
 mod traces;
 mod unboxed;
 mod worlds;
+mod would;

@@ -7,6 +7,7 @@ ghost use Rattle.std.specs.FinSet as set;
 ghost use Rattle.mig_base.specs.Userfault as object;
 ghost use Rattle.mig_model.specs.Space as machine;
 ghost use Rattle.userfault.specs.Modes as modes;
+ghost use Rattle.page_table.specs.Bytes.{unless_zeros};
 ghost use Rattle.uffd_ioctl.specs.Spaces.{assembled_object};
 
 mod access;
@@ -122,6 +123,13 @@ impl Space {
         ensures { option_copied result ≡ map.get self.now.host.bytes page }
     {
         self.pages.get(page)
+    }
+
+    /// The bytes of a page, if it is present and not all of them are zero. Zeros that have no memory of their own are not compared.
+    pub fn page_unless_zeros(&self, page: PageNo) -> Option<&[u8; PAGE_BYTES]>
+        ensures { option_copied result ≡ unless_zeros (map.get self.now.host.bytes page) }
+    {
+        self.pages.get_unless_zeros(page)
     }
 
     /// The mode in which a page is registered.

@@ -1,11 +1,12 @@
 //! mmap, munmap, mremap and madvise: what becomes of registered pages, and which events the objects get.
 
-use crate::kernel::{ALL, Calling, Kernel};
+use crate::kernel::{ALL, Calling, Kernel, NO_PAGES, Told};
 use crate::refusal::Stop;
 use crate::rules::Made;
 use call_log::pages::Range;
 use kernel_rules::{Change, Difference, Page, Presence};
 use mig_base::NoMemory;
+use std::alloc::Global;
 use uffd_log::{Descriptor, Errno, Message};
 
 const EVENT_FORK: u64 = 0x2;
@@ -23,8 +24,6 @@ const MADV_FREE: u64 = 8;
 const MADV_REMOVE: u64 = 9;
 
 const MADV_DONTNEED_LOCKED: u64 = 24;
-
-const NO_PAGES: Range = Range { first: 0, count: 0 };
 
 /// The child's descriptor of a fork event, which its reader has in the message.
 const UNKNOWN_CHILD: Message = Message::Fork {
@@ -83,52 +82,39 @@ impl Kernel {
         if !self.may_be_registered(space, range) {
             return Ok(());
         }
-        let mut events = Vec::new(self.alloc);
-        self.add_unmap(&mut events, space, range)?;
+        let mut calling = self.calling(key, space);
+        self.add_unmap(&mut calling, range)?;
         self.change(space, range, Change::Forget)?;
-        self.begin_telling(key, space, events)
+        self.begin_telling(calling)
     }
 
-    /// Adds an UNMAP of a range for each object that is to get one.
-    fn add_unmap(
-        &self,
-        events: &mut Vec<(u64, Message)>,
-        space: u32,
-        range: Range,
-    ) -> Result<(), NoMemory> {
+    /// A map call that tells nobody of itself so far, and clears nothing.
+    fn calling(&self, key: u32, space: u32) -> Calling {
+        Calling {
+            key,
+            space,
+            told: Vec::new(self.alloc),
+            clears: NO_PAGES,
+        }
+    }
+
+    /// Adds an UNMAP of a range for each object that is to get one. How many do.
+    fn add_unmap(&self, calling: &mut Calling, range: Range) -> Result<usize, NoMemory> {
         let start = self.size.address(range.first);
         let end = self.size.address(range.end());
-        for object in self.told(space, range, EVENT_UNMAP)?.iter() {
-            events.push((*object, Message::Unmap { start, end }))?;
+        let told = self.told(calling.space, range, EVENT_UNMAP)?;
+        for object in told.iter() {
+            add_event(self.alloc, calling, *object, Message::Unmap { start, end })?;
         }
-        Ok(())
+        Ok(told.len())
     }
 
     /// A map call that has events to tell is under way until it returns.
-    fn begin_telling(
-        &mut self,
-        key: u32,
-        space: u32,
-        events: Vec<(u64, Message)>,
-    ) -> Result<(), NoMemory> {
-        if events.is_empty() {
+    fn begin_telling(&mut self, calling: Calling) -> Result<(), NoMemory> {
+        if calling.told.is_empty() {
             return Ok(());
         }
-        let mut tells = Vec::new(self.alloc);
-        for (object, _) in &events {
-            if !tells.contains(object) {
-                tells.push(*object)?;
-            }
-        }
-        self.calls.push(Calling {
-            key,
-            space,
-            events,
-            queued: false,
-            untold: NO_PAGES,
-            clears: NO_PAGES,
-            tells,
-        })?;
+        self.calls.push(calling)?;
         Ok(())
     }
 
@@ -150,11 +136,10 @@ impl Kernel {
         if !self.may_be_registered(space, moved.from) && !self.may_be_registered(space, moved.to) {
             return Ok(());
         }
-        let events = self.mremap_events(space, moved)?;
-        let has_events = !moved.stays() && !events.is_empty();
-        self.note_if(has_events, Difference::MessagesOfMremap)?;
+        let mut calling = self.calling(made.key, space);
+        self.add_mremap_events(&mut calling, moved)?;
         self.move_pages(space, moved)?;
-        self.begin_telling(made.key, space, events)?;
+        self.begin_telling(calling)?;
         Ok(())
     }
 
@@ -163,38 +148,38 @@ impl Kernel {
         if !made.call.is_ok() {
             return Ok(());
         }
-        let mut events = Vec::new(self.alloc);
+        let mut calling = self.calling(made.key, space);
         for object in self.told(space, ALL, EVENT_FORK)?.iter() {
-            let event = (*object, UNKNOWN_CHILD);
-            events.push(event).map_err(|_| Stop::NoMemory)?;
+            add_event(self.alloc, &mut calling, *object, UNKNOWN_CHILD)?;
         }
-        self.begin_telling(made.key, space, events)?;
+        self.begin_telling(calling)?;
         Ok(())
     }
 
     /// UNMAP of the target, REMAP, UNMAP of the tail that is cut off, UNMAP of the old place of what moved.
-    fn mremap_events(&self, space: u32, moved: Move) -> Result<Vec<(u64, Message)>, NoMemory> {
-        let mut events = Vec::new(self.alloc);
+    fn add_mremap_events(&mut self, calling: &mut Calling, moved: Move) -> Result<(), NoMemory> {
         if moved.stays() {
-            self.add_unmap(&mut events, space, moved.tail())?;
-            return Ok(events);
+            self.add_unmap(calling, moved.tail())?;
+            return Ok(());
         }
-        self.add_unmap(&mut events, space, moved.to)?;
+        self.add_unmap(calling, moved.to)?;
         let message = Message::Remap {
             from: self.size.address(moved.from.first),
             to: self.size.address(moved.to.first),
             len: self.size.address(moved.kept()),
         };
-        for object in self.told(space, moved.from, EVENT_REMAP)?.iter() {
-            events.push((*object, message))?;
+        for object in self.told(calling.space, moved.from, EVENT_REMAP)?.iter() {
+            add_event(self.alloc, calling, *object, message)?;
         }
-        self.add_unmap(&mut events, space, moved.tail())?;
+        self.add_unmap(calling, moved.tail())?;
         let old = Range {
             count: moved.kept(),
             ..moved.from
         };
-        self.add_unmap(&mut events, space, old)?;
-        Ok(events)
+        for _ in 0..self.add_unmap(calling, old)? {
+            self.note_if(true, Difference::MessagesOfMremap)?;
+        }
+        Ok(())
     }
 
     /// The pages move, with their registration where their object asked for UFFD_EVENT_REMAP.
@@ -287,29 +272,54 @@ impl Kernel {
 
     /// A call clears a range: where an object gets a REMOVE, only after that was read.
     fn clear_later(&mut self, key: u32, space: u32, range: Range) -> Result<(), NoMemory> {
-        let tells = self.told(space, range, EVENT_REMOVE)?;
-        if tells.is_empty() {
+        let mut calling = self.calling(key, space);
+        for object in self.told(space, range, EVENT_REMOVE)?.iter() {
+            calling.told.push(Told {
+                object: *object,
+                events: Vec::new(self.alloc),
+                removes: range,
+                queued: false,
+            })?;
+        }
+        if calling.told.is_empty() {
             return self.clear(space, range, Presence::Missing);
         }
-        self.calls.push(Calling {
-            key,
-            space,
-            events: Vec::new(self.alloc),
-            queued: false,
-            untold: range,
-            clears: range,
-            tells,
-        })?;
-        Ok(())
+        calling.clears = range;
+        self.begin_telling(calling)
     }
 
     /// Pages are cleared, or may be.
-    pub(super) fn clear(
+    pub(crate) fn clear(
         &mut self,
         space: u32,
         range: Range,
         presence: Presence,
     ) -> Result<(), NoMemory> {
+        self.note_given_back(space, range);
         self.change(space, range, Change::Clear { presence })
     }
+}
+
+/// Adds an event that a map call tells an object, after those that it tells it already.
+fn add_event(
+    alloc: Global,
+    calling: &mut Calling,
+    object: u64,
+    event: Message,
+) -> Result<(), NoMemory> {
+    for told in calling.told.iter_mut() {
+        if told.object == object {
+            told.events.push(event)?;
+            return Ok(());
+        }
+    }
+    let mut events = Vec::new(alloc);
+    events.push(event)?;
+    calling.told.push(Told {
+        object,
+        events,
+        removes: NO_PAGES,
+        queued: false,
+    })?;
+    Ok(())
 }

@@ -199,6 +199,8 @@ impl Kernel {
         self.end_registration(name, ALL, Some(made.key))?;
         self.wake(name, ALL, false)?;
         self.objects.swap_remove(&name);
+        self.registered
+            .retain(|registered| registered.object != name);
         for place in 0..self.calls.len() {
             self.silence(place, name)?;
         }
@@ -214,12 +216,7 @@ impl Kernel {
         if was_untold && !self.untold.contains(&calling.key) {
             self.untold.push(calling.key)?;
         }
-        calling.queued = calling.queued && !was_untold;
-        calling.events.retain(|event| event.0 != name);
-        calling.tells.retain(|other| *other != name);
-        if calling.tells.is_empty() {
-            calling.untold.count = 0;
-        }
+        calling.told.retain(|told| told.object != name);
         Ok(())
     }
 

@@ -1,9 +1,9 @@
 //! read(2) and poll(2) of a userfault object.
 
-use crate::kernel::{Calling, Kernel};
+use crate::kernel::{Calling, Kernel, NO_PAGES, Told};
 use crate::refusal::{Stop, need};
 use crate::rules::{Made, refused};
-use call_log::log_call::POLLIN;
+use call_log::log_call::{POLLIN, is_event};
 use call_log::pages::Range;
 use kernel_rules::fault::{find_unread, remove};
 use kernel_rules::{Difference, Fault, Object, Phase};
@@ -31,8 +31,9 @@ impl Kernel {
         match made.call.errno() {
             None => {
                 need(is_enabled, "no handshake")?;
-                for message in made.messages {
-                    self.take_message(made.key, name, object, message)?;
+                for (at, message) in made.messages.iter().enumerate() {
+                    let rest = made.messages.get(at..).unwrap_or(&[]);
+                    self.take_message(made.key, name, object, message, count_faults(rest))?;
                 }
                 Ok(())
             }
@@ -54,12 +55,14 @@ impl Kernel {
         }
     }
 
+    /// A message is read; `left` of it and those after it are faults, which may have been queued once an event before them was read.
     fn take_message(
         &mut self,
         key: u32,
         name: u64,
         object: Object,
         message: &Message,
+        left: usize,
     ) -> Result<(), Stop> {
         if let Message::Fault {
             addr,
@@ -70,7 +73,7 @@ impl Kernel {
             return self.take_fault(key, name, object, addr, flags, thread);
         }
         need(
-            !self.has_unread_fault(name),
+            self.unread_faults(name) <= left,
             "a fault is read before events",
         )?;
         let mut late = false;
@@ -80,7 +83,7 @@ impl Kernel {
             };
             if calling.is_queued_for(name) && has_next(self, calling, name, message) {
                 self.note_if(late, Difference::OrderOfTwoCalls)?;
-                self.read_event(place, message)?;
+                self.read_event(place, name, message)?;
                 return Ok(());
             }
             late = late || calling.has_untold(name);
@@ -124,44 +127,50 @@ impl Kernel {
             .map_err(|_| Stop::NoMemory)
     }
 
-    /// An event of a map call is read, which is its next.
-    fn read_event(&mut self, place: usize, message: &Message) -> Result<(), NoMemory> {
-        let Some(calling) = self.calls.get(place) else {
+    /// An event of a map call is read, which is the next that it tells an object.
+    fn read_event(&mut self, place: usize, name: u64, message: &Message) -> Result<(), NoMemory> {
+        let rest = self.rest_of_removes(place, name, message)?;
+        let Some(calling) = self.calls.get_mut(place) else {
             return Ok(());
         };
-        let is_listed = !calling.events.is_empty();
-        let mut untold = calling.untold;
-        if let Message::Remove { start, end } = *message {
-            if !is_listed {
-                let first = self.size.number(start);
-                let end = self.size.number(end);
-                let is_whole = first == calling.clears.first && end == calling.clears.end();
-                untold = self.left_to_tell(calling, end);
-                self.note_if(!is_whole, Difference::RemoveOfEachArea)?;
-            }
-        }
-        if let Some(calling) = self.calls.get_mut(place) {
-            calling.queued = false;
-            calling.untold = untold;
-            if !calling.events.is_empty() {
-                calling.events.remove(0);
+        for told in calling.told.iter_mut() {
+            if told.object == name {
+                told.queued = false;
+                if told.events.is_empty() {
+                    told.removes = rest;
+                } else {
+                    told.events.remove(0);
+                }
             }
         }
         Ok(())
     }
 
-    /// What is left to announce from a page on: nothing, if nothing is watched there.
-    fn left_to_tell(&self, calling: &Calling, from: u64) -> Range {
-        let rest = Range {
-            first: from,
-            count: calling.untold.end().saturating_sub(from),
+    /// The pages that a map call has still to announce to an object by REMOVE, after this message.
+    fn rest_of_removes(
+        &mut self,
+        place: usize,
+        name: u64,
+        message: &Message,
+    ) -> Result<Range, NoMemory> {
+        let (Some(calling), Message::Remove { start, end }) = (self.calls.get(place), *message)
+        else {
+            return Ok(NO_PAGES);
         };
-        for object in &calling.tells {
-            if self.watches(*object, calling.space, rest) {
-                return rest;
-            }
-        }
-        Range { first: 0, count: 0 }
+        let Some(told) = told_of(calling, name) else {
+            return Ok(NO_PAGES);
+        };
+        let first = self.size.number(start);
+        let end = self.size.number(end);
+        let is_whole = first == calling.clears.first && end == calling.clears.end();
+        let rest = Range {
+            first: end,
+            count: told.removes.end().saturating_sub(end),
+        };
+        let is_listed = !told.events.is_empty();
+        let is_left = self.watches(name, calling.space, rest);
+        self.note_if(!is_listed && !is_whole, Difference::RemoveOfEachArea)?;
+        Ok(if is_left { rest } else { NO_PAGES })
     }
 
     pub(super) fn take_poll(
@@ -187,10 +196,34 @@ impl Kernel {
     }
 }
 
-/// Whether the next event of a map call is this message to an object.
+/// How many of these messages are faults.
+fn count_faults(messages: &[Message]) -> usize {
+    let mut count = 0usize;
+    for message in messages {
+        if !is_event(message) {
+            count = count.saturating_add(1);
+        }
+    }
+    count
+}
+
+/// What a map call tells an object.
+fn told_of(calling: &Calling, object: u64) -> Option<&Told> {
+    for told in &calling.told {
+        if told.object == object {
+            return Some(told);
+        }
+    }
+    None
+}
+
+/// Whether the next event that a map call tells an object is this message.
 pub(crate) fn has_next(kernel: &Kernel, calling: &Calling, object: u64, message: &Message) -> bool {
-    if let Some((other, event)) = calling.events.first() {
-        return *other == object && is_same_event(event, message);
+    let Some(told) = told_of(calling, object) else {
+        return false;
+    };
+    if let Some(event) = told.events.first() {
+        return is_same_event(event, message);
     }
     match *message {
         Message::Remove { start, end } => {
@@ -199,7 +232,7 @@ pub(crate) fn has_next(kernel: &Kernel, calling: &Calling, object: u64, message:
                 first,
                 count: kernel.size.number(end).saturating_sub(first),
             };
-            is_remove_of(kernel, calling, object, range)
+            is_remove_of(kernel, calling.space, told, range)
         }
         _ => false,
     }
@@ -214,19 +247,14 @@ fn is_same_event(event: &Message, message: &Message) -> bool {
 }
 
 /// Whether a range is one that a MADV_DONTNEED has still to announce: of one area, before which nothing is watched.
-fn is_remove_of(kernel: &Kernel, calling: &Calling, object: u64, range: Range) -> bool {
-    let untold = calling.untold;
-    if range.first < untold.first || range.count == 0 || range.end() > untold.end() {
+fn is_remove_of(kernel: &Kernel, space: u32, told: &Told, range: Range) -> bool {
+    let left = told.removes;
+    if range.first < left.first || range.count == 0 || range.end() > left.end() {
         return false;
     }
     let before = Range {
-        first: untold.first,
-        count: range.first.saturating_sub(untold.first),
+        first: left.first,
+        count: range.first.saturating_sub(left.first),
     };
-    for other in &calling.tells {
-        if kernel.watches(*other, calling.space, before) {
-            return false;
-        }
-    }
-    calling.tells_object(object) && kernel.watches(object, calling.space, range)
+    !kernel.watches(told.object, space, before) && kernel.watches(told.object, space, range)
 }

@@ -1,0 +1,364 @@
+//! What reads say of threads and of map calls, and no line shows: a thread touches a page, or leaves its fault; an event is queued.
+
+use crate::kernel::Kernel;
+use crate::needs::{Wanted, wakers_of};
+use crate::rules::has_next;
+use crate::run::Unseen;
+use crate::search::Search;
+use crate::tasks::{Task, others};
+use crate::threads::{is_unnamed, unnamed};
+use call_log::log_call::LogCall;
+use call_log::pages::Range;
+use kernel_rules::fault::{find, is_protection};
+use kernel_rules::{Fault, Phase};
+use mig_base::NoMemory;
+use uffd_log::{Errno, Message};
+
+const THREAD_ID: u64 = 0x100;
+
+/// A thread that no fault has.
+const NOBODY: u64 = u64::MAX;
+
+/// A thread that touches a page, with the flags of its fault.
+#[derive(Clone, Copy)]
+pub(crate) struct Access {
+    pub(crate) object: u64,
+    pub(crate) thread: u64,
+    pub(crate) page: u64,
+    pub(crate) flags: u64,
+}
+
+/// A thread whose message a read returns.
+#[derive(Clone, Copy)]
+pub(crate) struct Shown {
+    pub(crate) read: u32,
+    pub(crate) thread: u64,
+}
+
+/// What is to be done for a message, or for its absence.
+#[derive(Clone, Copy)]
+pub(crate) enum ThreadTask {
+    /// The messages of a read are the next that it returns, from this one on.
+    Show { read: u32, next: u32 },
+    /// The unread faults of an object go, but that of this thread and those that a read has shown.
+    Pass { object: u64, thread: u64, read: u32 },
+    /// A thread leaves its fault, unless that was read or answered meanwhile.
+    LeaveUnread(Fault),
+    /// The thread of an access does not wait at another page, or since an earlier read.
+    WaitNoMore(Access),
+    /// A thread leaves its fault, unless that was answered meanwhile.
+    Leave(Fault),
+    /// A thread sees its page, if it has not yet, and queues its fault.
+    Touch(Access),
+    /// The same, once its page may be missing.
+    Queue(Access),
+    /// An event of a map call is queued.
+    Announce { object: u64, message: Message },
+    /// The same, once the map call took effect.
+    Tell { object: u64, message: Message },
+}
+
+impl Access {
+    pub(crate) fn seen(self) -> Unseen {
+        Unseen::Sees {
+            thread: self.thread,
+            object: self.object,
+            page: self.page,
+            flags: self.flags,
+        }
+    }
+}
+
+/// Whether a thread still has the fault that it had.
+fn is_still(held: Fault, now: Fault) -> bool {
+    let is_same = held.object == now.object && held.page == now.page && held.flags == now.flags;
+    let had_slept = matches!(held.phase, Phase::Asleep);
+    let sleeps = matches!(now.phase, Phase::Asleep);
+    is_same && (!had_slept || (sleeps && held.read_by == now.read_by))
+}
+
+/// The map call whose next event is this message, if that is not queued.
+fn teller(kernel: &Kernel, object: u64, message: &Message) -> Option<u32> {
+    for calling in &kernel.calls {
+        if has_next(kernel, calling, object, message) {
+            return if calling.is_queued_for(object) {
+                None
+            } else {
+                Some(calling.key)
+            };
+        }
+    }
+    None
+}
+
+/// Whether a map call tells an object this next.
+fn has_teller(kernel: &Kernel, object: u64, message: &Message) -> bool {
+    for calling in &kernel.calls {
+        if has_next(kernel, calling, object, message) {
+            return true;
+        }
+    }
+    false
+}
+
+impl Search {
+    pub(crate) fn turn_thread(&mut self, task: ThreadTask) -> Result<(), NoMemory> {
+        match task {
+            ThreadTask::Show { read, next } => self.show(read, next),
+            ThreadTask::Pass {
+                object,
+                thread,
+                read,
+            } => self.pass(object, thread, read),
+            ThreadTask::LeaveUnread(fault) => self.leave_unread(fault),
+            ThreadTask::WaitNoMore(access) => self.wait_no_more(access),
+            ThreadTask::Leave(fault) => self.leave(fault),
+            ThreadTask::Touch(access) => self.touch(access),
+            ThreadTask::Queue(access) => {
+                self.touched = self.queue(access)?;
+                Ok(())
+            }
+            ThreadTask::Announce { object, message } => self.announce(object, message),
+            ThreadTask::Tell { object, message } => self.tell(object, message),
+        }
+    }
+
+    pub(crate) fn plan_thread(&mut self, task: ThreadTask) -> Result<(), NoMemory> {
+        self.plan(Task::Thread(task))
+    }
+
+    /// The thread of a fault and what it touches. Where the object names no thread it is one whose fault waits to be read and was not shown by
+    /// this read, or one that the log has not seen.
+    pub(crate) fn access_of(
+        &mut self,
+        object: u64,
+        addr: u64,
+        flags: u64,
+        thread: u32,
+        read: Option<u32>,
+    ) -> Access {
+        let page = self.log.size.number(addr);
+        let features = match self.kernel.object(object) {
+            Some(found) => found.features.unwrap_or(0),
+            None => 0,
+        };
+        let thread = if features & THREAD_ID != 0 {
+            u64::from(thread)
+        } else {
+            match self.unread_thread(object, page, flags, read) {
+                Some(thread) => thread,
+                None => self.new_thread(),
+            }
+        };
+        Access {
+            object,
+            thread,
+            page,
+            flags,
+        }
+    }
+
+    fn new_thread(&mut self) -> u64 {
+        self.unnamed = self.unnamed.wrapping_add(1);
+        unnamed(self.unnamed)
+    }
+
+    /// A thread without a name whose fault of a page was not read: the first that is queued, or else the first that has seen the page.
+    fn unread_thread(&self, object: u64, page: u64, flags: u64, read: Option<u32>) -> Option<u64> {
+        let mut seen = None;
+        for fault in &self.kernel.faults {
+            let is_there = fault.object == object && fault.page == page && fault.flags == flags;
+            if !is_there || !is_unnamed(fault.thread) || self.has_shown(read, fault.thread) {
+                continue;
+            }
+            match fault.phase {
+                Phase::Unread => return Some(fault.thread),
+                Phase::Seen if seen.is_none() => seen = Some(fault.thread),
+                _ => {}
+            }
+        }
+        seen
+    }
+
+    /// Whether a read has shown the fault of a thread.
+    fn has_shown(&self, read: Option<u32>, thread: u64) -> bool {
+        for shown in &self.shown {
+            if shown.thread == thread && read == Some(shown.read) {
+                return true;
+            }
+        }
+        false
+    }
+
+    pub(crate) fn prepare_read(&mut self, read: u32, call: &LogCall) -> Result<(), NoMemory> {
+        let Some(object) = call.object() else {
+            return Ok(());
+        };
+        if matches!(call.errno(), Some(Errno::Eagain)) {
+            return self.drain(object, read);
+        }
+        if call.is_ok() {
+            self.plan_thread(ThreadTask::Show { read, next: 0 })
+        } else {
+            Ok(())
+        }
+    }
+
+    /// The unread faults of an object go, but those that a call has shown.
+    pub(crate) fn drain(&mut self, object: u64, read: u32) -> Result<(), NoMemory> {
+        let thread = NOBODY;
+        self.plan_thread(ThreadTask::Pass {
+            object,
+            thread,
+            read,
+        })
+    }
+
+    fn show(&mut self, read: u32, next: u32) -> Result<(), NoMemory> {
+        let Some(call) = self.log.call(read).copied() else {
+            return Ok(());
+        };
+        let message = self.log.messages_of(&call).get(next as usize).copied();
+        let (Some(object), Some(message)) = (call.object(), message) else {
+            return Ok(());
+        };
+        let next = next.saturating_add(1);
+        self.plan_thread(ThreadTask::Show { read, next })?;
+        if let Message::Fault {
+            addr,
+            flags,
+            thread,
+        } = message
+        {
+            let access = self.access_of(object, addr, flags, thread, Some(read));
+            return self.show_fault(read, access);
+        }
+        self.plan_thread(ThreadTask::Announce { object, message })?;
+        self.drain(object, read)
+    }
+
+    /// A fault is the first that is read, after those that the read has shown.
+    fn show_fault(&mut self, read: u32, access: Access) -> Result<(), NoMemory> {
+        let thread = access.thread;
+        let object = access.object;
+        self.shown.push(Shown { read, thread })?;
+        self.plan_thread(ThreadTask::Touch(access))?;
+        self.plan_thread(ThreadTask::WaitNoMore(access))?;
+        self.plan_thread(ThreadTask::Pass {
+            object,
+            thread,
+            read,
+        })
+    }
+
+    /// A fault that is in the way goes with a wake that is under way, or for no reason that the log has; then the next.
+    fn pass(&mut self, object: u64, thread: u64, read: u32) -> Result<(), NoMemory> {
+        let Some(fault) = self.in_the_way(object, thread, read) else {
+            return Ok(());
+        };
+        self.plan_thread(ThreadTask::Pass {
+            object,
+            thread,
+            read,
+        })?;
+        self.plan_thread(ThreadTask::LeaveUnread(fault))?;
+        self.plan(others(wakers_of(fault)))
+    }
+
+    fn in_the_way(&self, object: u64, thread: u64, read: u32) -> Option<Fault> {
+        for fault in &self.kernel.faults {
+            let is_unread = fault.object == object && matches!(fault.phase, Phase::Unread);
+            let is_other = fault.thread != thread && !self.has_shown(Some(read), fault.thread);
+            if is_unread && is_other {
+                return Some(*fault);
+            }
+        }
+        None
+    }
+
+    fn leave_unread(&mut self, fault: Fault) -> Result<(), NoMemory> {
+        let thread = fault.thread;
+        match find(&self.kernel.faults, thread) {
+            Some(now) if is_still(fault, now) && matches!(now.phase, Phase::Unread) => {
+                self.step(Unseen::Leaves { thread })?;
+                Ok(())
+            }
+            _ => Ok(()),
+        }
+    }
+
+    /// The thread waits at another page, or anew: a call that is under way has woken it, or a signal came.
+    fn wait_no_more(&mut self, access: Access) -> Result<(), NoMemory> {
+        let Some(held) = find(&self.kernel.faults, access.thread) else {
+            return Ok(());
+        };
+        let is_elsewhere = held.page != access.page || held.object != access.object;
+        if is_elsewhere || matches!(held.phase, Phase::Asleep) {
+            self.plan_thread(ThreadTask::Leave(held))?;
+            self.plan(others(wakers_of(held)))?;
+        }
+        Ok(())
+    }
+
+    fn leave(&mut self, held: Fault) -> Result<(), NoMemory> {
+        let thread = held.thread;
+        if let Some(now) = find(&self.kernel.faults, thread)
+            && is_still(held, now)
+        {
+            self.step(Unseen::Leaves { thread })?;
+        }
+        Ok(())
+    }
+
+    fn touch(&mut self, access: Access) -> Result<(), NoMemory> {
+        self.plan_thread(ThreadTask::Queue(access))?;
+        let Some(space) = self.kernel.space_of(access.object) else {
+            return Ok(());
+        };
+        if find(&self.kernel.faults, access.thread).is_some() {
+            return Ok(());
+        }
+        let page = access.page;
+        if !is_protection(access.flags) {
+            let range = Range {
+                first: page,
+                count: 1,
+            };
+            self.plan(Task::MakeMissing { space, range })?;
+        }
+        if self.kernel.page(space, page).is_none() {
+            self.plan(others(Wanted::MovesTo { space, page }))?;
+        }
+        Ok(())
+    }
+
+    /// Whether a thread could see its page, or had seen it, and has queued its fault.
+    pub(crate) fn queue(&mut self, access: Access) -> Result<bool, NoMemory> {
+        let thread = access.thread;
+        if find(&self.kernel.faults, thread).is_none() && !self.step(access.seen())? {
+            return Ok(false);
+        }
+        match find(&self.kernel.faults, thread) {
+            Some(fault) if matches!(fault.phase, Phase::Seen) => self.step(Unseen::Queues {
+                thread,
+            }),
+            _ => Ok(false),
+        }
+    }
+
+    fn announce(&mut self, object: u64, message: Message) -> Result<(), NoMemory> {
+        self.plan_thread(ThreadTask::Tell { object, message })?;
+        if has_teller(&self.kernel, object, &message) {
+            Ok(())
+        } else {
+            self.plan(others(Wanted::Tellers))
+        }
+    }
+
+    fn tell(&mut self, object: u64, message: Message) -> Result<(), NoMemory> {
+        if let Some(key) = teller(&self.kernel, object, &message) {
+            self.step(Unseen::Tells { key, object })?;
+        }
+        Ok(())
+    }
+}

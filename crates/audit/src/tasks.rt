@@ -1,0 +1,317 @@
+//! What is to be done for the answer of a call, before it takes effect: other calls that take effect earlier, and steps that no line shows.
+//!
+//! Python's `audit/judge.py` does the same by functions that call each other.
+
+use crate::accesses::ThreadTask;
+use crate::needs::Wanted;
+use crate::polls::PollTask;
+use crate::run::Unseen;
+use crate::search::Search;
+use crate::search::index::FaultRead;
+use call_log::log_call::{LogCall, PROTECTS};
+use call_log::pages::Range;
+use kernel_rules::fault::{find, is_protection};
+use mig_base::NoMemory;
+use uffd_log::{Call, Errno, Message};
+
+/// A call that takes effect, with the number of steps before those that it needs.
+#[derive(Clone, Copy)]
+pub(crate) struct Frame {
+    pub(crate) call: u32,
+    pub(crate) first: u32,
+}
+
+/// What is to be done. The agenda has the next at its end.
+#[derive(Clone, Copy)]
+pub(crate) enum Task {
+    /// A call takes effect, after what its answer needs.
+    Settle(u32),
+    /// It takes effect now.
+    Take(Frame),
+    /// The open calls that are looked for take effect, from this place of the log on.
+    Others { wanted: Wanted, from: u32 },
+    /// What an install needs, once the reads of its pages' faults took effect.
+    Install(u32),
+    /// The pages of a range that are present are cleared by a MADV_DONTNEED that is under way, where there is one.
+    MakeMissing { space: u32, range: Range },
+    /// The same, once each such madvise took effect.
+    Clear { space: u32, page: u64 },
+    /// The events of an object are read.
+    ReadEvents(u64),
+    /// Threads saw the pages of an install missing whose faults are read after it.
+    Foresee(u32),
+    Thread(ThreadTask),
+    Poll(PollTask),
+}
+
+/// The calls that are looked for take effect.
+pub(crate) fn others(wanted: Wanted) -> Task {
+    Task::Others { wanted, from: 0 }
+}
+
+impl Search {
+    /// Puts a task before those of the agenda.
+    pub(crate) fn plan(&mut self, task: Task) -> Result<(), NoMemory> {
+        self.agenda.push(task)?;
+        Ok(())
+    }
+
+    /// Does a task, and what it needs.
+    pub(crate) fn carry_out(&mut self, task: Task) -> Result<(), NoMemory> {
+        self.agenda.clear();
+        self.plan(task)?;
+        // Each open call takes effect once, and needs few tasks for each of its pages and messages.
+        for _ in 0..u64::MAX {
+            let Some(task) = self.agenda.pop() else {
+                return Ok(());
+            };
+            self.turn(task)?;
+        }
+        Ok(())
+    }
+
+    fn turn(&mut self, task: Task) -> Result<(), NoMemory> {
+        match task {
+            Task::Settle(call) => self.begin_settling(call),
+            Task::Take(frame) => self.take_effect(frame),
+            Task::Others { wanted, from } => self.settle_others(wanted, from),
+            Task::Install(call) => self.prepare_install(call),
+            Task::MakeMissing { space, range } => self.make_missing(space, range),
+            Task::Clear { space, page } => self.clear_page(space, page),
+            Task::ReadEvents(object) => self.read_events(object),
+            Task::Foresee(call) => self.foresee(call),
+            Task::Thread(task) => self.turn_thread(task),
+            Task::Poll(task) => self.turn_poll(task),
+        }
+    }
+
+    /// A call is to take effect, unless it has, or is about to.
+    fn begin_settling(&mut self, place: u32) -> Result<(), NoMemory> {
+        let Some(call) = self.log.call(place).copied() else {
+            return Ok(());
+        };
+        if call.done || self.settling.contains(&place) {
+            return Ok(());
+        }
+        self.settling.push(place)?;
+        let first = self.run.len()?;
+        self.plan(Task::Take(Frame { call: place, first }))?;
+        self.prepare(place, &call)
+    }
+
+    /// The next open call that is looked for takes effect, and then the others.
+    fn settle_others(&mut self, wanted: Wanted, from: u32) -> Result<(), NoMemory> {
+        let Some(next) = self.next_open(wanted, from) else {
+            return Ok(());
+        };
+        let from = next.saturating_add(1);
+        self.plan(Task::Others { wanted, from })?;
+        self.plan(Task::Settle(next))
+    }
+
+    /// Plans what the answer of a call needs.
+    fn prepare(&mut self, place: u32, call: &LogCall) -> Result<(), NoMemory> {
+        match call.call {
+            Call::Mmap { .. } | Call::Munmap { .. } | Call::Mremap { .. } | Call::Madvise { .. } =>
+                self.prepare_map_call(call),
+            Call::Copy { .. } | Call::ZeroPage { .. } => {
+                self.plan(Task::Install(place))?;
+                self.plan_reads_of(call)
+            }
+            Call::WriteProtect { mode, .. } => self.prepare_protect(call, mode),
+            Call::Wake { .. } => self.plan_reads_of(call),
+            Call::Unregister { .. } => self.prepare_unregister(call),
+            Call::Close { on } if call.last => self.plan(others(Wanted::OfObject(on.object))),
+            Call::Read { .. } => self.prepare_read(place, call),
+            Call::Poll { .. } => self.plan(Task::Poll(PollTask::Look(place))),
+            _ => Ok(()),
+        }
+    }
+
+    /// The open reads that return a fault of the pages of a call take effect before these change.
+    fn plan_reads_of(&mut self, call: &LogCall) -> Result<(), NoMemory> {
+        let (Some(object), Some(range)) = (call.object(), self.log.pages_of(call)) else {
+            return Ok(());
+        };
+        self.plan(others(Wanted::Faults { object, range }))
+    }
+
+    fn prepare_map_call(&mut self, call: &LogCall) -> Result<(), NoMemory> {
+        let (Some(range), true) = (self.log.pages_of(call), call.is_ok()) else {
+            return Ok(());
+        };
+        let space = call.space;
+        let line = call.end;
+        if !matches!(call.call, Call::Madvise { .. }) {
+            self.plan(others(Wanted::PutIn { space, range }))?;
+        } else if line > 0 {
+            self.plan(others(Wanted::PutBefore { space, range, line }))?;
+        }
+        self.plan(others(Wanted::FaultsOfSpace { space, range }))
+    }
+
+    fn prepare_unregister(&mut self, call: &LogCall) -> Result<(), NoMemory> {
+        let space = call
+            .object()
+            .and_then(|object| self.kernel.space_of(object));
+        if let (Some(space), Some(range), true) = (space, self.log.pages_of(call), call.is_ok()) {
+            self.plan(others(Wanted::PutIn { space, range }))?;
+        }
+        self.plan_reads_of(call)
+    }
+
+    fn prepare_protect(&mut self, call: &LogCall, mode: u64) -> Result<(), NoMemory> {
+        let (Some(object), Some(range)) = (call.object(), self.log.pages_of(call)) else {
+            return Ok(());
+        };
+        if matches!(call.errno(), Some(Errno::Eagain)) && !self.kernel.may_be_changing(object) {
+            return self.plan(others(Wanted::Tellers));
+        }
+        if !call.is_ok() {
+            return Ok(());
+        }
+        if mode != PROTECTS {
+            return self.plan_reads_of(call);
+        }
+        let line = call.end;
+        self.plan(others(Wanted::Protected {
+            object,
+            range,
+            line,
+        }))
+    }
+
+    // UFFDIO_COPY and UFFDIO_ZEROPAGE
+
+    fn prepare_install(&mut self, place: u32) -> Result<(), NoMemory> {
+        let Some(call) = self.log.call(place).copied() else {
+            return Ok(());
+        };
+        let (Some(object), Some(range)) = (call.object(), self.log.pages_of(&call)) else {
+            return Ok(());
+        };
+        match call.errno() {
+            None => self.prepare_put(place, object, range),
+            Some(Errno::Eexist) => self.prepare_twice(object, range.first),
+            Some(Errno::Eagain) if !self.kernel.may_be_changing(object) => self.plan(others(
+                Wanted::Tellers,
+            )),
+            _ => Ok(()),
+        }
+    }
+
+    /// The pages of a call are missing, and all events of its object are read.
+    fn prepare_put(&mut self, place: u32, object: u64, range: Range) -> Result<(), NoMemory> {
+        let Some(space) = self.kernel.space_of(object) else {
+            return Ok(());
+        };
+        self.plan(Task::Foresee(place))?;
+        self.plan(Task::ReadEvents(object))?;
+        self.plan(Task::MakeMissing { space, range })
+    }
+
+    /// EEXIST: another call has put the page.
+    fn prepare_twice(&mut self, object: u64, page: u64) -> Result<(), NoMemory> {
+        match self.kernel.space_of(object) {
+            Some(space) if self.is_known_missing(space, page) => self.plan(others(Wanted::Installs {
+                object,
+                page,
+            })),
+            _ => Ok(()),
+        }
+    }
+
+    fn make_missing(&mut self, space: u32, range: Range) -> Result<(), NoMemory> {
+        for page in range.first..range.end() {
+            if self.is_there(space, page) {
+                let first = page.saturating_add(1);
+                let count = range.end().saturating_sub(first);
+                self.plan(Task::MakeMissing {
+                    space,
+                    range: Range { first, count },
+                })?;
+                self.plan(Task::Clear { space, page })?;
+                return self.plan(others(Wanted::Madvise));
+            }
+        }
+        Ok(())
+    }
+
+    /// The map calls clear a page that are about to.
+    fn clear_page(&mut self, space: u32, number: u64) -> Result<(), NoMemory> {
+        for place in 0..self.kernel.calls.len() {
+            if let Some(calling) = self.kernel.calls.get(place) {
+                let key = calling.key;
+                if calling.space == space && calling.clears.contains(number) {
+                    self.step(Unseen::Clears { key })?;
+                }
+            }
+        }
+        Ok(())
+    }
+
+    fn read_events(&mut self, object: u64) -> Result<(), NoMemory> {
+        if self.kernel.is_changing(object) {
+            self.plan(others(Wanted::Events))
+        } else {
+            Ok(())
+        }
+    }
+
+    fn foresee(&mut self, place: u32) -> Result<(), NoMemory> {
+        let Some(call) = self.log.call(place).copied() else {
+            return Ok(());
+        };
+        let (Some(object), Some(range)) = (call.object(), self.log.pages_of(&call)) else {
+            return Ok(());
+        };
+        for number in range.first..range.end() {
+            self.foresee_page(&call, object, number)?;
+        }
+        Ok(())
+    }
+
+    /// A fault of the page that is read after it was put, while it stays: a thread has seen the page missing before.
+    fn foresee_page(&mut self, call: &LogCall, object: u64, number: u64) -> Result<(), NoMemory> {
+        let first = self.index.first_fault(object, number, call.end);
+        for place in first..self.index.faults.len() {
+            let Some(read) = self.index.faults.get(place).copied() else {
+                return Ok(());
+            };
+            if read.object != object || read.page != number || !self.foresee_read(call, read)? {
+                return Ok(());
+            }
+        }
+        Ok(())
+    }
+
+    /// The same of one read. Whether those after it are to be looked at.
+    fn foresee_read(&mut self, call: &LogCall, fault: FaultRead) -> Result<bool, NoMemory> {
+        let Some(read) = self.log.call(fault.call).copied() else {
+            return Ok(false);
+        };
+        if read.done || read.begin < call.end {
+            return Ok(true);
+        }
+        let Some(space) = self.kernel.space_of(fault.object) else {
+            return Ok(false);
+        };
+        let addr = self.log.size.address(fault.page);
+        if self.index.is_gone(space, addr, call.begin, read.end) {
+            return Ok(false);
+        }
+        let Some(Message::Fault { flags, thread, .. }) = self
+            .log
+            .messages
+            .get(fault.message as usize)
+            .copied()
+        else {
+            return Ok(true);
+        };
+        let access = self.access_of(fault.object, addr, flags, thread, None);
+        if !is_protection(flags) && find(&self.kernel.faults, access.thread).is_none() {
+            self.step(access.seen())?;
+        }
+        Ok(true)
+    }
+}

@@ -1,0 +1,147 @@
+//! Runs that real programs have made and that are not found at the first look: small logs, with nothing wrong in them or with one change.
+//!
+//! `audit/tests/test_search.py` has the same logs for the judge in Python.
+
+use crate::verdicts::play_whole;
+use audit::Verdict;
+use std::test::Fail;
+
+/// An object that asks for no thread's number, and two pages of it, of which none is present.
+const PLAIN: &[u8] =
+    b"1 70 70 started 69 ./monitor\n1 70 70 begin 1 open syscall 0x800\n1 70 70 end 1 ok 8:5\n1 70 70 begin 2 api 8:5 0xaa 0x0\n1 70 70 end 2 ok 0x1ffff 0x8000000000000003\n1 70 70 begin 3 register 8:5 0x10000 0x2000 0x1\n1 70 70 end 3 ok 0x17c\n1 70 70 begin 4 scan 8:5 0x10000 0x2000\n1 70 70 end 4 ok 0\n";
+
+/// The same, and it asks for events.
+const EVENTS: &[u8] =
+    b"1 70 70 started 69 ./monitor\n1 70 70 begin 1 open syscall 0x800\n1 70 70 end 1 ok 8:5\n1 70 70 begin 2 api 8:5 0xaa 0x4c\n1 70 70 end 2 ok 0x1ffff 0x8000000000000003\n1 70 70 begin 3 register 8:5 0x10000 0x2000 0x1\n1 70 70 end 3 ok 0x17c\n1 70 70 begin 4 scan 8:5 0x10000 0x2000\n1 70 70 end 4 ok 0\n";
+
+/// The same, and it asks for faults of write-protected pages.
+const PROTECTS: &[u8] =
+    b"1 70 70 started 69 ./monitor\n1 70 70 begin 1 open syscall 0x800\n1 70 70 end 1 ok 8:5\n1 70 70 begin 2 api 8:5 0xaa 0x1\n1 70 70 end 2 ok 0x1ffff 0x8000000000000003\n1 70 70 begin 3 register 8:5 0x10000 0x2000 0x3\n1 70 70 end 3 ok 0x17c\n1 70 70 begin 4 scan 8:5 0x10000 0x2000\n1 70 70 end 4 ok 0\n";
+
+/// The same, and it asks for UFFD_EVENT_REMOVE.
+const REMOVES: &[u8] =
+    b"1 70 70 started 69 ./monitor\n1 70 70 begin 1 open syscall 0x800\n1 70 70 end 1 ok 8:5\n1 70 70 begin 2 api 8:5 0xaa 0x8\n1 70 70 end 2 ok 0x1ffff 0x8000000000000003\n1 70 70 begin 3 register 8:5 0x10000 0x2000 0x1\n1 70 70 end 3 ok 0x17c\n1 70 70 begin 4 scan 8:5 0x10000 0x2000\n1 70 70 end 4 ok 0\n";
+
+/// What an object is registered for, the calls after it, what is said of the log, and what is written.
+static LOGS: [(&'static [u8], &'static [u8], Verdict, &'static [u8]); 16] = [
+    // A madvise of the thread that the copy has woken: it ends before the copy does.
+    (
+        PLAIN,
+        b"1 70 70 begin 5 read 8:5 32\n1 70 70 message 5 fault 0x10000 0 0\n1 70 70 end 5 ok 1\n1 70 70 begin 6 copy 8:5 0x10000 0x7000 0x1000 0x0\n1 70 71 begin 7 madvise 0x10000 0x1000 0x4\n1 70 71 end 7 ok\n1 70 70 end 6 ok 4096\n1 70 70 begin 8 read 8:5 32\n1 70 70 message 8 fault 0x10000 0 0\n1 70 70 end 8 ok 1\n1 70 70 begin 9 copy 8:5 0x10000 0x7000 0x1000 0x0\n1 70 70 end 9 ok 4096\n1 70 70 begin 10 copy 8:5 0x11000 0x7000 0x1000 0x0\n1 70 70 end 10 ok 4096\n",
+        Verdict::Certified,
+        b"10 calls: 8 with the only answer that the rules allow, 2 that an access explains which the log does not show, 0 impossible, 0 not judged\ncertified: a kernel of the rules may have answered so; pages owed 0, put twice 0\npage faults that waited until a call woke their thread: 2, the longest 0.0 us, read at line 16, woken at line 22\n",
+    ),
+    // It fails: nothing has cleared the page that is read and put again.
+    (
+        PLAIN,
+        b"1 70 70 begin 5 read 8:5 32\n1 70 70 message 5 fault 0x10000 0 0\n1 70 70 end 5 ok 1\n1 70 70 begin 6 copy 8:5 0x10000 0x7000 0x1000 0x0\n1 70 71 begin 7 madvise 0x10000 0x1000 0x4\n1 70 70 end 6 ok 4096\n1 70 71 end 7 EINVAL\n1 70 70 begin 8 read 8:5 32\n1 70 70 message 8 fault 0x10000 0 0\n1 70 70 end 8 ok 1\n1 70 70 begin 9 copy 8:5 0x10000 0x7000 0x1000 0x0\n1 70 70 end 9 ok 4096\n1 70 70 begin 10 copy 8:5 0x11000 0x7000 0x1000 0x0\n1 70 70 end 10 ok 4096\n",
+        Verdict::Impossible,
+        b"log:26: kernel: copy: no run of the rules has this answer: the page is present [impossible-answer]\n10 calls: 6 with the only answer that the rules allow, 3 that an access explains which the log does not show, 1 impossible, 0 not judged\nnot certified: no run was found\npage faults that waited until a call woke their thread: 1, the longest 0.0 us, read at line 16, woken at line 21\n",
+    ),
+    // Two threads at one page, and a poll that finds the second one's message.
+    (
+        PLAIN,
+        b"1 70 70 begin 5 read 8:5 32\n1 70 70 message 5 fault 0x10000 0 0\n1 70 70 end 5 ok 1\n1 70 70 begin 6 poll 8:5\n1 70 70 end 6 ok 0x1\n1 70 70 begin 7 read 8:5 32\n1 70 70 message 7 fault 0x10000 0 0\n1 70 70 end 7 ok 1\n1 70 70 begin 8 copy 8:5 0x10000 0x7000 0x1000 0x0\n1 70 70 end 8 ok 4096\n1 70 70 begin 9 copy 8:5 0x11000 0x7000 0x1000 0x0\n1 70 70 end 9 ok 4096\n",
+        Verdict::Certified,
+        b"9 calls: 7 with the only answer that the rules allow, 2 that an access explains which the log does not show, 0 impossible, 0 not judged\ncertified: a kernel of the rules may have answered so; pages owed 0, put twice 0\npage faults that waited until a call woke their thread: 2, the longest 0.0 us, read at line 16, woken at line 25\n",
+    ),
+    // The copy does not wake them.
+    (
+        PLAIN,
+        b"1 70 70 begin 5 read 8:5 32\n1 70 70 message 5 fault 0x10000 0 0\n1 70 70 end 5 ok 1\n1 70 70 begin 6 poll 8:5\n1 70 70 end 6 ok 0x1\n1 70 70 begin 7 read 8:5 32\n1 70 70 message 7 fault 0x10000 0 0\n1 70 70 end 7 ok 1\n1 70 70 begin 8 copy 8:5 0x10000 0x7000 0x1000 0x1\n1 70 70 end 8 ok 4096\n1 70 70 begin 9 copy 8:5 0x11000 0x7000 0x1000 0x0\n1 70 70 end 9 ok 4096\n",
+        Verdict::Found,
+        b"log:16: monitor: read: the page fault that this call has read was not resolved [fault-not-resolved]\nlog:21: monitor: read: the page fault that this call has read was not resolved [fault-not-resolved]\n9 calls: 7 with the only answer that the rules allow, 2 that an access explains which the log does not show, 0 impossible, 0 not judged\ncertified: a kernel of the rules may have answered so; pages owed 0, put twice 0\n",
+    ),
+    // The monitor ends without a read of the message that its poll has found.
+    (
+        PLAIN,
+        b"1 70 70 begin 5 poll 8:5\n1 70 70 end 5 ok 0x1\n",
+        Verdict::Certified,
+        b"5 calls: 4 with the only answer that the rules allow, 1 that an access explains which the log does not show, 0 impossible, 0 not judged\ncertified: a kernel of the rules may have answered so; pages owed 0, put twice 0\n",
+    ),
+    // It reads, and nothing waits.
+    (
+        PLAIN,
+        b"1 70 70 begin 5 poll 8:5\n1 70 70 end 5 ok 0x1\n1 70 70 begin 6 read 8:5 32\n1 70 70 end 6 EAGAIN\n",
+        Verdict::Impossible,
+        b"log:16: kernel: poll: no run of the rules has this answer: no message waits [impossible-answer]\n6 calls: 5 with the only answer that the rules allow, 0 that an access explains which the log does not show, 1 impossible, 0 not judged\nnot certified: no run was found\n",
+    ),
+    // A fault at the new place of a page, read before the messages of the mremap, which has not returned.
+    (
+        EVENTS,
+        b"1 70 70 begin 5 copy 8:5 0x10000 0x7000 0x1000 0x0\n1 70 70 end 5 ok 4096\n1 70 71 begin 6 mremap 0x11000 0x1000 0x1000 0x3 0x20000\n1 70 70 begin 7 poll 8:5\n1 70 70 end 7 ok 0x1\n1 70 70 begin 8 read 8:5 96\n1 70 70 message 8 fault 0x20000 1 0\n1 70 70 message 8 remap 0x11000 0x20000 0x1000\n1 70 70 end 8 ok 2\n1 70 70 begin 9 read 8:5 32\n1 70 70 message 9 unmap 0x11000 0x12000\n1 70 70 end 9 ok 1\n1 70 71 end 6 ok 0x20000\n1 70 70 begin 10 copy 8:5 0x20000 0x7000 0x1000 0x0\n1 70 70 end 10 ok 4096\n",
+        Verdict::Clean,
+        b"10 calls: 8 with the only answer that the rules allow, 2 that an access explains which the log does not show, 0 impossible, 0 not judged\nnot certified: line 18: mremap is not followed\npage faults that waited until a call woke their thread: 1, the longest 0.0 us, read at line 21, woken at line 30\n",
+    ),
+    // The message that the second poll finds goes with a wake by UFFDIO_WRITEPROTECT.
+    (
+        PROTECTS,
+        b"1 70 70 begin 5 copy 8:5 0x10000 0x7000 0x1000 0x2\n1 70 70 end 5 ok 4096\n1 70 70 begin 6 copy 8:5 0x11000 0x7000 0x1000 0x0\n1 70 70 end 6 ok 4096\n1 70 70 begin 7 poll 8:5\n1 70 70 end 7 ok 0x1\n1 70 70 begin 8 writeprotect 8:5 0x10000 0x1000 0x0\n1 70 70 end 8 ok\n1 70 70 begin 9 read 8:5 32\n1 70 70 end 9 EAGAIN\n",
+        Verdict::Certified,
+        b"9 calls: 9 with the only answer that the rules allow, 0 that an access explains which the log does not show, 0 impossible, 0 not judged\ncertified: a kernel of the rules may have answered so; pages owed 0, put twice 0\n",
+    ),
+    // Two objects of two processes, with a thread at one page of each.
+    (
+        PLAIN,
+        b"1 72 72 started 69 ./monitor\n1 72 72 begin 1 open syscall 0x800\n1 72 72 end 1 ok 9:5\n1 72 72 begin 2 api 9:5 0xaa 0x0\n1 72 72 end 2 ok 0x1ffff 0x8000000000000003\n1 72 72 begin 3 register 9:5 0x10000 0x1000 0x1\n1 72 72 end 3 ok 0x17c\n1 70 70 begin 5 read 8:5 32\n1 70 70 message 5 fault 0x10000 0 0\n1 70 70 end 5 ok 1\n1 72 72 begin 4 read 9:5 32\n1 72 72 message 4 fault 0x10000 0 0\n1 72 72 end 4 ok 1\n1 70 70 begin 6 copy 8:5 0x10000 0x7000 0x2000 0x0\n1 70 70 end 6 ok 8192\n1 72 72 begin 5 copy 9:5 0x10000 0x7000 0x1000 0x0\n1 72 72 end 5 ok 4096\n",
+        Verdict::Certified,
+        b"11 calls: 9 with the only answer that the rules allow, 2 that an access explains which the log does not show, 0 impossible, 0 not judged\ncertified: a kernel of the rules may have answered so; pages owed 0, put twice 0\npage faults that waited until a call woke their thread: 2, the longest 0.0 us, read at line 23, woken at line 30\n",
+    ),
+    // Map calls of more pages than any memory has.
+    (
+        PLAIN,
+        b"1 70 70 begin 5 copy 8:5 0x10000 0x7000 0x1000 0x0\n1 70 70 end 5 ok 4096\n1 70 70 begin 6 copy 8:5 0x11000 0x7000 0x1000 0x0\n1 70 70 end 6 ok 4096\n1 70 70 begin 7 mremap 0x30000 0x400000000000 0x1000 0x0 0x0\n1 70 70 end 7 ok 0x30000\n1 70 70 begin 8 mremap 0x12000 0x1000 0xfffffffffffff000 0x1 0x0\n1 70 70 end 8 EINVAL\n1 70 70 begin 9 madvise 0x30000 0x7ffffff00000 0x4\n1 70 70 end 9 ENOMEM\n",
+        Verdict::Clean,
+        b"9 calls: 9 with the only answer that the rules allow, 0 that an access explains which the log does not show, 0 impossible, 0 not judged\nnot certified: line 20: mremap is not followed\n",
+    ),
+    // What EAGAIN was for has been given back, but for the page that is missing to the end.
+    (
+        REMOVES,
+        b"1 70 71 begin 5 madvise 0x10000 0x1000 0x4\n1 70 70 begin 6 copy 8:5 0x10000 0x7000 0x1000 0x0\n1 70 70 end 6 EAGAIN -11\n1 70 70 begin 7 read 8:5 32\n1 70 70 message 7 remove 0x10000 0x11000\n1 70 70 end 7 ok 1\n1 70 71 end 5 ok\n1 70 70 begin 8 copy 8:5 0x11000 0x7000 0x1000 0x0\n1 70 70 end 8 ok 4096\n",
+        Verdict::Found,
+        b"log:24: monitor: end of the log: 1 registered pages from 0x10000 on are still missing [page-owed]\n8 calls: 7 with the only answer that the rules allow, 1 that an access explains which the log does not show, 0 impossible, 0 not judged\nnot certified: a map call that tells an object is not followed\n",
+    ),
+    // It was for that page.
+    (
+        REMOVES,
+        b"1 70 71 begin 5 madvise 0x10000 0x1000 0x4\n1 70 70 begin 6 copy 8:5 0x11000 0x7000 0x1000 0x0\n1 70 70 end 6 EAGAIN -11\n1 70 70 begin 7 read 8:5 32\n1 70 70 message 7 remove 0x10000 0x11000\n1 70 70 end 7 ok 1\n1 70 71 end 5 ok\n1 70 70 begin 8 copy 8:5 0x10000 0x7000 0x1000 0x0\n1 70 70 end 8 ok 4096\n",
+        Verdict::Found,
+        b"log:17: monitor: copy: EAGAIN, and the page 0x11000 was not tried again [not-tried-again]\nlog:24: monitor: end of the log: 1 registered pages from 0x11000 on are still missing [page-owed]\n8 calls: 7 with the only answer that the rules allow, 1 that an access explains which the log does not show, 0 impossible, 0 not judged\nnot certified: a map call that tells an object is not followed\n",
+    ),
+    // A page is put again before the message of its madvise is read, which no kernel allows.
+    (
+        REMOVES,
+        b"1 70 70 begin 5 copy 8:5 0x10000 0x7000 0x2000 0x0\n1 70 70 end 5 ok 8192\n1 70 71 begin 6 madvise 0x10000 0x1000 0x4\n1 70 70 begin 7 copy 8:5 0x10000 0x7000 0x1000 0x0\n1 70 70 end 7 ok 4096\n1 70 70 begin 8 read 8:5 32\n1 70 70 message 8 remove 0x10000 0x11000\n1 70 70 end 8 ok 1\n1 70 71 end 6 ok\n",
+        Verdict::Impossible,
+        b"log:19: kernel: copy: no run of the rules has this answer: the space is changing [impossible-answer]\n8 calls: 6 with the only answer that the rules allow, 1 that an access explains which the log does not show, 1 impossible, 0 not judged\nnot certified: no run was found\n",
+    ),
+    // A read of an event and then of a fault, which was queued meanwhile.
+    (
+        REMOVES,
+        b"1 70 70 begin 5 copy 8:5 0x10000 0x7000 0x1000 0x0\n1 70 70 end 5 ok 4096\n1 70 71 begin 6 madvise 0x10000 0x1000 0x4\n1 70 70 begin 7 read 8:5 64\n1 70 70 message 7 remove 0x10000 0x11000\n1 70 70 message 7 fault 0x11000 0 0\n1 70 70 end 7 ok 2\n1 70 71 end 6 ok\n1 70 70 begin 8 copy 8:5 0x11000 0x7000 0x1000 0x0\n1 70 70 end 8 ok 4096\n1 70 70 begin 9 copy 8:5 0x10000 0x7000 0x1000 0x0\n1 70 70 end 9 ok 4096\n",
+        Verdict::Clean,
+        b"9 calls: 8 with the only answer that the rules allow, 1 that an access explains which the log does not show, 0 impossible, 0 not judged\nnot certified: a map call that tells an object is not followed\npage faults that waited until a call woke their thread: 1, the longest 0.0 us, read at line 19, woken at line 25\n",
+    ),
+    // Two processes with one address, and a child that shares the memory of the one whose object it has found.
+    (
+        PLAIN,
+        b"1 72 72 forked 70\n1 72 72 begin 1 open syscall 0x800\n1 72 72 end 1 ok 9:6\n1 72 72 begin 2 api 9:6 0xaa 0x0\n1 72 72 end 2 ok 0x1ffff 0x8000000000000003\n1 72 72 begin 3 register 9:6 0x10000 0x2000 0x1\n1 72 72 end 3 ok 0x17c\n1 72 72 begin 4 copy 9:6 0x10000 0x7000 0x2000 0x0\n1 72 72 end 4 ok 8192\n1 70 70 begin 5 copy 8:5 0x10000 0x7000 0x2000 0x0\n1 70 70 end 5 ok 8192\n1 73 73 found 9:6\n1 73 73 begin 6 madvise 0x10000 0x1000 0x4\n1 73 73 end 6 ok\n1 72 72 begin 7 copy 9:6 0x10000 0x7000 0x1000 0x0\n1 72 72 end 7 ok 4096\n",
+        Verdict::Certified,
+        b"11 calls: 10 with the only answer that the rules allow, 1 that an access explains which the log does not show, 0 impossible, 0 not judged\ncertified: a kernel of the rules may have answered so; pages owed 0, put twice 0\n",
+    ),
+    // It has found the other's.
+    (
+        PLAIN,
+        b"1 72 72 forked 70\n1 72 72 begin 1 open syscall 0x800\n1 72 72 end 1 ok 9:6\n1 72 72 begin 2 api 9:6 0xaa 0x0\n1 72 72 end 2 ok 0x1ffff 0x8000000000000003\n1 72 72 begin 3 register 9:6 0x10000 0x2000 0x1\n1 72 72 end 3 ok 0x17c\n1 72 72 begin 4 copy 9:6 0x10000 0x7000 0x2000 0x0\n1 72 72 end 4 ok 8192\n1 70 70 begin 5 copy 8:5 0x10000 0x7000 0x2000 0x0\n1 70 70 end 5 ok 8192\n1 73 73 found 8:5\n1 73 73 begin 6 madvise 0x10000 0x1000 0x4\n1 73 73 end 6 ok\n1 72 72 begin 7 copy 9:6 0x10000 0x7000 0x1000 0x0\n1 72 72 end 7 ok 4096\n",
+        Verdict::Impossible,
+        b"log:30: kernel: copy: no run of the rules has this answer: the page is present [impossible-answer]\nlog:31: monitor: end of the log: 1 registered pages from 0x10000 on are still missing [page-owed]\n11 calls: 9 with the only answer that the rules allow, 1 that an access explains which the log does not show, 1 impossible, 0 not judged\nnot certified: no run was found\n",
+    ),
+];
+
+#[test]
+fn searches(rt: HostRuntime) -> Result<(), Fail> {
+    for (front, lines, verdict, written) in &LOGS {
+        play_whole(&rt, rt.alloc(), front, lines, *verdict, written)?;
+    }
+    Ok(())
+}

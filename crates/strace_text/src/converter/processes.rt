@@ -1,0 +1,251 @@
+//! Threads, the processes of which they are, and the programs that these run.
+
+use super::{Converter, Maker, Range};
+use crate::number::{decimal, hexadecimal};
+use crate::plan::{After, Plan, answer, one};
+use crate::quoted::{closed, next_string, unescape};
+use crate::stop::{Shown, Stop};
+use crate::text::{Class, some_front};
+use crate::traced::Traced;
+use memchr::memmem;
+use std::alloc::{AllocError, Global};
+use std::fmt::Write;
+
+/// The most bytes of the words of a program.
+const LONGEST_WORDS: usize = 3000;
+
+/// The number after this front in hexadecimal, where the front begins a word.
+fn field(text: &[u8], front: &[u8]) -> Option<u64> {
+    let mut before = b' ';
+    let mut rest = text;
+    for _ in 0..text.len() {
+        let at = memmem::find(rest, front)?;
+        let (skipped, found) = rest.split_at_checked(at)?;
+        before = skipped.last().copied().unwrap_or(before);
+        let digits = some_front(found.strip_prefix(front)?, Class::Hex);
+        if let (false, Some((digits, _))) = (Class::Word.has(before), digits) {
+            return Some(hexadecimal(digits));
+        }
+        let (first, behind) = found.split_first()?;
+        before = *first;
+        rest = behind;
+    }
+    None
+}
+
+/// The list of the words of a program, without its brackets.
+fn list_of(arguments: &[u8]) -> Option<&[u8]> {
+    let (_, rest) = closed(arguments.strip_prefix(b"\"")?)?;
+    let rest = rest.strip_prefix(b"...").unwrap_or(rest);
+    let list = rest.strip_prefix(b", [")?;
+    for (at, byte) in list.iter().enumerate() {
+        let behind = &list[at + 1..];
+        if *byte == b']' && (behind.is_empty() || behind.starts_with(b", ")) {
+            return Some(&list[..at]);
+        }
+    }
+    None
+}
+
+/// Adds a text of the language.
+fn encode(out: &mut String, bytes: &[u8]) -> Result<(), AllocError> {
+    if bytes.is_empty() {
+        return out.push('%');
+    }
+    for byte in bytes {
+        match *byte {
+            b'%' | 0..=0x20 | 0x7f..=0xff => {
+                let byte = *byte;
+                write!(out, "%{byte:02x}")?;
+            }
+            byte => out.push(char::from(byte))?,
+        }
+    }
+    Ok(())
+}
+
+/// The words of a list of strings, with a blank between them.
+fn words_of(alloc: Global, list: &[u8]) -> Result<String, Stop> {
+    let mut out = String::new(alloc);
+    let mut rest = list;
+    for _ in 0..list.len() {
+        let Some((string, behind)) = next_string(rest) else {
+            break;
+        };
+        if !out.is_empty() {
+            out.push(' ')?;
+        }
+        let mut bytes = Vec::new(alloc);
+        unescape(alloc, &mut bytes, string)?;
+        encode(&mut out, &bytes)?;
+        rest = behind;
+    }
+    Ok(out)
+}
+
+/// The words of a program, of which a last `...` says that some were left out.
+fn shortened(alloc: Global, words: String) -> Result<String, Stop> {
+    if words.is_empty() {
+        return Ok(String::from_str(alloc, "...")?);
+    }
+    let Some(front) = words.as_bytes().get(..LONGEST_WORDS) else {
+        return Ok(words);
+    };
+    if words.len() == LONGEST_WORDS {
+        return Ok(words);
+    }
+    let front = match crate::text::rsplit_once(front, b" ") {
+        Some((before, _)) => Shown(before),
+        None => Shown(front),
+    };
+    Ok(format!(in alloc; "{front} ...")?)
+}
+
+impl Converter {
+    /// Notes which call made a thread, and what was registered, for the whole trace.
+    pub(crate) fn prepare(&mut self, call: &Traced) -> Result<(), Stop> {
+        match call.name.as_slice() {
+            b"clone" | b"clone3" | b"fork" | b"vfork" => self.prepare_child(call),
+            b"ioctl" if call.has_argument(b"UFFDIO_REGISTER,") && call.errno().is_none() => {
+                let start = field(&call.arguments, b"start=0x");
+                let length = field(&call.arguments, b"len=0x");
+                if let (Some(start), Some(length)) = (start, length) {
+                    self.ranges.insert(Range { start, length })?;
+                }
+                Ok(())
+            }
+            _ => Ok(()),
+        }
+    }
+
+    fn prepare_child(&mut self, call: &Traced) -> Result<(), Stop> {
+        let Some((digits, _)) = some_front(&call.returned, Class::Digit) else {
+            return Ok(());
+        };
+        let Some(child) = decimal(digits) else {
+            return Ok(());
+        };
+        let maker = Maker {
+            by: call.thread,
+            is_thread: call.has_argument(b"CLONE_THREAD"),
+            shares_files: call.has_argument(b"CLONE_FILES"),
+        };
+        self.made.insert(child, maker)?;
+        Ok(())
+    }
+
+    /// The process of a thread: its own, unless it was made as a thread.
+    pub(crate) fn process_of(&mut self, thread: u64) -> Result<u64, Stop> {
+        if let Some(process) = self.of_thread.get(&thread) {
+            return Ok(*process);
+        }
+        self.of_thread.insert(thread, thread)?;
+        Ok(thread)
+    }
+
+    /// Finds the process of a thread that is seen for the first time.
+    pub(crate) fn adopt(&mut self, thread: u64, time: u64) -> Result<(), Stop> {
+        if self.of_thread.contains_key(&thread) {
+            return Ok(());
+        }
+        match self.made.get(&thread).copied() {
+            Some(maker) if maker.is_thread => {
+                let process = self.process_of(maker.by)?;
+                self.of_thread.insert(thread, process)?;
+                Ok(())
+            }
+            Some(maker) => self.adopt_process(thread, time, maker),
+            None => {
+                self.process_of(thread)?;
+                Ok(())
+            }
+        }
+    }
+
+    /// A new process has the descriptors of its parent.
+    fn adopt_process(&mut self, thread: u64, time: u64, maker: Maker) -> Result<(), Stop> {
+        self.of_thread.insert(thread, thread)?;
+        let parent = self.process_of(maker.by)?;
+        self.parents.insert(thread, parent)?;
+        let shared = self.table_of(parent)?;
+        let table = if maker.shares_files {
+            shared
+        } else {
+            self.copied_table(shared, false)?
+        };
+        self.files.insert(thread, table)?;
+        let said = format!(in self.alloc; "forked {parent}")?;
+        self.write(time, thread, said.as_str())?;
+        self.announce(time, thread)
+    }
+
+    /// The descriptors of a table, or those alone that survive execve.
+    fn copied_files(&self, table: usize, survives: bool) -> Result<crate::files::Files, Stop> {
+        let set = self.tables.get(table).copied().unwrap_or(0);
+        match self.sets.get(set) {
+            Some(files) => Ok(files.copy(self.alloc, survives)?),
+            None => Ok(crate::files::Files::new(self.alloc)),
+        }
+    }
+
+    /// A new table with the descriptors of another one.
+    fn copied_table(&mut self, table: usize, survives: bool) -> Result<usize, Stop> {
+        let files = self.copied_files(table, survives)?;
+        self.new_table(files)
+    }
+
+    /// A fork. What makes a thread, or shares the memory, is none of the language.
+    pub(super) fn plan_clone(&mut self, call: &Traced) -> Result<Vec<Plan>, Stop> {
+        if call.has_argument(b"CLONE_THREAD") || call.has_argument(b"CLONE_VM") {
+            return self.none();
+        }
+        let child = match some_front(&call.returned, Class::Digit) {
+            Some((digits, _)) => digits,
+            None => b"".as_slice(),
+        };
+        let child = Shown(child);
+        let child = format!(in self.alloc; "{child}")?;
+        let end = answer(self.alloc, call, child.as_str())?;
+        let begin = String::from_str(self.alloc, "fork")?;
+        one(self.alloc, Plan::new(self.alloc, begin, end))
+    }
+
+    /// A program that is run.
+    pub(super) fn plan_execve(&mut self, call: &Traced) -> Result<Vec<Plan>, Stop> {
+        if !call.has_succeeded() {
+            return self.none();
+        }
+        let list = list_of(&call.arguments).unwrap_or(b"".as_slice());
+        let words = shortened(self.alloc, words_of(self.alloc, list)?)?;
+        let process = self.process_of(call.thread)?;
+        let table = self.table_of(process)?;
+        let plan = Plan {
+            begin: None,
+            messages: Vec::new(self.alloc),
+            end: None,
+            after: After::Start { table, words },
+        };
+        one(self.alloc, plan)
+    }
+
+    /// A process runs a program from now on, and has the descriptors that survive.
+    pub(crate) fn start(
+        &mut self,
+        time: u64,
+        thread: u64,
+        table: usize,
+        words: &str,
+    ) -> Result<(), Stop> {
+        let files = self.copied_files(table, true)?;
+        let set = self.sets.len();
+        self.sets.push(files)?;
+        if let Some(place) = self.tables.get_mut(table) {
+            *place = set;
+        }
+        let process = self.process_of(thread)?;
+        let parent = self.parents.get(&process).copied().unwrap_or(0);
+        let said = format!(in self.alloc; "started {parent} {words}")?;
+        self.write(time, thread, said.as_str())?;
+        self.announce(time, thread)
+    }
+}
