@@ -127,13 +127,25 @@ static uint32_t idle_processor(const struct watch *watch)
 
 /* FAULTS */
 
-/* A fault that the node does not have: by its table the page is there. */
-static void take_needless_fault(struct watch *watch, uint64_t address)
+/* Whether an event that was read by the same call, and after the fault, removes its page. */
+static bool is_removed_after(const struct uffd_msg *fault, const struct uffd_msg *end)
+{
+    uint64_t at = fault->arg.pagefault.address;
+
+    for (const struct uffd_msg *it = fault + 1; it < end; it++)
+        if (it->event == UFFD_EVENT_REMOVE && it->arg.remove.start <= at && at < it->arg.remove.end)
+            return true;
+    return false;
+}
+
+/* A fault that the node does not have: by its table the page is there. With a REMOVE of it that was read too the kernel may have cleared it
+   by now, and a page that were put would be there when the node takes the REMOVE. */
+static void take_needless_fault(struct watch *watch, uint64_t address, bool is_removed)
 {
     int error;
 
     watch->needless += kept_at(watch, address) == NOT_KEPT; /* (two threads may wait for one copy) */
-    error = wake_present(watch, address);
+    error = is_removed ? EAGAIN : wake_present(watch, address);
     if (error == EAGAIN) /* the thread is woken, and faults again if the page is still missing */
         error = kernel_wake(watch->userfault, watch_page(watch, address));
     if (error)
@@ -162,7 +174,7 @@ static uint32_t thread_of(const struct watch *watch, const struct uffd_msg *mess
     return idle_processor(watch);
 }
 
-static void take_fault(struct watch *watch, const struct uffd_msg *message)
+static void take_fault(struct watch *watch, const struct uffd_msg *message, const struct uffd_msg *end)
 {
     uint64_t address = address_of(watch, message->arg.pagefault.address), flags = message->arg.pagefault.flags;
     uint32_t cpu = thread_of(watch, message, address);
@@ -179,7 +191,7 @@ static void take_fault(struct watch *watch, const struct uffd_msg *message)
     if (effect.kind == POSTMIG_DID_SLEEP)
         read_fault(watch, cpu, address, flags & UFFD_PAGEFAULT_FLAG_WP);
     else
-        take_needless_fault(watch, address);
+        take_needless_fault(watch, address, is_removed_after(message, end));
 }
 
 /* EVENTS */
@@ -201,10 +213,11 @@ static void take_remove(struct watch *watch, const struct uffd_msg *message)
     watch->events++;
 }
 
-static void take_message(struct watch *watch, const struct uffd_msg *message)
+/* One of the messages that one call has read, up to `end`. */
+static void take_message(struct watch *watch, const struct uffd_msg *message, const struct uffd_msg *end)
 {
     if (message->event == UFFD_EVENT_PAGEFAULT)
-        take_fault(watch, message);
+        take_fault(watch, message, end);
     else if (message->event == UFFD_EVENT_REMOVE)
         take_remove(watch, message);
     else
@@ -275,7 +288,7 @@ static bool read_some(struct watch *watch)
     size_t count = kernel_read(watch->userfault, messages, MOST_MESSAGES);
 
     for (size_t i = 0; i < count; i++)
-        take_message(watch, &messages[i]);
+        take_message(watch, &messages[i], messages + count);
     return count == MOST_MESSAGES;
 }
 
