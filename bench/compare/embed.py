@@ -31,7 +31,7 @@ REFUSED = [pair for pair in SCRIPTS if pair[0].stem in ("fault", "lost-after-run
 # What is wrong with some lines.
 NEAR = (1, b"`strat` is not the first word of a script line: did you mean `start`?")
 EXTRA = b"-:2:7: `1` is a word too many: the line is `round`\n"
-UNMAPPED = b"wrong 0 expected segv unmapped\n  line 1, entry 0: 0 load 0x0 8 => value 0x0\n  nothing was mapped at 0x0\n"
+UNMAPPED = b"wrong 0 expected segv unmapped\n  line 1, entry 0: 0 load 0x0 8 => value 0x0\n  0x0 was never mapped\n"
 
 
 def run(*words, **options):

@@ -1,6 +1,6 @@
 //! What is wrong with the lines of a text.
 
-ghost use Rattle.std.specs.Prelude.{◌≡◌, ◌⊎◌, ◌↔◌, ℕ, List, [], IfOk, IsTrue, codes};
+ghost use Rattle.std.specs.Prelude.{◌≡◌, ◌⊎◌, ℕ, List, [], IfOk, IfSome, IfNone, codes};
 ghost use Rattle.std.specs.declared.option.Option.TheVariants.{Some as Just};
 ghost use Rattle.grammar.specs.Lines.{HasNoFeed};
 ghost use Rattle.lint.specs.Listing.{ListsAll};
@@ -27,16 +27,25 @@ fn language_for(is_transcript: bool) -> Language
     }
 }
 
-/// Whether a text is a line.
-fn is_line(alloc: Global, is_transcript: bool, text: &[u8]) -> Result<bool, NoMemory>
-    ensures { IfOk result (λ answer. IsTrue answer ↔ IsLine is_transcript text.now) }
+/// Why a text is not a line; none if it is one.
+fn reason_in(
+    alloc: Global,
+    is_transcript: bool,
+    text: &[u8],
+) -> Result<Option<Reason<'_>>, NoMemory>
+    ensures right { IfOk result (λ found. IfNone found (IsLine is_transcript text.now)) }
+    ensures wrong { IfOk result (λ found.
+        IfSome found (λ reason. IsLine is_transcript text.now → ⊥)) }
 {
+    let language = language_for(is_transcript);
     if text.len() > MAX_LINE {
-        return Ok(false);
+        return Ok(Some(reason_of(text, language)));
     }
     let mut tokens = Vec::new(alloc);
-    let found = parse(language_for(is_transcript), &mut tokens, text)?;
-    Ok(found.is_some())
+    match parse(language, &mut tokens, text)? {
+        Some(_) => Ok(None),
+        None => Ok(Some(reason_of(text, language))),
+    }
 }
 
 /// The bytes before the first line feed.
@@ -87,15 +96,14 @@ pub extern "C" fn postmig_line_reason(
         (text : List ℕ) × IsReason text × IsTooLong text written.new out.new }
     ensures range { (result ≡ 0) ⊎ (result ≡ 1) ⊎ (result ≡ 3) ⊎ (result ≡ 4) }
 {
-    match is_line(alloc, is_transcript, line) {
-        Ok(true) => {
-            *written = 0;
-            DONE
-        }
-        Ok(false) => {
-            let reason = reason_of(line, language_for(is_transcript));
+    match reason_in(alloc, is_transcript, line) {
+        Ok(Some(reason)) => {
             *column = reason.column;
             write_reason(alloc, &reason, out, written)
+        }
+        Ok(None) => {
+            *written = 0;
+            DONE
         }
         Err(NoMemory) => NO_MEMORY,
     }
