@@ -18,13 +18,14 @@ PICTURE = page.TOP / "docs" / "architecture.svg"
 # From the top: the height of each row, and its groups, each with what it is, its crates, and how many of the twelve columns it takes.
 # A group of the first row without a neighbour below it is as high as both rows.
 ROWS = (
-    (52, ("the program", "postmig", 10), ("library for C", "postmig_c nodes", 2)),
+    (52, ("the program", "postmig", 9), ("the library for C", "postmig_c", 3)),
     (
         84,
-        ("tools over scripts and frames", "wiretap host_calls frames explain lint expected explore finishing", 4),
+        ("tools over scripts and frames", "wiretap host_calls frames expected explore finishing", 4),
         ("threads", "threads rig pusher", 2),
-        ("looking inside", "draw diagram show", 2),
         ("logs of calls", "audit call_log log_entries kernel_rules uffd_log", 2),
+        ("looking inside", "draw diagram show lint explain", 2),
+        ("lone nodes", "nodes", 2),
     ),
     (52, ("steps to completion", "finish", 3), ("scripts, transcripts and replies as text", "engine grammar report hosts", 9)),
     (52, ("a migration: both nodes, three wires, and its recovery", "world recovery", 12)),

@@ -17,14 +17,21 @@ import time
 import shared  # noqa: F401
 
 from model.frames import encode
+import program
 from page import TOP
 from program import PROGRAM
 
 DIST, EMBED = TOP / "dist", TOP / "examples" / "embed"
 # The scripts, each with its answers.
 SCRIPTS = [(script, script.with_suffix(".out")) for script in sorted(TOP.glob("examples/*.script"))]
+# The questions of postmig show, in the order of their numbers.
+WHATS = ("cpus", "queues", "owed", "wires", "pages", "all")
 # The two in which each allocation is refused.
 REFUSED = [pair for pair in SCRIPTS if pair[0].stem in ("fault", "lost-after-run")]
+# What is wrong with some lines.
+NEAR = (1, b"`strat` is not the first word of a script line: did you mean `start`?")
+EXTRA = b"-:2:7: `1` is a word too many: the line is `round`\n"
+UNMAPPED = b"wrong 0 expected segv unmapped\n  line 1, entry 0: 0 load 0x0 8 => value 0x0\n  0x0 was never mapped\n"
 
 
 def run(*words, **options):
@@ -72,8 +79,44 @@ def in_c(work, loads):
         print("the traces of its nodes: left out, the program is not proved and built")
     asks = built(work / "asks", "-g", "-fsanitize=address,undefined", TOP / "bench/embed/asks.c")
     print("C:", run(asks, *(script for script, _ in SCRIPTS)).decode().strip())
+    inside = built(work / "inside", "-g", "-fsanitize=address,undefined", TOP / "bench/embed/inside.c")
+    print("C:", run(inside, *(script for script, _ in SCRIPTS)).decode().strip())
+    inside_the_program(work, inside)
     fast = built(work / "fast", "-O2", TOP / "bench/embed/lines.c")
     print("C:", run(fast, loads).decode().strip().split("\n")[-1])
+
+
+def inside_the_program(work, inside):
+    """Compares what the library says of worlds, wrong lines and transcripts with what the program writes."""
+    if not PROGRAM.exists():
+        print("what is said of worlds and lines, beside the program: left out, it is not proved and built")
+        return
+    count = 0
+    for script, _ in SCRIPTS:
+        text = script.read_bytes()
+        lines = text.splitlines(keepends=True)
+        for at in sorted({1, len(lines) // 3, len(lines) * 2 // 3, len(lines)}):
+            for number, what in enumerate(WHATS):
+                compared((PROGRAM, "show", "--at", at, what, script), (inside, "show", at, number, script))
+                count += 1
+        transcript = program.run([PROGRAM, "run", "--transcript", script]).stdout
+        broken, changed = work / "broken", work / "changed"
+        broken.write_bytes(text[1:] + b"# a comment that stays\n" + transcript + bytes(300))
+        # each reply has another digit at its end, but for those that have none
+        changed.write_bytes(b"".join(line[:-2] + (b"1" if line[-2:-1] == b"0" else b"0") + b"\n" if line[-2:-1].isdigit() else line for line in transcript.splitlines(keepends=True)))
+        for name, option in (("lint", []), ("entries", ["--transcript"])):
+            compared((PROGRAM, "lint", *option), (inside, name, broken), broken)
+        for name, option in (("explain", []), ("all", ["--all"])):
+            compared((PROGRAM, "check", "--explain", *option), (inside, name, changed), changed)
+        count += 4
+    print(f"C: {count} texts on worlds, wrong lines and transcripts are those that the program writes")
+
+
+def compared(words, others, given=None):
+    """Ends the script where a command of the program, whose input may be a file, does not write what the other command writes."""
+    wanted = program.run([str(word) for word in words], given.read_bytes() if given else b"").stdout
+    if not wanted or run(*others) != wanted:
+        sys.exit(f"embed: {' '.join(map(str, others))}: not what the program writes")
 
 
 def in_python(loads):
@@ -95,7 +138,11 @@ def in_python(loads):
     with postmig.World() as world, world.copy() as copy:
         copy.line(b"start")
         asked = [world.would(b"switch"), copy.would(b"switch")]
-    wanted = [b"Phase", None]
+        copy.line(b"break")
+        asked += [copy.show(postmig.WIRES).splitlines()[1], copy.show(postmig.PAGES, 0, 4096).splitlines()[1:]]
+    asked += [postmig.reason(b"start"), postmig.reason(b"strat"), postmig.reason(b"start", transcript=True)[0], postmig.lint(b"start\nround 1\n")]
+    asked += [postmig.explain(b"0 load 0x0 8 => value 0x0\n"), postmig.explain(b"0 load 0x0 8 => done\n", every=True)[0]]
+    wanted = [b"Phase", None, b"channel lost, epoch 1", [b"pages source 0 dest 0"], None, NEAR, 1, EXTRA, (False, UNMAPPED), False]
     if asked != wanted:
         sys.exit(f"embed: Python: asked: {asked}")
     with postmig.World() as world:

@@ -79,6 +79,32 @@ static bool whole(const uint8_t *script, size_t length) {
     return status != POSTMIG_OK;
 }
 
+/* Looks for what is wrong with a script and its transcript, as they are and with bytes that are wrong: in the first line of the script, and in
+   the last reply of the transcript. */
+static bool faults(const uint8_t *script, size_t length) {
+    static uint8_t text[1 << 20], said[65536], broken[1 << 20];
+    size_t written, count, column;
+    bool holds = false;
+    uint32_t status = postmig_run(2, true, script, length, text, sizeof text, &count);
+    WANT(status == POSTMIG_NO_MEMORY || (status == POSTMIG_OK && count > 1));
+    if (status == POSTMIG_OK) status = postmig_lint(false, script, length, &holds, said, sizeof said, &written);
+    WANT(status == POSTMIG_NO_MEMORY || (status == POSTMIG_OK && holds && !written));
+    memcpy(broken, script, length);
+    broken[0] = '%';
+    if (status == POSTMIG_OK) status = postmig_lint(false, broken, length, &holds, said, sizeof said, &written);
+    WANT(status == POSTMIG_NO_MEMORY || (status == POSTMIG_OK && !holds && written));
+    if (status == POSTMIG_OK) status = postmig_line_reason(false, broken, 8, &column, said, sizeof said, &written);
+    WANT(status == POSTMIG_NO_MEMORY || (status == POSTMIG_NOT_A_LINE && written));
+    if (status == POSTMIG_NOT_A_LINE) status = postmig_explain(true, text, count, &holds, said, sizeof said, &written);
+    WANT(status == POSTMIG_NO_MEMORY || (status == POSTMIG_OK && holds));
+    if (status == POSTMIG_OK) {
+        text[count - 2] = text[count - 2] == '0' ? '1' : '0';
+        status = postmig_explain(true, text, count, &holds, said, sizeof said, &written);
+        WANT(status == POSTMIG_NO_MEMORY || (status == POSTMIG_OK && !holds));
+    }
+    return status != POSTMIG_OK;
+}
+
 /* The status of a question that is asked once more where memory was short for it. */
 #define AGAIN(call) \
     do { \
@@ -109,6 +135,8 @@ static bool questions(const uint8_t *script, size_t length) {
         WANT(status == POSTMIG_OK && copy.at != had);
         AGAIN(postmig_world_would(&copy, (const uint8_t *)"start", 5));
         WANT(status == POSTMIG_OK || status == POSTMIG_REFUSED_PHASE);
+        AGAIN(postmig_world_show(&world, POSTMIG_ALL, 0, UINT64_MAX, out, sizeof out, &written));
+        WANT(status == POSTMIG_OK && written > 0);
     }
     postmig_free(&world);
     postmig_free(&copy);
@@ -146,7 +174,7 @@ int main(int argc, char **argv) {
     long refusals = 0;
     for (int i = 2; i + 1 < argc; i += 2) {
         size_t length = bytes_of(argv[i], script, sizeof script), wanted = bytes_of(argv[i + 1], answers, sizeof answers);
-        for (int part = 0; part < (i == 2 ? 4 : 3); part++)
+        for (int part = 0; part < (i == 2 ? 5 : 4); part++)
             for (turn = 0;; turn++) {
                 live = 0;
                 refused = false;
@@ -154,6 +182,7 @@ int main(int argc, char **argv) {
                 bool lacked = part == 0   ? lines(script, length, answers, wanted)
                               : part == 1 ? whole(script, length)
                               : part == 2 ? questions(script, length)
+                              : part == 3 ? faults(script, length)
                                           : frames(stream, bytes);
                 left = -1;
                 WANT(lacked == refused && live == 0);

@@ -6,11 +6,12 @@ import pathlib
 
 BUILT = pathlib.Path(__file__).resolve().parents[2] / "dist/libpostmig.so"
 OK, NO_ROOM, NOT_OPEN, NOT_A_LINE, NO_MEMORY, NO_CPU, NO_FRAME, FRAMES_WAIT, BAD_TAG, BAD_LENGTH, BAD_FIELD = range(11)
-REFUSED = 64
+NO_QUESTION, REFUSED = 15, 64
+CPUS, QUEUES, OWED, WIRES, PAGES, ALL = range(6)
 IDLE, PRECOPY, SWITCHING, POSTCOPY, COMPLETE = range(5)
 library = ctypes.CDLL(os.environ.get("POSTMIG_LIBRARY", BUILT))
 
-POINTER, SIZE = ctypes.c_void_p, ctypes.c_size_t
+POINTER, SIZE, LONG = ctypes.c_void_p, ctypes.c_size_t, ctypes.c_uint64
 BYTE, WORD, BOOL = ctypes.c_uint8, ctypes.c_uint32, ctypes.c_bool
 for name, takes in {
     "world_new": [BYTE, BOOL, POINTER],
@@ -20,9 +21,13 @@ for name, takes in {
     "world_counts": [POINTER, POINTER],
     "world_copy": [POINTER, BOOL, POINTER],
     "world_would": [POINTER, ctypes.c_char_p, SIZE],
+    "world_show": [POINTER, WORD, LONG, LONG, POINTER, SIZE, POINTER],
     "refusal_name": [WORD, POINTER, SIZE, POINTER],
     "run": [BYTE, BOOL, ctypes.c_char_p, SIZE, POINTER, SIZE, POINTER],
     "check": [ctypes.c_char_p, SIZE, POINTER, POINTER, SIZE, POINTER],
+    "explain": [BOOL, ctypes.c_char_p, SIZE, POINTER, POINTER, SIZE, POINTER],
+    "line_reason": [BOOL, ctypes.c_char_p, SIZE, POINTER, POINTER, SIZE, POINTER],
+    "lint": [BOOL, ctypes.c_char_p, SIZE, POINTER, POINTER, SIZE, POINTER],
     "frames_new": [POINTER],
     "frames_feed": [POINTER, ctypes.c_char_p, SIZE],
     "frames_next": [POINTER, POINTER, POINTER, SIZE, POINTER],
@@ -129,6 +134,10 @@ class World(Handle):
             return Room(64).filled(lambda *room: library.postmig_refusal_name(status, *room))
         ensure(status)
 
+    def show(self, what=ALL, start=0, end=2**64 - 1):
+        """What `postmig show` writes of the world as it is now; the pages are those of the addresses from start up to, and without, end."""
+        return self.room.filled(lambda *room: library.postmig_world_show(self.handle, what, start, end, *room))
+
 
 class Frame(ctypes.Structure):
     _fields_ = [("tag", WORD), ("epoch", WORD), ("addr", ctypes.c_uint64), ("count", ctypes.c_uint64)]
@@ -163,3 +172,28 @@ def check(transcript):
     is_flat = BOOL()
     verdict = Room().filled(lambda *room: library.postmig_check(transcript, len(transcript), ctypes.byref(is_flat), *room))
     return is_flat.value, verdict
+
+
+def explain(transcript, every=False):
+    """Whether a transcript is that of one flat memory, and what is wrong with its first wrong entry, or with every one."""
+    is_flat = BOOL()
+    said = Room().filled(lambda *room: library.postmig_explain(every, transcript, len(transcript), ctypes.byref(is_flat), *room))
+    return is_flat.value, said
+
+
+def reason(line, transcript=False):
+    """Why a text is not a line of a script, or of a transcript, and the column of the reason; None if it is one."""
+    column, room = SIZE(), Room()
+    status = NO_ROOM
+    while status == NO_ROOM:
+        room.grow(max(room.size, room.written.value))
+        status = library.postmig_line_reason(transcript, line, len(line), ctypes.byref(column), room.bytes, room.size, room.count)
+    if status == NOT_A_LINE:
+        return column.value, ctypes.string_at(room.bytes, room.written.value)
+    ensure(status)
+
+
+def lint(text, transcript=False):
+    """The listing of the wrong lines of a whole script, or of a transcript."""
+    is_clean = BOOL()
+    return Room().filled(lambda *room: library.postmig_lint(transcript, text, len(text), ctypes.byref(is_clean), *room))

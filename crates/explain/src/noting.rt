@@ -1,5 +1,6 @@
 //! The lines that the entries of a transcript are in.
 
+ghost use Rattle.std.specs.Prelude.{◌≡◌};
 ghost use Rattle.explain.specs.Unread.{unread};
 
 use mig_base::NoMemory;
@@ -52,8 +53,10 @@ pub struct Noting<R> {
 }
 
 impl<R: Read> Noting<R> {
-    /// Notes what is read of a reader, which is at the start of a transcript.
-    pub fn new(alloc: Global, reader: R) -> Noting<R> {
+    /// Notes what is read of a reader, which is at the start of a transcript. Nothing is read yet.
+    pub fn new(alloc: Global, reader: R) -> Noting<R>
+        ensures { unread R.remaining result ≡ R.remaining reader }
+    {
         let notes = Notes {
             lines: Vec::new(alloc),
             number: 1,

@@ -23,6 +23,7 @@ enum {
     POSTMIG_BAD_TAG = 8,     /* the stream has a version or tag that is not known, */
     POSTMIG_BAD_LENGTH = 9,  /* a length that no body of such a frame has, */
     POSTMIG_BAD_FIELD = 10,  /* or another field with a value that no frame has there */
+    POSTMIG_NO_QUESTION = 15, /* no question has this number */
 
     POSTMIG_REFUSED = 64, /* an answer from here on is a refusal, and nothing changed. The first that applies is given, in this order: */
     POSTMIG_REFUSED_NO_CPU = 65,            /* the guest has no such processor */
@@ -87,6 +88,16 @@ uint32_t postmig_world_copy(postmig_handle *world, bool is_transcript, postmig_h
    POSTMIG_NOT_A_LINE; POSTMIG_NO_MEMORY: there was none to read the line. */
 uint32_t postmig_world_would(postmig_handle *world, const uint8_t *line, size_t length);
 
+/* What postmig_world_show is asked for: what the processors do and wait for; what is queued, step by step; the owed pages, and where their copies
+   are; the frames on the three wires; the pages of both nodes; or all of these. */
+enum { POSTMIG_CPUS = 0, POSTMIG_QUEUES = 1, POSTMIG_OWED = 2, POSTMIG_WIRES = 3, POSTMIG_PAGES = 4, POSTMIG_ALL = 5 };
+
+/* Writes what a world holds as it is now: the text of `postmig show`, its progress first. The pages of POSTMIG_PAGES and POSTMIG_ALL are those
+   with a byte from the address start up to, and without, end: 0 and UINT64_MAX are all. What the last line printed stays. It takes memory for
+   the text, and for a copy of the world where queues are asked for.
+   POSTMIG_NO_QUESTION. POSTMIG_NO_ROOM and POSTMIG_NO_MEMORY: the world did not change, and the call may be made again. */
+uint32_t postmig_world_show(postmig_handle *world, uint32_t what, uint64_t start, uint64_t end, uint8_t *out, size_t room, size_t *written);
+
 enum { POSTMIG_IDLE = 0, POSTMIG_PRECOPY = 1, POSTMIG_SWITCHING = 2, POSTMIG_POSTCOPY = 3, POSTMIG_COMPLETE = 4 };
 
 /* How far the migration of a world has come. */
@@ -110,6 +121,24 @@ uint32_t postmig_run(uint8_t cpus, bool is_transcript, const uint8_t *script, si
 
 /* Whether a transcript is that of one flat memory; writes the verdict: "ok N" or "wrong I expected REPLY". */
 uint32_t postmig_check(const uint8_t *transcript, size_t length, bool *is_flat, uint8_t *out, size_t room, size_t *written);
+
+/* The same, and why it is wrong, as `postmig check --explain` writes it: "ok N", or the first entry that is wrong, or with all each of them, and
+   after it the lines of its reason, which begin with two spaces. POSTMIG_NOT_A_LINE: *written is the number of the line. */
+uint32_t postmig_explain(bool all, const uint8_t *transcript, size_t length, bool *is_flat, uint8_t *out, size_t room, size_t *written);
+
+/* WRONG LINES */
+
+/* Says why a text is not a line of a script, or with is_transcript of a transcript; it is given without its line feed.
+   POSTMIG_OK: it is a line; *written is 0.
+   POSTMIG_NOT_A_LINE: it is none, and the reason is written, in the words of `postmig lint` and without a line feed; *column is where it is, in
+   bytes from 1.
+   POSTMIG_NO_ROOM: it is none, and *written is the length of the reason.
+   A line of more than 256 bytes is wrong here and in postmig_run, though postmig_world_line does it. */
+uint32_t postmig_line_reason(bool is_transcript, const uint8_t *line, size_t length, size_t *column, uint8_t *out, size_t room, size_t *written);
+
+/* Lists the wrong lines of a whole script, or with is_transcript of a transcript, as `postmig lint` does of its standard input: a line
+   "-:LINE:COLUMN: REASON" for each. is_clean: there are none, and nothing is written. */
+uint32_t postmig_lint(bool is_transcript, const uint8_t *text, size_t length, bool *is_clean, uint8_t *out, size_t room, size_t *written);
 
 /* FRAMES */
 

@@ -1,5 +1,5 @@
 -- The effect of the calls on a world.
-use Rattle.std.specs.Prelude.{◌≡◌, ◌⊎◌, ℕ, Bool, List, []}
+use Rattle.std.specs.Prelude.{◌≡◌, ◌⊎◌, ℕ, Bool, true, List, []}
 use Rattle.std.specs.declared.option.Option.{Option}
 use Rattle.std.specs.declared.option.Option.TheVariants.{None, Some}
 use Rattle.mig_base.specs.declared.phase.WorldPhase.{WorldPhase}
@@ -11,6 +11,7 @@ use Rattle.engine.specs.declared.line_runner.Mode.{Mode}
 use Rattle.engine.specs.Checking.{CheckStops}
 use Rattle.engine.specs.Engine.{Work, Gathered, Made, Loses, Running, language_of, run_world, tested_mode}
 use Rattle.engine.specs.Script.{ScriptStops}
+use Rattle.explain.specs.declared.explain.Asks.{Asks}
 use Rattle.mig_model.specs.Migration.{World as Machine}
 use Rattle.engine.specs.Worlds.{epoch_in, progress_in}
 use Rattle.postmig_c.specs.declared.handle.Content.{Content}
@@ -103,3 +104,7 @@ StopsAtLine mode start script number = (unread : Option (List ℕ)) × (text : O
 -- the first line of the transcript that is not one has this number
 abbrev pub CheckStopsAtLine : List ℕ → ℕ → Type 0
 CheckStopsAtLine transcript number = (unread : Option (List ℕ)) × (text : Option (List ℕ)) × CheckStops transcript unread (faults.Line number) (Some []) text
+
+-- the reason of each wrong entry that is listed is asked for, of all or of the first alone
+abbrev pub asks_reasons : Bool → Asks
+asks_reasons all = record { all = all; reasons = true }

@@ -9,6 +9,8 @@ pub mod Commands
 pub mod Refusals
 pub mod NodeCalls
 pub mod Lines
+pub mod Reasons
+pub mod Shown
 pub mod Heads
 pub mod Questions
 pub mod Traces

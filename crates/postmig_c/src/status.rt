@@ -44,3 +44,6 @@ pub const NO_PAGE: u32 = 13;
 
 /// The node has no trace.
 pub const NO_TRACE: u32 = 14;
+
+/// No question has this number.
+pub const NO_QUESTION: u32 = 15;

@@ -71,8 +71,9 @@ fn facts_after(
     Ok(text)
 }
 
-/// The progress of a world, and then the facts of it that are asked for.
-pub(crate) fn facts_of(alloc: Global, world: &World, asked: Asked) -> Result<String, NoMemory>
+/// The text that [`show_script`](crate::show_script) writes of a world: its progress, and then the facts of it that are asked for, each in
+/// a line of its own. `asked.at` is not looked at. At `NoMemory` there is no text. The world stays as it is.
+pub fn facts_of(alloc: Global, world: &World, asked: Asked) -> Result<String, NoMemory>
     ensures { IfOk result (λ text. IsOf world.now asked.what (string_bytes text)) }
 {
     let survey = Survey::of(alloc, world)?;
