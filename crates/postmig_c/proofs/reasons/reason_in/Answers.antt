@@ -16,8 +16,8 @@ is_wrong is_transcript language text is short none right =
 
 pub returns-in-Some-clause-right : goal.returns-in-Some-clause-right
 returns-in-Some-clause-right c =
-    is_right c.args.is_transcript _ c.args.text.now _ c.language_for-language.ensures (omega (arith, c.if-len.false)) (rw c.in-Some.is at c.in_ok-parse.ensures.found)
+    is_right c.args.is_transcript _ c.args.text.now _ c.language_for-language.ensures (omega (arith, c.if-text-gt-MAX_LINE.false)) (rw c.in-Some.is at c.in_ok-parse.ensures.found)
 
 pub returns-clause-wrong : goal.returns-clause-wrong
 returns-clause-wrong c =
-    is_wrong c.args.is_transcript _ c.args.text.now c.language_for-language.ensures (omega (arith, c.if-len.false)) (rw c.in-None.is at c.in_ok-parse.ensures.none)
+    is_wrong c.args.is_transcript _ c.args.text.now c.language_for-language.ensures (omega (arith, c.if-text-gt-MAX_LINE.false)) (rw c.in-None.is at c.in_ok-parse.ensures.none)
