@@ -1,1 +1,2 @@
 pub mod ShownText
+pub mod Traces

@@ -11,7 +11,7 @@ use std::alloc::Global;
 use std::fmt::Write;
 
 /// The bytes before the first of these bytes, and those after it.
-fn split_at_byte(text: &[u8], byte: u8) -> Option<(&[u8], &[u8])>
+pub(crate) fn split_at_byte(text: &[u8], byte: u8) -> Option<(&[u8], &[u8])>
     ensures front { IfSome result (λ parts. HasNo byte parts.0.now) }
     ensures whole { IfSome result (λ parts. text.now ≡ parts.0.now ++ byte ∷ parts.1.now) }
     ensures none { IfNone result (HasNo byte text.now) }
@@ -127,7 +127,7 @@ fn add_line(
 }
 
 /// What an audit said under the empty name, with this name and the lines of the trace. Line N of the log comes from line `lines[N - 1]`.
-pub fn show(alloc: Global, name: &str, said: &[u8], lines: &[u64]) -> Result<Vec<u8>, NoMemory>
+pub(crate) fn show(alloc: Global, name: &str, said: &[u8], lines: &[u64]) -> Result<Vec<u8>, NoMemory>
     ensures { IfOk result (λ shown. shown.items ≡ shown_text name.now lines.now said.now) }
 {
     let mut output = Vec::new(alloc);
