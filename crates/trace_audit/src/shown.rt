@@ -39,8 +39,8 @@ fn number_at(word: &[u8]) -> (usize, usize)
 
 /// The line of the trace that a line of the log comes from.
 fn line_at(lines: &[u64], number: usize) -> Option<u64>
-    ensures { MatchOption result (is_of_log lines.now number ≡ false)
-        (λ line. (is_of_log lines.now number ≡ true) × (line ≡ slice_index lines.now (number - 1))) }
+    ensures { MatchOption result (is_of_log lines.now number ≡ false) (λ line.
+        (is_of_log lines.now number ≡ true) × (line ≡ slice_index lines.now (number - 1))) }
 {
     lines.get(number.checked_sub(1)?).copied()
 }
@@ -52,7 +52,8 @@ fn add_number(
     word: &[u8],
     lines: &[u64],
 ) -> Result<(), NoMemory>
-    ensures { OnOk result (output.new.items ≡ output.old.items ++ shown_word lines.now word.now) }
+    ensures { OnOk result
+        (output.new.items ≡ output.old.items ++ shown_word lines.now word.now) }
 {
     let (number, len) = number_at(word);
     let (digits, rest) = word.split_at(len);
@@ -76,7 +77,8 @@ fn add_words(
     lines: &[u64],
     is_number: bool,
 ) -> Result<(), NoMemory>
-    ensures { OnOk result (output.new.items ≡ output.old.items ++ shown_said lines.now is_number said.now) }
+    ensures { OnOk result
+        (output.new.items ≡ output.old.items ++ shown_said lines.now is_number said.now) }
 {
     let mut rest = said;
     let mut is_next = is_number;
@@ -97,7 +99,8 @@ fn add_word(
     lines: &[u64],
     is_number: bool,
 ) -> Result<(), NoMemory>
-    ensures { OnOk result (output.new.items ≡ output.old.items ++ shown_one lines.now is_number word.now) }
+    ensures { OnOk result
+        (output.new.items ≡ output.old.items ++ shown_one lines.now is_number word.now) }
 {
     if is_number {
         return add_number(output, text, word, lines);
@@ -114,7 +117,8 @@ fn add_line(
     line: &[u8],
     lines: &[u64],
 ) -> Result<(), NoMemory>
-    ensures { OnOk result (output.new.items ≡ output.old.items ++ shown_line name.now lines.now line.now) }
+    ensures { OnOk result
+        (output.new.items ≡ output.old.items ++ shown_line name.now lines.now line.now) }
 {
     match line {
         [b':', said @ ..] => {

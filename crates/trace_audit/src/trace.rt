@@ -24,7 +24,8 @@ pub fn judge_converted<W: Write>(
     asked: Asked,
 ) -> Result<Verdict, LogFault>
     ensures { IfOk result (λ verdict.
-        JudgesConverted name.now converted.now verdict (W.contents writer.old) (W.contents writer.new)) }
+        JudgesConverted name.now converted.now verdict (W.contents writer.old)
+        (W.contents writer.new)) }
 {
     if !converted.wrong.is_empty() {
         let listed = list_refused(alloc, name, &converted.wrong)?;
