@@ -20,11 +20,11 @@ PICTURE = page.TOP / "docs" / "architecture.svg"
 ROWS = (
     (52, ("the program", "postmig", 10), ("library for C", "postmig_c nodes", 2)),
     (
-        84,
+        116,
         ("tools over scripts and frames", "wiretap host_calls frames explain lint expected explore finishing", 4),
         ("threads", "threads rig pusher", 2),
         ("looking inside", "draw diagram show", 2),
-        ("logs of calls", "audit call_log log_entries kernel_rules uffd_log", 2),
+        ("logs of calls", "trace_audit audit call_log strace_text log_entries kernel_rules uffd_log", 2),
     ),
     (52, ("steps to completion", "finish", 3), ("scripts, transcripts and replies as text", "engine grammar report hosts", 9)),
     (52, ("a migration: both nodes, three wires, and its recovery", "world recovery", 12)),

@@ -56,7 +56,7 @@ static TRACES: [(&'static [u8], Verdict, &'static [u8]); 7] = [
         Verdict::Undecided,
         b"4 calls: 3 with the only answer that the rules allow, 0 that an access explains which the log does not show, 0 impossible, 1 not judged\ncertified: a kernel of the rules may have answered so; pages owed 0, put twice 0\n",
     ),
-    // Lines that are no calls, one of a process that nobody knows, and one without its line feed.
+    // A line without a call, one without a field, and one without its line feed.
     (
         b"8 100.000500 wrong\n8 100.000600 ioctl(5<anon_inode:[userfaultfd]>, UFFDIO_COPY, {dst=) = 0\n8 100.00",
         Verdict::Wrong,
@@ -64,7 +64,7 @@ static TRACES: [(&'static [u8], Verdict, &'static [u8]); 7] = [
     ),
 ];
 
-/// Whole inputs that are no trace: a log, one that is wrong, and the refusals.
+/// Whole inputs: a log, one that is wrong, the refusals, and a trace of one line without its line feed.
 static OTHERS: [(&'static [u8], Result<Verdict, LogFault>, &'static [u8]); 8] = [
     (
         b"uffdlog 1\nrecorder preload 1\nkernel Linux 6.18.44 x86_64\npage 4096\nclock thread\ncommand ./monitor\n1 7 7 started 1 ./monitor\n2 7 7 exit\n",
@@ -90,7 +90,6 @@ static OTHERS: [(&'static [u8], Result<Verdict, LogFault>, &'static [u8]); 8] = 
     ),
     (b"int main(void)\n", Err(LogFault::NotALog), b""),
     (b"uffdlog 2\n", Err(LogFault::NotALog), b""),
-    // A trace of one line without its line feed.
     (
         b"71 100.000001 userfaultfd(0) = 5",
         Ok(Verdict::Wrong),

@@ -1,4 +1,4 @@
--- What an audit says of a log that was made of a trace: its text, with the lines of the trace in place of the log's.
+-- What an audit says of the log that a trace was converted to: its text, with the lines of the trace in place of the log's.
 use Rattle.std.specs.Prelude.{◌≡◌, ℕ, ◌-◌, ◌||◌, ◌&&◌, ◌==◌, nat_lt, nat_le, if◌then◌else◌, Bool, true, false, List, [], ◌∷◌, ◌++◌, length, drop, map, codes, slice_index}
 use Rattle.std.specs.List.{All, before_first, join_with_byte, position_or_len, slice_split}
 use Rattle.std.specs.Str.{bytes_eq}
@@ -9,7 +9,7 @@ use Rattle.std.specs.Fmt.{decimal}
 abbrev pub HasNo : ℕ → List ℕ → Type 0
 HasNo byte text = All (λ b. (b == byte) ≡ false) text
 
--- a byte that is no decimal digit
+-- a byte other than a decimal digit
 abbrev pub is_no_digit : ℕ → Bool
 is_no_digit byte = nat_lt byte 48 || nat_lt 57 byte
 

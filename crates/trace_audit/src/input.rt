@@ -17,12 +17,12 @@ use strace_text::{convert, is_trace};
 /// The most bytes that are read at once.
 const PIECE: usize = 16_384;
 
-/// By so many bytes it is known what a line is.
+/// What a first line is, this number of its bytes shows.
 const KNOWN: usize = 4096;
 
-/// Reads an input, and judges its calls. Of a log it writes what [`audit_log`] writes. What strace has written is made a log of: where lines
-/// of it cannot be read it writes `NAME:LINE: reason` for each of them, and else what `audit_log` writes of the log, with the numbers of
-/// the lines of the trace in place of the log's.
+/// Reads an input, and judges its calls. Of a log it writes what [`audit_log`] writes. What strace has written is converted to a log: where
+/// lines of it cannot be read it writes `NAME:LINE: reason` for each of them, and else what `audit_log` writes of the log, with the numbers
+/// of the lines of the trace in place of the log's.
 ///
 /// Of a log, its calls, its entries and the run that was found are kept until it ends; of a trace, its text too until it is converted, and
 /// then the log and what is said of it. At most 4,294,967,295 lines are read; an input that needs more ends with a read fault. An

@@ -1,4 +1,4 @@
-//! What an audit says of a log that was made of a trace, with the lines of the trace in place of the log's.
+//! What an audit says of the log that a trace was converted to, with the lines of the trace in place of the log's.
 
 ghost use Rattle.std.specs.Prelude.{◌≡◌, ◌++◌, ◌∷◌, ◌-◌, ◌≤◌, ◌^◌, false, true, min, length, slice_index, OnOk, IfOk, IfSome, IfNone, MatchOption};
 ghost use Rattle.std.specs.List.{before_first, position_or_len};
