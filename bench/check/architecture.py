@@ -20,7 +20,7 @@ PICTURE = page.TOP / "docs" / "architecture.svg"
 ROWS = (
     (52, ("the program", "postmig", 10), ("library for C", "postmig_c nodes", 2)),
     (
-        116,
+        148,
         ("tools over scripts and frames", "wiretap host_calls frames explain lint expected explore finishing", 4),
         ("threads", "threads rig pusher", 2),
         ("looking inside", "draw diagram show", 2),
