@@ -131,7 +131,12 @@ fn add_line(
 }
 
 /// What an audit said under the empty name, with this name and the lines of the trace. Line N of the log comes from line `lines[N - 1]`.
-pub(crate) fn show(alloc: Global, name: &str, said: &[u8], lines: &[u64]) -> Result<Vec<u8>, NoMemory>
+pub(crate) fn show(
+    alloc: Global,
+    name: &str,
+    said: &[u8],
+    lines: &[u64],
+) -> Result<Vec<u8>, NoMemory>
     ensures { IfOk result (λ shown. shown.items ≡ shown_text name.now lines.now said.now) }
 {
     let mut output = Vec::new(alloc);

@@ -1,4 +1,4 @@
-use Rattle.std.proofs.Common.{◌≡◌, ◌++◌, ◌≤◌, drop, length}
+use Rattle.std.proofs.Common.{◌≡◌, ◌++◌, drop}
 use Rattle.trace_audit.specs.Traces.{refused_text}
 use Rattle.trace_audit.proofs.listing.list_refused.Given as goal
 

@@ -1,6 +1,4 @@
-use Rattle.std.proofs.Common.{◌≡◌, ◌<◌, ◌≤◌, false, arith, below_more, get_or, length}
-use Rattle.std.specs.List.{position_or_len}
-use Rattle.trace_audit.specs.ShownText.{is_no_digit}
+use Rattle.std.proofs.Common.{arith, below_more, get_or, length}
 use Rattle.trace_audit.proofs.ShownText.{above_digits, below_digits, found_len, found_number, in_digits, number_step}
 use Rattle.trace_audit.proofs.shown.number_at.Goals as goal
 
