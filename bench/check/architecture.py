@@ -20,10 +20,10 @@ PICTURE = page.TOP / "docs" / "architecture.svg"
 ROWS = (
     (52, ("the program", "postmig", 9), ("the library for C", "postmig_c", 3)),
     (
-        84,
+        148,
         ("tools over scripts and frames", "wiretap host_calls frames expected explore finishing", 4),
         ("threads", "threads rig pusher", 2),
-        ("logs of calls", "audit call_log log_entries kernel_rules uffd_log", 2),
+        ("logs of calls", "trace_audit audit call_log strace_text log_entries kernel_rules uffd_log", 2),
         ("looking inside", "draw diagram show lint explain", 2),
         ("lone nodes", "nodes", 2),
     ),

@@ -186,7 +186,9 @@ fn audit_command<'a>(alloc: Global) -> Result<Command<'a>, AllocError> {
         )
         .value_parser(value_parser!(u64));
     Command::new(alloc, "audit")
-        .about("Judges the userfaultfd calls of a log, and names what is wrong with them")
+        .about(
+            "Judges the userfaultfd calls of a log or of strace's output, and names what is wrong with them",
+        )
         .arg(explain_argument(
             alloc,
             "Says what the findings mean, how long faults waited, and why a read or a write failed",

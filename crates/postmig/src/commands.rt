@@ -15,7 +15,7 @@ use crate::streams::{
 use crate::tally::test;
 use crate::tap::{has_taps, make_taps};
 use crate::watched::Watched;
-use audit::{Asked, audit_log};
+use audit::Asked;
 use clap::ArgMatches;
 use clap::error::ErrorKind;
 use draw::run_draw;
@@ -35,6 +35,7 @@ use std::sync::Wait;
 use std::thread::Threads;
 use std::{env, io};
 use threads::run_threads;
+use trace_audit::audit_input;
 use wiretap::run_tapped;
 
 /// The most bytes of an argument that a message shows.
@@ -177,7 +178,7 @@ fn lint(rt: &HostRuntime, matches: &ArgMatches) -> u8 {
     end_lint(rt, matches, &input, &output, outcome)
 }
 
-/// Judges the calls of a log, by the name of its file, or `-`.
+/// Judges the calls of a log or of what strace has written, by the name of its file, or `-`.
 fn audit(rt: &HostRuntime, matches: &ArgMatches) -> u8 {
     let name = matches.get_str("file").unwrap_or("-");
     let asked = Asked {
@@ -188,7 +189,7 @@ fn audit(rt: &HostRuntime, matches: &ArgMatches) -> u8 {
         return READ_OR_WRITE_FAULT;
     };
     let mut output = open_output(rt);
-    let outcome = audit_log(rt.alloc(), &mut input, &mut output, name, asked);
+    let outcome = audit_input(rt.alloc(), &mut input, &mut output, name, asked);
     end_audit(rt, matches, &input, &output, outcome)
 }
 

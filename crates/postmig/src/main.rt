@@ -7,7 +7,7 @@
 //! - `postmig check` reads such a transcript, and says whether it is that of one flat memory, or with `--explain` or `--all` what is
 //!   wrong with it.
 //! - `postmig lint` lists the wrong lines of a script or a transcript.
-//! - `postmig audit` judges the userfaultfd calls of a real program, by a log of them.
+//! - `postmig audit` judges the userfaultfd calls of a real program, by a log of them or by what strace has written.
 //! - `postmig frames` reads frames, and writes a destination's answer to each.
 //! - `postmig draw` runs a script, and writes a picture of the run.
 //! - `postmig show` runs a script up to a line, and writes what is there.

@@ -68,6 +68,10 @@ pub(crate) fn open_output(rt: &HostRuntime) -> Watched<'static, Stdout> {
     Watched::new("standard output", rt.stdout())
 }
 
+/// Why what strace has written cannot be judged.
+const NO_THREADS: &str =
+    "what strace writes without threads or times: record with strace -f -ttt -T -o FILE";
+
 /// Why reading ended where no read failed.
 pub(crate) const TOO_MANY_READS: &str = "more than 4294967295 reads";
 
@@ -146,7 +150,7 @@ pub(crate) fn end_frames(
     frames_status_of(outcome)
 }
 
-/// The same of a log. Which file is none is said in the form of a finding.
+/// The same of a log or a trace. Which file is none is said in the form of a finding.
 pub(crate) fn end_audit(
     rt: &HostRuntime,
     matches: &ArgMatches,
@@ -160,8 +164,11 @@ pub(crate) fn end_audit(
     if let Err(fault) = outcome {
         let name = matches.get_str("file").unwrap_or("-");
         match fault {
-            LogFault::NotALog | LogFault::StraceOutput | LogFault::Empty => {
+            LogFault::NotALog | LogFault::Empty => {
                 let _ = eprintln!(rt; "{name}:1: {fault}");
+            }
+            LogFault::StraceOutput => {
+                let _ = eprintln!(rt; "{name}:1: {NO_THREADS}");
             }
             LogFault::ReadFault => {
                 let _ = eprintln!(rt; "{fault}");

@@ -1,0 +1,2 @@
+pub mod ShownText
+pub mod Traces
