@@ -114,7 +114,7 @@ static bool faults(const uint8_t *script, size_t length) {
 /* Plays a script, and after every seventh line and the last asks all that may be asked. Where memory is short the handle that was to have a
    copy keeps what it had, and the same call then has its answer. */
 static bool questions(const uint8_t *script, size_t length) {
-    static uint8_t out[1 << 20];
+    static uint8_t out[1 << 20], again[1 << 20];
     postmig_handle world = POSTMIG_NONE, copy = POSTMIG_NONE;
     size_t written, number = 0;
     bool lacked = false;
@@ -135,8 +135,14 @@ static bool questions(const uint8_t *script, size_t length) {
         WANT(status == POSTMIG_OK && copy.at != had);
         AGAIN(postmig_world_would(&copy, (const uint8_t *)"start", 5));
         WANT(status == POSTMIG_OK || status == POSTMIG_REFUSED_PHASE);
+        bool was = refused;
         AGAIN(postmig_world_show(&world, POSTMIG_ALL, 0, UINT64_MAX, out, sizeof out, &written));
         WANT(status == POSTMIG_OK && written > 0);
+        if (refused == was) continue;
+        /* a step of its copy that is refused for another reason has not needed the memory: the text is whole */
+        WANT(postmig_world_show(&world, POSTMIG_ALL, 0, UINT64_MAX, again, sizeof again, &count) == POSTMIG_OK);
+        WANT(count == written && !memcmp(again, out, count));
+        lacked = true;
     }
     postmig_free(&world);
     postmig_free(&copy);

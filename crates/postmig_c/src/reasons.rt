@@ -130,13 +130,8 @@ pub extern "C" fn postmig_lint(
 {
     let mut reader = text;
     let mut listing = Vec::new(alloc);
-    match lint_lines(
-        alloc,
-        &mut reader,
-        &mut listing,
-        "-",
-        language_for(is_transcript),
-    ) {
+    let language = language_for(is_transcript);
+    match lint_lines(alloc, &mut reader, &mut listing, "-", language) {
         Ok(answer) => {
             *is_clean = answer;
             hand_over(&listing, out, written)
