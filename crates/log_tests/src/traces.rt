@@ -19,7 +19,7 @@ const OPENED: &[u8] =
 const MOST: usize = 1_000;
 
 /// The lines of a trace below those, what is said of it, and what is written.
-static TRACES: [(&'static [u8], Verdict, &'static [u8]); 7] = [
+static TRACES: [(&'static [u8], Verdict, &'static [u8]); 8] = [
     // Nothing is put, and nobody asks.
     (
         b"",
@@ -53,8 +53,14 @@ static TRACES: [(&'static [u8], Verdict, &'static [u8]); 7] = [
     // A call never returns.
     (
         b"8 100.000500 ioctl(5<anon_inode:[userfaultfd]>, UFFDIO_WAKE, {start=0x10000, len=0x1000} <unfinished ...>\n",
-        Verdict::Undecided,
+        Verdict::Certified,
         b"4 calls: 3 with the only answer that the rules allow, 0 that an access explains which the log does not show, 0 impossible, 1 not judged\ncertified: a kernel of the rules may have answered so; pages owed 0, put twice 0\n",
+    ),
+    // A call on an object whose handshake is not in the trace.
+    (
+        b"8 100.000500 ioctl(6<anon_inode:[userfaultfd]>, UFFDIO_WAKE, {start=0x10000, len=0x1000}) = 0 <0.000010>\n",
+        Verdict::Undecided,
+        b"4 calls: 3 with the only answer that the rules allow, 0 that an access explains which the log does not show, 0 impossible, 1 not judged\nnot certified: line 6: wake is not followed\n",
     ),
     // A line without a call, one without a field, and one without its line feed.
     (
