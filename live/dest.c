@@ -18,7 +18,6 @@
 #include "trace.h"
 #include "watch.h"
 
-#define HEADER_BYTES 12u
 #define TAG_RESUME 7u
 #define FRAMES_AT_A_TIME 16u
 #define KEPT_AT_A_TIME 16u
@@ -36,7 +35,7 @@ struct dest {
     struct watch watch;
     struct door door;
     struct stream main, urgent;
-    struct batch batch; /* of the main one; empty between two turns */
+    struct batch batch; /* of the main one, whose stream is empty while a part of a page is here */
     postmig_destination_state state; /* since the last step that changes the phase or the epoch; its counts may be older than the node's */
     uint32_t channels;   /* taken until now */
     uint64_t instance;   /* of this process, */
@@ -45,7 +44,7 @@ struct dest {
     bool has_more;       /* whole frames may be there */
     bool is_at_door;     /* somebody may be */
     bool has_messages;   /* of the kernel */
-    bool is_flowing;     /* the last batch was full; */
+    bool is_flowing;     /* the last receive of pages got some; */
     uint32_t unasked;    /* and so many turns were made since poll(2) */
     bool is_over;        /* the program that takes the part of the source has ended */
     struct samples waits;
@@ -412,7 +411,7 @@ static void take_batch(struct dest *dest)
     }
     while (done < count)
         done += install_some(dest, batch->pages + (size_t)done * PAGE_BYTES, origin + done, count - done);
-    batch_return(batch, count, &dest->main);
+    batch_take(batch, count, &dest->main);
 }
 
 /* The frame at the front, once it is whole. Else `missing` bytes of it are still to be received. */
@@ -430,6 +429,15 @@ static bool front_frame(const struct stream *stream, struct frame *frame, size_t
 }
 
 /* Once the guest runs the main connection has pages for the most part. */
+static bool receive_pages(struct dest *dest, size_t missing)
+{
+    size_t got;
+    bool is_whole = batch_receive(&dest->batch, &dest->main, missing, &got);
+
+    dest->is_flowing = got > 0;
+    return is_whole;
+}
+
 static bool receive(struct dest *dest, struct stream *stream, size_t missing)
 {
     size_t length = stream_length(stream);
@@ -437,7 +445,7 @@ static bool receive(struct dest *dest, struct stream *stream, size_t missing)
     if (!stream->is_ready)
         return true;
     if (stream == &dest->main && dest->state.has_run && !dest->is_first_frame && (!length || length >= HEADER_BYTES))
-        return batch_receive(&dest->batch, stream, length ? missing : 0);
+        return receive_pages(dest, length ? missing : 0);
     return stream_receive(stream, missing);
 }
 
@@ -462,15 +470,24 @@ static bool take_frames(struct dest *dest, struct stream *stream, bool (*take_on
     size_t missing = 0;
     bool is_whole = front_frame(stream, &frame, &missing) || receive(dest, stream, missing);
 
-    dest->is_flowing = batch_is_full(&dest->batch);
     dest->has_more |= take_some(dest, stream, take_one);
-    if (!dest->batch.length)
-        return is_whole;
-    if (stream_length(stream))
-        batch_return(&dest->batch, 0, stream);
-    else
+    return is_whole;
+}
+
+/* What the batch has follows what the stream has. */
+static bool take_main(struct dest *dest)
+{
+    struct frame frame;
+    size_t missing;
+    bool is_whole;
+
+    dest->is_flowing = false;
+    is_whole = take_frames(dest, &dest->main, take);
+    if (stream_length(&dest->main))
+        batch_return(&dest->batch, 0, &dest->main);
+    else if (dest->is_flowing)
         take_batch(dest);
-    dest->has_more |= front_frame(stream, &frame, &missing);
+    dest->has_more |= front_frame(&dest->main, &frame, &missing);
     return is_whole;
 }
 
@@ -484,6 +501,7 @@ static void lose_channel(struct dest *dest)
 
     stream_close(&dest->main);
     stream_close(&dest->urgent);
+    batch_clear(&dest->batch);
     dest->is_flowing = false;
     node_drop_frames(&dest->node);
     dest->is_over = dest->options->feed;
@@ -543,7 +561,7 @@ static bool exchange(struct dest *dest)
 {
     if (stream_is_open(&dest->urgent) && !take_frames(dest, &dest->urgent, take_urgent))
         return false;
-    if (!take_frames(dest, &dest->main, take))
+    if (!take_main(dest))
         return false;
     (void)node_send_frames(&dest->node, &dest->main); /* how many is of no interest */
     return stream_send(&dest->main);
@@ -556,13 +574,14 @@ static struct pollfd waits_for(const struct stream *stream)
     return (struct pollfd){ .fd = stream->file, .events = stream_events(stream) };
 }
 
-/* While pages keep coming poll(2) is called now and then: a userfaultfd and an urgent connection without anything say so in less time. */
+/* While pages keep coming poll(2) is called now and then: a userfaultfd and an urgent connection without anything say so in less time. (Nothing
+   is urgent while no thread waits.) */
 static bool is_still_flowing(struct dest *dest)
 {
     if (!dest->is_flowing || dest->unasked++ == MOST_UNASKED)
         return false;
     dest->has_messages = dest->main.is_ready = true;
-    dest->urgent.is_ready = stream_is_open(&dest->urgent);
+    dest->urgent.is_ready = stream_is_open(&dest->urgent) && watch_has_sleeper(&dest->watch);
     return true;
 }
 
