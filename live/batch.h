@@ -16,25 +16,29 @@
 struct batch {
     uint8_t (*heads)[PAGE_HEAD_BYTES];
     uint8_t *pages;
-    size_t length; /* bytes that are there, of a head and its page in turns */
+    uint32_t first; /* the frames before this one were taken */
+    size_t length;  /* bytes that are there from it on, of a head and its page in turns */
 };
 
 void batch_open(struct batch *batch);
 
-/* Receives what follows the bytes that are there. If there are none the `missing` bytes of the stream's first frame go to the stream, and only
-   what follows them comes here. `got`: how many bytes have come. False once the connection is broken. */
+/* Once no whole Page is there: receives what follows the bytes that are. If there are none, the `missing` bytes of the stream's first frame go to
+   the stream, and only what follows them comes here. `got`: how many bytes have come. False once the connection is broken. */
 bool batch_receive(struct batch *batch, struct stream *stream, size_t missing, size_t *got);
 
 /* The frame with this number; they are asked for from 0 on. False if it is not there whole, or is no Page: then neither are those after it. */
 bool batch_frame(const struct batch *batch, uint32_t number, struct frame *frame);
 
-/* The frames before this one were taken. What begins with it stays if it is a part of a Page, and is returned else. */
-void batch_take(struct batch *batch, uint32_t number, struct stream *stream);
+/* The bytes of its pages, side by side. */
+const uint8_t *batch_pages(const struct batch *batch);
 
-/* What begins with this frame goes to the end of what the stream has received. The batch is empty then. */
-void batch_return(struct batch *batch, uint32_t number, struct stream *stream);
+/* The first `count` of its frames were taken. What follows them stays if it is a Page, or a part of one; else it is returned. */
+void batch_take(struct batch *batch, uint32_t count, struct stream *stream);
 
-/* Drops all that is there. */
+/* All goes to the end of what the stream has received. */
+void batch_return(struct batch *batch, struct stream *stream);
+
+/* Drops all. */
 void batch_clear(struct batch *batch);
 
 #endif

@@ -44,7 +44,7 @@ struct dest {
     bool has_more;       /* whole frames may be there */
     bool is_at_door;     /* somebody may be */
     bool has_messages;   /* of the kernel */
-    bool is_flowing;     /* the last receive of pages got some; */
+    bool is_flowing;     /* the last receive of pages got some, and maybe not all of them were taken; */
     uint32_t unasked;    /* and so many turns were made since poll(2) */
     bool is_over;        /* the program that takes the part of the source has ended */
     struct samples waits;
@@ -393,15 +393,15 @@ static bool take_urgent(struct dest *dest, const struct frame *frame)
     return true;
 }
 
-/* The Pages of the batch. All of them are taken before the first one is installed. */
-static void take_batch(struct dest *dest)
+/* Pages of the batch, a few at most: so that faults are handled in between. All of these are taken before the first one is installed. */
+static void take_pages(struct dest *dest)
 {
-    uint64_t origin[MOST_OF_BATCH];
-    struct batch *batch = &dest->batch;
+    uint64_t origin[FRAMES_AT_A_TIME];
+    const uint8_t *pages = batch_pages(&dest->batch);
     struct frame frame;
     uint32_t count = 0, done = 0;
 
-    for (; count < MOST_OF_BATCH && batch_frame(batch, count, &frame); count++) {
+    for (; count < FRAMES_AT_A_TIME && batch_frame(&dest->batch, count, &frame); count++) {
         postmig_effect effect;
         uint32_t status = postmig_destination_take(&dest->node.handle, frame.head, frame.head_bytes, &effect);
 
@@ -410,8 +410,8 @@ static void take_batch(struct dest *dest)
         origin[count] = effect.addr;
     }
     while (done < count)
-        done += install_some(dest, batch->pages + (size_t)done * PAGE_BYTES, origin + done, count - done);
-    batch_take(batch, count, &dest->main);
+        done += install_some(dest, pages + (size_t)done * PAGE_BYTES, origin + done, count - done);
+    batch_take(&dest->batch, count, &dest->main);
 }
 
 /* The frame at the front, once it is whole. Else `missing` bytes of it are still to be received. */
@@ -474,19 +474,21 @@ static bool take_frames(struct dest *dest, struct stream *stream, bool (*take_on
     return is_whole;
 }
 
-/* What the batch has follows what the stream has. */
+/* What the batch has follows what the stream has. More is received once no whole Page is left of it. False once the connection is broken. */
 static bool take_main(struct dest *dest)
 {
     struct frame frame;
     size_t missing;
-    bool is_whole;
+    bool is_whole = true;
 
-    dest->is_flowing = false;
-    is_whole = take_frames(dest, &dest->main, take);
+    if (!batch_frame(&dest->batch, 0, &frame)) {
+        dest->is_flowing = false;
+        is_whole = take_frames(dest, &dest->main, take);
+    }
     if (stream_length(&dest->main))
-        batch_return(&dest->batch, 0, &dest->main);
-    else if (dest->is_flowing)
-        take_batch(dest);
+        batch_return(&dest->batch, &dest->main);
+    else
+        take_pages(dest);
     dest->has_more |= front_frame(&dest->main, &frame, &missing);
     return is_whole;
 }
@@ -594,7 +596,7 @@ static bool wait_for_more(struct dest *dest)
                                         { .fd = dest->is_handed ? dest->handed.monitor : -1, .events = POLLIN } };
     uint32_t count = OWN_FILES + door_files(&dest->door, files + OWN_FILES);
 
-    bool has_more = dest->has_more || dest->main.is_ready || dest->urgent.is_ready;
+    bool has_more = dest->has_more || dest->is_flowing || dest->main.is_ready || dest->urgent.is_ready;
 
     if (poll(files, count, has_more ? 0 : 100) < 0 && errno != EINTR)
         refuse_errno(errno, "poll");
