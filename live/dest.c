@@ -163,7 +163,14 @@ static void next_install(struct dest *dest, postmig_effect *next)
     node_expect(postmig_destination_next_install(&dest->node.handle, next), "postmig_destination_next_install");
 }
 
-/* The node makes the step that it has announced, and who waits for the page continues. */
+/* Who waits for this page continues. */
+static void wake(struct dest *dest, uint64_t address, uint64_t origin)
+{
+    note_wait(dest, origin);
+    watch_wake(&dest->watch, address);
+}
+
+/* The node makes the step that it has announced. */
 static void make_install(struct dest *dest, const postmig_effect *next)
 {
     postmig_effect effect;
@@ -171,10 +178,23 @@ static void make_install(struct dest *dest, const postmig_effect *next)
     node_expect(postmig_destination_install(&dest->node.handle, &effect), "postmig_destination_install");
     if (!is_same_effect(next, &effect))
         refuse("the node has installed another page than it has announced");
-    if (effect.kind != POSTMIG_DID_INSTALL)
-        return;
-    note_wait(dest, effect.other);
-    watch_wake(&dest->watch, effect.addr);
+    if (effect.kind == POSTMIG_DID_INSTALL)
+        wake(dest, effect.addr, effect.other);
+}
+
+/* The same for pages that were put side by side. */
+static void make_installs(struct dest *dest, const postmig_effect *first, const uint64_t *origin, uint32_t count)
+{
+    postmig_effect last = *first, effect;
+    uint32_t made = 0;
+
+    last.addr += (uint64_t)(count - 1) * PAGE_BYTES;
+    last.other = origin[count - 1];
+    node_expect(postmig_destination_install_run(&dest->node.handle, count, &effect, &made), "postmig_destination_install_run");
+    if (!is_same_effect(&last, &effect))
+        refuse("the node has installed another page than it has announced");
+    for (uint32_t i = 0; i < count; i++)
+        wake(dest, first->addr + (uint64_t)i * PAGE_BYTES, origin[i]);
 }
 
 /* The frame was taken last, and is the only copy that waits. */
@@ -214,13 +234,10 @@ static uint32_t install_some(struct dest *dest, const uint8_t *pages, const uint
         return 1;
     }
     error = kernel_copy_pages(dest->watch.userfault, page_of(dest, next.addr), pages, side_by_side(dest, &next, origin, most), &put);
-    for (uint32_t i = 0; i < put; i++) {
-        next.other = origin[i];
-        make_install(dest, &next);
-        next.addr += PAGE_BYTES;
-    }
+    if (put)
+        make_installs(dest, &next, origin, (uint32_t)put);
     if (error && error != EAGAIN)
-        watch_unexpected(error, "UFFDIO_COPY", next.addr);
+        watch_unexpected(error, "UFFDIO_COPY", next.addr + put * PAGE_BYTES);
     if (error)
         watch_again(&dest->watch);
     else

@@ -289,6 +289,11 @@ uint32_t postmig_destination_next_install(postmig_handle *destination, postmig_e
    PHASE, NOTHING_THERE, CHANGING. Copies of both wires wait in one queue, in the order in which their frames were taken. */
 uint32_t postmig_destination_install(postmig_handle *destination, postmig_effect *effect);
 
+/* Makes `count` installs in a row, each as postmig_destination_install makes it, or only those before the first that is refused: POSTMIG_OK, or
+   the status of that refusal. *made is how many were made, and the effect is that of the last of them. For pages that one call of the kernel
+   has put side by side. */
+uint32_t postmig_destination_install_run(postmig_handle *destination, uint32_t count, postmig_effect *effect, uint32_t *made);
+
 /* Notices that the channel is broken: the destination is paused. PHASE if it is paused already. The caller makes it only between a Start
    and the end of the migration. */
 uint32_t postmig_destination_notice(postmig_handle *destination, postmig_effect *effect);
@@ -343,7 +348,8 @@ uint32_t postmig_frame_lengths(const uint8_t *bytes, size_t length, size_t *head
    retry       retry K
    source      start, round, send, run_sent (sendrun N), read (sread), act (sact), switch, push, push_urgent (upush), serve, end,
                back, notice (notice source), resume
-   destination take (deliver), take_urgent (udeliver), read (dread), act (dact), install, notice (notice dest)
+   destination take (deliver), take_urgent (udeliver), read (dread), act (dact), install, install_run (an install for each copy), notice
+               (notice dest)
    none        new, next_.., check_.., counts, home, node_frame, node_trace, node_trace_count,
                node_trace_take, heads of frames; break is the caller's
 

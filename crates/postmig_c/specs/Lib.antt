@@ -12,3 +12,4 @@ pub mod Lines
 pub mod Heads
 pub mod Questions
 pub mod Traces
+pub mod Runs

@@ -25,6 +25,7 @@ mod questions;
 mod queue;
 mod refusals;
 mod room;
+mod runs;
 mod scripts;
 mod source_calls;
 mod source_steps;
