@@ -1,5 +1,5 @@
 /* Pages that arrive one after the other: their heads are received apart from their bytes, so that these lie side by side and several pages
-   go to the kernel by one call. */
+   go to the kernel by one call. A page that has come in part stays here for the rest of it. */
 #ifndef BATCH_H
 #define BATCH_H
 
@@ -10,28 +10,35 @@
 #include "node.h"
 #include "wire.h"
 
-#define MOST_OF_BATCH 16u
+#define MOST_OF_BATCH 32u
 #define PAGE_HEAD_BYTES 16u
 
 struct batch {
     uint8_t (*heads)[PAGE_HEAD_BYTES];
     uint8_t *pages;
-    size_t length; /* bytes that are there, of a head and its page in turns */
+    uint32_t first; /* the frames before this one were taken */
+    size_t length;  /* bytes that are there from it on, of a head and its page in turns */
 };
 
 void batch_open(struct batch *batch);
 
-/* Receives into the stream the `missing` bytes of its first frame, and what follows them into the batch, which is empty. False once the
-   connection is broken. */
-bool batch_receive(struct batch *batch, struct stream *stream, size_t missing);
+/* Once no whole Page is there: receives what follows the bytes that are. If there are none, the `missing` bytes of the stream's first frame go to
+   the stream, and only what follows them comes here. `got`: how many bytes have come. False once the connection is broken. */
+bool batch_receive(struct batch *batch, struct stream *stream, size_t missing, size_t *got);
 
-/* Whether there was no room for more: more may have come. */
-bool batch_is_full(const struct batch *batch);
-
-/* The frame with this number, from 0. False if it is not there whole, or is no Page: then neither are those after it. */
+/* The frame with this number; they are asked for from 0 on. False if it is not there whole, or is no Page: then neither are those after it. */
 bool batch_frame(const struct batch *batch, uint32_t number, struct frame *frame);
 
-/* What begins with this frame goes to the end of what the stream has received. The batch is empty then. */
-void batch_return(struct batch *batch, uint32_t number, struct stream *stream);
+/* The bytes of its pages, side by side. */
+const uint8_t *batch_pages(const struct batch *batch);
+
+/* The first `count` of its frames were taken. What follows them stays if it is a Page, or a part of one; else it is returned. */
+void batch_take(struct batch *batch, uint32_t count, struct stream *stream);
+
+/* All goes to the end of what the stream has received. */
+void batch_return(struct batch *batch, struct stream *stream);
+
+/* Drops all. */
+void batch_clear(struct batch *batch);
 
 #endif

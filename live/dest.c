@@ -18,7 +18,6 @@
 #include "trace.h"
 #include "watch.h"
 
-#define HEADER_BYTES 12u
 #define TAG_RESUME 7u
 #define FRAMES_AT_A_TIME 16u
 #define KEPT_AT_A_TIME 16u
@@ -36,7 +35,7 @@ struct dest {
     struct watch watch;
     struct door door;
     struct stream main, urgent;
-    struct batch batch; /* of the main one; empty between two turns */
+    struct batch batch; /* of the main one, whose stream is empty while a part of a page is here */
     postmig_destination_state state; /* since the last step that changes the phase or the epoch; its counts may be older than the node's */
     uint32_t channels;   /* taken until now */
     uint64_t instance;   /* of this process, */
@@ -45,8 +44,8 @@ struct dest {
     bool has_more;       /* whole frames may be there */
     bool is_at_door;     /* somebody may be */
     bool has_messages;   /* of the kernel */
-    bool is_flowing;     /* the last batch was full; */
-    uint32_t unasked;    /* and so many turns were made since poll(2) */
+    bool is_flowing;     /* the last receive of pages got some, and maybe not all of them were taken; */
+    uint32_t unasked;    /* and this number of turns was made since poll(2) */
     bool is_over;        /* the program that takes the part of the source has ended */
     struct samples waits;
     struct {
@@ -164,7 +163,14 @@ static void next_install(struct dest *dest, postmig_effect *next)
     node_expect(postmig_destination_next_install(&dest->node.handle, next), "postmig_destination_next_install");
 }
 
-/* The node makes the step that it has announced, and who waits for the page continues. */
+/* Who waits for this page continues. */
+static void wake(struct dest *dest, uint64_t address, uint64_t origin)
+{
+    note_wait(dest, origin);
+    watch_wake(&dest->watch, address);
+}
+
+/* The node makes the step that it has announced. */
 static void make_install(struct dest *dest, const postmig_effect *next)
 {
     postmig_effect effect;
@@ -172,10 +178,23 @@ static void make_install(struct dest *dest, const postmig_effect *next)
     node_expect(postmig_destination_install(&dest->node.handle, &effect), "postmig_destination_install");
     if (!is_same_effect(next, &effect))
         refuse("the node has installed another page than it has announced");
-    if (effect.kind != POSTMIG_DID_INSTALL)
-        return;
-    note_wait(dest, effect.other);
-    watch_wake(&dest->watch, effect.addr);
+    if (effect.kind == POSTMIG_DID_INSTALL)
+        wake(dest, effect.addr, effect.other);
+}
+
+/* The same for pages that were put side by side. */
+static void make_installs(struct dest *dest, const postmig_effect *first, const uint64_t *origin, uint32_t count)
+{
+    postmig_effect last = *first, effect;
+    uint32_t made = 0;
+
+    last.addr += (uint64_t)(count - 1) * PAGE_BYTES;
+    last.other = origin[count - 1];
+    node_expect(postmig_destination_install_run(&dest->node.handle, count, &effect, &made), "postmig_destination_install_run");
+    if (!is_same_effect(&last, &effect))
+        refuse("the node has installed another page than it has announced");
+    for (uint32_t i = 0; i < count; i++)
+        wake(dest, first->addr + (uint64_t)i * PAGE_BYTES, origin[i]);
 }
 
 /* The frame was taken last, and is the only copy that waits. */
@@ -215,13 +234,10 @@ static uint32_t install_some(struct dest *dest, const uint8_t *pages, const uint
         return 1;
     }
     error = kernel_copy_pages(dest->watch.userfault, page_of(dest, next.addr), pages, side_by_side(dest, &next, origin, most), &put);
-    for (uint32_t i = 0; i < put; i++) {
-        next.other = origin[i];
-        make_install(dest, &next);
-        next.addr += PAGE_BYTES;
-    }
+    if (put)
+        make_installs(dest, &next, origin, (uint32_t)put);
     if (error && error != EAGAIN)
-        watch_unexpected(error, "UFFDIO_COPY", next.addr);
+        watch_unexpected(error, "UFFDIO_COPY", next.addr + put * PAGE_BYTES);
     if (error)
         watch_again(&dest->watch);
     else
@@ -394,15 +410,15 @@ static bool take_urgent(struct dest *dest, const struct frame *frame)
     return true;
 }
 
-/* The Pages of the batch. All of them are taken before the first one is installed. */
-static void take_batch(struct dest *dest)
+/* Pages of the batch, a few at most: so that faults are handled in between. All of these are taken before the first one is installed. */
+static void take_pages(struct dest *dest)
 {
-    uint64_t origin[MOST_OF_BATCH];
-    struct batch *batch = &dest->batch;
+    uint64_t origin[FRAMES_AT_A_TIME];
+    const uint8_t *pages = batch_pages(&dest->batch);
     struct frame frame;
     uint32_t count = 0, done = 0;
 
-    for (; count < MOST_OF_BATCH && batch_frame(batch, count, &frame); count++) {
+    for (; count < FRAMES_AT_A_TIME && batch_frame(&dest->batch, count, &frame); count++) {
         postmig_effect effect;
         uint32_t status = postmig_destination_take(&dest->node.handle, frame.head, frame.head_bytes, &effect);
 
@@ -411,8 +427,8 @@ static void take_batch(struct dest *dest)
         origin[count] = effect.addr;
     }
     while (done < count)
-        done += install_some(dest, batch->pages + (size_t)done * PAGE_BYTES, origin + done, count - done);
-    batch_return(batch, count, &dest->main);
+        done += install_some(dest, pages + (size_t)done * PAGE_BYTES, origin + done, count - done);
+    batch_take(&dest->batch, count, &dest->main);
 }
 
 /* The frame at the front, once it is whole. Else `missing` bytes of it are still to be received. */
@@ -430,6 +446,15 @@ static bool front_frame(const struct stream *stream, struct frame *frame, size_t
 }
 
 /* Once the guest runs the main connection has pages for the most part. */
+static bool receive_pages(struct dest *dest, size_t missing)
+{
+    size_t got;
+    bool is_whole = batch_receive(&dest->batch, &dest->main, missing, &got);
+
+    dest->is_flowing = got > 0;
+    return is_whole;
+}
+
 static bool receive(struct dest *dest, struct stream *stream, size_t missing)
 {
     size_t length = stream_length(stream);
@@ -437,7 +462,7 @@ static bool receive(struct dest *dest, struct stream *stream, size_t missing)
     if (!stream->is_ready)
         return true;
     if (stream == &dest->main && dest->state.has_run && !dest->is_first_frame && (!length || length >= HEADER_BYTES))
-        return batch_receive(&dest->batch, stream, length ? missing : 0);
+        return receive_pages(dest, length ? missing : 0);
     return stream_receive(stream, missing);
 }
 
@@ -462,15 +487,26 @@ static bool take_frames(struct dest *dest, struct stream *stream, bool (*take_on
     size_t missing = 0;
     bool is_whole = front_frame(stream, &frame, &missing) || receive(dest, stream, missing);
 
-    dest->is_flowing = batch_is_full(&dest->batch);
     dest->has_more |= take_some(dest, stream, take_one);
-    if (!dest->batch.length)
-        return is_whole;
-    if (stream_length(stream))
-        batch_return(&dest->batch, 0, stream);
+    return is_whole;
+}
+
+/* What the batch has follows what the stream has. More is received once no whole Page is left of it. False once the connection is broken. */
+static bool take_main(struct dest *dest)
+{
+    struct frame frame;
+    size_t missing;
+    bool is_whole = true;
+
+    if (!batch_frame(&dest->batch, 0, &frame)) {
+        dest->is_flowing = false;
+        is_whole = take_frames(dest, &dest->main, take);
+    }
+    if (stream_length(&dest->main))
+        batch_return(&dest->batch, &dest->main);
     else
-        take_batch(dest);
-    dest->has_more |= front_frame(stream, &frame, &missing);
+        take_pages(dest);
+    dest->has_more |= front_frame(&dest->main, &frame, &missing);
     return is_whole;
 }
 
@@ -484,6 +520,7 @@ static void lose_channel(struct dest *dest)
 
     stream_close(&dest->main);
     stream_close(&dest->urgent);
+    batch_clear(&dest->batch);
     dest->is_flowing = false;
     node_drop_frames(&dest->node);
     dest->is_over = dest->options->feed;
@@ -543,7 +580,7 @@ static bool exchange(struct dest *dest)
 {
     if (stream_is_open(&dest->urgent) && !take_frames(dest, &dest->urgent, take_urgent))
         return false;
-    if (!take_frames(dest, &dest->main, take))
+    if (!take_main(dest))
         return false;
     (void)node_send_frames(&dest->node, &dest->main); /* how many is of no interest */
     return stream_send(&dest->main);
@@ -556,13 +593,14 @@ static struct pollfd waits_for(const struct stream *stream)
     return (struct pollfd){ .fd = stream->file, .events = stream_events(stream) };
 }
 
-/* While pages keep coming poll(2) is called now and then: a userfaultfd and an urgent connection without anything say so in less time. */
+/* While pages keep coming poll(2) is called now and then: a userfaultfd and an urgent connection without anything say so in less time. (Nothing
+   is urgent while no thread waits.) */
 static bool is_still_flowing(struct dest *dest)
 {
     if (!dest->is_flowing || dest->unasked++ == MOST_UNASKED)
         return false;
     dest->has_messages = dest->main.is_ready = true;
-    dest->urgent.is_ready = stream_is_open(&dest->urgent);
+    dest->urgent.is_ready = stream_is_open(&dest->urgent) && watch_has_sleeper(&dest->watch);
     return true;
 }
 
@@ -575,7 +613,7 @@ static bool wait_for_more(struct dest *dest)
                                         { .fd = dest->is_handed ? dest->handed.monitor : -1, .events = POLLIN } };
     uint32_t count = OWN_FILES + door_files(&dest->door, files + OWN_FILES);
 
-    bool has_more = dest->has_more || dest->main.is_ready || dest->urgent.is_ready;
+    bool has_more = dest->has_more || dest->is_flowing || dest->main.is_ready || dest->urgent.is_ready;
 
     if (poll(files, count, has_more ? 0 : 100) < 0 && errno != EINTR)
         refuse_errno(errno, "poll");

@@ -16,7 +16,8 @@ struct node {
 /* Where a status is not POSTMIG_OK the program ends, and says which call returned which status. */
 void node_expect(uint32_t status, const char *call);
 
-/* Bytes of a frame: its head, and those of its pages. */
+/* Bytes of a frame: its head, and those of its pages. The head begins with the header, which every frame has. */
+#define HEADER_BYTES 12u
 struct frame {
     const uint8_t *head, *pages;
     size_t head_bytes, page_bytes;

@@ -51,6 +51,7 @@ struct source {
     uint32_t cursor;       /* background push continues from this page; */
     bool has_pushed;       /* it has pushed a page since it was at the first one; */
     bool zeros_are_due;    /* and only pages of zeros remain */
+    uint8_t *contents;     /* of each page, once it was looked at after the switch: it stays as it is */
     uint32_t held, calm;   /* turns in which faults wait: pages could not be protected, and runs that are sent once they could */
     struct {
         uint64_t start, stop, stopped, sent, released;
@@ -75,22 +76,33 @@ static bool is_zero(const char *page)
     return !first && !memcmp(page, page + sizeof first, PAGE_BYTES - sizeof first);
 }
 
-/* A Page, or a Zero. */
-static void put_page(struct source *source, struct stream *stream, uint32_t page)
+enum contents { UNKNOWN, ZEROS, BYTES };
+
+/* The same after the switch: the page is compared once, since a page of zeros is met in each pass. */
+static bool has_zeros(struct source *source, uint32_t page)
+{
+    uint8_t *contents = &source->contents[page - LOW_PAGE];
+
+    if (*contents == UNKNOWN)
+        *contents = is_zero(page_of(source, page)) ? ZEROS : BYTES;
+    return *contents == ZEROS;
+}
+
+/* A Zero, or a Page. */
+static void put_page(struct source *source, struct stream *stream, uint32_t page, bool are_zeros)
 {
     const size_t room = PAGE_BYTES + 64;
-    const char *bytes = page_of(source, page);
     uint8_t *out = stream_room(stream, room);
     size_t length = 0;
 
-    if (is_zero(bytes)) {
+    if (are_zeros) {
         node_expect(postmig_zero_frame(source->state.epoch, page, out, room, &length), "postmig_zero_frame");
         stream->out.end += length;
         source->figures.zeros++;
         return;
     }
     node_expect(postmig_page_head(source->state.epoch, page, out, room, &length), "postmig_page_head");
-    memcpy(out + length, bytes, PAGE_BYTES);
+    memcpy(out + length, page_of(source, page), PAGE_BYTES);
     stream->out.end += length + PAGE_BYTES;
 }
 
@@ -149,6 +161,9 @@ static void begin(struct source *source, const struct options *options)
     source->main = source->urgent = (struct stream)NO_STREAM;
     source->node.is_source = true;
     source->cursor = LOW_PAGE;
+    source->contents = calloc(options->plan.pages, sizeof *source->contents);
+    if (!source->contents)
+        refuse("no memory for the list of zeros");
     guest_open(&source->guest, &options->plan, &options->pace, kernel_map((size_t)options->plan.pages * PAGE_BYTES));
     watch_open(&source->watch, &source->node, &source->guest, NULL);
     guest_fill(&source->guest);
@@ -362,7 +377,7 @@ static void send_protected(struct source *source, uint32_t first, uint32_t count
 
     if (count == 1) {
         node_expect(postmig_source_send(&source->node.handle, &effect), "postmig_source_send");
-        put_page(source, &source->main, first);
+        put_page(source, &source->main, first, is_zero(page_of(source, first)));
     } else {
         node_expect(postmig_source_run_sent(&source->node.handle, (uint8_t)count, &effect), "postmig_source_run_sent");
         put_run(source, first, count);
@@ -471,7 +486,7 @@ static bool push(struct source *source, uint32_t page, bool is_urgent)
     if (status == POSTMIG_REFUSED_NOT_REMAINING)
         return false;
     node_expect(status, "push of a page");
-    put_page(source, is_urgent ? &source->urgent : &source->main, page);
+    put_page(source, is_urgent ? &source->urgent : &source->main, page, has_zeros(source, page));
     source->cursor = page + 1;
     source->figures.pushed++;
     return true;
@@ -524,7 +539,7 @@ static uint32_t push_in_background(struct source *source)
     uint32_t count = 0, page, most = pushes_now(source);
 
     for (; count < most && stream_unsent(&source->main) < MOST_UNSENT && next_page(source, &page); count++) {
-        if (!source->zeros_are_due && is_zero(page_of(source, page))) {
+        if (!source->zeros_are_due && has_zeros(source, page)) {
             source->cursor = page + 1;
             continue;
         }

@@ -27,9 +27,13 @@ void watch_keep_times(struct watch *watch)
 
 uint64_t watch_asked_at(struct watch *watch, uint64_t origin)
 {
-    uint64_t *asked = &watch->asked_at[origin / PAGE_BYTES - LOW_PAGE], then = *asked;
+    uint64_t *asked = &watch->asked_at[origin / PAGE_BYTES - LOW_PAGE], then;
 
+    if (!watch->unanswered)
+        return 0; /* (the entry is far from all that is in the caches) */
+    then = *asked;
     *asked = 0;
+    watch->unanswered -= then != 0;
     return then;
 }
 
@@ -40,6 +44,7 @@ static void note_request(struct watch *watch, uint64_t origin)
     if (*asked)
         return; /* another thread has asked for it */
     *asked = kernel_now();
+    watch->unanswered++;
     watch->requests++;
 }
 

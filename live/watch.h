@@ -19,7 +19,8 @@ struct watch {
     uint64_t needless;             /* faults of pages that were there by the time they were read */
     uint64_t cleared;              /* pages that the node calls present, and the kernel did not have */
     uint64_t requests;
-    uint64_t *asked_at;            /* when each page of the source was asked for, or 0; NULL: that is not kept */
+    uint64_t *asked_at;            /* when each page of the source was asked for, or 0; NULL: that is not kept; */
+    uint64_t unanswered;           /* and how many of these are not 0 */
 };
 
 void watch_open(struct watch *watch, struct node *node, struct guest *guest, struct handed *handed);

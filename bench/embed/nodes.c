@@ -127,6 +127,7 @@ static void not_open(void) {
     WANT(postmig_source_back(it, text, 12, &effect) == POSTMIG_NOT_OPEN && postmig_source_counts(it, &from) == POSTMIG_NOT_OPEN);
     WANT(postmig_destination_take(it, text, 12, &effect) == POSTMIG_NOT_OPEN && postmig_destination_take_urgent(it, text, 16, &effect) == POSTMIG_NOT_OPEN);
     WANT(postmig_destination_counts(it, &to) == POSTMIG_NOT_OPEN && postmig_destination_home(it, 16, &number) == POSTMIG_NOT_OPEN);
+    WANT(postmig_destination_install_run(it, 1, &effect, &number) == POSTMIG_NOT_OPEN);
     WANT(postmig_node_frame(it, text, sizeof text, &length) == POSTMIG_NOT_OPEN);
     WANT(postmig_node_trace_count(it, &length) == POSTMIG_NOT_OPEN);
     WANT(postmig_node_trace(it, true) == POSTMIG_NOT_OPEN && postmig_node_trace_take(it, text, sizeof text, &length) == POSTMIG_NOT_OPEN);
@@ -282,6 +283,18 @@ static void switched(void) {
     SAYS(postmig_destination_next_install(&destination, &effect), POSTMIG_REFUSED_NOTHING_THERE);
 }
 
+/* Installs the copies that wait, and one more: where memory is refused the call has made those before. Returns their number. */
+static uint32_t install_all(uint32_t waiting) {
+    uint32_t made = 0, sum = 0, status = POSTMIG_NO_MEMORY;
+    for (; status == POSTMIG_NO_MEMORY; sum += made) {
+        WANT(!sum || refused);
+        status = postmig_destination_install_run(&destination, waiting + 1 - sum, &effect, &made);
+    }
+    WANT(status == POSTMIG_REFUSED_NOTHING_THERE);
+    take_lines();
+    return sum;
+}
+
 static void resumed(void) {
     uint32_t page = 0, count = 0;
     memcpy(script + script_length, "break\n", 6);
@@ -300,9 +313,11 @@ static void resumed(void) {
         DO(postmig_source_push(&source, 2, page, &effect));
         DO(postmig_zero_frame(2, page, text, sizeof text, &length));
         DO(postmig_destination_take(&destination, text, length, &effect));
-        DO(postmig_destination_install(&destination, &effect));
     }
-    WANT(count == 2);
+    WANT(count == 2 && install_all(count) == 2);
+    WANT(effect.kind == POSTMIG_DID_INSTALL && effect.addr == effect.other);
+    DO(postmig_destination_install_run(&destination, 0, &effect, &count));
+    WANT(count == 0);
     SAYS(postmig_zero_frame(2, 15, text, sizeof text, &length), POSTMIG_NOT_A_FRAME);
     DO(postmig_source_end(&source, &effect));
     deliver();

@@ -61,7 +61,7 @@ void postmig_free(postmig_handle *handle);
 
 /* WORLDS */
 
-/* Opens a new world of so many processors, 1 to 16. What the handle had is freed; it keeps that if the answer is not POSTMIG_OK. Each line
+/* Opens a new world with this number of processors, 1 to 16. What the handle had is freed; it keeps that if the answer is not POSTMIG_OK. Each line
    prints the outcome of its step, or, if is_transcript, the entries that its step adds to the transcript. */
 uint32_t postmig_world_new(uint8_t cpus, bool is_transcript, postmig_handle *world);
 

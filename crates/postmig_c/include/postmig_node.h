@@ -34,7 +34,7 @@ enum {
 enum {
     POSTMIG_DID_ANSWER = 1,       /* a command was answered: cpu, reply, value */
     POSTMIG_DID_SLEEP = 2,        /* a processor sleeps on the page of its load or store: cpu */
-    POSTMIG_DID_ENTER_CALL = 3,   /* a processor is in a map call until so many messages have been read: cpu, count */
+    POSTMIG_DID_ENTER_CALL = 3,   /* a processor is in a map call until that many messages have been read: cpu, count */
     POSTMIG_DID_START = 4,        /* number: the epoch */
     POSTMIG_DID_ROUND = 5,        /* number: the round; count: its pages to be sent */
     POSTMIG_DID_SEND_PAGE = 6,    /* addr */
@@ -158,7 +158,7 @@ uint32_t postmig_node_trace_take(postmig_handle *node, uint8_t *out, size_t room
 
 /* THE SOURCE */
 
-/* Opens a source of so many processors, 1 to 16, in its world of zeros: nothing is mapped, no migration has begun. Its epoch and number of
+/* Opens a source with this number of processors, 1 to 16, in its world of zeros: nothing is mapped, no migration has begun. Its epoch and number of
    rounds begin as given (0 and 0). What the handle had is freed; it keeps that if the answer is not POSTMIG_OK. */
 uint32_t postmig_source_new(uint8_t cpus, uint32_t epoch, uint32_t rounds, postmig_handle *source);
 
@@ -254,7 +254,7 @@ uint32_t postmig_source_counts(postmig_handle *source, postmig_source_state *sta
 
 /* THE DESTINATION */
 
-/* Opens a destination of so many processors, 1 to 16: as many as the source has. What the handle had is freed, as above. */
+/* Opens a destination with this number of processors, 1 to 16: as many as the source has. What the handle had is freed, as above. */
 uint32_t postmig_destination_new(uint8_t cpus, postmig_handle *destination);
 
 /* Takes a frame of the wire from the source. The bytes are its text, without the bytes of pages: of a Page the first 16, of a Run the first
@@ -288,6 +288,11 @@ uint32_t postmig_destination_next_install(postmig_handle *destination, postmig_e
 /* The first copy that arrived is installed, or dropped: POSTMIG_DID_INSTALL, the caller has put its bytes at addr, or POSTMIG_DID_DROP.
    PHASE, NOTHING_THERE, CHANGING. Copies of both wires wait in one queue, in the order in which their frames were taken. */
 uint32_t postmig_destination_install(postmig_handle *destination, postmig_effect *effect);
+
+/* Makes `count` installs in a row, each as postmig_destination_install makes it, or only those before the first that is refused: POSTMIG_OK, or
+   the status of that refusal. *made is how many were made, and the effect is that of the last of them. For pages that one call of the kernel
+   has put side by side. */
+uint32_t postmig_destination_install_run(postmig_handle *destination, uint32_t count, postmig_effect *effect, uint32_t *made);
 
 /* Notices that the channel is broken: the destination is paused. PHASE if it is paused already. The caller makes it only between a Start
    and the end of the migration. */
@@ -343,7 +348,8 @@ uint32_t postmig_frame_lengths(const uint8_t *bytes, size_t length, size_t *head
    retry       retry K
    source      start, round, send, run_sent (sendrun N), read (sread), act (sact), switch, push, push_urgent (upush), serve, end,
                back, notice (notice source), resume
-   destination take (deliver), take_urgent (udeliver), read (dread), act (dact), install, notice (notice dest)
+   destination take (deliver), take_urgent (udeliver), read (dread), act (dact), install, install_run (an install for each copy), notice
+               (notice dest)
    none        new, next_.., check_.., counts, home, node_frame, node_trace, node_trace_count,
                node_trace_take, heads of frames; break is the caller's
 

@@ -14,3 +14,4 @@ pub mod Shown
 pub mod Heads
 pub mod Questions
 pub mod Traces
+pub mod Runs

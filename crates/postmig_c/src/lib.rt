@@ -26,6 +26,7 @@ mod queue;
 mod reasons;
 mod refusals;
 mod room;
+mod runs;
 mod scripts;
 mod shown;
 mod source_calls;
