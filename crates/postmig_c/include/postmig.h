@@ -94,7 +94,7 @@ enum { POSTMIG_CPUS = 0, POSTMIG_QUEUES = 1, POSTMIG_OWED = 2, POSTMIG_WIRES = 3
 
 /* Writes what a world holds as it is now: the text of `postmig show`, its progress first. The pages of POSTMIG_PAGES and POSTMIG_ALL are those
    with a byte from the address start up to, and without, end: 0 and UINT64_MAX are all. What the last line printed stays. It takes memory for
-   the text, and for a copy of the world where queues are asked for.
+   the text and for a copy of the world.
    POSTMIG_NO_QUESTION. POSTMIG_NO_ROOM and POSTMIG_NO_MEMORY: the world did not change, and the call may be made again. */
 uint32_t postmig_world_show(postmig_handle *world, uint32_t what, uint64_t start, uint64_t end, uint8_t *out, size_t room, size_t *written);
 
