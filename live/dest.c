@@ -45,7 +45,7 @@ struct dest {
     bool is_at_door;     /* somebody may be */
     bool has_messages;   /* of the kernel */
     bool is_flowing;     /* the last receive of pages got some, and maybe not all of them were taken; */
-    uint32_t unasked;    /* and so many turns were made since poll(2) */
+    uint32_t unasked;    /* and as many turns were made since poll(2) */
     bool is_over;        /* the program that takes the part of the source has ended */
     struct samples waits;
     struct {
