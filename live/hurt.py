@@ -325,14 +325,19 @@ CASES = (
 )
 
 
+def found_by(case, program):
+    """What is wrong by this case, or None. A side that is not there when it should be is wrong too."""
+    try:
+        return case(program)
+    except (OSError, TimeoutError, subprocess.SubprocessError) as error:
+        return str(error)
+
+
 def all_cases(program, cases=CASES):
     """The number of wrong ones, each with a line."""
     wrong = 0
     for case in cases:
-        try:
-            found = case(program)
-        except (OSError, TimeoutError, subprocess.SubprocessError) as error:
-            found = str(error)
+        found = found_by(case, program)
         if found:
             print(f"WRONG {case.__name__.replace('_', ' ')}: {found}", flush=True)
             wrong += 1
