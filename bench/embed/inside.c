@@ -1,7 +1,7 @@
 /* What the library says of lines, transcripts and worlds, in the words of the program.
 
    inside [NAME.script]..         tests it
-   inside show LINES WHAT NAME    writes what a world holds after so many lines of a script, by the number of the question
+   inside show LINES WHAT NAME    writes what a world holds after this number of lines of a script, by the number of the question
    inside lint|entries NAME       writes the wrong lines of a script, or of a transcript
    inside explain|all NAME        writes what is wrong with a transcript: the first entry, or all */
 #define _GNU_SOURCE
