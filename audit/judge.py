@@ -12,8 +12,8 @@ from dataclasses import dataclass, field
 from typing import Optional
 
 import uffdlog
-from kernel_rules import (ASLEEP, DONTWAKE, FAULT_PROTECTED, FAULT_WRITE, INSTALLS, Kernel, MAP_CALLS, MISSING, NOT_JUDGED, POLLIN, POLLNVAL, PRESENT,
-                          PROTECTS, Places, SEEN, TELLING, THREAD_ID, UNKNOWN, UNREAD)
+from kernel_rules import (ASLEEP, COPY_PROTECTS, DONTWAKE, FAULT_PROTECTED, FAULT_WRITE, INSTALLS, Kernel, MAP_CALLS, MINOR_MODE, MISSING, NOT_JUDGED,
+                          POLLIN, POLLNVAL, PRESENT, PROTECTS, Places, SEEN, TELLING, THREAD_ID, UNKNOWN, UNREAD)
 
 
 # How many calls after a poll are looked at.
@@ -110,9 +110,11 @@ class Log:
                     call.space = meets.pop()
 
     def set_unjudged(self):
-        """Calls on an object that the log has not seen open, nor make its handshake, cannot be judged: what it watches is not known."""
-        opened = {call.values["O"][0] for call in self.calls if call.word == "open" and call.answer == "ok"}
-        shaken = {call.object for call in self.calls if call.word == "api" and call.answer == "ok"}
+        """Calls on an object that the log has not seen open, nor make its handshake, cannot be judged: what it watches is not known. No rule speaks of
+        minor faults."""
+        minor = {call.object for call in self.calls if call.word == "register" and call.answer == "ok" and call.arguments["MODE"] & MINOR_MODE}
+        opened = {call.values["O"][0] for call in self.calls if call.word == "open" and call.answer == "ok"} - minor
+        shaken = {call.object for call in self.calls if call.word == "api" and call.answer == "ok"} - minor
         self.found = {call.object: call.space for call in reversed(self.calls) if call.object is not None and call.object in shaken - opened}
         for call in self.calls:
             call.judged = not self.is_long(call) and (call.word in (*MAP_CALLS, "open", "fork") or call.object in opened | shaken)
@@ -253,9 +255,17 @@ class Search:
     def reads_fault_in(self, call, places):
         return call.word == "read" and call.answer == "ok" and any(place in places.pages for place, _ in self.fault_places(call))
 
+    def reads_missing_in(self, call, places):
+        """Whether a read returns a fault of a missing page among these."""
+        return call.word == "read" and call.answer == "ok" and any(
+            place in places.pages and not values["FLAGS"] & FAULT_PROTECTED for place, values in self.fault_places(call))
+
     def prepare_copy(self, call):
         places = self.places_of(call)
-        self.read_first(call.object, places)
+        if call.answer == "ok":  # (a fault which says that such a page is write-protected comes after it)
+            self.settle_where(lambda it: it.object == call.object and self.reads_missing_in(it, places))
+        else:
+            self.read_first(call.object, places)
         pages = self.kernel.pages
         if call.answer == "EEXIST" and places and places[0] in pages and pages[places[0]].presence == MISSING:
             self.settle_where(lambda it: it.word in INSTALLS and it.object == call.object and places[0] in self.places_of(it))
@@ -301,16 +311,18 @@ class Search:
         if call.answer == "EAGAIN" and not self.kernel.changing(call.object):
             self.settle_where(lambda it: it.word in TELLING)
         elif call.answer == "ok" and call.arguments["MODE"] == PROTECTS:
-            self.settle_where(lambda it: self.is_put_before(it, call))
+            self.settle_where(lambda it: self.is_bared_before(it, call))
         elif call.answer == "ok":
             self.read_first(call.object, self.places_of(call))
         return False
 
-    def is_put_before(self, install, call):
-        """Whether an install under way is of a page that the call protects: the next fault of it that is read says so."""
-        if install.word not in INSTALLS or install.object != call.object or install.answer != "ok":
+    def is_bared_before(self, other, call):
+        """Whether a call under way puts a page that the call protects, or takes its protection away: the next fault of it that is read says that it
+        was protected after that."""
+        is_baring = other.word in INSTALLS or other.word == "writeprotect" and not other.arguments["MODE"] & PROTECTS
+        if not is_baring or other.object != call.object or other.answer != "ok":
             return False
-        page, (start, length) = self.first_place(install)[1], call.range()
+        page, (start, length) = self.first_place(other)[1], call.range()
         later = [values for read, values in self.faults.get((call.object, page), ()) if read.end > call.end][:1]
         return start <= page * self.log.page < start + length and any(values["FLAGS"] & FAULT_PROTECTED for values in later)
 
@@ -367,6 +379,7 @@ class Search:
     def prepare_read(self, call):
         me = call.object
         if call.answer == "EAGAIN":
+            self.settle_where(lambda it: it.object == me and self.reads_waiting(it))
             self.drain(me)
         if call.answer == "ok":
             shown = []
@@ -377,6 +390,14 @@ class Search:
                     self.drain(me, shown)
                     self.announce(me, kind, values)
         return False
+
+    def reads_waiting(self, call):
+        """Whether a read returns a fault that waits to be read."""
+        if call.word != "read" or call.answer != "ok":
+            return False
+        waiting = [self.kernel.faults.get(it) for it in self.kernel.queue.get(call.object, ())]
+        return any(fault and fault.phase == UNREAD and fault.place[1] == place and fault.flags == values["FLAGS"]
+                   for place, values in self.fault_places(call) for fault in waiting)
 
     def drain(self, me, shown=()):
         """The unread faults go with a wake that is under way, or for no reason that the log has; not those of these threads."""
@@ -431,7 +452,9 @@ class Search:
         if thread not in self.kernel.faults:
             if place not in self.kernel.pages:
                 self.settle_where(lambda it: self.is_moved_to(it, place))
-            if not flags & FAULT_PROTECTED:
+            if flags & FAULT_PROTECTED:
+                self.make_protected(me, place)
+            else:
                 self.make_missing(place)
             if not self.step("sees", thread, me, place, flags):
                 return False
@@ -449,6 +472,18 @@ class Search:
             for key, call in list(self.kernel.calls.items()):
                 if call.clear and place in call.clear:
                     self.step("clears", key)
+
+    def make_protected(self, me, place):
+        """A page that is missing, or not write-protected, is put or protected by a call that is under way, where there is one."""
+        page = self.kernel.pages.get(place)
+        if page and not (page.presence == PRESENT and page.guarded):
+            self.settle_where(lambda it: it.object == me and self.is_protecting(it) and place in self.places_of(it))
+
+    def is_protecting(self, call):
+        """Whether a call write-protects its pages."""
+        if call.answer != "ok":
+            return False
+        return call.word == "writeprotect" and call.arguments["MODE"] == PROTECTS or call.word in INSTALLS and bool(call.arguments["MODE"] & COPY_PROTECTS)
 
     def announce(self, me, kind, values):
         if not any(self.kernel.is_next(of, me, kind, values) for of in self.kernel.calls.values()):
@@ -490,7 +525,15 @@ class Search:
         at = bisect.bisect_left([0] if not reads else self.ends(reads), call.end)
         while at < len(reads) and reads[at].done:
             at += 1
-        return reads[at] if at < len(reads) else None
+        if at >= len(reads):
+            return None
+        if reads[at].answer != "EAGAIN":
+            return reads[at]
+        # (a read that lasts beside it may have returned the message before it looked)
+        for it in reads[at + 1:at + 1 + NEAR]:
+            if it.answer == "ok" and not it.done and it.begin < reads[at].end:
+                return it
+        return reads[at]
 
     def ends(self, reads):
         if not hasattr(self, "ends_of"):

@@ -48,6 +48,78 @@ TWO_AT_A_PAGE = """70 70 begin 5 read 8:5 32
 70 70 begin 9 copy 8:5 0x11000 0x7000 0x1000 0x0
 70 70 end 9 ok 4096
 """
+# A read that begins before the fault of a missing page is read, and returns the fault of the page that the copy has write-protected.
+BEYOND_A_COPY = """70 71 begin 5 read 8:5 32
+70 70 begin 6 read 8:5 32
+70 70 message 6 fault 0x10000 0 0
+70 70 end 6 ok 1
+70 70 begin 7 copy 8:5 0x10000 0x7000 0x1000 0x2
+70 70 end 7 ok 4096
+70 71 message 5 fault 0x10000 3 0
+70 71 end 5 ok 1
+70 71 begin 8 writeprotect 8:5 0x10000 0x1000 0x0
+70 71 end 8 ok
+70 70 begin 9 copy 8:5 0x11000 0x7000 0x1000 0x0
+70 70 end 9 ok 4096
+"""
+# The same, of a read and an unprotection that end before the copy does.
+DURING_A_COPY = """70 70 begin 5 read 8:5 32
+70 70 message 5 fault 0x10000 0 0
+70 70 end 5 ok 1
+70 70 begin 6 copy 8:5 0x10000 0x7000 0x1000 0x2
+70 71 begin 7 read 8:5 32
+70 71 message 7 fault 0x10000 3 0
+70 71 end 7 ok 1
+70 71 begin 8 writeprotect 8:5 0x10000 0x1000 0x0
+70 71 end 8 ok
+70 70 end 6 ok 4096
+70 70 begin 9 copy 8:5 0x11000 0x7000 0x1000 0x0
+70 70 end 9 ok 4096
+"""
+# An unprotection that ends after the protection of a range which came after it.
+BARED_BEFORE = """70 70 begin 5 copy 8:5 0x10000 0x7000 0x2000 0x2
+70 70 end 5 ok 8192
+70 70 begin 6 read 8:5 32
+70 70 message 6 fault 0x10000 3 0
+70 70 end 6 ok 1
+70 70 begin 7 writeprotect 8:5 0x10000 0x1000 0x0
+70 71 begin 8 writeprotect 8:5 0x10000 0x2000 0x1
+70 71 end 8 ok
+70 70 end 7 ok
+70 70 begin 9 read 8:5 32
+70 70 message 9 fault 0x10000 3 0
+70 70 end 9 ok 1
+70 70 begin 10 writeprotect 8:5 0x10000 0x2000 0x0
+70 70 end 10 ok
+"""
+# Two threads that poll and read: the message that one has found is read by the other, whose read ends later than that which found nothing.
+TWO_READERS = """70 70 begin 5 poll 8:5
+70 71 begin 6 read 8:5 32
+70 70 end 5 ok 0x1
+70 70 begin 7 read 8:5 32
+70 71 message 6 fault 0x10000 0 0
+70 70 end 7 EAGAIN
+70 71 end 6 ok 1
+70 71 begin 8 copy 8:5 0x10000 0x7000 0x2000 0x0
+70 71 end 8 ok 8192
+"""
+# An object for minor faults beside one that is judged.
+MINOR = """70 70 begin 5 open syscall 0x800
+70 70 end 5 ok 9:6
+70 70 begin 6 api 9:6 0xaa 0x400
+70 70 end 6 ok 0x1ffff 0x8000000000000003
+70 70 begin 7 register 9:6 0x20000 0x1000 0x4
+70 70 end 7 ok 0x1bc
+70 70 begin 8 poll 9:6
+70 70 end 8 ok 0x1
+70 70 begin 9 read 9:6 32
+70 70 message 9 fault 0x20000 4 0
+70 70 end 9 ok 1
+70 70 begin 10 continue 9:6 0x20000 0x1000 0x0
+70 70 end 10 ok 4096
+70 70 begin 11 copy 8:5 0x10000 0x7000 0x2000 0x0
+70 70 end 11 ok 8192
+"""
 # The monitor ends without a read.
 NEVER_READ = """70 70 begin 5 poll 8:5
 70 70 end 5 ok 0x1
@@ -200,6 +272,15 @@ class Search(unittest.TestCase):
         self.assert_clean(text_of(LONG))
         self.assert_clean(text_of(EVENT_FIRST, "0x8"))
         self.assert_clean(text_of(CHILDREN))
+        self.assert_clean(text_of(BEYOND_A_COPY, "0x1", "0x3"))
+        self.assert_clean(text_of(DURING_A_COPY, "0x1", "0x3"))
+        self.assert_clean(text_of(BARED_BEFORE, "0x1", "0x3"))
+        self.assert_clean(text_of(TWO_READERS))
+
+    def test_minor(self):
+        status, said = self.judged(text_of(MINOR))
+        self.assertEqual(status, 5, said)
+        self.assertIn(" 0 impossible, 5 not judged", said)
 
     def test_tried_again(self):
         _, said = self.judged(text_of(GIVEN_BACK, "0x8"))
@@ -211,6 +292,7 @@ class Search(unittest.TestCase):
     def test_wrong(self):
         """Each with one change that no run explains, or that leaves a thread asleep."""
         for text, old, new, wanted in (
+                (TWO_READERS, "message 6 fault 0x10000 0 0", "message 6 fault 0x10000 3 0", 3),
                 (WOKEN_BY_A_COPY, "70 71 end 7 ok\n70 70 end 6 ok 4096\n", "70 70 end 6 ok 4096\n70 71 end 7 EINVAL\n", 3),
                 (TWO_AT_A_PAGE, "begin 8 copy 8:5 0x10000 0x7000 0x1000 0x0", "begin 8 copy 8:5 0x10000 0x7000 0x1000 0x1", 1),
                 (READ_IN_VAIN, "", "", 3),
@@ -218,6 +300,11 @@ class Search(unittest.TestCase):
             self.assertIn(old, text)
             status, said = self.judged(text_of(text.replace(old, new)))
             self.assertEqual(status, wanted, said)
+        for text, old, new in ((BEYOND_A_COPY, "0x7000 0x1000 0x2", "0x7000 0x1000 0x0"), (DURING_A_COPY, "0x7000 0x1000 0x2", "0x7000 0x1000 0x0"),
+                               (BARED_BEFORE, "70 71 end 8 ok\n", "")):
+            self.assertIn(old, text)
+            status, said = self.judged(text_of(text.replace(old, new), "0x1", "0x3"))
+            self.assertEqual(status, 3, said)
         status, said = self.judged(text_of(PUT_AGAIN, "0x8"))
         self.assertEqual(status, 3, said)
 

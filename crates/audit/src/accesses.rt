@@ -195,7 +195,8 @@ impl Search {
             return Ok(());
         };
         if matches!(call.errno(), Some(Errno::Eagain)) {
-            return self.drain(object, read);
+            self.drain(object, read)?;
+            return self.plan(others(Wanted::Waiting(object)));
         }
         if call.is_ok() {
             self.plan_thread(ThreadTask::Show { read, next: 0 })
@@ -318,8 +319,10 @@ impl Search {
         if find(&self.kernel.faults, access.thread).is_some() {
             return Ok(());
         }
-        let page = access.page;
-        if !is_protection(access.flags) {
+        let (object, page) = (access.object, access.page);
+        if is_protection(access.flags) {
+            self.plan(Task::MakeProtected { object, page })?;
+        } else {
             let range = Range {
                 first: page,
                 count: 1,

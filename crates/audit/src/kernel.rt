@@ -580,6 +580,11 @@ pub(crate) fn is_present(page: Page) -> bool {
     matches!(page.presence, kernel_rules::Presence::Present)
 }
 
+/// Whether a page is present and write-protected.
+pub(crate) fn is_guarded(page: Page) -> bool {
+    is_present(page) && page.guarded
+}
+
 /// Whether nothing is known of a page.
 pub(crate) fn is_unknown(page: Page) -> bool {
     matches!(page.presence, kernel_rules::Presence::Unknown)

@@ -1,11 +1,11 @@
 //! Open calls that take effect before another one, for its answer.
 
-use crate::kernel::is_missing;
+use crate::kernel::{is_guarded, is_missing};
 use crate::search::Search;
-use call_log::log_call::{LogCall, is_event};
+use call_log::log_call::{COPY_PROTECTS, LogCall, PROTECTS, is_event};
 use call_log::pages::Range;
-use kernel_rules::Fault;
 use kernel_rules::fault::is_protection;
+use kernel_rules::{Fault, Phase};
 use uffd_log::{Call, Message};
 
 /// Which open calls are looked for.
@@ -21,6 +21,13 @@ pub(crate) enum Wanted {
         object: u64,
         range: Range,
     },
+    /// Reads that return a fault of some pages of an object, which says that the page is missing.
+    MissingFaults {
+        object: u64,
+        range: Range,
+    },
+    /// Reads that return a fault of an object which waits to be read.
+    Waiting(u64),
     /// Reads that return a fault of some pages of an address space.
     FaultsOfSpace {
         space: u32,
@@ -44,7 +51,12 @@ pub(crate) enum Wanted {
         object: u64,
         page: u64,
     },
-    /// Those that put a page of a range which is protected by a call that ends at this line.
+    /// Those that write-protect a page of an object.
+    Protects {
+        object: u64,
+        page: u64,
+    },
+    /// Those that put a page of a range, or take its protection away, which is protected by a call that ends at this line.
     Protected {
         object: u64,
         range: Range,
@@ -68,6 +80,24 @@ pub(crate) fn wakers_of(fault: Fault) -> Wanted {
     Wanted::Wakers {
         object: fault.object,
         page: fault.page,
+    }
+}
+
+/// Whether a call write-protects its pages.
+fn protects(call: &LogCall) -> bool {
+    let protects = match call.call {
+        Call::Copy { mode, .. } => mode & COPY_PROTECTS != 0,
+        Call::WriteProtect { mode, .. } => mode == PROTECTS,
+        _ => false,
+    };
+    protects && call.is_ok()
+}
+
+/// Whether a call puts its pages, or takes their protection away.
+fn bares(call: &LogCall) -> bool {
+    match call.call {
+        Call::WriteProtect { mode, .. } => mode & PROTECTS == 0 && call.is_ok(),
+        _ => call.install_mode().is_some() && call.is_ok(),
     }
 }
 
@@ -95,6 +125,10 @@ impl Search {
             Wanted::Faults { object, range } => {
                 call.object() == Some(object) && self.reads_fault(call, range)
             }
+            Wanted::MissingFaults { object, range } => {
+                call.object() == Some(object) && self.reads_missing(call, range)
+            }
+            Wanted::Waiting(object) => call.object() == Some(object) && self.reads_waiting(call),
             Wanted::FaultsOfSpace { space, range } => {
                 self.watches_space(call, space) && self.reads_fault(call, range)
             }
@@ -103,6 +137,14 @@ impl Search {
             Wanted::Madvise => matches!(call.call, Call::Madvise { .. }),
             Wanted::MovesTo { space, page } => self.moves_to(call, space, page),
             Wanted::OfObject(object) => call.object() == Some(object),
+            Wanted::Protects { object, page } => {
+                protects(call) && call.object() == Some(object) && call.covers(size, page)
+            }
+            Wanted::Protected {
+                object,
+                range,
+                line,
+            } => self.is_bared_before(call, object, range, line),
             _ => self.is_wanted_install(wanted, call),
         }
     }
@@ -117,11 +159,6 @@ impl Search {
             Wanted::Installs { object, page } => {
                 call.object() == Some(object) && call.covers(size, page)
             }
-            Wanted::Protected {
-                object,
-                range,
-                line,
-            } => self.is_put_before_protection(call, object, range, line),
             Wanted::PutIn { space, range } => self.is_put_in(call, space, range),
             Wanted::PutBefore { space, range, line } => {
                 self.is_put_in(call, space, range) && self.is_missing_after(call, space, line)
@@ -144,6 +181,41 @@ impl Search {
                 if range.contains(self.log.size.number(addr)) {
                     return true;
                 }
+            }
+        }
+        false
+    }
+
+    /// Whether a call returns a fault of some pages which says that the page is missing.
+    fn reads_missing(&self, call: &LogCall, range: Range) -> bool {
+        for message in self.log.messages_of(call) {
+            if let Message::Fault { addr, flags, .. } = *message {
+                if !is_protection(flags) && range.contains(self.log.size.number(addr)) {
+                    return true;
+                }
+            }
+        }
+        false
+    }
+
+    /// Whether a call returns a fault that waits to be read.
+    fn reads_waiting(&self, call: &LogCall) -> bool {
+        for message in self.log.messages_of(call) {
+            if let (Some(object), Message::Fault { addr, flags, .. }) = (call.object(), *message) {
+                if self.is_waiting(object, self.log.size.number(addr), flags) {
+                    return true;
+                }
+            }
+        }
+        false
+    }
+
+    /// Whether a fault waits to be read.
+    fn is_waiting(&self, object: u64, page: u64, flags: u64) -> bool {
+        for fault in &self.kernel.faults {
+            let is_there = fault.object == object && fault.page == page && fault.flags == flags;
+            if is_there && matches!(fault.phase, Phase::Unread) {
+                return true;
             }
         }
         false
@@ -173,15 +245,15 @@ impl Search {
         Some((space, self.log.pages_of(call)?.first))
     }
 
-    /// Whether a call puts a page that is protected after it: the next fault of it that is read says so.
-    fn is_put_before_protection(
+    /// Whether a call puts a page, or takes its protection away, and the page is protected after it: the next fault of it that is read says so.
+    fn is_bared_before(
         &self,
         call: &LogCall,
         object: u64,
         range: Range,
         line: u32,
     ) -> bool {
-        if !call.is_ok() || call.object() != Some(object) {
+        if !bares(call) || call.object() != Some(object) {
             return false;
         }
         match self.log.pages_of(call) {
@@ -235,6 +307,17 @@ impl Search {
             && !self
                 .index
                 .is_gone(space, addr, line.saturating_add(1), fault.end)
+    }
+
+    /// Whether a page is registered, and not known to be write-protected.
+    pub(crate) fn is_bare(&self, object: u64, number: u64) -> bool {
+        match self.kernel.space_of(object) {
+            Some(space) => match self.kernel.page(space, number) {
+                Some(page) => !is_guarded(page),
+                None => false,
+            },
+            None => false,
+        }
     }
 
     /// Whether a page is registered, and known to be missing.

@@ -11,7 +11,7 @@ use call_log::pages::Range;
 use kernel_rules::fault::{find, stops};
 use kernel_rules::{Fault, Phase};
 use mig_base::NoMemory;
-use uffd_log::{Answer, Message};
+use uffd_log::{Answer, Errno, Message};
 
 /// How many calls after a poll are looked at.
 const NEAR: u32 = 200;
@@ -102,18 +102,39 @@ impl Search {
         }
     }
 
-    /// The next read of a poll's object that has not taken effect.
+    /// The next read of a poll's object that has not taken effect. Where that found nothing, a read that lasts beside it may have returned the
+    /// message before.
     fn read_after(&self, call: &LogCall) -> Option<u32> {
         let object = call.object()?;
         let first = self.index.first_read(object, call.end);
-        for read in self.index.reads.get(first..).unwrap_or(&[]) {
+        for place in first..self.index.reads.len() {
+            let read = self.index.reads.get(place)?;
             if read.object != object {
                 return None;
             }
             if let Some(call) = self.log.call(read.call) {
                 if !call.done {
-                    return Some(read.call);
+                    let beside = self.read_beside(call, place.saturating_add(1));
+                    return Some(beside.unwrap_or(read.call));
                 }
+            }
+        }
+        None
+    }
+
+    /// Where a read found nothing: another one, from this place of the index on, that returned a message and began before it ended.
+    fn read_beside(&self, call: &LogCall, from: usize) -> Option<u32> {
+        if !matches!(call.errno(), Some(Errno::Eagain)) {
+            return None;
+        }
+        for place in from..from.saturating_add(NEAR as usize) {
+            let other = self.index.reads.get(place)?;
+            let found = self.log.call(other.call)?;
+            if Some(other.object) != call.object() {
+                return None;
+            }
+            if found.is_ok() && !found.done && found.begin < call.end {
+                return Some(other.call);
             }
         }
         None

@@ -36,6 +36,8 @@ pub(crate) enum Task {
     MakeMissing { space: u32, range: Range },
     /// The same, once each such madvise took effect.
     Clear { space: u32, page: u64 },
+    /// A page that is not write-protected is put or protected by a call that is under way, where there is one.
+    MakeProtected { object: u64, page: u64 },
     /// The events of an object are read.
     ReadEvents(u64),
     /// Threads saw the pages of an install missing whose faults are read after it.
@@ -77,6 +79,7 @@ impl Search {
             Task::Others { wanted, from } => self.settle_others(wanted, from),
             Task::Install(call) => self.prepare_install(call),
             Task::MakeMissing { space, range } => self.make_missing(space, range),
+            Task::MakeProtected { object, page } => self.make_protected(object, page),
             Task::Clear { space, page } => self.clear_page(space, page),
             Task::ReadEvents(object) => self.read_events(object),
             Task::Foresee(call) => self.foresee(call),
@@ -116,7 +119,7 @@ impl Search {
                 self.prepare_map_call(call),
             Call::Copy { .. } | Call::ZeroPage { .. } => {
                 self.plan(Task::Install(place))?;
-                self.plan_reads_of(call)
+                self.plan_reads_before(call)
             }
             Call::WriteProtect { mode, .. } => self.prepare_protect(call, mode),
             Call::Wake { .. } => self.plan_reads_of(call),
@@ -134,6 +137,16 @@ impl Search {
             return Ok(());
         };
         self.plan(others(Wanted::Faults { object, range }))
+    }
+
+    /// The same of an install: a fault which says that a page that it puts is write-protected comes after it.
+    fn plan_reads_before(&mut self, call: &LogCall) -> Result<(), NoMemory> {
+        let (Some(object), Some(range), true) =
+            (call.object(), self.log.pages_of(call), call.is_ok())
+        else {
+            return self.plan_reads_of(call);
+        };
+        self.plan(others(Wanted::MissingFaults { object, range }))
     }
 
     fn prepare_map_call(&mut self, call: &LogCall) -> Result<(), NoMemory> {
@@ -235,6 +248,14 @@ impl Search {
             }
         }
         Ok(())
+    }
+
+    fn make_protected(&mut self, object: u64, page: u64) -> Result<(), NoMemory> {
+        if self.is_bare(object, page) {
+            self.plan(others(Wanted::Protects { object, page }))
+        } else {
+            Ok(())
+        }
     }
 
     /// The map calls clear a page that are about to.

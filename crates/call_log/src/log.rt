@@ -8,6 +8,9 @@ use mig_base::NoMemory;
 use std::alloc::Global;
 use uffd_log::{Answer, Call, Message};
 
+/// UFFDIO_REGISTER_MODE_MINOR.
+const MINOR_MODE: u64 = 4;
+
 /// A run of pages that a scan found, with its bits.
 #[derive(Clone, Copy)]
 pub struct PageRun {
@@ -185,7 +188,7 @@ impl Log {
         Ok(ranges)
     }
 
-    /// The objects that the log has seen open, and those whose handshake it has.
+    /// The objects that the log has seen open, and those whose handshake it has, where the rules speak of their faults.
     fn known_objects(&self, alloc: Global) -> Result<(IndexSet<u64>, IndexSet<u64>), NoMemory> {
         let mut opened = IndexSet::new(alloc);
         let mut shaken = IndexSet::new(alloc);
@@ -200,7 +203,20 @@ impl Log {
                 _ => {}
             }
         }
+        self.leave_minor(&mut opened, &mut shaken);
         Ok((opened, shaken))
+    }
+
+    /// Takes away the objects that are registered for minor faults, of which no rule speaks.
+    fn leave_minor(&self, opened: &mut IndexSet<u64>, shaken: &mut IndexSet<u64>) {
+        for call in &self.calls {
+            if let Call::Register { on, mode, .. } = call.call {
+                if mode & MINOR_MODE != 0 && call.is_ok() {
+                    opened.swap_remove(&on.object);
+                    shaken.swap_remove(&on.object);
+                }
+            }
+        }
     }
 
     /// The objects that the log has seen open, with the address space of each.

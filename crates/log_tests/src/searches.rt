@@ -23,7 +23,7 @@ const REMOVES: &[u8] =
     b"1 70 70 started 69 ./monitor\n1 70 70 begin 1 open syscall 0x800\n1 70 70 end 1 ok 8:5\n1 70 70 begin 2 api 8:5 0xaa 0x8\n1 70 70 end 2 ok 0x1ffff 0x8000000000000003\n1 70 70 begin 3 register 8:5 0x10000 0x2000 0x1\n1 70 70 end 3 ok 0x17c\n1 70 70 begin 4 scan 8:5 0x10000 0x2000\n1 70 70 end 4 ok 0\n";
 
 /// What an object is registered for, the calls after it, what is said of the log, and what is written.
-static LOGS: [(&'static [u8], &'static [u8], Verdict, &'static [u8]); 16] = [
+static LOGS: [(&'static [u8], &'static [u8], Verdict, &'static [u8]); 22] = [
     // A madvise of the thread that the copy has woken: it ends before the copy does.
     (
         PLAIN,
@@ -135,6 +135,48 @@ static LOGS: [(&'static [u8], &'static [u8], Verdict, &'static [u8]); 16] = [
         b"1 72 72 forked 70\n1 72 72 begin 1 open syscall 0x800\n1 72 72 end 1 ok 9:6\n1 72 72 begin 2 api 9:6 0xaa 0x0\n1 72 72 end 2 ok 0x1ffff 0x8000000000000003\n1 72 72 begin 3 register 9:6 0x10000 0x2000 0x1\n1 72 72 end 3 ok 0x17c\n1 72 72 begin 4 copy 9:6 0x10000 0x7000 0x2000 0x0\n1 72 72 end 4 ok 8192\n1 70 70 begin 5 copy 8:5 0x10000 0x7000 0x2000 0x0\n1 70 70 end 5 ok 8192\n1 73 73 found 8:5\n1 73 73 begin 6 madvise 0x10000 0x1000 0x4\n1 73 73 end 6 ok\n1 72 72 begin 7 copy 9:6 0x10000 0x7000 0x1000 0x0\n1 72 72 end 7 ok 4096\n",
         Verdict::Impossible,
         b"log:30: kernel: copy: no run of the rules has this answer: the page is present [impossible-answer]\nlog:31: monitor: end of the log: 1 registered pages from 0x10000 on are still missing [page-owed]\n11 calls: 9 with the only answer that the rules allow, 1 that an access explains which the log does not show, 1 impossible, 0 not judged\nnot certified: no run was found\n",
+    ),
+    // A read that begins before the fault of a missing page is read, and returns the fault of the page that the copy has write-protected.
+    (
+        PROTECTS,
+        b"1 70 71 begin 5 read 8:5 32\n1 70 70 begin 6 read 8:5 32\n1 70 70 message 6 fault 0x10000 0 0\n1 70 70 end 6 ok 1\n1 70 70 begin 7 copy 8:5 0x10000 0x7000 0x1000 0x2\n1 70 70 end 7 ok 4096\n1 70 71 message 5 fault 0x10000 3 0\n1 70 71 end 5 ok 1\n1 70 71 begin 8 writeprotect 8:5 0x10000 0x1000 0x0\n1 70 71 end 8 ok\n1 70 70 begin 9 copy 8:5 0x11000 0x7000 0x1000 0x0\n1 70 70 end 9 ok 4096\n",
+        Verdict::Certified,
+        b"9 calls: 7 with the only answer that the rules allow, 2 that an access explains which the log does not show, 0 impossible, 0 not judged\ncertified: a kernel of the rules may have answered so; pages owed 0, put twice 0\npage faults that waited until a call woke their thread: 2, the longest 0.0 us, read at line 16, woken at line 25\n",
+    ),
+    // The copy does not protect it.
+    (
+        PROTECTS,
+        b"1 70 71 begin 5 read 8:5 32\n1 70 70 begin 6 read 8:5 32\n1 70 70 message 6 fault 0x10000 0 0\n1 70 70 end 6 ok 1\n1 70 70 begin 7 copy 8:5 0x10000 0x7000 0x1000 0x0\n1 70 70 end 7 ok 4096\n1 70 71 message 5 fault 0x10000 3 0\n1 70 71 end 5 ok 1\n1 70 71 begin 8 writeprotect 8:5 0x10000 0x1000 0x0\n1 70 71 end 8 ok\n1 70 70 begin 9 copy 8:5 0x11000 0x7000 0x1000 0x0\n1 70 70 end 9 ok 4096\n",
+        Verdict::Impossible,
+        b"log:16: kernel: read: no run of the rules has this answer: no thread has queued a fault [impossible-answer]\n9 calls: 7 with the only answer that the rules allow, 1 that an access explains which the log does not show, 1 impossible, 0 not judged\nnot certified: no run was found\npage faults that waited until a call woke their thread: 1, the longest 0.0 us, read at line 17, woken at line 21\n",
+    ),
+    // A read and an unprotection that end before the copy does.
+    (
+        PROTECTS,
+        b"1 70 70 begin 5 read 8:5 32\n1 70 70 message 5 fault 0x10000 0 0\n1 70 70 end 5 ok 1\n1 70 70 begin 6 copy 8:5 0x10000 0x7000 0x1000 0x2\n1 70 71 begin 7 read 8:5 32\n1 70 71 message 7 fault 0x10000 3 0\n1 70 71 end 7 ok 1\n1 70 71 begin 8 writeprotect 8:5 0x10000 0x1000 0x0\n1 70 71 end 8 ok\n1 70 70 end 6 ok 4096\n1 70 70 begin 9 copy 8:5 0x11000 0x7000 0x1000 0x0\n1 70 70 end 9 ok 4096\n",
+        Verdict::Certified,
+        b"9 calls: 7 with the only answer that the rules allow, 2 that an access explains which the log does not show, 0 impossible, 0 not judged\ncertified: a kernel of the rules may have answered so; pages owed 0, put twice 0\npage faults that waited until a call woke their thread: 2, the longest 0.0 us, read at line 16, woken at line 25\n",
+    ),
+    // An unprotection that ends after the protection of a range which came after it.
+    (
+        PROTECTS,
+        b"1 70 70 begin 5 copy 8:5 0x10000 0x7000 0x2000 0x2\n1 70 70 end 5 ok 8192\n1 70 70 begin 6 read 8:5 32\n1 70 70 message 6 fault 0x10000 3 0\n1 70 70 end 6 ok 1\n1 70 70 begin 7 writeprotect 8:5 0x10000 0x1000 0x0\n1 70 71 begin 8 writeprotect 8:5 0x10000 0x2000 0x1\n1 70 71 end 8 ok\n1 70 70 end 7 ok\n1 70 70 begin 9 read 8:5 32\n1 70 70 message 9 fault 0x10000 3 0\n1 70 70 end 9 ok 1\n1 70 70 begin 10 writeprotect 8:5 0x10000 0x2000 0x0\n1 70 70 end 10 ok\n",
+        Verdict::Certified,
+        b"10 calls: 8 with the only answer that the rules allow, 2 that an access explains which the log does not show, 0 impossible, 0 not judged\ncertified: a kernel of the rules may have answered so; pages owed 0, put twice 0\npage faults that waited until a call woke their thread: 2, the longest 0.0 us, read at line 18, woken at line 24\n",
+    ),
+    // The message that a poll has found is read by another thread, whose read ends later than that which found nothing.
+    (
+        PLAIN,
+        b"1 70 70 begin 5 poll 8:5\n1 70 71 begin 6 read 8:5 32\n1 70 70 end 5 ok 0x1\n1 70 70 begin 7 read 8:5 32\n1 70 71 message 6 fault 0x10000 0 0\n1 70 70 end 7 EAGAIN\n1 70 71 end 6 ok 1\n1 70 71 begin 8 copy 8:5 0x10000 0x7000 0x2000 0x0\n1 70 71 end 8 ok 8192\n",
+        Verdict::Certified,
+        b"8 calls: 7 with the only answer that the rules allow, 1 that an access explains which the log does not show, 0 impossible, 0 not judged\ncertified: a kernel of the rules may have answered so; pages owed 0, put twice 0\npage faults that waited until a call woke their thread: 1, the longest 0.0 us, read at line 17, woken at line 24\n",
+    ),
+    // An object for minor faults beside one that is judged.
+    (
+        PLAIN,
+        b"1 70 70 begin 5 open syscall 0x800\n1 70 70 end 5 ok 9:6\n1 70 70 begin 6 api 9:6 0xaa 0x400\n1 70 70 end 6 ok 0x1ffff 0x8000000000000003\n1 70 70 begin 7 register 9:6 0x20000 0x1000 0x4\n1 70 70 end 7 ok 0x1bc\n1 70 70 begin 8 poll 9:6\n1 70 70 end 8 ok 0x1\n1 70 70 begin 9 read 9:6 32\n1 70 70 message 9 fault 0x20000 4 0\n1 70 70 end 9 ok 1\n1 70 70 begin 10 continue 9:6 0x20000 0x1000 0x0\n1 70 70 end 10 ok 4096\n1 70 70 begin 11 copy 8:5 0x10000 0x7000 0x2000 0x0\n1 70 70 end 11 ok 8192\n",
+        Verdict::Undecided,
+        b"11 calls: 6 with the only answer that the rules allow, 0 that an access explains which the log does not show, 0 impossible, 5 not judged\nnot certified: line 18: api is not followed\n",
     ),
 ];
 
