@@ -176,7 +176,7 @@ static LOGS: [(&'static [u8], &'static [u8], Verdict, &'static [u8]); 22] = [
         PLAIN,
         b"1 70 70 begin 5 open syscall 0x800\n1 70 70 end 5 ok 9:6\n1 70 70 begin 6 api 9:6 0xaa 0x400\n1 70 70 end 6 ok 0x1ffff 0x8000000000000003\n1 70 70 begin 7 register 9:6 0x20000 0x1000 0x4\n1 70 70 end 7 ok 0x1bc\n1 70 70 begin 8 poll 9:6\n1 70 70 end 8 ok 0x1\n1 70 70 begin 9 read 9:6 32\n1 70 70 message 9 fault 0x20000 4 0\n1 70 70 end 9 ok 1\n1 70 70 begin 10 continue 9:6 0x20000 0x1000 0x0\n1 70 70 end 10 ok 4096\n1 70 70 begin 11 copy 8:5 0x10000 0x7000 0x2000 0x0\n1 70 70 end 11 ok 8192\n",
         Verdict::Undecided,
-        b"11 calls: 6 with the only answer that the rules allow, 0 that an access explains which the log does not show, 0 impossible, 5 not judged\nnot certified: line 18: api is not followed\n",
+        b"11 calls: 6 with the only answer that the rules allow, 0 that an access explains which the log does not show, 0 impossible, 5 not judged\nnot certified: line 20: register is not followed\n",
     ),
 ];
 
