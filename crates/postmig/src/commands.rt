@@ -2,7 +2,6 @@
 
 ghost use Rattle.std.specs.Prelude.{◌≤◌};
 
-use crate::arguments::command_line;
 use crate::input::Input;
 use crate::reasons::{say_wrong_line, say_wrong_lines};
 use crate::showing::show;
@@ -18,6 +17,7 @@ use crate::watched::Watched;
 use audit::Asked;
 use clap::ArgMatches;
 use clap::error::ErrorKind;
+use command_line::command_line;
 use draw::run_draw;
 use engine::{Mode, RunFault, check_script, run_script};
 use expected::{answer_script, echo_script};

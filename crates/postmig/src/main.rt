@@ -18,11 +18,11 @@
 //! `docs/SCRIPT.md` defines scripts and transcripts, `docs/FORMATS.md` frames, `docs/EXPLORE.md` random scripts, `docs/THREADS.md` a run in
 //! threads, `docs/UFFDLOG.md` logs, and `docs/AUDIT.md` what is found in them.
 //!
-//! The exit statuses are those of `specs/Status.antt`. Reading and writing is done by `engine` for scripts and transcripts, and by the
-//! crate of the same name for each other command. `bench/check/programs.py` runs the program on arguments, files and input of many kinds.
+//! `command_line` has the arguments of each. The exit statuses are those of `specs/Status.antt`. Reading and writing is done by `engine`
+//! for scripts and transcripts, and by the crate of the same name for each other command. `bench/check/programs.py` runs the program on
+//! arguments, files and input of many kinds.
 #![tactic(auto)]
 
-mod arguments;
 mod commands;
 mod input;
 mod reasons;

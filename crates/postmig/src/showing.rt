@@ -1,43 +1,13 @@
 //! `postmig show`: what a world holds at a line of a script.
 
-use crate::arguments::{WHY_IT_ENDED, cpus_argument, explain_argument, file_argument};
 use crate::reasons::say_wrong_lines;
 use crate::status::{BAD_COMMAND_OR_SCRIPT, READ_OR_WRITE_FAULT};
 use crate::streams::{end, open_input, open_output};
-use clap::{Arg, ArgMatches, Command, value_parser};
+use clap::ArgMatches;
 use grammar::token::read_tokens;
 use grammar::{Language, Token};
 use show::{Asked, Span, What, show_script};
-use std::alloc::{AllocError, Global};
-
-/// The names of what is shown, in the order of `What::ALL`.
-const WHATS: &[&str] = &["cpus", "queues", "owed", "wires", "pages", "all"];
-
-/// `postmig show [--at LINE] [--range START:END] [--cpus N] [--explain] WHAT [FILE]`.
-pub(crate) fn show_command<'a>(alloc: Global) -> Result<Command<'a>, AllocError> {
-    let at = Arg::new(alloc, "at")
-        .long("at")
-        .value_name("LINE")
-        .help("The last line of the script that is run, and not that of FILE")
-        .value_parser(value_parser!(u64));
-    let range = Arg::new(alloc, "range")
-        .long("range")
-        .value_name("START:END")
-        .help("The addresses whose pages are shown, and not all; END is the one after the last");
-    let what = Arg::new(alloc, "what")
-        .value_name("WHAT")
-        .help("What is shown")
-        .value_parser(WHATS)
-        .required(true);
-    Command::new(alloc, "show")
-        .about("Runs a script up to a line, and says what is there")
-        .arg(at)?
-        .arg(range)?
-        .arg(cpus_argument(alloc))?
-        .arg(explain_argument(alloc, WHY_IT_ENDED))?
-        .arg(what)?
-        .arg(file_argument(alloc))
-}
+use std::alloc::Global;
 
 /// The number that a text spells, as a line of a script has it.
 fn number_of(alloc: Global, text: &str) -> Option<u64> {

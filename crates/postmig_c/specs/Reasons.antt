@@ -1,5 +1,5 @@
 -- What is wrong with the lines of a text.
-use Rattle.std.specs.Prelude.{◌≡◌, ℕ, Bool, true, false, List}
+use Rattle.std.specs.Prelude.{ℕ, Bool, true, false, List}
 use Rattle.grammar.specs.Lines.{HasNoFeed}
 use Rattle.grammar.specs.declared.line.Language.{Language}
 use Rattle.grammar.specs.declared.line.Language.TheVariants.{Script, Transcript}

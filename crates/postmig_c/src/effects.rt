@@ -257,12 +257,49 @@ fn of_event(kind: u32, event: Message) -> EffectNumbers
     }
 }
 
-/// The numbers with those of a reply.
+/// The numbers with a number.
 #[inline]
-fn with_reply(numbers: EffectNumbers, reply: Reply) -> EffectNumbers
-    ensures { result ≡ record numbers { value = reply_value reply; reply = reply_number reply } }
+fn with_number(numbers: EffectNumbers, number: u32) -> EffectNumbers
+    ensures { result ≡ record numbers { number = number } }
+{
+    EffectNumbers { number, ..numbers }
+}
+
+/// The numbers with a count.
+#[inline]
+fn with_count(numbers: EffectNumbers, count: u32) -> EffectNumbers
+    ensures { result ≡ record numbers { count = count } }
+{
+    EffectNumbers { count, ..numbers }
+}
+
+/// The numbers with a length.
+#[inline]
+fn with_length(numbers: EffectNumbers, length: u64) -> EffectNumbers
+    ensures { result ≡ record numbers { length = length } }
+{
+    EffectNumbers { length, ..numbers }
+}
+
+/// The numbers with the address of the page at the source.
+#[inline]
+fn with_origin(numbers: EffectNumbers, origin: u64) -> EffectNumbers
+    ensures { result ≡ record numbers { other = origin } }
 {
     EffectNumbers {
+        other: origin,
+        ..numbers
+    }
+}
+
+/// The numbers with a processor and its reply.
+#[inline]
+fn with_answer(numbers: EffectNumbers, cpu: u8, reply: Reply) -> EffectNumbers
+    ensures { result ≡
+        record numbers { cpu = cpu; value = reply_value reply; reply = reply_number reply } }
+{
+    EffectNumbers {
+        cpu: u32::from(cpu),
         value: reply_value(reply),
         reply: reply_number(reply),
         ..numbers
@@ -274,36 +311,24 @@ pub fn effect_numbers(effect: Effect) -> EffectNumbers
     ensures { result ≡ effect_numbers effect }
 {
     match effect {
-        Effect::Answered { cpu, reply } => with_reply(in_cpu(1, cpu), reply),
+        Effect::Answered { cpu, reply } => with_answer(of_kind(1), cpu, reply),
         Effect::Asleep { cpu } => in_cpu(2, cpu),
-        Effect::InCall { cpu, messages } => EffectNumbers {
-            count: u32::from(messages),
-            ..in_cpu(3, cpu)
-        },
+        Effect::InCall { cpu, messages } => with_count(in_cpu(3, cpu), u32::from(messages)),
         Effect::Started { epoch } => numbered(4, epoch),
         Effect::RoundMade { round, todo } => tallied(5, round, todo),
         Effect::SentPage { addr } => at_page(6, addr),
         Effect::SentZero { addr } => at_page(7, addr),
         Effect::SentRun { addr, pages } => at_pages(8, addr, pages),
-        Effect::ReadFault { addr, wp } => EffectNumbers {
-            number: u32::from(wp),
-            ..at_page(9, addr)
-        },
+        Effect::ReadFault { addr, wp } => with_number(at_page(9, addr), u32::from(wp)),
         Effect::ReadEvent { event } => of_event(10, event),
-        Effect::ReadLast { event, cpu, reply } => EffectNumbers {
-            cpu: u32::from(cpu),
-            ..with_reply(of_event(11, event), reply)
-        },
+        Effect::ReadLast { event, cpu, reply } => with_answer(of_event(11, event), cpu, reply),
         Effect::Unprotected { addr } => at_page(12, addr),
         Effect::Zeroed { addr } => at_page(13, addr),
         Effect::Woke { addr } => at_page(14, addr),
         Effect::Forgot { addr } => at_page(15, addr),
         Effect::Requested { origin, addr } => at_home(16, addr, origin),
         Effect::Switched { discard, owed } => tallied(17, discard, owed),
-        Effect::Moved { bytes } => EffectNumbers {
-            length: bytes,
-            ..of_kind(18)
-        },
+        Effect::Moved { bytes } => with_length(of_kind(18), bytes),
         Effect::TookAdvise => of_kind(19),
         Effect::TookPage { addr } => at_page(20, addr),
         Effect::TookZero { addr } => at_page(21, addr),
@@ -316,10 +341,7 @@ pub fn effect_numbers(effect: Effect) -> EffectNumbers
         Effect::TookRecv { state, pages } => tallied(28, state_number(state), pages),
         Effect::TookDone => of_kind(29),
         Effect::Installed { addr, origin } => at_home(30, addr, origin),
-        Effect::Dropped { origin } => EffectNumbers {
-            other: origin,
-            ..of_kind(31)
-        },
+        Effect::Dropped { origin } => with_origin(of_kind(31), origin),
         Effect::Asked { addr } => at_page(32, addr),
         Effect::EndSent => of_kind(33),
         Effect::Broken => of_kind(34),

@@ -1,0 +1,10 @@
+//! The command line of the program: its subcommands and their arguments, as tables.
+//!
+//! [`command_line`] turns the tables into a command for `clap`, which parses the words and writes the help. The crate does not know what a
+//! command does: the program reads the values by the names in the tables.
+#![tactic(auto)]
+
+mod argument;
+mod subcommands;
+
+pub use subcommands::command_line;

@@ -1,0 +1,397 @@
+//! The subcommands and their arguments.
+
+use crate::argument::{ANY_NUMBER, Argument, Form, PLAIN};
+use clap::Command;
+use clap::builder::ValueParser;
+use std::alloc::{AllocError, Global};
+
+/// What `--version` prints after the program's name.
+const VERSION: &str = "0.1.0";
+
+/// How a command ends.
+const STATUSES: &str = "Exit status:
+  0  all was done, or a check wrote ok
+  1  a line, a frame or the command line is wrong, or an audit found something
+  2  a read or a write failed, or an audit had no log to judge
+  3  a check wrote wrong, a test differs, finish has no epoch left, threads ended with a fault, or
+     an audit found an answer that no kernel gives;
+     with --strict also: no entry was checked, a frame was refused, or a test compared no answer
+  4  memory ran out, or a thread could not be started
+  5  an audit found nothing, and could not judge all calls
+
+docs/SCRIPT.md has the lines of scripts and transcripts.";
+
+/// `--cpus N`.
+const CPUS: Argument = Argument {
+    id: "cpus",
+    help: "How many processors the guest has",
+    form: Form::Preset("N", ValueParser::Signed(1, 16), "2"),
+    ..PLAIN
+};
+
+/// `[FILE]`.
+const FILE: Argument = Argument {
+    id: "file",
+    help: "Is read in place of standard input",
+    form: Form::Positional("FILE"),
+    ..PLAIN
+};
+
+/// `--explain` of a command that takes no lines.
+const EXPLAIN_FAULTS: Argument = Argument {
+    id: "explain",
+    help: "Says on standard error why a read or a write failed",
+    ..PLAIN
+};
+
+/// `--explain` of a command that ends at a wrong line.
+const EXPLAIN_LINES: Argument = Argument {
+    id: "explain",
+    help: "Says on standard error what is wrong with each line of FILE, and why a read or a write failed",
+    ..PLAIN
+};
+
+/// `postmig run [--cpus N] [--transcript] [--steps] [--answers] [--echo] [--wire FILE] [--back FILE] [--urgent FILE] [--explain] [FILE]`.
+/// With `--steps`, `--answers` or `--echo` a run writes the lines of its steps alone.
+const RUN: &[Argument] = &[
+    CPUS,
+    Argument {
+        id: "transcript",
+        help: "Writes the commands that took effect, with their replies",
+        ..PLAIN
+    },
+    Argument {
+        id: "steps",
+        help: "Writes after each line the calls of a host that its step stands for",
+        conflicts: &["transcript", "wire", "back", "urgent"],
+        ..PLAIN
+    },
+    Argument {
+        id: "answers",
+        help: "Writes the script with the answer of each line after it",
+        conflicts: &["transcript", "steps", "wire", "back", "urgent"],
+        ..PLAIN
+    },
+    Argument {
+        id: "echo",
+        help: "Writes the script with the answer of each line beside it",
+        conflicts: &["transcript", "steps", "answers", "wire", "back", "urgent"],
+        ..PLAIN
+    },
+    Argument {
+        id: "wire",
+        help: "Gets the bytes that are put on the wire to the destination",
+        form: Form::Valued("FILE", ValueParser::String),
+        ..PLAIN
+    },
+    Argument {
+        id: "back",
+        help: "Gets the bytes that are put on the wire back",
+        form: Form::Valued("FILE", ValueParser::String),
+        ..PLAIN
+    },
+    Argument {
+        id: "urgent",
+        help: "Gets the bytes that are put on the urgent wire",
+        form: Form::Valued("FILE", ValueParser::String),
+        ..PLAIN
+    },
+    EXPLAIN_LINES,
+    FILE,
+];
+
+/// `postmig finish [--cpus N] [--explain] [FILE]`, and the same of `postmig draw`.
+const OF_SCRIPTS: &[Argument] = &[CPUS, EXPLAIN_LINES, FILE];
+
+/// `postmig check [--all] [--strict] [--explain] [FILE]`.
+const CHECK: &[Argument] = &[
+    Argument {
+        id: "all",
+        help: "Lists each wrong entry, and not the first alone",
+        ..PLAIN
+    },
+    Argument {
+        id: "strict",
+        help: "Has status 3 if no entry was checked",
+        ..PLAIN
+    },
+    Argument {
+        id: "explain",
+        help: "Says which entries decide the reply of a wrong one, and why a read or a write failed",
+        ..PLAIN
+    },
+    FILE,
+];
+
+/// `postmig lint [--transcript] [--explain] [FILE]`.
+const LINT: &[Argument] = &[
+    Argument {
+        id: "transcript",
+        help: "Reads a transcript instead of a script",
+        ..PLAIN
+    },
+    EXPLAIN_FAULTS,
+    FILE,
+];
+
+/// `postmig audit [--late MICROSECONDS] [--explain] [FILE]`.
+const AUDIT: &[Argument] = &[
+    Argument {
+        id: "explain",
+        help: "Says what the findings mean, how long faults waited, and why a read or a write failed",
+        ..PLAIN
+    },
+    Argument {
+        id: "late",
+        help: "Names each page fault that waited longer, from its read to the call that woke its thread",
+        form: Form::Valued("MICROSECONDS", ANY_NUMBER),
+        ..PLAIN
+    },
+    FILE,
+];
+
+/// `postmig frames [--cpus N] [--strict] [--explain] [FILE]`.
+const FRAMES: &[Argument] = &[
+    CPUS,
+    Argument {
+        id: "strict",
+        help: "Has status 3 if a frame was refused",
+        ..PLAIN
+    },
+    EXPLAIN_FAULTS,
+    FILE,
+];
+
+/// `postmig show [--at LINE] [--range START:END] [--cpus N] [--explain] WHAT [FILE]`. The words for WHAT are in the order of
+/// `show::What::ALL`.
+const SHOW: &[Argument] = &[
+    Argument {
+        id: "at",
+        help: "The last line of the script that is run, and not that of FILE",
+        form: Form::Valued("LINE", ANY_NUMBER),
+        ..PLAIN
+    },
+    Argument {
+        id: "range",
+        help: "The addresses whose pages are shown, and not all; END is the one after the last",
+        form: Form::Valued("START:END", ValueParser::String),
+        ..PLAIN
+    },
+    CPUS,
+    EXPLAIN_LINES,
+    Argument {
+        id: "what",
+        help: "What is shown",
+        form: Form::Among("WHAT", &["cpus", "queues", "owed", "wires", "pages", "all"]),
+        ..PLAIN
+    },
+    FILE,
+];
+
+/// The names of the profiles of `postmig explore`, in the order of `explore::Profile::ALL`.
+const PROFILES: &[&str] = &[
+    "commands", "precopy", "postcopy", "moves", "breaks", "urgent", "bytes", "runs", "all",
+];
+
+/// `postmig explore --seed S [--lines N] [--cpus N] [--profile P] [--pages M] [--finish] [--sweep] [--answers] [--explain]`, or with
+/// `--seeds A:B` in place of `--seed S`. Scripts of earlier versions have `--steps` in place of `--lines`.
+const EXPLORE: &[Argument] = &[
+    Argument {
+        id: "seed",
+        help: "The seed of the draws",
+        form: Form::Valued("S", ANY_NUMBER),
+        unless: &["seeds"],
+        ..PLAIN
+    },
+    Argument {
+        id: "seeds",
+        help: "Writes a script for each seed from A to B, one after the other",
+        form: Form::Valued("A:B", ValueParser::String),
+        conflicts: &["seed"],
+        ..PLAIN
+    },
+    Argument {
+        id: "lines",
+        help: "The number of lines after the first, which is a comment",
+        form: Form::Preset("N", ValueParser::Signed(0, 0xffff_ffff), "200"),
+        aliases: &["steps"],
+        ..PLAIN
+    },
+    CPUS,
+    Argument {
+        id: "profile",
+        help: "Of which steps there are more",
+        form: Form::Preset("P", ValueParser::Names(PROFILES), "all"),
+        ..PLAIN
+    },
+    Argument {
+        id: "pages",
+        help: "The number of pages that the commands touch",
+        form: Form::Preset("M", ValueParser::Signed(1, 4096), "8"),
+        ..PLAIN
+    },
+    Argument {
+        id: "finish",
+        help: "Ends the script with the lines that complete its migration, and a sweep",
+        ..PLAIN
+    },
+    Argument {
+        id: "sweep",
+        help: "Ends the script with loads of all that was stored",
+        ..PLAIN
+    },
+    Argument {
+        id: "answers",
+        help: "Writes the answer of each line after it",
+        ..PLAIN
+    },
+    EXPLAIN_FAULTS,
+];
+
+/// `postmig test [--cpus N] [--all] [--strict] [--write] [FILE ..]`.
+const TEST: &[Argument] = &[
+    CPUS,
+    Argument {
+        id: "all",
+        help: "Names each answer that differs, and not the first of a FILE alone",
+        ..PLAIN
+    },
+    Argument {
+        id: "strict",
+        help: "Has status 3 if no answer of a file was compared",
+        ..PLAIN
+    },
+    Argument {
+        id: "write",
+        help: "Replaces the answers of each FILE by the output of its lines",
+        conflicts: &["strict", "all"],
+        needs: &["file"],
+        ..PLAIN
+    },
+    Argument {
+        id: "file",
+        help: "Scripts with answers; standard input where none is given",
+        form: Form::Positionals("FILE"),
+        ..PLAIN
+    },
+];
+
+/// `postmig threads [--cpus N] [--calls C] [--cut] [--explain]`.
+const THREADS: &[Argument] = &[
+    CPUS,
+    Argument {
+        id: "calls",
+        help: "How many stores each processor makes, and how many loads",
+        form: Form::Preset("C", ValueParser::Signed(1, 1000), "8"),
+        ..PLAIN
+    },
+    Argument {
+        id: "cut",
+        help: "Breaks the channel once, and resumes",
+        ..PLAIN
+    },
+    EXPLAIN_FAULTS,
+];
+
+/// A subcommand.
+#[derive(Clone, Copy)]
+struct Subcommand {
+    name: &'static str,
+    /// What help says of it.
+    about: &'static str,
+    arguments: &'static [Argument],
+}
+
+/// The subcommands, in the order of help.
+const SUBCOMMANDS: &[Subcommand] = &[
+    Subcommand {
+        name: "run",
+        about: "Runs a script",
+        arguments: RUN,
+    },
+    Subcommand {
+        name: "finish",
+        about: "Writes the lines that complete the migration of a script",
+        arguments: OF_SCRIPTS,
+    },
+    Subcommand {
+        name: "check",
+        about: "Says whether a transcript is that of one flat memory",
+        arguments: CHECK,
+    },
+    Subcommand {
+        name: "lint",
+        about: "Lists the wrong lines of a script, and what is wrong with each",
+        arguments: LINT,
+    },
+    Subcommand {
+        name: "audit",
+        about: "Judges the userfaultfd calls of a log or of strace's output, and names what is wrong with them",
+        arguments: AUDIT,
+    },
+    Subcommand {
+        name: "frames",
+        about: "Hands frames to a destination",
+        arguments: FRAMES,
+    },
+    Subcommand {
+        name: "draw",
+        about: "Runs a script, and writes a picture of the run as SVG",
+        arguments: OF_SCRIPTS,
+    },
+    Subcommand {
+        name: "show",
+        about: "Runs a script up to a line, and says what is there",
+        arguments: SHOW,
+    },
+    Subcommand {
+        name: "explore",
+        about: "Writes a random script of a migration",
+        arguments: EXPLORE,
+    },
+    Subcommand {
+        name: "test",
+        about: "Runs scripts whose lines have answers, and names what differs",
+        arguments: TEST,
+    },
+    Subcommand {
+        name: "threads",
+        about: "Runs a migration with each processor in a thread of its own",
+        arguments: THREADS,
+    },
+];
+
+/// The command with one more argument.
+fn with_argument<'a>(
+    command: Command<'a>,
+    alloc: Global,
+    argument: &Argument,
+) -> Result<Command<'a>, AllocError> {
+    command.arg(argument.to_arg(alloc)?)
+}
+
+impl Subcommand {
+    /// The subcommand as `clap` takes it.
+    fn to_command<'a>(&self, alloc: Global) -> Result<Command<'a>, AllocError> {
+        let mut command = Command::new(alloc, self.name).about(self.about);
+        for argument in self.arguments {
+            command = with_argument(command, alloc, argument)?;
+        }
+        Ok(command)
+    }
+}
+
+/// The command line: one of the subcommands, or `postmig --version`. An error is that memory was refused.
+pub fn command_line<'a>(alloc: Global) -> Result<Command<'a>, AllocError> {
+    // The name in usage lines, whatever the file is called.
+    let mut command = Command::new(alloc, "postmig")
+        .bin_name("postmig")?
+        .about("Runs scripts on a model of post-copy live migration")
+        .version(VERSION)
+        .after_help(STATUSES)
+        .subcommand_required(true);
+    for subcommand in SUBCOMMANDS {
+        command = command.subcommand(subcommand.to_command(alloc)?)?;
+    }
+    Ok(command)
+}
