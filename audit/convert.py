@@ -111,19 +111,26 @@ class Files:
         self.held = dict(held)
 
 
+class Process:
+    """What the log has said of a process: its descriptors, each with its object. `memory` is a number that processes which share it have in common."""
+
+    def __init__(self, memory, borrows=False):
+        self.memory, self.borrows, self.known = memory, borrows, {}
+
+
 class Plan:
     """What a call becomes: the line that begins it, the lines of what it has read, and its end. None of an end: it never returned."""
 
-    def __init__(self, begin, end=None, lines=(), after=None):
-        self.begin, self.end, self.lines, self.after = begin, end, lines, after
+    def __init__(self, begin, end=None, lines=(), before=None, after=None):
+        self.begin, self.end, self.lines, self.before, self.after = begin, end, lines, before, after
 
 
 class Converter:
     def __init__(self, out, process):
         self.out, self.process = out, process
         self.of_thread, self.files, self.last_number = {}, {}, {}
-        self.parents, self.announced = {}, set()
-        self.last_object = self.last_time = 0
+        self.parents, self.processes, self.memory_of_object = {}, {}, {}
+        self.last_object = self.last_time = self.last_memory = 0
         self.made, self.ranges = {}, []
 
     # Lines
@@ -138,9 +145,19 @@ class Converter:
         return self.of_thread[thread]
 
     def table(self, thread):
-        """The descriptors of a thread; those of a new process are announced."""
+        """The descriptors of a thread."""
+        return self.files.setdefault(self.process_of(thread), Files())
+
+    def said(self, thread):
+        """What the log has said of a thread's process."""
         process = self.process_of(thread)
-        return self.files.setdefault(process, Files())
+        if process not in self.processes:
+            self.processes[process] = Process(self.new_memory())
+        return self.processes[process]
+
+    def new_memory(self):
+        self.last_memory += 1
+        return self.last_memory
 
     def new_object(self):
         self.last_object += 1
@@ -171,14 +188,59 @@ class Converter:
             self.parents[thread] = parent
             shared = self.files.setdefault(parent, Files())
             self.files[thread] = shared if "CLONE_FILES" in maker.arguments else Files(shared.held)
-            self.write(time, thread, f"forked {parent}")
-            self.announce(time, thread)
+            if maker.name == "vfork" or "CLONE_VM" in maker.arguments:
+                self.processes[thread] = Process(self.said(maker.thread).memory, borrows=True)
+            else:
+                self.write(time, thread, f"forked {parent}")
+                self.announce(time, thread)
         else:
             self.process_of(thread)
 
     def announce(self, time, thread):
-        for fd, (found, _) in sorted(self.table(thread).held.items()):
+        """The process has a memory of its own from now on, and these descriptors."""
+        self.processes[self.process_of(thread)] = Process(self.new_memory())
+        for fd in sorted(self.table(thread).held):
+            self.tell(time, thread, fd)
+
+    def tell(self, time, thread, fd):
+        """Says of a descriptor what the log does not know yet: what it is no longer, and which object it is."""
+        held, known = self.table(thread).held, self.said(thread).known
+        found, before = held.get(fd, (None,))[0], known.get(fd)
+        if found == before:
+            return
+        if before is not None:
+            self.write(time, thread, f"dropped {known.pop(fd)}:{fd}")
+        if found is not None:
+            known[fd] = found
             self.write(time, thread, f"found {found}:{fd}")
+
+    def tell_of_borrowed_memory(self, time, thread):
+        """Before a map call of a process that shares the memory of another one: which objects were made with this memory, so that a judge knows
+        whose it is."""
+        said = self.said(thread)
+        for fd, (found, _) in sorted(self.table(thread).held.items()) if said.borrows else ():
+            if self.memory_of_object.get(found) == said.memory:
+                self.tell(time, thread, fd)
+
+    def tell_others(self, time, thread, fd):
+        """A descriptor is another object's, or nobody's, for all that share a table. The log has it no longer for those that make no call now."""
+        own, table = self.process_of(thread), self.table(thread)
+        for process, said in self.processes.items():
+            if process != own and self.files.get(process) is table and fd in said.known:
+                self.write(time, process, f"dropped {said.known.pop(fd)}:{fd}")
+
+    def bind(self, held, call, made):
+        """A call has made descriptors, as its end line says."""
+        held.update(made)
+        self.said(call.thread).known.update((fd, found) for fd, (found, _) in made.items())
+        for fd in made:
+            self.tell_others(call.left_at, call.thread, fd)
+
+    def drop_all(self, time, thread):
+        """The process has ended."""
+        known = self.said(thread).known
+        for fd in sorted(known):
+            self.write(time, thread, f"dropped {known.pop(fd)}:{fd}")
 
     # Descriptors
 
@@ -190,9 +252,10 @@ class Converter:
         fd, held = int(parsed[1]), self.table(thread).held
         if parsed[2] == OBJECT and fd not in held:
             held[fd] = (self.new_object(), False)
-            self.write(time, thread, f"found {held[fd][0]}:{fd}")
         elif parsed[2] is not None and parsed[2] != OBJECT and fd in held:
-            self.write(time, thread, f"dropped {held.pop(fd)[0]}:{fd}")
+            del held[fd]
+            self.tell_others(time, thread, fd)
+        self.tell(time, thread, fd)
         return (held[fd][0], fd) if fd in held else (None, fd)
 
     # Calls
@@ -222,7 +285,8 @@ class Converter:
         if plan.end == "ok":
             fd, found = descriptor(call.returned), self.new_object()
             plan.end = f"ok {found}:{fd}"
-            plan.after = lambda: self.table(call.thread).held.update({fd: (found, bool(bits & OPEN_FLAGS["O_CLOEXEC"]))})
+            self.memory_of_object[found] = self.said(call.thread).memory
+            plan.after = lambda: self.bind(self.table(call.thread).held, call, {fd: (found, bool(bits & OPEN_FLAGS["O_CLOEXEC"]))})
         return plan
 
     def plan_ioctl(self, call):
@@ -289,7 +353,7 @@ class Converter:
             made = {}
             messages = self.messages(read_bytes(call, number(call.returned.split()[0])), made)
             plan.lines, plan.end = [f"message {{}} {it}" for it in messages], f"ok {len(messages)}"
-            plan.after = lambda: self.table(call.thread).held.update(made)
+            plan.after = lambda: self.bind(self.table(call.thread).held, call, made)
         return plan
 
     def messages(self, data, made):
@@ -332,12 +396,20 @@ class Converter:
 
     def closing(self, call, found, fd):
         held = self.table(call.thread).held
+        self.tell(call.entered_at, call.thread, fd)
+
+        def before():
+            if held.get(fd, (None,))[0] == found:
+                self.tell_others(call.left_at, call.thread, fd)
 
         def after():
             # (another thread may have been given the number before this line)
             if held.get(fd, (None,))[0] == found:
                 del held[fd]
-        return Plan(f"close {found}:{fd}", self.answer(call), after=after)
+            known = self.said(call.thread).known
+            if known.get(fd) == found:
+                del known[fd]
+        return Plan(f"close {found}:{fd}", self.answer(call), before=before, after=after)
 
     def plan_close_range(self, call):
         first, last, how = comma_parts(call.arguments, 3, 3)
@@ -369,7 +441,7 @@ class Converter:
             copy = descriptor(call.returned)
             plan.end = f"ok {copy}"
             if copy != fd:
-                plan.after = lambda: held.update({copy: (found, closes_on_exec)})
+                plan.after = lambda: self.bind(held, call, {copy: (found, closes_on_exec)})
         return [plan]
 
     def plan_fcntl(self, call):
@@ -396,6 +468,7 @@ class Converter:
     def map_plan(self, call, begin, *ranges):
         if not any(self.meets(start, length) for start, length in ranges):
             return []
+        self.tell_of_borrowed_memory(call.entered_at, call.thread)
         has_address = call.name in ("mmap", "mremap")
         return [Plan(begin, self.answer(call, call.returned.split()[0] if has_address and call.has_returned and not call.was_interrupted else ""))]
 
@@ -441,10 +514,10 @@ class Converter:
         found = re.match(r'"(?:[^"\\]|\\.)*"(?:\.\.\.)?, \[(.*?)\](?:, |$)', call.arguments, re.S)
         words = [encoded(unescape(it[1])) for it in STRING.finditer(found[1])] if found else []
         text = " ".join(words)[:3000].rsplit(" ", 1)[0] + " ..." if len(" ".join(words)) > 3000 else " ".join(words) or "..."
-        table = self.table(call.thread)
 
         def after():
-            table.held = {fd: it for fd, it in table.held.items() if not it[1]}
+            held = self.table(call.thread).held
+            self.files[self.process_of(call.thread)] = Files({fd: it for fd, it in held.items() if not it[1]})
             self.write(call.left_at, call.thread, f"started {self.parents.get(self.process_of(call.thread), 0)} {text}")
             self.announce(call.left_at, call.thread)
         return [Plan(None, None, after=after)]
@@ -500,6 +573,8 @@ class Writer:
             if plan.begin and plan.end is None:
                 continue
             if plan.begin:
+                if plan.before:
+                    plan.before()
                 for line in plan.lines:
                     converter.write(call.left_at, call.thread, line.format(number))
                 converter.write(call.left_at, call.thread, f"end {number} {plan.end}")
@@ -511,6 +586,7 @@ class Writer:
         left = self.threads[process]
         left.discard(call.thread)
         if not left:
+            self.converter.drop_all(call.entered_at, call.thread)
             self.converter.write(call.entered_at, call.thread, "exit")
 
 

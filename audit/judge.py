@@ -61,12 +61,12 @@ class Log:
 
     def __init__(self, name):
         self.calls, self.lines, self.wrong, self.page = [], [], [], 4096
-        self.own, self.met = set(), defaultdict(set)
+        self.own, self.met = {}, defaultdict(set)  # for each process that the log has seen begin, the line; for each process, the objects that it has found
         by_call, reader = {}, None
         for entry, reader in uffdlog.entries(name, lambda line, reason: self.wrong.append((line, reason))):
             self.page = reader.page
             if entry.kind in ("started", "forked"):
-                self.own.add(entry.pid)
+                self.own.setdefault(entry.pid, entry.line)
             elif entry.kind == "found":
                 self.met[entry.pid].add(entry.values["O"][0])
             elif entry.kind == "begin":
@@ -77,6 +77,7 @@ class Log:
             elif entry.kind == "end" and id(entry.call) in by_call:
                 self.end(entry, reader, by_call.pop(id(entry.call))[0])
         self.reader = reader
+        self.whole = not (reader and reader.lost)
         self.set_answers()
         self.set_spaces()
         self.set_unjudged()
@@ -102,7 +103,7 @@ class Log:
         creators = {call.values["O"][0]: call.space for call in self.calls if call.word == "open" and call.answer == "ok"}
         for call in self.calls:
             found = call.range() if call.word in MAP_CALLS else None
-            if found and call.space not in self.own:
+            if found and not self.own.get(call.space, call.begin) < call.begin:
                 meets = {space for space, start, length in ranges if start < found[0] + found[1] and found[0] < start + length}
                 if len(meets) > 1:
                     meets &= {creators.get(it) for it in self.met[call.space]}

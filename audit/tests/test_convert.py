@@ -95,14 +95,29 @@ LOG = """\
 100002100000 72 72 found 1:8
 100002100000 72 72 begin 1 copy 1:8 0x7f0000000000 0x55d0 0x1000 0x0
 100002110000 72 72 end 1 EEXIST -17
+100002300000 72 72 dropped 1:8
 100002300000 72 72 exit
 100002500000 70 71 begin 15 poll 1:8
 100002510000 70 71 end 15 interrupted
 100002600000 70 71 begin 16 read 1:8 -
 100002700000 70 70 begin 17 unregister 1:8 0x7f0000000000 0x2000
 100002710000 70 70 end 17 ok
+100003000000 70 70 dropped 1:8
 100003000000 70 70 exit
 """
+# Thread 71 is a process that shares the memory of 70, and MADV_DONTNEED in it takes the page away that 70 has put.
+SHARING = f"""\
+70 100.000100 userfaultfd(O_NONBLOCK) = 5{OBJECT} <0.000010>
+70 100.000200 ioctl(5{OBJECT}, UFFDIO_API, {{api=0xaa, features=0 => features=0x1ffff, ioctls=0x8000000000000003}}) = 0 <0.000010>
+70 100.000300 ioctl(5{OBJECT}, UFFDIO_REGISTER, {{range={{start=0x10000, len=0x1000}}, mode=UFFDIO_REGISTER_MODE_MISSING, \
+ioctls=0x15c}}) = 0 <0.000010>
+70 100.000400 ioctl(5{OBJECT}, UFFDIO_COPY, {{dst=0x10000, src=0x50000, len=0x1000, mode=0, copy=0x1000}}) = 0 <0.000010>
+70 100.000500 MAKES = 71 <0.000010>
+71 100.000600 madvise(0x10000, 4096, MADV_DONTNEED) = 0 <0.000010>
+70 100.000700 ioctl(5{OBJECT}, UFFDIO_COPY, {{dst=0x10000, src=0x50000, len=0x1000, mode=0, copy=0x1000}}) = 0 <0.000010>
+"""
+MAKES = ("vfork()", "clone(child_stack=0x55, flags=CLONE_VM|SIGCHLD)", "clone3({flags=CLONE_VM|CLONE_VFORK, exit_signal=SIGCHLD, stack=0x7d}, 88)",
+         "clone(child_stack=0x55, flags=CLONE_VM|CLONE_FS|CLONE_FILES|CLONE_SIGHAND|SIGCHLD)")
 
 
 def converted(trace, process=None):
@@ -110,6 +125,14 @@ def converted(trace, process=None):
     out = io.StringIO()
     wrong = convert.convert(io.BytesIO(trace.encode("latin-1")), out, process)
     return out.getvalue(), wrong
+
+
+def verdict(text):
+    """The status of audit/judge for a log."""
+    with tempfile.TemporaryDirectory() as folder:
+        with open(f"{folder}/log", "w") as file:
+            file.write(HEAD + text)
+        return common.run("judge", f"{folder}/log").returncode
 
 
 def is_log(test, text):
@@ -175,6 +198,51 @@ class Right(unittest.TestCase):
         self.assertEqual(wrong, [])
         self.assertEqual([it.split(" ", 3)[3] for it in text.splitlines()[4:6]], ["started 0 b %", "found 2:4"])
         is_log(self, text)
+
+    def said_of(self, trace, thread):
+        """What a log says of a thread, which has to be a log without a finding."""
+        text, wrong = converted(trace)
+        self.assertEqual(wrong, [])
+        is_log(self, text)
+        self.assertEqual(verdict(text), 0, text)
+        return [it.split(" ", 3)[3] for it in text.splitlines() if it.split()[2] == str(thread)]
+
+    def test_a_process_that_shares_memory(self):
+        """It has no `forked`, but a `found` of what was opened with this memory: then its map calls are those of the other process."""
+        for makes in MAKES:
+            with self.subTest(makes=makes):
+                self.assertEqual(self.said_of(SHARING.replace("MAKES", makes), 71), ["found 1:5", "begin 1 madvise 0x10000 0x1000 4", "end 1 ok"])
+
+    def test_a_process_with_a_copy_of_the_memory(self):
+        text = converted(SHARING.replace("MAKES", "clone(child_stack=NULL, flags=SIGCHLD)"))[0]
+        self.assertIn("71 71 forked 70\n", text)
+        self.assertEqual(verdict(text), 3)
+
+    def test_an_object_of_another_memory(self):
+        """What was opened before a fork is of the parent's memory: no map call of the child is one there."""
+        trace = SHARING.replace("70 100.000100", "70 100.000050 userfaultfd(0) = 4\n70 100.000060 fork() = 80\n80 100.000100").replace("\n70 100", "\n80 100")
+        trace = trace.replace("\n80 100.000060", "\n70 100.000060").replace("MAKES", "vfork()")
+        self.assertEqual(self.said_of(trace, 71), ["found 2:5", "begin 1 madvise 0x10000 0x1000 4", "end 1 ok"])
+
+    def test_exec_ends_the_sharing(self):
+        trace = SHARING.replace("MAKES", MAKES[0])
+        again = '71 100.000800 execve("/b", ["b"], 0x0) = 0\n71 100.000900 madvise(0x10000, 4096, MADV_DONTNEED) = 0 <0.000010>\n'
+        text = converted(trace + again)[0]
+        self.assertEqual([it.split(" ", 3)[3] for it in text.splitlines()[-4:]],
+                         ["started 70 b", "found 1:5", "begin 2 madvise 0x10000 0x1000 4", "end 2 ok"])
+        is_log(self, text)
+        self.assertEqual(verdict(text), 0)
+
+    def test_a_table_that_is_shared(self):
+        """What one process opens and closes is the other's too, unless it has run a program since."""
+        trace = (f"7 1.000000 clone(child_stack=0x55, flags=CLONE_VM|CLONE_FILES) = 8\n8 1.000001 userfaultfd(O_CLOEXEC) = 3{OBJECT}\n"
+                 f"7 1.000002 dup(3{OBJECT}) = 4{OBJECT}\n7 1.000003 close(3{OBJECT}) = 0\n8 1.000004 userfaultfd(O_CLOEXEC) = 3{OBJECT}\n")
+        text, wrong = converted(trace + '7 1.000005 execve("/b", ["b"], 0x0) = 0\n' f"8 1.000006 close(3{OBJECT}) = 0\n")
+        self.assertEqual(wrong, [])
+        is_log(self, text)
+        said = [it.split(" ", 2)[2] for it in text.splitlines()]
+        self.assertEqual(said[2:9], ["7 found 1:3", "7 begin 1 dup 1:3 -", "7 end 1 ok 4", "7 begin 2 close 1:3", "8 dropped 1:3", "7 end 2 ok", "8 begin 2 open syscall 0x80000"])
+        self.assertEqual(said[10:], ["7 started 0 b", "7 found 1:4", "8 begin 3 close 2:3", "8 end 3 ok"])
 
     def test_a_descriptor_that_is_another_file_now(self):
         text, wrong = converted(f"7 1.000000 userfaultfd(0) = 3{OBJECT}\n7 1.000001 read(3<pipe:[1]>, \"a\", 1) = 1\n")

@@ -42,6 +42,21 @@ class Command(unittest.TestCase):
         self.assertEqual(status, 3)
         self.assertTrue(any("kernel: copy: no run of the rules has this answer" in line for line in lines))
 
+    def test_lost_lines(self):
+        """Where lines were lost nothing is certain: neither that a copy is missing, nor that an answer is impossible, nor that all is well."""
+        whole = gzip.decompress(PUSH.read_bytes()).decode()
+        status, lines, _ = self.judged(without(whole, "498") + "lost 2\n")
+        self.assertEqual(status, 5)
+        self.assertEqual(lines[0], "log:1073: monitor or a lost line: read: the page fault that this call has read was not resolved [fault-not-resolved]")
+        self.assertEqual(lines[1], "log:7676: monitor or a lost line: unregister: 1 registered pages from 0x7fd5ae0ad000 on are still missing [page-owed]")
+        self.assertIn(", 0 impossible, 0 not judged, 0 that lost lines may explain", lines[2])
+        self.assertEqual(lines[3], "lines of the log were lost: they may explain each finding, and hide others")
+        status, lines, _ = self.judged(whole.replace(" end 498 ok 4096\n", " end 498 EEXIST -17\n") + "lost 1\n")
+        self.assertEqual(status, 5)
+        self.assertTrue(any("kernel or a lost line: copy: no run of the rules has this answer: the page is missing [unexplained-answer]" in it for it in lines))
+        self.assertTrue(any(", 0 impossible, 0 not judged, 1 that lost lines may explain" in it for it in lines))
+        self.assertEqual(self.judged(whole + "lost 1\n")[0], 5)
+
     def test_unreadable(self):
         done = common.run("judge", "no-such-log")
         self.assertEqual((done.returncode, done.stdout), (2, ""))

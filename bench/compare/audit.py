@@ -188,8 +188,16 @@ def change_mode(lines, rng):
         lines[at] = b" ".join(words[:-1] + [rng.choice((b"0x0", b"0x1", b"0x2", b"0x3", b"8", b"4096"))]) + b"\n"
 
 
+def lose_lines(lines, rng):
+    """Some lines were not written, and a line there or below says how many."""
+    at = rng.randrange(len(lines))
+    lost = lines[at:at + rng.randint(1, 4)]
+    del lines[at:at + len(lost)]
+    lines.insert(rng.randint(at, len(lines)), b"lost %d\n" % len(lost))
+
+
 RAW = (change_byte, change_word, drop_line, double_line, cut_line)
-OF_CALLS = (drop_call, drop_call, exchange_lines, change_answer, change_address, change_mode)
+OF_CALLS = (drop_call, drop_call, lose_lines, exchange_lines, change_answer, change_address, change_mode)
 
 
 def changed_cases(count, seed):

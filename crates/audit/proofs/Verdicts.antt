@@ -1,6 +1,6 @@
 -- What is written of a log, from its parts.
-use Rattle.std.proofs.Common.{◌≡◌, ℕ, ◌+◌, ◌<◌, true, false, List, [], ◌∷◌, ◌++◌, length, Option, Some, None, refl, sym, ap, subst, ◌∙◌, append_assoc, append-nil, length-append, arith}
-use Rattle.std.specs.Prelude.{IfSome, IsSome}
+use Rattle.std.proofs.Common.{◌≡◌, ℕ, ◌+◌, ◌<◌, Bool, true, false, List, [], ◌∷◌, ◌++◌, length, Option, Some, None, refl, sym, ap, subst, ◌∙◌, append_assoc, append-nil, length-append, arith}
+use Rattle.std.specs.Prelude.{IfSome, IsSome, map}
 use Rattle.std.specs.List.{concat}
 use Rattle.std.specs.Io.KnownBytes.{Appends}
 use Rattle.std.proofs.KnownBytes.{Appends-trans}
@@ -11,7 +11,8 @@ use Rattle.audit.specs.declared.certificate.Certificate.{Certificate}
 use Rattle.audit.specs.declared.certificate.Certificate.TheVariants.{Certified, Missing}
 use Rattle.audit.specs.declared.certificate.Totals.{Totals}
 use Rattle.audit.specs.Certificates.{IsCertificate, IsCertifiedInput, Shows}
-use Rattle.audit.specs.Verdicts.{IsFinding, AreFindings, HasVerdict, GoesWith, IsJudged, Audits, Prints, IsReport, certified_verdict, is_certified}
+use Rattle.audit.specs.Verdicts.{IsFinding, AreFindings, HasVerdict, FitsLog, IsWhole, IsSure, GoesWith, IsJudged, Audits, Prints, IsReport, certified_verdict, is_certified}
+use Rattle.kernel_rules.specs.Runs.{event_of}
 use Rattle.call_log.specs.declared.log.ReadLog.{ReadLog}
 use Rattle.call_log.specs.Listing.{IsLog, IsRead, ReadsEntries, ReadsLog}
 use Rattle.log_entries.specs.declared.entry_reader.EntryReader.{EntryReader}
@@ -53,10 +54,28 @@ fits_too verdict.Found (Certified totals) n fits = fits
 fits_too verdict.Found (Missing why) n fits = fits
 fits_too verdict.Impossible (Certified totals) n fits = fits
 fits_too verdict.Impossible (Missing why) n fits = fits
+fits_too verdict.Doubtful (Certified totals) n fits = fits
+fits_too verdict.Doubtful (Missing why) n fits = fits
 fits_too verdict.Undecided (Certified totals) n fits = fits
 fits_too verdict.Undecided (Missing why) n fits = fits
 fits_too verdict.Wrong (Certified totals) n fits = fits
 fits_too verdict.Wrong (Missing why) n fits = fits
+
+whole_too : (v : Verdict) (made : Certificate) (whole : Bool) → FitsLog v whole → FitsLog (certified_verdict v made) whole
+whole_too verdict.Certified (Certified totals) whole fits = fits
+whole_too verdict.Certified (Missing why) whole fits = fits
+whole_too verdict.Clean (Certified totals) whole fits = fits
+whole_too verdict.Clean (Missing why) whole fits = fits
+whole_too verdict.Found (Certified totals) whole fits = fits
+whole_too verdict.Found (Missing why) whole fits = fits
+whole_too verdict.Impossible (Certified totals) whole fits = fits
+whole_too verdict.Impossible (Missing why) whole fits = fits
+whole_too verdict.Doubtful (Certified totals) whole fits = fits
+whole_too verdict.Doubtful (Missing why) whole fits = fits
+whole_too verdict.Undecided (Certified totals) whole fits = fits
+whole_too verdict.Undecided (Missing why) whole fits = fits
+whole_too verdict.Wrong (Certified totals) whole fits = fits
+whole_too verdict.Wrong (Missing why) whole fits = fits
 
 goes_too : (v : Verdict) (made : Certificate) → is_certified v ≡ false → GoesWith made (certified_verdict v made)
 goes_too verdict.Certified (Certified totals) plain = tt
@@ -67,6 +86,8 @@ goes_too verdict.Found (Certified totals) plain = tt
 goes_too verdict.Found (Missing why) plain = tt
 goes_too verdict.Impossible (Certified totals) plain = tt
 goes_too verdict.Impossible (Missing why) plain = tt
+goes_too verdict.Doubtful (Certified totals) plain = tt
+goes_too verdict.Doubtful (Missing why) plain = tt
 goes_too verdict.Undecided (Certified totals) plain = tt
 goes_too verdict.Undecided (Missing why) plain = tt
 goes_too verdict.Wrong (Certified totals) plain = tt
@@ -75,12 +96,29 @@ goes_too verdict.Wrong (Missing why) plain = tt
 pub certified_fits : (v said : Verdict) (made : Certificate) (n : ℕ) → said ≡ certified_verdict v made → HasVerdict v n → HasVerdict said n
 certified_fits v said made n by fits = subst (λ (k : Verdict). HasVerdict k n) (sym by) (fits_too v made n fits)
 
+pub certified_whole : (v said : Verdict) (made : Certificate) (whole : Bool) → said ≡ certified_verdict v made → FitsLog v whole → FitsLog said whole
+certified_whole v said made whole by fits = subst (λ (k : Verdict). FitsLog k whole) (sym by) (whole_too v made whole fits)
+
 pub certified_goes : (v said : Verdict) (made : Certificate) → said ≡ certified_verdict v made → is_certified v ≡ false → GoesWith made said
 certified_goes v said made by plain = subst (λ (k : Verdict). GoesWith made k) (sym by) (goes_too v made plain)
 
 shows_input : (entries : EntryReader) (made : Certificate) (input : List ℕ) (lines : List LogLine) → IsCertificate entries made → IsLog input lines → HasRead lines entries → Shows made input
 shows_input entries (Certified totals) input lines is log has = (lines, log, is lines has)
 shows_input entries (Missing why) input lines is log has = tt
+
+whole_input : (entries : EntryReader) (input : List ℕ) (lines : List LogLine) → IsLog input lines → HasRead lines entries → entries.whole ≡ true → IsWhole input
+whole_input entries input lines log has whole =
+    let read = has whole in
+    (lines, map event_of entries.entries.items, log, read.events)
+
+sure_of : (v : Verdict) (entries : EntryReader) (input : List ℕ) (lines : List LogLine) → IsLog input lines → HasRead lines entries → FitsLog v entries.whole → IsSure v input
+sure_of verdict.Certified entries input lines log has fits = whole_input entries input lines log has fits
+sure_of verdict.Clean entries input lines log has fits = whole_input entries input lines log has fits
+sure_of verdict.Found entries input lines log has fits = whole_input entries input lines log has fits
+sure_of verdict.Impossible entries input lines log has fits = whole_input entries input lines log has fits
+sure_of verdict.Doubtful entries input lines log has fits = tt
+sure_of verdict.Undecided entries input lines log has fits = tt
+sure_of verdict.Wrong entries input lines log has fits = whole_input entries input lines log has fits
 
 with_totals : (made : Certificate) (input : List ℕ) → GoesWith made verdict.Certified → Shows made input → (totals : Totals) × IsCertifiedInput input totals
 with_totals (Certified totals) input goes shows = (totals, shows)
@@ -99,6 +137,7 @@ judged name input read report w0 w1 w2 w3 has is none first wrote =
       are = p.are;
       is = is.is;
       fits = subst (λ (k : ℕ). HasVerdict report.verdict k) (sym p.count) is.fits;
+      sure = sure_of report.verdict read.entries input has.0 has.1 has.2 is.whole;
       goes = is.goes;
       shows = shows_input read.entries is.made input has.0 is.shows has.1 has.2;
       appends = Appends-trans w0 w1 w3 [] (concat p.texts ++ report.summary.items) none (Appends-trans w1 w2 w3 (concat p.texts) report.summary.items found wrote);
@@ -109,6 +148,7 @@ said name input verdict.Certified before after read j = (read, j, with_totals j.
 said name input verdict.Clean before after read j = (read, j)
 said name input verdict.Found before after read j = (read, j)
 said name input verdict.Impossible before after read j = (read, j)
+said name input verdict.Doubtful before after read j = (read, j)
 said name input verdict.Undecided before after read j = (read, j)
 said name input verdict.Wrong before after read j = absurd j.fits
 

@@ -10,8 +10,11 @@ use Rattle.audit.specs.declared.certificate.Certificate.{Certificate}
 use Rattle.audit.specs.declared.certificate.Certificate.TheVariants.{Certified, Missing}
 use Rattle.audit.specs.declared.certificate.Totals.{Totals}
 use Rattle.audit.specs.Certificates.{IsCertificate, IsCertifiedInput, Shows}
+use Rattle.kernel_rules.specs.Runs.{Event}
+use Rattle.log_entries.specs.declared.log_line.LogLine.{LogLine}
+use Rattle.log_entries.specs.Events.{HasEvents}
 use Rattle.call_log.specs.declared.log.ReadLog.{ReadLog}
-use Rattle.call_log.specs.Listing.{HasNoFeed, IsListed, IsRead}
+use Rattle.call_log.specs.Listing.{HasNoFeed, IsListed, IsLog, IsRead}
 
 -- a finding: a name, the line of the log that it is of, and a text
 abbrev pub IsFinding : List ℕ → List ℕ → Type 0
@@ -49,9 +52,26 @@ abbrev pub HasVerdict : Verdict → ℕ → Type 0
 HasVerdict verdict.Certified findings = findings ≡ 0
 HasVerdict verdict.Clean findings = findings ≡ 0
 HasVerdict verdict.Undecided findings = findings ≡ 0
+HasVerdict verdict.Doubtful findings = 0 < findings
 HasVerdict verdict.Found findings = 0 < findings
 HasVerdict verdict.Impossible findings = 0 < findings
 HasVerdict verdict.Wrong findings = ⊥
+
+-- what is said fits whether the log is whole: only where lines were lost is it doubtful, and all but that and what is undecided is said of a whole log alone
+abbrev pub FitsLog : Verdict → Bool → Type 0
+FitsLog verdict.Undecided whole = Unit {0}
+FitsLog verdict.Doubtful whole = whole ≡ false
+FitsLog said whole = whole ≡ true
+
+-- the input is a log of which no line was lost, and each call that ends has begun
+abbrev pub IsWhole : List ℕ → Type 0
+IsWhole input = (lines : List LogLine) × (events : List Event) × IsLog input lines × HasEvents lines events
+
+-- what is said needs a whole log, or is doubtful or undecided
+abbrev pub IsSure : Verdict → List ℕ → Type 0
+IsSure verdict.Undecided input = Unit {0}
+IsSure verdict.Doubtful input = Unit {0}
+IsSure said input = IsWhole input
 
 -- whether a run is said to be certified
 abbrev pub is_certified : Verdict → Bool
@@ -77,6 +97,7 @@ pub record IsJudged (name input : List ℕ) (verdict : Verdict) (before after : 
   pub are : AreFindings name findings
   pub is : IsSummary made summary
   pub fits : HasVerdict verdict (length findings)
+  pub sure : IsSure verdict input
   pub goes : GoesWith made verdict
   pub shows : Shows made input
   pub appends : Appends before after (concat findings ++ summary)
@@ -102,5 +123,6 @@ pub record IsReport (name : List ℕ) (read : ReadLog) (report : Report) : Type 
   pub prints : Prints name number report.findings.items
   pub is : IsSummary made report.summary.items
   pub fits : HasVerdict report.verdict number
+  pub whole : FitsLog report.verdict read.entries.whole
   pub goes : GoesWith made report.verdict
   pub shows : IsCertificate read.entries made

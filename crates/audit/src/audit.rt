@@ -3,6 +3,7 @@
 ghost use Rattle.std.specs.Prelude.{◌≡◌, false, length, OnOk, IfOk, IfSome};
 ghost use Rattle.audit.specs.Verdicts.{
   Audits,
+  FitsLog,
   HasVerdict,
   IsFinding,
   IsReport,
@@ -36,8 +37,10 @@ pub enum Verdict {
     Wrong,
     /// An answer is impossible.
     Impossible,
-    /// A call cannot be judged, and nothing was found.
+    /// A call cannot be judged, or lines of the log were lost, and nothing was found.
     Undecided,
+    /// Something was found, and lines of the log were lost, which may explain it.
+    Doubtful,
 }
 
 /// What a caller asks for.
@@ -87,11 +90,12 @@ fn report_of(alloc: Global, name: &str, read: ReadLog, asked: Asked) -> Result<R
     ensures { IfOk result (λ report. IsReport name.now read report) }
 {
     let ReadLog { log, entries } = read;
+    let whole = entries.whole;
     let judged = judge(alloc, log)?;
-    let found = list_findings(alloc, &judged, asked.late_after)?;
+    let found = list_findings(alloc, &judged, whole, asked.late_after)?;
     let findings = print_findings(alloc, name, &found)?;
-    let judgement = verdict_of(&judged, &found);
-    let front = front_of(alloc, &judged, &found, asked.explains)?;
+    let judgement = verdict_of(&judged, &found, whole);
+    let front = front_of(alloc, &judged, &found, whole, asked.explains)?;
     let certificate = certificate_of(alloc, judged, entries)?;
     let summary = summary(alloc, &front, certificate)?;
     let verdict = certified_verdict(judgement, certificate);
@@ -135,11 +139,19 @@ fn print_findings(alloc: Global, name: &str, found: &[Finding]) -> Result<Vec<u8
     Ok(output)
 }
 
-/// What is said of a log of which these are all findings.
-fn verdict_of(judged: &Judged, found: &[Finding]) -> Verdict
+/// What is said of a log of which these are all findings. `whole` says that no line of it was lost.
+fn verdict_of(judged: &Judged, found: &[Finding], whole: bool) -> Verdict
     ensures verdict { HasVerdict result (length found.now) }
+    ensures log { FitsLog result whole }
     ensures plain { is_certified result ≡ false }
 {
+    if !whole {
+        return if found.is_empty() {
+            Verdict::Undecided
+        } else {
+            Verdict::Doubtful
+        };
+    }
     if !found.is_empty() {
         return if judged.impossible.is_empty() {
             Verdict::Found

@@ -21,6 +21,8 @@ pub(crate) struct Finding {
 #[derive(Drop)]
 struct Findings {
     alloc: Global,
+    /// Whether no line of the log was lost, so that none may explain what is found.
+    whole: bool,
     list: Vec<Finding>,
 }
 
@@ -29,7 +31,8 @@ impl Findings {
     fn push(&mut self, line: u32, rule: Rule, text: &str) -> Result<(), NoMemory> {
         let whose = rule.whose();
         let name = rule.name();
-        let text = format!(in self.alloc; "{whose}: {text} [{name}]")?;
+        let doubt = if self.whole { "" } else { " or a lost line" };
+        let text = format!(in self.alloc; "{whose}{doubt}: {text} [{name}]")?;
         self.list.push(Finding { line, text, rule })?;
         Ok(())
     }
@@ -42,7 +45,12 @@ impl Findings {
         let word = call.word();
         let reason = found.reason;
         let text = format!(in self.alloc; "{word}: no run of the rules has this answer: {reason}")?;
-        self.push(call.begin, Rule::Answer, text.as_str())
+        let rule = if self.whole {
+            Rule::Answer
+        } else {
+            Rule::Unexplained
+        };
+        self.push(call.begin, rule, text.as_str())
     }
 
     /// A call on a page that is not registered.
@@ -164,14 +172,17 @@ fn joined(alloc: Global, owed: &[Owed]) -> Result<Vec<Owed>, NoMemory> {
     Ok(joined)
 }
 
-/// The findings of a log, in the order of their lines. A page fault is late after these microseconds, if any is to be.
+/// The findings of a log, in the order of their lines. Where lines of it were lost they say so. A page fault is late after these microseconds,
+/// if any is to be.
 pub(crate) fn list_findings(
     alloc: Global,
     judged: &Judged,
+    whole: bool,
     late_after: Option<u64>,
 ) -> Result<Vec<Finding>, NoMemory> {
     let mut found = Findings {
         alloc,
+        whole,
         list: Vec::new(alloc),
     };
     let log = &judged.log;

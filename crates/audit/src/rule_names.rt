@@ -5,6 +5,8 @@
 pub(crate) enum Rule {
     /// The kernel answers as its rules say.
     Answer,
+    /// The same, in a log of which lines were lost.
+    Unexplained,
     /// A page is registered when it is put.
     NotRegistered,
     /// It is put once.
@@ -25,8 +27,9 @@ pub(crate) enum Rule {
 
 impl Rule {
     /// All, in the order of docs/AUDIT.md.
-    pub(crate) const ALL: [Rule; 9] = [
+    pub(crate) const ALL: [Rule; 10] = [
         Rule::Answer,
+        Rule::Unexplained,
         Rule::NotRegistered,
         Rule::PutTwice,
         Rule::PresentBefore,
@@ -40,6 +43,7 @@ impl Rule {
     pub(crate) fn name(self) -> &'static str {
         match self {
             Rule::Answer => "impossible-answer",
+            Rule::Unexplained => "unexplained-answer",
             Rule::NotRegistered => "not-registered",
             Rule::PutTwice => "put-twice",
             Rule::PresentBefore => "present-before",
@@ -54,7 +58,7 @@ impl Rule {
     /// Who has not kept it.
     pub(crate) fn whose(self) -> &'static str {
         match self {
-            Rule::Answer => "kernel",
+            Rule::Answer | Rule::Unexplained => "kernel",
             _ => "monitor",
         }
     }
@@ -64,6 +68,9 @@ impl Rule {
         match self {
             Rule::Answer => {
                 "the kernel answered otherwise than its rules, or calls are missing: of the log, or of the monitor (LINUX.md, The userfault object)"
+            }
+            Rule::Unexplained => {
+                "the kernel answered otherwise than its rules, or a line that was lost explains the answer (LINUX.md, The userfault object)"
             }
             Rule::NotRegistered => {
                 "the page was unmapped or moved meanwhile, or the address is wrong (LINUX.md, For authors of a handler)"

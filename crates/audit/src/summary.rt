@@ -146,51 +146,63 @@ pub(crate) struct Front {
     rest: String,
 }
 
-/// The parts of a summary before a certificate is made.
+/// The parts of a summary before a certificate is made. `whole` says that no line of the log was lost.
 pub(crate) fn front_of(
     alloc: Global,
     judged: &Judged,
     found: &[Finding],
+    whole: bool,
     explains: bool,
 ) -> Result<Front, NoMemory> {
+    let mut rest = String::new(alloc);
+    if !whole {
+        rest.push_str(
+            "lines of the log were lost: they may explain each finding, and hide others\n",
+        )?;
+    }
+    add_details(&mut rest, alloc, judged, found, explains)?;
     Ok(Front {
         calls: judged.log.calls.len(),
-        counts: counts(alloc, judged)?,
-        rest: details(alloc, judged, found, explains)?,
+        counts: counts(alloc, judged, whole)?,
+        rest,
     })
 }
 
-/// How many calls there are of each kind.
-fn counts(alloc: Global, judged: &Judged) -> Result<String, NoMemory> {
+/// How many calls there are of each kind. An answer that no rule allows is not impossible where a lost line may explain it.
+fn counts(alloc: Global, judged: &Judged, whole: bool) -> Result<String, NoMemory> {
     let mut text = String::new(alloc);
     let must = count_of(judged, Kind::Must);
     let may = count_of(judged, Kind::May);
-    let impossible = count_of(judged, Kind::Impossible);
+    let refused = count_of(judged, Kind::Impossible);
+    let impossible = if whole { refused } else { 0 };
     let unjudged = count_of(judged, Kind::Unjudged);
     write!(
         text,
         "{must} with the only answer that the rules allow, {may} that an access explains which the log does not show, "
     )?;
     write!(text, "{impossible} impossible, {unjudged} not judged")?;
+    if !whole {
+        write!(text, ", {refused} that lost lines may explain")?;
+    }
     Ok(text)
 }
 
-/// What a summary says after its first lines.
-fn details(
+/// Adds what a summary says after its first lines.
+fn add_details(
+    text: &mut String,
     alloc: Global,
     judged: &Judged,
     found: &[Finding],
     explains: bool,
-) -> Result<String, NoMemory> {
-    let mut text = String::new(alloc);
+) -> Result<(), NoMemory> {
     if let Some(broken) = &judged.broken {
-        add_broken(&mut text, broken)?;
+        add_broken(text, broken)?;
     }
-    add_waits(&mut text, alloc, judged)?;
+    add_waits(text, alloc, judged)?;
     if explains {
-        add_explanation(&mut text, alloc, judged, found)?;
+        add_explanation(text, alloc, judged, found)?;
     }
-    Ok(text)
+    Ok(())
 }
 
 /// Adds a number.

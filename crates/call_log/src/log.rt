@@ -30,8 +30,8 @@ pub struct Log {
     pub messages: Vec<Message>,
     /// The runs of scans, each scan's together.
     pub runs: Vec<PageRun>,
-    /// The processes that the log has seen begin.
-    pub own: IndexSet<u32>,
+    /// The processes that the log has seen begin, with the line of each.
+    pub own: IndexMap<u32, u32>,
     /// Processes, each with an object that it has found.
     pub met: IndexSet<(u32, u64)>,
     /// The objects whose handshake is in the log and whose opening is not, with the address space of the first call on each.
@@ -108,7 +108,7 @@ impl Log {
             ends: Vec::new(alloc),
             messages: Vec::new(alloc),
             runs: Vec::new(alloc),
-            own: IndexSet::new(alloc),
+            own: IndexMap::new(alloc),
             met: IndexSet::new(alloc),
             found: IndexMap::new(alloc),
             last_line: 1,
@@ -238,7 +238,7 @@ impl Log {
         ranges: &IndexSet<Registered>,
         openers: &IndexMap<u64, u32>,
     ) -> u32 {
-        if !call.is_map_call() || self.own.contains(&call.space) {
+        if !call.is_map_call() || self.has_own_space(call) {
             return call.space;
         }
         let Some((start, len)) = call.bytes() else {
@@ -257,6 +257,14 @@ impl Log {
         match (met, found) {
             (Met::One(space), _) | (Met::Several, Met::One(space)) => space,
             _ => call.space,
+        }
+    }
+
+    /// Whether the log has seen the process of a call begin above it.
+    fn has_own_space(&self, call: &LogCall) -> bool {
+        match self.own.get(&call.space) {
+            Some(line) => *line < call.begin,
+            None => false,
         }
     }
 

@@ -163,7 +163,9 @@ impl CallReader {
         self.messages.retain(|message| !open.contains(&message.0));
         self.runs.retain(|run| !open.contains(&run.0));
         self.processes.renew(pid);
-        self.log.own.insert(pid)?;
+        if !self.log.own.contains_key(&pid) {
+            self.log.own.insert(pid, self.line)?;
+        }
         Ok(())
     }
 

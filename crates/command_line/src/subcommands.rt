@@ -17,7 +17,7 @@ const STATUSES: &str = "Exit status:
      an audit found an answer that no kernel gives;
      with --strict also: no entry was checked, a frame was refused, or a test compared no answer
   4  memory ran out, or a thread could not be started
-  5  an audit found nothing, and could not judge all calls
+  5  an audit found nothing and could not judge all calls, or lines of its log were lost
 
 docs/SCRIPT.md has the lines of scripts and transcripts.";
 

@@ -19,7 +19,7 @@ const OPENED: &[u8] =
 const MOST: usize = 1_000;
 
 /// The lines of a trace below those, what is said of it, and what is written.
-static TRACES: [(&'static [u8], Verdict, &'static [u8]); 8] = [
+static TRACES: [(&'static [u8], Verdict, &'static [u8]); 10] = [
     // Nothing is put, and nobody asks.
     (
         b"",
@@ -49,6 +49,18 @@ static TRACES: [(&'static [u8], Verdict, &'static [u8]); 8] = [
         b"8 100.000500 ioctl(5<anon_inode:[userfaultfd]>, UFFDIO_COPY, {dst=0x12000, src=0x50000, len=0x1000, mode=0, copy=0x1000}) = 0 <0.000020>\n",
         Verdict::Impossible,
         b"a line 5.txt:6: kernel: copy: no run of the rules has this answer: not registered, or wrong arguments [impossible-answer]\n4 calls: 3 with the only answer that the rules allow, 0 that an access explains which the log does not show, 1 impossible, 0 not judged\nnot certified: no run was found\n",
+    ),
+    // A process that shares the memory of the first one gives a page back, which is put again.
+    (
+        b"7 100.000500 vfork() = 9 <0.000010>\n8 100.000600 ioctl(5<anon_inode:[userfaultfd]>, UFFDIO_COPY, {dst=0x10000, src=0x50000, len=0x2000, mode=0, copy=0x2000}) = 0 <0.000020>\n9 100.000700 madvise(0x10000, 4096, MADV_DONTNEED) = 0 <0.000020>\n8 100.000800 ioctl(5<anon_inode:[userfaultfd]>, UFFDIO_COPY, {dst=0x10000, src=0x50000, len=0x1000, mode=0, copy=0x1000}) = 0 <0.000020>\n9 100.000900 execve(\"./b\", [\"./b\"], 0x7ffc /* 20 vars */) = 0\n9 100.001000 madvise(0x10000, 4096, MADV_DONTNEED) = 0 <0.000020>\n",
+        Verdict::Certified,
+        b"7 calls: 6 with the only answer that the rules allow, 1 that an access explains which the log does not show, 0 impossible, 0 not judged\ncertified: a kernel of the rules may have answered so; pages owed 0, put twice 0\n",
+    ),
+    // One that has a copy of the memory.
+    (
+        b"7 100.000500 fork() = 9 <0.000010>\n8 100.000600 ioctl(5<anon_inode:[userfaultfd]>, UFFDIO_COPY, {dst=0x10000, src=0x50000, len=0x2000, mode=0, copy=0x2000}) = 0 <0.000020>\n9 100.000700 madvise(0x10000, 4096, MADV_DONTNEED) = 0 <0.000020>\n8 100.000800 ioctl(5<anon_inode:[userfaultfd]>, UFFDIO_COPY, {dst=0x10000, src=0x50000, len=0x1000, mode=0, copy=0x1000}) = 0 <0.000020>\n",
+        Verdict::Impossible,
+        b"a line 5.txt:9: kernel: copy: no run of the rules has this answer: the page is present [impossible-answer]\n7 calls: 5 with the only answer that the rules allow, 1 that an access explains which the log does not show, 1 impossible, 0 not judged\nnot certified: no run was found\n",
     ),
     // A call never returns.
     (

@@ -18,7 +18,7 @@ const OPENED: &[u8] =
 const MOST: usize = 1_000;
 
 /// Two parts below the head, what is said of the log, and what is written.
-static LOGS: [(&'static [u8], &'static [u8], Verdict, &'static [u8]); 11] = [
+static LOGS: [(&'static [u8], &'static [u8], Verdict, &'static [u8]); 14] = [
     (
         OPENED,
         b"",
@@ -66,6 +66,27 @@ static LOGS: [(&'static [u8], &'static [u8], Verdict, &'static [u8]); 11] = [
         b"9 7 8 begin 5 copy 8:5 0x10000 0x50000 0x1000 0\n10 7 8 end 5 EEXIST -17\n",
         Verdict::Impossible,
         b"log:16: kernel: copy: no run of the rules has this answer: the page is missing [impossible-answer]\n5 calls: 4 with the only answer that the rules allow, 0 that an access explains which the log does not show, 1 impossible, 0 not judged\nnot certified: no run was found\n",
+    ),
+    // Lines were lost: the copy of the page that is said to be there may be among them.
+    (
+        OPENED,
+        b"9 7 8 begin 5 copy 8:5 0x10000 0x50000 0x1000 0\n10 7 8 end 5 EEXIST -17\nlost 2\n",
+        Verdict::Doubtful,
+        b"log:16: kernel or a lost line: copy: no run of the rules has this answer: the page is missing [unexplained-answer]\n5 calls: 4 with the only answer that the rules allow, 0 that an access explains which the log does not show, 0 impossible, 0 not judged, 1 that lost lines may explain\nnot certified: no run was found\nlines of the log were lost: they may explain each finding, and hide others\n",
+    ),
+    // The same of the copy for a fault that was read.
+    (
+        OPENED,
+        b"9 7 8 begin 5 read 8:5 32\n10 7 8 message 5 fault 0x10000 1 9\n11 7 8 end 5 ok 1\nlost 2\n",
+        Verdict::Doubtful,
+        b"log:16: monitor or a lost line: read: the page fault that this call has read was not resolved [fault-not-resolved]\n5 calls: 4 with the only answer that the rules allow, 1 that an access explains which the log does not show, 0 impossible, 0 not judged, 0 that lost lines may explain\nnot certified: lines of the log were lost\nlines of the log were lost: they may explain each finding, and hide others\n",
+    ),
+    // A call ends whose begin was lost, and nothing is found.
+    (
+        OPENED,
+        b"lost 1\n9 7 8 end 5 ok 4096\n",
+        Verdict::Undecided,
+        b"4 calls: 4 with the only answer that the rules allow, 0 that an access explains which the log does not show, 0 impossible, 0 not judged, 0 that lost lines may explain\nnot certified: lines of the log were lost\nlines of the log were lost: they may explain each finding, and hide others\n",
     ),
     // The handshake is not in the log.
     (

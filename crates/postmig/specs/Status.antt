@@ -53,6 +53,7 @@ verdict_status verdict.Found = 1
 verdict_status verdict.Wrong = 2
 verdict_status verdict.Impossible = 3
 verdict_status verdict.Undecided = 5
+verdict_status verdict.Doubtful = 5
 
 -- the status of a log that could not be judged
 abbrev pub audit_fault_status : LogFault → ℕ

@@ -57,7 +57,7 @@ pub(crate) fn audit_status_of(outcome: Result<Verdict, LogFault>) -> u8
         Ok(Verdict::Found) => BAD_COMMAND_OR_SCRIPT,
         Ok(Verdict::Wrong) => READ_OR_WRITE_FAULT,
         Ok(Verdict::Impossible) => NO_FLAT_RUN,
-        Ok(Verdict::Undecided) => UNDECIDED,
+        Ok(Verdict::Undecided | Verdict::Doubtful) => UNDECIDED,
         Err(LogFault::NoMemory) => NO_MEMORY,
         Err(_) => READ_OR_WRITE_FAULT,
     }

@@ -2,11 +2,13 @@
 
 mod descriptors;
 mod ioctls;
+mod known;
 mod maps;
 mod objects;
 mod processes;
 mod reads;
 
+use crate::converter::known::Known;
 use crate::files::Files;
 use crate::log::LogText;
 use crate::number::OBJECT;
@@ -24,6 +26,7 @@ struct Maker {
     by: u64,
     is_thread: bool,
     shares_files: bool,
+    shares_memory: bool,
 }
 
 /// A range of addresses.
@@ -39,13 +42,16 @@ pub(crate) struct Converter {
     alloc: Global,
     pub(crate) log: LogText,
     of_thread: IndexMap<u64, u64>,
-    /// The table of each process.
+    /// The set of descriptors of each process. Processes may share one.
     files: IndexMap<u64, usize>,
-    /// The set of descriptors of each table. execve gives a table a new one.
-    tables: Vec<usize>,
     sets: Vec<Files>,
+    /// What the log has said of each process.
+    known: IndexMap<u64, Known>,
     parents: IndexMap<u64, u64>,
     last_object: u64,
+    last_memory: u64,
+    /// The memory with which each object was opened.
+    memories: IndexMap<u64, u64>,
     made: IndexMap<u64, Maker>,
     /// What was registered, or moved from there, in the whole trace.
     ranges: IndexSet<Range>,
@@ -87,10 +93,12 @@ impl Converter {
             log,
             of_thread: IndexMap::new(alloc),
             files: IndexMap::new(alloc),
-            tables: Vec::new(alloc),
             sets: Vec::new(alloc),
+            known: IndexMap::new(alloc),
             parents: IndexMap::new(alloc),
             last_object: 0,
+            last_memory: 0,
+            memories: IndexMap::new(alloc),
             made: IndexMap::new(alloc),
             ranges: IndexSet::new(alloc),
         })

@@ -151,11 +151,11 @@ pub(crate) fn dump_of(alloc: Global, line: &[u8]) -> Result<Option<Vec<u8>>, All
         return Ok(None);
     };
     for _ in 0..16 {
-        let Some((byte, behind)) = dump_byte(rest) else {
+        let Some((byte, after)) = dump_byte(rest) else {
             break;
         };
         found.push(byte)?;
-        rest = behind;
+        rest = after;
     }
     if !rest.starts_with(b" ") {
         found.pop();

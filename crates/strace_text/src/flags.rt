@@ -208,11 +208,11 @@ fn without_comments(alloc: Global, text: &[u8]) -> Result<Vec<u8>, Stop> {
         let Some((before, comment)) = split_once(rest, b"/*") else {
             break;
         };
-        let Some((_, behind)) = split_once(comment, b"*/") else {
+        let Some((_, after)) = split_once(comment, b"*/") else {
             break;
         };
         out.extend_from_slice(before)?;
-        rest = behind;
+        rest = after;
     }
     out.extend_from_slice(rest)?;
     Ok(out)
@@ -224,11 +224,11 @@ pub(crate) fn flags(alloc: Global, text: &[u8], names: Names) -> Result<u64, Sto
     let mut rest = trimmed(&text);
     let mut value = 0;
     for _ in 0..text.len() {
-        let Some((word, behind)) = split_once(rest, b"|") else {
+        let Some((word, after)) = split_once(rest, b"|") else {
             break;
         };
         value |= flag(alloc, trimmed(word), names)?;
-        rest = behind;
+        rest = after;
     }
     let last = flag(alloc, trimmed(rest), names)?;
     Ok(value | last)

@@ -104,7 +104,7 @@ pub(crate) fn bracketed(text: &[u8]) -> Option<(&[u8], &[u8])> {
 pub(crate) fn descriptor_at(text: &[u8]) -> Option<Printed<'_>> {
     let (word, rest) = descriptor_word(text)?;
     let (path, rest) = match bracketed(rest) {
-        Some((path, behind)) => (Some(path), behind),
+        Some((path, after)) => (Some(path), after),
         None => (None, rest),
     };
     Some(Printed { word, path, rest })
@@ -135,10 +135,10 @@ pub(crate) fn without_paths(alloc: Global, text: &[u8]) -> Result<Vec<u8>, Stop>
     let mut rest = text;
     for _ in 0..text.len() {
         match (bracketed(rest), rest) {
-            (Some((_, behind)), _) => rest = behind,
-            (None, [byte, behind @ ..]) => {
+            (Some((_, after)), _) => rest = after,
+            (None, [byte, after @ ..]) => {
                 out.push(*byte)?;
-                rest = behind;
+                rest = after;
             }
             (None, []) => break,
         }

@@ -16,7 +16,7 @@ pub(crate) enum After {
     /// A set has no such descriptor, unless it is another object's.
     Release { set: usize, fd: u64, object: u64 },
     /// The process runs a program with these words.
-    Start { table: usize, words: String },
+    Start(String),
 }
 
 /// What a call becomes: the words of the line that begins it, those of the messages that it has read, and those of its end. No end if it

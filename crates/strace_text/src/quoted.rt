@@ -62,12 +62,12 @@ pub(crate) fn unescape(alloc: Global, out: &mut Vec<u8>, text: &[u8]) -> Result<
         if rest.is_empty() {
             break;
         }
-        let Some((byte, behind)) = string_byte(rest) else {
+        let Some((byte, after)) = string_byte(rest) else {
             let shown = Shown(rest.get(..2).unwrap_or(rest));
             return Err(refused(format!(in alloc; "'{shown}' in a string")));
         };
         out.push(byte)?;
-        rest = behind;
+        rest = after;
     }
     Ok(())
 }
@@ -90,8 +90,8 @@ pub(crate) fn closed(text: &[u8]) -> Option<(&[u8], &[u8])> {
 pub(crate) fn next_string(text: &[u8]) -> Option<(&[u8], &[u8])> {
     let mut rest = text;
     for _ in 0..text.len() {
-        let (_, behind) = split_at_byte(rest, b'"')?;
-        rest = behind;
+        let (_, after) = split_at_byte(rest, b'"')?;
+        rest = after;
         if let Some(found) = closed(rest) {
             return Some(found);
         }
@@ -104,11 +104,11 @@ pub(crate) fn all_strings(alloc: Global, text: &[u8]) -> Result<Vec<u8>, Stop> {
     let mut out = Vec::new(alloc);
     let mut rest = text;
     for _ in 0..text.len() {
-        let Some((string, behind)) = next_string(rest) else {
+        let Some((string, after)) = next_string(rest) else {
             break;
         };
         unescape(alloc, &mut out, string)?;
-        rest = behind;
+        rest = after;
     }
     Ok(out)
 }
@@ -119,16 +119,16 @@ fn decode_path<'a>(out: &mut Vec<u8>, text: &'a [u8]) -> Result<Option<&'a [u8]>
     let mut rest = text;
     for _ in 0..text.len() {
         match rest {
-            [b'\\', b'x', high, low, behind @ ..] => {
+            [b'\\', b'x', high, low, after @ ..] => {
                 let Some(byte) = hex_byte(*high, *low) else {
                     break;
                 };
                 out.push(byte)?;
-                rest = behind;
+                rest = after;
             }
-            [b'>', behind @ ..] if out.len() > before => {
+            [b'>', after @ ..] if out.len() > before => {
                 out.push(b'>')?;
-                return Ok(Some(behind));
+                return Ok(Some(after));
             }
             _ => break,
         }

@@ -57,13 +57,13 @@ pub(crate) fn read_trace(alloc: Global, text: &[u8]) -> Result<Trace, NoMemory> 
             break;
         }
         number = number.saturating_add(1);
-        let Some((line, behind)) = split_at_byte(rest, b'\n') else {
+        let Some((line, after)) = split_at_byte(rest, b'\n') else {
             reader.note_cut(number)?;
             break;
         };
         let taken = reader.take(number, line);
         reader.note(number, taken)?;
-        rest = behind;
+        rest = after;
     }
     reader.finish()
 }

@@ -139,11 +139,11 @@ pub(crate) fn comma_parts<'a>(alloc: Global, text: &'a [u8]) -> Result<Vec<&'a [
     let mut parts = Vec::new(alloc);
     let mut rest = text;
     for _ in 0..text.len() {
-        let Some((part, behind)) = split_once(rest, b", ") else {
+        let Some((part, after)) = split_once(rest, b", ") else {
             break;
         };
         parts.push(part)?;
-        rest = behind;
+        rest = after;
     }
     parts.push(rest)?;
     Ok(parts)

@@ -254,6 +254,7 @@ impl Writer {
         let Some(end) = &one.plan.end else {
             return Ok(());
         };
+        self.converter.tell_of_end(call, &one.plan.after)?;
         let number = one.number;
         for message in &one.plan.messages {
             let said = format!(in self.alloc; "message {number} {message}")?;
@@ -268,11 +269,11 @@ impl Writer {
     fn do_after(&mut self, call: &Traced, after: After) -> Result<(), Stop> {
         match after {
             After::Nothing => Ok(()),
-            After::Start { table, words } => {
+            After::Start(words) => {
                 self.converter
-                    .start(call.left_at, call.thread, table, words.as_str())
+                    .start(call.left_at, call.thread, words.as_str())
             }
-            after => self.converter.change(call.thread, after),
+            after => self.converter.change(call, after),
         }
     }
 
@@ -286,6 +287,7 @@ impl Writer {
         if left > 0 {
             return Ok(());
         }
+        self.converter.drop_all(call.entered_at, thread)?;
         self.converter.write(call.entered_at, thread, "exit")
     }
 }

@@ -36,6 +36,7 @@ impl Converter {
     fn closing(&mut self, call: &Traced, on: On) -> Result<Plan, Stop> {
         let set = self.set_of(call.thread)?;
         let On { object, fd } = on;
+        self.tell(call.entered_at, call.thread, fd)?;
         let begin = format!(in self.alloc; "close {object}:{fd}")?;
         let end = answer(self.alloc, call, "")?;
         let mut plan = Plan::new(self.alloc, begin, end);

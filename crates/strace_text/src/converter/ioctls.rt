@@ -122,8 +122,8 @@ fn fields<'a>(alloc: Global, text: &'a [u8]) -> Result<Vec<Field<'a>>, Stop> {
     let mut found = Vec::new(alloc);
     let mut rest = text;
     for _ in 0..text.len() {
-        let (name, behind) = front(rest, Class::Word);
-        match (behind.strip_prefix(b"="), behind.split_first()) {
+        let (name, after_name) = front(rest, Class::Word);
+        match (after_name.strip_prefix(b"="), after_name.split_first()) {
             (Some(value), _) if Class::Small.has_all(name) && !name.is_empty() => {
                 let (value, after) = front(value, Class::Value);
                 if !value.is_empty() {
@@ -219,6 +219,8 @@ impl Converter {
         }
         let fd = descriptor(alloc, &call.returned)?;
         let object = self.new_object();
+        let memory = self.memory_of(call.thread)?;
+        self.memories.insert(object, memory)?;
         let closes = bits & CLOSES_ON_EXEC != 0;
         let mut made = Vec::new(alloc);
         made.push(Held { fd, object, closes })?;

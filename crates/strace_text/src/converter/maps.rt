@@ -29,6 +29,7 @@ impl Converter {
         if !self.meets(range) && !self.meets(other) {
             return self.none();
         }
+        self.tell_of_borrowed_memory(call.entered_at, call.thread)?;
         let returned = if address && call.has_succeeded() {
             Shown(first_word(&call.returned))
         } else {

@@ -5,6 +5,7 @@ use crate::files::{Files, Held};
 use crate::number::{OBJECT, Printed, decimal, descriptor_at, not_a_number};
 use crate::plan::After;
 use crate::stop::Stop;
+use crate::traced::Traced;
 
 /// A descriptor of a call.
 #[derive(Clone, Copy)]
@@ -20,30 +21,26 @@ impl Converter {
         self.last_object
     }
 
-    /// The table of a process, which has no descriptor if it is new.
-    pub(super) fn table_of(&mut self, process: u64) -> Result<usize, Stop> {
-        if let Some(table) = self.files.get(&process) {
-            return Ok(*table);
+    /// The set of descriptors of a process, which has none if it is new.
+    pub(super) fn set_of_process(&mut self, process: u64) -> Result<usize, Stop> {
+        if let Some(set) = self.files.get(&process) {
+            return Ok(*set);
         }
-        let table = self.new_table(Files::new(self.alloc))?;
-        self.files.insert(process, table)?;
-        Ok(table)
+        let set = self.new_set(Files::new(self.alloc))?;
+        self.files.insert(process, set)?;
+        Ok(set)
     }
 
-    /// A new table, with a set of its own.
-    pub(super) fn new_table(&mut self, files: Files) -> Result<usize, Stop> {
+    pub(super) fn new_set(&mut self, files: Files) -> Result<usize, Stop> {
         let set = self.sets.len();
         self.sets.push(files)?;
-        let table = self.tables.len();
-        self.tables.push(set)?;
-        Ok(table)
+        Ok(set)
     }
 
     /// The set of descriptors of a thread.
     pub(super) fn set_of(&mut self, thread: u64) -> Result<usize, Stop> {
         let process = self.process_of(thread)?;
-        let table = self.table_of(process)?;
-        Ok(self.tables.get(table).copied().unwrap_or(0))
+        self.set_of_process(process)
     }
 
     pub(super) fn held(&self, set: usize, fd: u64) -> Option<Held> {
@@ -81,6 +78,7 @@ impl Converter {
         };
         let set = self.set_of(thread)?;
         self.meet(time, thread, &found, set, fd)?;
+        self.tell(time, thread, fd)?;
         match self.held(set, fd) {
             Some(held) => Ok(Some(On {
                 object: held.object,
@@ -90,7 +88,7 @@ impl Converter {
         }
     }
 
-    /// Adds the line of a descriptor that is or is not an object contrary to what the log knows.
+    /// A descriptor is or is not an object's, contrary to what was seen before.
     fn meet(
         &mut self,
         time: u64,
@@ -104,60 +102,46 @@ impl Converter {
         };
         let is_object = path == OBJECT;
         match self.held(set, fd) {
-            None if is_object => self.find(time, thread, set, fd),
-            Some(held) if !is_object => {
-                let object = held.object;
+            None if is_object => {
+                let object = self.new_object();
+                let closes = false;
+                self.put(set, Held { fd, object, closes })
+            }
+            Some(_) if !is_object => {
                 self.remove(set, fd);
-                let said = format!(in self.alloc; "dropped {object}:{fd}")?;
-                self.write(time, thread, said.as_str())
+                self.tell_others(time, thread, fd)
             }
             _ => Ok(()),
         }
     }
 
-    /// A descriptor of a new object is found.
-    fn find(&mut self, time: u64, thread: u64, set: usize, fd: u64) -> Result<(), Stop> {
-        let object = self.new_object();
-        let closes = false;
-        self.put(set, Held { fd, object, closes })?;
-        let said = format!(in self.alloc; "found {object}:{fd}")?;
-        self.write(time, thread, said.as_str())
+    /// Whether a descriptor is this object's.
+    pub(super) fn is_held(&self, set: usize, on: On) -> bool {
+        self.held(set, on.fd)
+            .is_some_and(|held| held.object == on.object)
     }
 
-    /// Adds a line for each descriptor of a new process.
-    pub(super) fn announce(&mut self, time: u64, thread: u64) -> Result<(), Stop> {
-        let set = self.set_of(thread)?;
-        let Some(files) = self.sets.get(set) else {
-            return Ok(());
-        };
-        let files = files.copy(self.alloc, false)?;
-        for held in &files.held {
-            let object = held.object;
-            let fd = held.fd;
-            let said = format!(in self.alloc; "found {object}:{fd}")?;
-            self.write(time, thread, said.as_str())?;
+    /// Tells what a call that returned has changed for other processes.
+    pub(crate) fn tell_of_end(&mut self, call: &Traced, after: &After) -> Result<(), Stop> {
+        match *after {
+            After::Release { set, fd, object } if self.is_held(set, On { object, fd }) => {
+                self.tell_others(call.left_at, call.thread, fd)
+            }
+            _ => Ok(()),
         }
-        Ok(())
     }
 
     /// Changes descriptors after a call.
-    pub(crate) fn change(&mut self, thread: u64, after: After) -> Result<(), Stop> {
+    pub(crate) fn change(&mut self, call: &Traced, after: After) -> Result<(), Stop> {
+        let time = call.left_at;
+        let thread = call.thread;
         match after {
             After::Bind(made) => {
                 let set = self.set_of(thread)?;
-                for held in &made {
-                    self.put(set, *held)?;
-                }
-                Ok(())
+                self.bind(time, thread, set, &made)
             }
-            After::BindIn { set, held } => self.put(set, held),
-            After::Release { set, fd, object } => {
-                // Another thread may have been given the number before this line.
-                if self.held(set, fd).is_some_and(|held| held.object == object) {
-                    self.remove(set, fd);
-                }
-                Ok(())
-            }
+            After::BindIn { set, held } => self.bind(time, thread, set, &[held]),
+            After::Release { set, fd, object } => self.release(thread, set, On { object, fd }),
             After::Nothing | After::Start { .. } => Ok(()),
         }
     }

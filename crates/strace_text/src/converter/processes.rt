@@ -1,6 +1,7 @@
 //! Threads, the processes of which they are, and the programs that these run.
 
 use super::{Converter, Maker, Range};
+use crate::files::Files;
 use crate::number::{decimal, hexadecimal};
 use crate::plan::{After, Plan, answer, one};
 use crate::quoted::{closed, next_string, unescape};
@@ -26,9 +27,9 @@ fn field(text: &[u8], front: &[u8]) -> Option<u64> {
         if let (false, Some((digits, _))) = (Class::Word.has(before), digits) {
             return Some(hexadecimal(digits));
         }
-        let (first, behind) = found.split_first()?;
+        let (first, after) = found.split_first()?;
         before = *first;
-        rest = behind;
+        rest = after;
     }
     None
 }
@@ -39,8 +40,8 @@ fn list_of(arguments: &[u8]) -> Option<&[u8]> {
     let rest = rest.strip_prefix(b"...").unwrap_or(rest);
     let list = rest.strip_prefix(b", [")?;
     for (at, byte) in list.iter().enumerate() {
-        let behind = &list[at + 1..];
-        if *byte == b']' && (behind.is_empty() || behind.starts_with(b", ")) {
+        let after = &list[at + 1..];
+        if *byte == b']' && (after.is_empty() || after.starts_with(b", ")) {
             return Some(&list[..at]);
         }
     }
@@ -69,7 +70,7 @@ fn words_of(alloc: Global, list: &[u8]) -> Result<String, Stop> {
     let mut out = String::new(alloc);
     let mut rest = list;
     for _ in 0..list.len() {
-        let Some((string, behind)) = next_string(rest) else {
+        let Some((string, after)) = next_string(rest) else {
             break;
         };
         if !out.is_empty() {
@@ -78,7 +79,7 @@ fn words_of(alloc: Global, list: &[u8]) -> Result<String, Stop> {
         let mut bytes = Vec::new(alloc);
         unescape(alloc, &mut bytes, string)?;
         encode(&mut out, &bytes)?;
-        rest = behind;
+        rest = after;
     }
     Ok(out)
 }
@@ -129,6 +130,8 @@ impl Converter {
             by: call.thread,
             is_thread: call.has_argument(b"CLONE_THREAD"),
             shares_files: call.has_argument(b"CLONE_FILES"),
+            shares_memory: call.name.as_slice() == b"vfork".as_slice()
+                || call.has_argument(b"CLONE_VM"),
         };
         self.made.insert(child, maker)?;
         Ok(())
@@ -162,36 +165,33 @@ impl Converter {
         }
     }
 
-    /// A new process has the descriptors of its parent.
+    /// A new process has the descriptors of its parent, and a copy of its memory or this itself.
     fn adopt_process(&mut self, thread: u64, time: u64, maker: Maker) -> Result<(), Stop> {
         self.of_thread.insert(thread, thread)?;
         let parent = self.process_of(maker.by)?;
         self.parents.insert(thread, parent)?;
-        let shared = self.table_of(parent)?;
-        let table = if maker.shares_files {
+        let shared = self.set_of_process(parent)?;
+        let set = if maker.shares_files {
             shared
         } else {
-            self.copied_table(shared, false)?
+            self.copied_set(shared, false)?
         };
-        self.files.insert(thread, table)?;
+        self.files.insert(thread, set)?;
+        if maker.shares_memory {
+            return self.borrow_memory(thread, maker.by);
+        }
         let said = format!(in self.alloc; "forked {parent}")?;
         self.write(time, thread, said.as_str())?;
         self.announce(time, thread)
     }
 
-    /// The descriptors of a table, or those alone that survive execve.
-    fn copied_files(&self, table: usize, survives: bool) -> Result<crate::files::Files, Stop> {
-        let set = self.tables.get(table).copied().unwrap_or(0);
-        match self.sets.get(set) {
-            Some(files) => Ok(files.copy(self.alloc, survives)?),
-            None => Ok(crate::files::Files::new(self.alloc)),
-        }
-    }
-
-    /// A new table with the descriptors of another one.
-    fn copied_table(&mut self, table: usize, survives: bool) -> Result<usize, Stop> {
-        let files = self.copied_files(table, survives)?;
-        self.new_table(files)
+    /// A new set with the descriptors of another one, or with those alone that survive execve.
+    fn copied_set(&mut self, set: usize, survives: bool) -> Result<usize, Stop> {
+        let files = match self.sets.get(set) {
+            Some(files) => files.copy(self.alloc, survives)?,
+            None => Files::new(self.alloc),
+        };
+        self.new_set(files)
     }
 
     /// A fork. What makes a thread, or shares the memory, is none of the language.
@@ -217,32 +217,21 @@ impl Converter {
         }
         let list = list_of(&call.arguments).unwrap_or(b"".as_slice());
         let words = shortened(self.alloc, words_of(self.alloc, list)?)?;
-        let process = self.process_of(call.thread)?;
-        let table = self.table_of(process)?;
         let plan = Plan {
             begin: None,
             messages: Vec::new(self.alloc),
             end: None,
-            after: After::Start { table, words },
+            after: After::Start(words),
         };
         one(self.alloc, plan)
     }
 
     /// A process runs a program from now on, and has the descriptors that survive.
-    pub(crate) fn start(
-        &mut self,
-        time: u64,
-        thread: u64,
-        table: usize,
-        words: &str,
-    ) -> Result<(), Stop> {
-        let files = self.copied_files(table, true)?;
-        let set = self.sets.len();
-        self.sets.push(files)?;
-        if let Some(place) = self.tables.get_mut(table) {
-            *place = set;
-        }
+    pub(crate) fn start(&mut self, time: u64, thread: u64, words: &str) -> Result<(), Stop> {
         let process = self.process_of(thread)?;
+        let set = self.set_of_process(process)?;
+        let set = self.copied_set(set, true)?;
+        self.files.insert(process, set)?;
         let parent = self.parents.get(&process).copied().unwrap_or(0);
         let said = format!(in self.alloc; "started {parent} {words}")?;
         self.write(time, thread, said.as_str())?;

@@ -29,13 +29,13 @@ fn sum_of_lengths(arguments: &[u8]) -> Option<u64> {
     let mut sum: u64 = 0;
     let mut rest = arguments;
     for _ in 0..arguments.len() {
-        let Some((_, behind)) = split_once(rest, b"iov_len=") else {
+        let Some((_, after)) = split_once(rest, b"iov_len=") else {
             break;
         };
-        if let Some((digits, _)) = some_front(behind, Class::Digit) {
+        if let Some((digits, _)) = some_front(after, Class::Digit) {
             sum = sum.checked_add(crate::number::decimal(digits)?)?;
         }
-        rest = behind;
+        rest = after;
     }
     Some(sum)
 }
@@ -72,13 +72,13 @@ fn events_at<'a>(alloc: Global, returned: &'a [u8], fd: u64) -> Result<Option<&'
     let front = format!(in alloc; "{{fd={fd}")?;
     let mut rest = returned;
     for _ in 0..returned.len() {
-        let Some((_, behind)) = split_once(rest, front.as_bytes()) else {
+        let Some((_, after)) = split_once(rest, front.as_bytes()) else {
             break;
         };
-        if let Some(events) = events_of(behind) {
+        if let Some(events) = events_of(after) {
             return Ok(Some(events));
         }
-        rest = behind;
+        rest = after;
     }
     Ok(None)
 }
@@ -107,8 +107,8 @@ fn after_path(text: &[u8]) -> Option<&[u8]> {
 fn next_polled(text: &[u8]) -> Option<(&[u8], &[u8])> {
     let mut rest = text;
     for _ in 0..text.len() {
-        let (_, behind) = split_once(rest, b"{fd=")?;
-        rest = behind;
+        let (_, after) = split_once(rest, b"{fd=")?;
+        rest = after;
         let Some(found) = descriptor_at(rest) else {
             continue;
         };
@@ -210,10 +210,10 @@ impl Converter {
         let mut plans = Vec::new(alloc);
         let mut rest = call.arguments.as_slice();
         for _ in 0..call.arguments.len() {
-            let Some((text, behind)) = next_polled(rest) else {
+            let Some((text, after)) = next_polled(rest) else {
                 break;
             };
-            rest = behind;
+            rest = after;
             if let Some(on) = self.object_at(call.entered_at, call.thread, text)? {
                 plans.push(polled(alloc, call, on)?)?;
             }
