@@ -1,13 +1,15 @@
 -- What the checker of runs has shown of a log.
-use Rattle.std.proofs.Common.{◌≡◌, ◌==◌, ◌&&◌, ◌∙◌, ℕ, Bool, true, false, List, length, Option, Some, None, if◌then◌else◌, refl, sym, ap, subst}
+use Rattle.std.proofs.Common.{◌≡◌, ◌==◌, ◌&&◌, ◌∙◌, ℕ, Bool, true, false, List, [], ◌∷◌, ◌++◌, length, Option, Some, None, if◌then◌else◌, refl, sym, ap, subst}
 use Rattle.std.specs.Prelude.{IfSome, map, option_map}
 use Rattle.kernel_rules.specs.declared.kernel_table.KernelTable.{KernelTable}
 use Rattle.kernel_rules.specs.declared.run.Entry.{Entry}
 use Rattle.kernel_rules.specs.declared.run.Move.{Move}
-use Rattle.kernel_rules.specs.Certified.{IsCertified, certified, steps_of}
+use Rattle.kernel_rules.specs.Certified.{IsCertified, IsReached, Place, certified, fresh_place, moved, moved_all, steps_of}
 use Rattle.kernel_rules.specs.Held.{kernel_of}
 use Rattle.kernel_rules.specs.Runs.{event_of, finished}
 use Rattle.kernel_rules.specs.State.{Kernel}
+use Rattle.kernel_rules.specs.Worlds.{if_made}
+use Rattle.kernel_rules.proofs.Laws.{moved_more}
 use Rattle.log_entries.specs.declared.entry_reader.EntryReader.{EntryReader}
 use Rattle.log_entries.specs.declared.log_line.LogLine.{LogLine}
 use Rattle.log_entries.specs.Readers.{HasRead}
@@ -23,6 +25,22 @@ unfolding kernel_of
 may_be log run old new totals made done owed twice =
     let end : finished made.0.kernel ≡ kernel_of new = ap finished made.2 ∙ sym done in
     (steps_of log 0 run, made.0, made.1, owed ∙ sym (ap (λ (k : Kernel). length k.owed) end), twice ∙ sym (ap (λ (k : Kernel). length k.twice) end))
+
+-- A run that is checked move by move
+
+pub reached_first : (log : List Entry) (first : Place) → first ≡ fresh_place → IsReached log first
+reached_first log first fresh = ([], ap (λ (p : Place). Some p) (sym fresh))
+
+pub made_more : (log : List Entry) (mid after : Place) (step : Move) (made : Bool) → IsReached log mid → moved log mid step ≡ if_made made after → (run : List Move) × (moved_all log fresh_place run ≡ if_made made after)
+made_more log mid after step made reached is = (reached.0 ++ step ∷ [], moved_more log fresh_place mid reached.0 step (if_made made after) reached.1 is)
+
+pub reached_more : (log : List Entry) (mid after : Place) (step : Move) (made : Bool) → IsReached log mid → moved log mid step ≡ if_made made after → made ≡ true → IsReached log after
+reached_more log mid after step true reached is made = made_more log mid after step true reached is
+reached_more log mid after step false reached is made = absurd (cc)
+
+pub refused_more : (log : List Entry) (mid after : Place) (step : Move) (made : Bool) → IsReached log mid → moved log mid step ≡ if_made made after → made ≡ false → (run : List Move) × (moved_all log fresh_place run ≡ if_made false after)
+refused_more log mid after step true reached is made = absurd (cc)
+refused_more log mid after step false reached is made = made_more log mid after step false reached is
 
 -- The numbers that the checker finds
 

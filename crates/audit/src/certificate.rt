@@ -1,18 +1,21 @@
 //! Certificates: a run that was found is handed to the checker of `kernel_rules`, which is proved.
 
 ghost use Rattle.std.specs.Prelude.{◌≡◌, true, map, option_map, List, IfNone, IfOk, IfSome};
-ghost use Rattle.kernel_rules.specs.Certified.{certified};
+ghost use Rattle.kernel_rules.specs.Certified.{certified, fresh_place, moved_all, IsReached};
+ghost use Rattle.kernel_rules.specs.declared.run.Move.{Move as MoveOf};
+ghost use Rattle.kernel_rules.specs.Held.{AreTables};
 ghost use Rattle.kernel_rules.specs.Runs.{event_of};
+ghost use Rattle.kernel_rules.specs.Worlds.{if_made, place_of};
 ghost use Rattle.log_entries.specs.declared.log_line.LogLine.{LogLine};
 ghost use Rattle.log_entries.specs.Readers.{HasRead};
 ghost use Rattle.audit.specs.Certificates.{IsCertificate, MayBe, certificate_from, totals_at_end};
 
 use crate::judging::Judged;
-use crate::moves::moves_of;
+use crate::moves::Moves;
 use call_log::log::Log;
 use call_log::log_call::LogCall;
-use kernel_rules::certify::certify;
-use kernel_rules::{Entry, Move};
+use kernel_rules::Entry;
+use kernel_rules::certify::WorldTable;
 use log_entries::EntryReader;
 use mig_base::{NoMemory, PAGE_SIZE};
 use std::alloc::Global;
@@ -124,8 +127,8 @@ fn settle(log: &Log, entries: &mut EntryReader)
         let Some(call) = log.call(place) else {
             return;
         };
-        if u64::from(call.begin) == key {
-            entries.settle(at, u64::from(call.space), call.last);
+        if call.begin == key {
+            entries.settle(at, call.space, call.last);
             place = place.saturating_add(1);
         }
     }
@@ -149,15 +152,39 @@ fn totals_of(judged: &Judged) -> Totals {
     }
 }
 
-/// Has a run checked, and the kernel at its end judged as the log ends.
-fn check(alloc: Global, entries: &[Entry], moves: &[Move]) -> Result<Option<Totals>, NoMemory>
-    ensures run { IfOk result (λ found. IfSome found (MayBe (map event_of entries.now))) }
-    ensures exact { IfOk result (λ found.
-        found ≡ option_map totals_at_end (certified entries.now moves.now)) }
+/// Makes moves until none is left. False where the checker refuses one.
+fn make_all(world: &mut WorldTable, entries: &[Entry], moves: &mut Moves) -> Result<bool, NoMemory>
+    requires tables { AreTables world.old.kernel }
+    requires reached { IsReached entries.now (place_of world.old) }
+    ensures tables { AreTables world.new.kernel }
+    ensures run { IfOk result (λ ok. (run : List MoveOf) ×
+        (moved_all entries.now fresh_place run ≡ if_made ok (place_of world.new))) }
 {
-    let Some(mut kernel) = certify(alloc, entries, moves)? else {
+    for _ in 0..moves.most(entries) {
+        let Some(step) = moves.next(entries) else {
+            return Ok(true);
+        };
+        if !world.step(entries, step)? {
+            return Ok(false);
+        }
+    }
+    Ok(true)
+}
+
+/// Has a run checked, move by move, and the kernel at its end judged as the log ends.
+fn check(alloc: Global, entries: &[Entry], moves: &mut Moves) -> Result<Option<Totals>, NoMemory>
+    ensures run { IfOk result (λ found. IfSome found (MayBe (map event_of entries.now))) }
+    ensures exact { IfOk result (λ found. (run : List MoveOf) ×
+        (found ≡ option_map totals_at_end (certified entries.now run))) }
+{
+    let mut world = WorldTable::new(alloc);
+    if !make_all(&mut world, entries, moves)? {
         return Ok(None);
-    };
+    }
+    if world.next != entries.len() {
+        return Ok(None);
+    }
+    let mut kernel = world.kernel;
     kernel.finish()?;
     Ok(Some(Totals {
         owed: kernel.owed.len(),
@@ -190,11 +217,11 @@ pub(crate) fn certificate_of(
     }
     let mut entries = entries;
     settle(&judged.log, &mut entries);
-    let Some(moves) = moves_of(alloc, &judged, &entries.entries)? else {
-        return Ok(Certificate::Missing(Missing::Told));
-    };
     let wanted = totals_of(&judged);
-    drop(judged);
-    let found = check(alloc, &entries.entries, &moves)?;
+    let mut moves = Moves::new(alloc, judged, &entries.entries)?;
+    if !moves.are_known() {
+        return Ok(Certificate::Missing(Missing::Told));
+    }
+    let found = check(alloc, &entries.entries, &mut moves)?;
     Ok(decide(found, wanted))
 }

@@ -27,18 +27,11 @@ impl Judged {
     }
 }
 
-/// Judges a log.
-pub(crate) fn judge(alloc: Global, mut log: Log) -> Result<Judged, NoMemory> {
-    log.complete(alloc)?;
+/// Looks for a run of a log. What only the search needs is gone then, and its pages, since the replay has its own.
+fn found_in(alloc: Global, log: Log) -> Result<Judged, NoMemory> {
     let mut search = Search::new(alloc, log)?;
     search.search()?;
-    // What the search found is noted by now, and the replay has a kernel of its own.
     search.kernel.spaces.clear();
-    let replayed = if search.impossible.is_empty() {
-        Some(replay_run(alloc, &search.log, &search.run)?)
-    } else {
-        None
-    };
     let Search {
         log,
         kernel,
@@ -46,37 +39,26 @@ pub(crate) fn judge(alloc: Global, mut log: Log) -> Result<Judged, NoMemory> {
         run,
         ..
     } = search;
-    Ok(match replayed {
-        None => Judged {
-            log,
-            kernel,
-            impossible,
-            broken: None,
-            run,
-        },
-        Some(
-            Replayed {
-                kernel: _,
-                broken: Some(broken),
-            },
-        ) => Judged {
-            log,
-            kernel,
-            impossible,
-            broken: Some(broken),
-            run,
-        },
-        Some(
-            Replayed {
-                kernel: replayed,
-                broken: None,
-            },
-        ) => Judged {
-            log,
-            kernel: replayed,
-            impossible,
-            broken: None,
-            run,
-        },
+    Ok(Judged {
+        log,
+        kernel,
+        impossible,
+        broken: None,
+        run,
+    })
+}
+
+/// Judges a log.
+pub(crate) fn judge(alloc: Global, mut log: Log) -> Result<Judged, NoMemory> {
+    log.complete(alloc)?;
+    let judged = found_in(alloc, log)?;
+    if !judged.impossible.is_empty() {
+        return Ok(judged);
+    }
+    let Replayed { kernel, broken } = replay_run(alloc, &judged.log, &judged.run)?;
+    Ok(if broken.is_some() {
+        Judged { broken, ..judged }
+    } else {
+        Judged { kernel, ..judged }
     })
 }

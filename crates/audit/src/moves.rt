@@ -1,4 +1,4 @@
-//! A run that was found, as the moves that the checker of `kernel_rules` takes.
+//! A run that was found, as the moves that the checker of `kernel_rules` takes, one after another.
 
 use crate::judging::Judged;
 use crate::replay::sorted_late;
@@ -9,156 +9,185 @@ use mig_base::NoMemory;
 use std::alloc::Global;
 use uffd_log::Answer;
 
-/// The moves so far.
+/// Where a call begins and ends: the number of its first line, and the entry of its end.
+#[derive(Clone, Copy)]
+struct Span {
+    key: u32,
+    end: u32,
+}
+
+/// How far the opening of an object that was found has come, whose two entries are no lines of calls.
+#[derive(Clone, Copy)]
+enum Opening {
+    Nothing,
+    Begun(u32),
+    Opened,
+}
+
+/// The moves of a run from its next one on. A log is not needed for them: of each call there is a span.
 #[derive(Drop)]
-struct Moves<'a> {
-    log: &'a Log,
-    run: &'a Run,
+pub(crate) struct Moves {
+    run: Run,
     late: Vec<Late>,
-    /// The entry where each call ends.
-    ends: Vec<u32>,
+    spans: Vec<Span>,
     /// The next step, and the next one that was put in later.
     next: usize,
     next_late: usize,
-    moves: Vec<Move>,
+    /// The next entry.
+    at: usize,
+    /// How many calls have begun, and how many of their lines were passed.
+    begun: u32,
+    lines: u32,
+    opening: Opening,
 }
 
-impl Moves<'_> {
-    fn push(&mut self, step: Move) -> Result<(), NoMemory> {
-        self.moves.push(step)?;
-        Ok(())
+impl Moves {
+    /// The moves of the run that was found, of a log with these entries.
+    pub(crate) fn new(alloc: Global, judged: Judged, entries: &[Entry]) -> Result<Moves, NoMemory> {
+        let spans = spans_of(alloc, &judged.log, entries)?;
+        let late = sorted_late(alloc, &judged.run)?;
+        let Judged { run, .. } = judged;
+        Ok(Moves {
+            run,
+            late,
+            spans,
+            next: 0,
+            next_late: 0,
+            at: 0,
+            begun: 0,
+            lines: 0,
+            opening: Opening::Nothing,
+        })
     }
 
-    /// The steps before the next line. Whether all have moves.
-    fn add_steps(&mut self, lines: u32) -> Result<bool, NoMemory> {
-        for place in self.next..self.run.steps.len() {
-            let Some(step) = self.run.steps.get(place).copied() else {
-                break;
-            };
-            if step.lines != lines {
-                break;
+    /// Whether each step is one that the checker knows: no map call has something to tell an object.
+    pub(crate) fn are_known(&self) -> bool {
+        self.run
+            .steps
+            .iter()
+            .all(|step| self.move_of(step.what).is_some())
+            && self
+                .late
+                .iter()
+                .all(|step| self.move_of(step.what).is_some())
+    }
+
+    /// No more moves than this are left.
+    pub(crate) fn most(&self, entries: &[Entry]) -> usize {
+        entries
+            .len()
+            .saturating_mul(2)
+            .saturating_add(self.run.steps.len())
+            .saturating_add(self.late.len())
+    }
+
+    /// The next move. `None` at the end.
+    pub(crate) fn next(&mut self, entries: &[Entry]) -> Option<Move> {
+        match self.opening {
+            Opening::Begun(key) => {
+                self.opening = Opening::Opened;
+                let at = self.at;
+                Some(Move::Effect { key, at })
             }
-            if !self.add_late(place)? || !self.add_step(step.what)? {
-                return Ok(false);
+            Opening::Opened => {
+                self.opening = Opening::Nothing;
+                self.at = self.at.saturating_add(1);
+                Some(Move::Line)
             }
-            self.next = place.saturating_add(1);
+            Opening::Nothing => self.next_before(entries.get(self.at)),
         }
-        Ok(true)
     }
 
-    /// The steps that were put in before one.
-    fn add_late(&mut self, place: usize) -> Result<bool, NoMemory> {
-        for late in self.next_late..self.late.len() {
-            let Some(step) = self.late.get(late).copied() else {
-                break;
-            };
-            if step.before as usize > place {
-                break;
+    /// The next move before an entry or at it: the beginning of an opening, a step, or the line of a call.
+    fn next_before(&mut self, entry: Option<&Entry>) -> Option<Move> {
+        if let Some(Entry::Begins { key, .. }) = entry {
+            let key = *key;
+            if !self.is_begin(key) {
+                self.opening = Opening::Begun(key);
+                self.at = self.at.saturating_add(1);
+                return Some(Move::Line);
             }
-            if !self.add_step(step.what)? {
-                return Ok(false);
-            }
-            self.next_late = late.saturating_add(1);
         }
-        Ok(true)
+        if let Some(what) = self.next_step() {
+            return self.move_of(what);
+        }
+        self.next_line(entry?)
     }
 
-    fn add_step(&mut self, what: What) -> Result<bool, NoMemory> {
+    /// The line of an entry of a call.
+    fn next_line(&mut self, entry: &Entry) -> Option<Move> {
+        if matches!(entry, Entry::Begins { .. }) {
+            self.begun = self.begun.saturating_add(1);
+        }
+        self.at = self.at.saturating_add(1);
+        self.lines = self.lines.saturating_add(1);
+        Some(Move::Line)
+    }
+
+    /// The next step before the next line.
+    fn next_step(&mut self) -> Option<What> {
+        let step = self.run.steps.get(self.next).copied()?;
+        if step.lines != self.lines {
+            return None;
+        }
+        if let Some(late) = self.late.get(self.next_late).copied() {
+            if late.before as usize <= self.next {
+                self.next_late = self.next_late.saturating_add(1);
+                return Some(late.what);
+            }
+        }
+        self.next = self.next.saturating_add(1);
+        Some(step.what)
+    }
+
+    /// Whether the next call begins with the line of this number.
+    fn is_begin(&self, key: u32) -> bool {
+        match self.spans.get(self.begun as usize) {
+            Some(span) => span.key == key,
+            None => false,
+        }
+    }
+
+    /// The move of a step, if the checker knows it.
+    fn move_of(&self, what: What) -> Option<Move> {
         match what {
-            What::Effect(place) => self.add_effect(place),
-            What::Unseen(place) => {
-                let Some(unseen) = self.run.unseen.get(place as usize).copied() else {
-                    return Ok(false);
-                };
-                self.add_unseen(unseen)
+            What::Effect(place) => {
+                let span = self.spans.get(place as usize)?;
+                Some(Move::Effect {
+                    key: span.key,
+                    at: span.end as usize,
+                })
             }
+            What::Unseen(place) => move_unseen(self.run.unseen.get(place as usize).copied()?),
         }
-    }
-
-    fn add_unseen(&mut self, unseen: Unseen) -> Result<bool, NoMemory> {
-        let step = match unseen {
-            Unseen::Sees {
-                thread,
-                object,
-                page,
-                flags,
-            } => Move::Sees {
-                thread,
-                object,
-                page,
-                flags,
-            },
-            Unseen::Queues { thread } => Move::Queues { thread },
-            Unseen::Leaves { thread } => Move::Leaves { thread },
-            Unseen::Tells { .. } | Unseen::Clears { .. } => return Ok(false),
-        };
-        self.push(step)?;
-        Ok(true)
-    }
-
-    /// A call takes effect, with its ending.
-    fn add_effect(&mut self, place: u32) -> Result<bool, NoMemory> {
-        let (Some(call), Some(at)) = (self.log.call(place), self.ends.get(place as usize)) else {
-            return Ok(false);
-        };
-        let key = u64::from(call.begin);
-        let at = *at as usize;
-        self.push(Move::Effect { key, at })?;
-        Ok(true)
-    }
-
-    /// The opening of an object that was found, whose entries are these.
-    fn add_opening(&mut self, key: u64, at: usize) -> Result<(), NoMemory> {
-        self.push(Move::Line)?;
-        let at = at.saturating_add(1);
-        self.push(Move::Effect { key, at })?;
-        self.push(Move::Line)
-    }
-
-    /// All lines, with the steps between them. Whether all have moves.
-    fn add_lines(&mut self, entries: &[Entry]) -> Result<bool, NoMemory> {
-        let mut begun = 0u32;
-        let mut lines = 0u32;
-        let mut opened = None;
-        for at in 0..entries.len() {
-            let Some(entry) = entries.get(at) else {
-                break;
-            };
-            if let Entry::Begins(made) = entry {
-                if !is_begin(self.log, begun, made.key) {
-                    opened = Some(made.key);
-                    self.add_opening(made.key, at)?;
-                    continue;
-                }
-                begun = begun.saturating_add(1);
-            }
-            if is_end(entry, opened) {
-                opened = None;
-                continue;
-            }
-            if !self.add_steps(lines)? {
-                return Ok(false);
-            }
-            self.push(Move::Line)?;
-            lines = lines.saturating_add(1);
-        }
-        self.add_steps(lines)
     }
 }
 
-/// Whether the call at a place begins with the line of this number.
-fn is_begin(log: &Log, place: u32, key: u64) -> bool {
-    match log.call(place) {
-        Some(call) => u64::from(call.begin) == key,
-        None => false,
+/// The move of what a log does not show, if the checker knows it.
+fn move_unseen(unseen: Unseen) -> Option<Move> {
+    match unseen {
+        Unseen::Sees {
+            thread,
+            object,
+            page,
+            flags,
+        } => Some(Move::Sees {
+            thread,
+            object,
+            page,
+            flags,
+        }),
+        Unseen::Queues { thread } => Some(Move::Queues { thread }),
+        Unseen::Leaves { thread } => Some(Move::Leaves { thread }),
+        Unseen::Tells { .. } | Unseen::Clears { .. } => None,
     }
 }
 
 /// Whether an entry is the end of a call.
-fn is_end(entry: &Entry, call: Option<u64>) -> bool {
+fn is_end(entry: &Entry, call: u32) -> bool {
     match entry {
-        Entry::Ends { key, .. } => call == Some(*key),
-        Entry::Begins(_) => false,
+        Entry::Ends { key, .. } => call == *key,
+        Entry::Begins { .. } => false,
     }
 }
 
@@ -174,54 +203,25 @@ fn done_entry(entries: &[Entry]) -> u32 {
     u32::MAX
 }
 
-/// The entry where each call ends. One that never returned is given the ending of a call that was done.
-fn ends_of(alloc: Global, log: &Log, entries: &[Entry]) -> Result<Vec<u32>, NoMemory> {
-    let other = done_entry(entries);
-    let mut ends = Vec::with_capacity(alloc, log.calls.len())?;
-    for _ in &log.calls {
-        ends.push(other)?;
+/// The span of each call. One that never returned is given the ending of a call that was done.
+fn spans_of(alloc: Global, log: &Log, entries: &[Entry]) -> Result<Vec<Span>, NoMemory> {
+    let end = done_entry(entries);
+    let mut spans = Vec::with_capacity(alloc, log.calls.len())?;
+    for call in &log.calls {
+        let key = call.begin;
+        spans.push(Span { key, end })?;
     }
     let mut next = 0usize;
     for at in 0..entries.len() {
-        let Some(place) = log.ends.get(next).copied() else {
+        let (Some(entry), Some(place)) = (entries.get(at), log.ends.get(next).copied()) else {
             break;
         };
-        let key = match log.call(place) {
-            Some(call) => u64::from(call.begin),
-            None => 0,
-        };
-        let Some(entry) = entries.get(at) else {
-            break;
-        };
-        if is_end(entry, Some(key)) {
-            if let Some(end) = ends.get_mut(place as usize) {
-                *end = u32::try_from(at).unwrap_or(u32::MAX);
+        if let Some(span) = spans.get_mut(place as usize) {
+            if is_end(entry, span.key) {
+                span.end = u32::try_from(at).unwrap_or(u32::MAX);
+                next = next.saturating_add(1);
             }
-            next = next.saturating_add(1);
         }
     }
-    Ok(ends)
-}
-
-/// The moves of the run that was found. `None` where a step of it has none.
-pub(crate) fn moves_of(
-    alloc: Global,
-    judged: &Judged,
-    entries: &[Entry],
-) -> Result<Option<Vec<Move>>, NoMemory> {
-    let ends = ends_of(alloc, &judged.log, entries)?;
-    let mut moves = Moves {
-        log: &judged.log,
-        run: &judged.run,
-        late: sorted_late(alloc, &judged.run)?,
-        ends,
-        next: 0,
-        next_late: 0,
-        moves: Vec::new(alloc),
-    };
-    if !moves.add_lines(entries)? {
-        return Ok(None);
-    }
-    let Moves { moves, .. } = moves;
-    Ok(Some(moves))
+    Ok(spans)
 }

@@ -225,7 +225,7 @@ impl<'a> LogReader<'a> {
             return Ok(());
         };
         let opens = self.calls.is_new(&line);
-        let number = u64::from(self.line);
+        let number = self.line;
         self.entries.take(LogLine { number, line }, opens)
     }
 

@@ -8,6 +8,7 @@ use Rattle.std.proofs.Math.Seq.{take-length}
 use Rattle.std.proofs.lemmas.List.Elements.{filter_map-append}
 use Rattle.mig_base.specs.Tests.{is_empty}
 use Rattle.mig_base.proofs.TestLemmas.{and_first, and_second}
+use Rattle.uffd_log.specs.declared.call.Call.{Call}
 use Rattle.uffd_log.specs.declared.line.Answer.{Answer}
 use Rattle.uffd_log.specs.declared.line.Answer.TheVariants.{Interrupted}
 use Rattle.kernel_rules.specs.declared.certify.BegunCall.{BegunCall}
@@ -20,7 +21,7 @@ use Rattle.kernel_rules.specs.declared.run.Move.TheVariants as move
 use Rattle.kernel_rules.specs.Certified.{Place, affected, at_end, certified, effected, ended_at, entered, find_of, fresh_place, is_ended_by, is_mremap, judged, lined, moved, moved_all, next_after, others_than, outcome_in, quiet, read_on, ruled, step_of, steps_of, then_moved, IsCertified}
 use Rattle.kernel_rules.specs.Faults.{sees, queues, leaves}
 use Rattle.kernel_rules.specs.MapCalls.{may_return, returned}
-use Rattle.kernel_rules.specs.Runs.{IsClean, Begun, Outcome, Step, World, begins, begun_of, effect, effect_at_end, ends, event_of, line, line_of, lines_of, outcome_of, takes, thread_leaves, thread_queues, thread_sees, without_begun, world_with, IsStep, Leads}
+use Rattle.kernel_rules.specs.Runs.{IsClean, Begun, Outcome, Step, World, begins, begun_of, effect, effect_at_end, ends, event_of, line, line_of, lines_of, made_with, outcome_of, takes, thread_leaves, thread_queues, thread_sees, without_begun, world_with, IsStep, Leads}
 use Rattle.kernel_rules.specs.State.{Kernel}
 use Rattle.kernel_rules.specs.Held.{kernel_of}
 use Rattle.kernel_rules.specs.Worlds.{if_made}
@@ -73,17 +74,17 @@ pub record Advance (log : List Entry) (old : Place) (step : Move) (new : Place) 
   pub lines : map event_of (take new.next log) ≡ map event_of (take old.next log) ++ option_to_list (line_of made)
   pub next : new.next ≡ next_after old.next step
 
-begin_advances : (log : List Entry) (old : Place) (made : Made) → find_of old.begun made.key ≡ None → slice_get log old.next ≡ Some (entry.Begins made)
-    → Advance log old move.Line (read_on (record old { begun = old.begun ++ record { made = made; at = None } ∷ [] }))
-begin_advances log old made fresh here =
+begin_advances : (log : List Entry) (old : Place) (last : Bool) (key space : ℕ) (c : Call) → find_of old.begun key ≡ None → slice_get log old.next ≡ Some (entry.Begins last key space c)
+    → Advance log old move.Line (read_on (record old { begun = old.begun ++ record { made = made_with last key space c; at = None } ∷ [] }))
+begin_advances log old last key space c fresh here =
     record {
-      made = line (begins made);
+      made = line (begins (made_with last key space c));
       is = ap (option_map (λ (e : Entry). line (event_of e))) here;
       leads = (
-        found_in log old.begun made.key ∙ ap (option_map (begun_in log)) fresh,
-        ap (λ (b : List Begun). record (world_of log old) { begun = b }) (map-append (begun_in log) old.begun (record { made = made; at = None } ∷ [])),
+        found_in log old.begun key ∙ ap (option_map (begun_in log)) fresh,
+        ap (λ (b : List Begun). record (world_of log old) { begun = b }) (map-append (begun_in log) old.begun (record { made = made_with last key space c; at = None } ∷ [])),
       );
-      lines = rw add-one (taken_more log old.next (entry.Begins made) here);
+      lines = rw add-one (taken_more log old.next (entry.Begins last key space c) here);
       next = refl;
     }
 
@@ -113,12 +114,13 @@ end_advances log old key one ending found here may =
     }
 
 entry_advances : (log : List Entry) (old new : Place) (one : Entry) → slice_get log old.next ≡ Some one → option_map read_on (entered old one) ≡ Some new → Advance log old move.Line new
-entry_advances log old new (entry.Begins made) here is =
-    elim (find_of old.begun made.key) as (λ o. find_of old.begun made.key ≡ o → option_map read_on (if is_some o then None else Some (record old { begun = old.begun ++ record { made = made; at = None } ∷ [] })) ≡ Some new → Advance log old move.Line new) [
+entry_advances log old new (entry.Begins last key space c) here is =
+    elim (find_of old.begun key) as (λ o. find_of old.begun key ≡ o → option_map read_on (if is_some o then None else Some (record old { begun = old.begun ++ record { made = made_with last key space c; at = None } ∷ [] })) ≡ Some new
+    → Advance log old move.Line new) [
       | Some one ↦ λ e h. absurd cc
       | None ↦ λ e h.
-          let same : read_on (record old { begun = old.begun ++ record { made = made; at = None } ∷ [] }) ≡ new = cc in
-          subst (λ (p : Place). Advance log old move.Line p) same (begin_advances log old made e here)
+          let same : read_on (record old { begun = old.begun ++ record { made = made_with last key space c; at = None } ∷ [] }) ≡ new = cc in
+          subst (λ (p : Place). Advance log old move.Line p) same (begin_advances log old last key space c e here)
     ] refl is
 entry_advances log old new (entry.Ends key ending) here is =
     elim (find_of old.begun key) as (λ o. find_of old.begun key ≡ o → option_map read_on (ended_at old key ending.answer o) ≡ Some new → Advance log old move.Line new) [
@@ -267,6 +269,24 @@ certified_run log run kernel is =
       | None ↦ λ e h. absurd cc
       | Some last ↦ λ e h. ended_run log run last kernel e h
     ] refl is
+
+-- A run that is made move by move
+
+then_some : (o : Option Place) → then_moved o (λ next. Some next) ≡ o
+then_some None = refl
+then_some (Some next) = refl
+
+-- one move more, where it leads if it is made
+pub moved_more : (log : List Entry) (first mid : Place) (run : List Move) (step : Move) (after : Option Place) → moved_all log first run ≡ Some mid → moved log mid step ≡ after
+    → moved_all log first (run ++ step ∷ []) ≡ after
+moved_more log first mid [] step after at is =
+    let same : first ≡ mid = cc in
+    then_some (moved log first step) ∙ ap (λ (p : Place). moved log p step) same ∙ is
+moved_more log first mid (one ∷ run) step after at is =
+    elim (moved log first one) as (λ o. then_moved o (λ next. moved_all log next run) ≡ Some mid → then_moved o (λ next. moved_all log next (run ++ step ∷ [])) ≡ after) [
+      | None ↦ λ h. absurd cc
+      | Some next ↦ λ h. moved_more log next mid run step after h is
+    ] at
 
 -- Tables of a run
 

@@ -14,7 +14,7 @@ use Rattle.kernel_rules.specs.declared.run.Move.{Move}
 use Rattle.kernel_rules.specs.declared.run.Move.TheVariants as move
 use Rattle.kernel_rules.specs.Faults.{sees, queues, leaves}
 use Rattle.kernel_rules.specs.MapCalls.{may_return, returned}
-use Rattle.kernel_rules.specs.Runs.{Outcome, Step, World, effect, event_of, line, outcome_of, takes, thread_leaves, thread_queues, thread_sees, IsRun}
+use Rattle.kernel_rules.specs.Runs.{Outcome, Step, World, effect, event_of, line, made_with, outcome_of, takes, thread_leaves, thread_queues, thread_sees, IsRun}
 use Rattle.kernel_rules.specs.State.{Kernel, fresh_kernel}
 
 -- The run that moves are
@@ -22,7 +22,7 @@ use Rattle.kernel_rules.specs.State.{Kernel, fresh_kernel}
 -- the outcome of an entry, if a call ends there
 abbrev pub outcome_in : Option Entry → Option Outcome
 outcome_in None = None
-outcome_in (Some (entry.Begins made)) = None
+outcome_in (Some (entry.Begins last key space c)) = None
 outcome_in (Some (entry.Ends key ending)) = Some (outcome_of ending)
 
 -- the step of a move, where `next` is the next entry of the log
@@ -105,7 +105,7 @@ ended_at place key answer (Some one) =
 
 -- the line of an entry
 abbrev pub entered : Place → Entry → Option Place
-entered place (entry.Begins made) = begun_at place made
+entered place (entry.Begins last key space c) = begun_at place (made_with last key space c)
 entered place (entry.Ends key ending) = ended_at place key ending.answer (find_of place.begun key)
 
 -- one entry more is read
@@ -151,6 +151,10 @@ then_moved (Some place) rest = rest place
 abbrev pub moved_all : List Entry → Place → List Move → Option Place
 moved_all log place [] = Some place
 moved_all log place (move ∷ moves) = then_moved (moved log place move) (λ next. moved_all log next moves)
+
+-- moves lead from the beginning to this place
+abbrev pub IsReached : List Entry → Place → Type 0
+IsReached log place = (run : List Move) × (moved_all log fresh_place run ≡ Some place)
 
 -- the kernel at the end of a log, if each entry was read
 abbrev pub at_end : List Entry → Option Place → Option Kernel

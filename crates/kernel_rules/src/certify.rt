@@ -19,7 +19,7 @@ pub struct BegunCall {
     pub at: Option<usize>,
 }
 
-/// A kernel, the calls that have begun and not ended, and the next entry of the log.
+/// A checker of a run: a kernel, the calls that have begun and not ended, and the next entry of the log.
 #[derive(Drop)]
 pub struct WorldTable {
     pub kernel: KernelTable,
@@ -28,7 +28,7 @@ pub struct WorldTable {
 }
 
 /// A call that has begun, by its number.
-fn find_begun(begun: &[BegunCall], key: u64) -> Option<BegunCall>
+fn find_begun(begun: &[BegunCall], key: u32) -> Option<BegunCall>
     ensures { result ≡ find_of begun.now key }
 {
     for one in begun {
@@ -40,7 +40,7 @@ fn find_begun(begun: &[BegunCall], key: u64) -> Option<BegunCall>
 }
 
 /// Takes a call away.
-fn remove_begun(begun: &mut Vec<BegunCall>, key: u64)
+fn remove_begun(begun: &mut Vec<BegunCall>, key: u32)
     ensures { begun.new.items ≡ others_than key begun.old.items }
 {
     begun.retain(|one| one.made.key != key);
@@ -70,7 +70,7 @@ fn ending_at(log: &[Entry], at: usize) -> Option<&Ending>
 
 impl WorldTable {
     /// Nothing has happened.
-    fn new(alloc: Global) -> WorldTable
+    pub fn new(alloc: Global) -> WorldTable
         ensures tables { AreTables result.kernel }
         ensures fresh { place_of result ≡ fresh_place }
     {
@@ -109,7 +109,7 @@ impl WorldTable {
     }
 
     /// A call ends, if it has begun and has taken effect so.
-    fn end(&mut self, key: u64, answer: Answer) -> bool
+    fn end(&mut self, key: u32, answer: Answer) -> bool
         requires { AreTables self.old.kernel }
         ensures tables { AreTables self.new.kernel }
         ensures next { self.new.next ≡ self.old.next }
@@ -135,7 +135,17 @@ impl WorldTable {
             entered (place_of self.old) one.now ≡ if_made ok (place_of self.new)) }
     {
         match one {
-            Entry::Begins(made) => self.begin(*made),
+            Entry::Begins {
+                last,
+                key,
+                space,
+                call,
+            } => self.begin(Made {
+                key: *key,
+                space: *space,
+                call: *call,
+                last: *last,
+            }),
             Entry::Ends { key, ending } => Ok(self.end(*key, ending.answer)),
         }
     }
@@ -159,7 +169,7 @@ impl WorldTable {
     }
 
     /// A call has taken effect: it stays begun, with its entry.
-    fn note_effect(&mut self, key: u64, made: Made, at: usize) -> Result<(), NoMemory>
+    fn note_effect(&mut self, key: u32, made: Made, at: usize) -> Result<(), NoMemory>
         ensures noted { OnOk result (self.new.begun.items ≡
             others_than key self.old.begun.items
             ++ record { made = made; at = Some at } ∷ []) }
@@ -170,7 +180,7 @@ impl WorldTable {
     }
 
     /// A call takes effect with the ending in an entry, if it has begun and has not taken effect.
-    fn effect(&mut self, log: &[Entry], key: u64, at: usize) -> Result<bool, NoMemory>
+    fn effect(&mut self, log: &[Entry], key: u32, at: usize) -> Result<bool, NoMemory>
         requires { AreTables self.old.kernel }
         ensures tables { AreTables self.new.kernel }
         ensures step { IfOk result (λ ok.
@@ -193,9 +203,9 @@ impl WorldTable {
         Ok(true)
     }
 
-    /// A move of a run. False where no rule allows it, or it is of a call that is not followed. After `NoMemory`, or then, a table is not
-    /// to be used.
-    fn step(&mut self, log: &[Entry], step: Move) -> Result<bool, NoMemory>
+    /// Makes the next move of a run of the log. False where no rule allows it, or it is of a call that is not followed. After `NoMemory`, or
+    /// then, a table is not to be used.
+    pub fn step(&mut self, log: &[Entry], step: Move) -> Result<bool, NoMemory>
         requires { AreTables self.old.kernel }
         ensures tables { AreTables self.new.kernel }
         ensures step { IfOk result (λ ok.

@@ -110,7 +110,7 @@ impl KernelTable {
             (on_object (kernel_of self.old) made.key name object made.last (outcome_of ending.now)
             made.call) ≡ allowed ok (kernel_of self.new)) }
     {
-        let (key, answer) = (made.key, ending.answer);
+        let (key, answer) = (u64::from(made.key), ending.answer);
         match made.call {
             Call::Copy { to, len, mode, .. } => {
                 self.puts(key, name, object, to, len, mode, 3, answer)
@@ -159,7 +159,7 @@ impl KernelTable {
             }
             Call::Wake { start, len, .. } => self.wakes(name, object, start, len, answer),
             Call::Scan { start, len, .. } => {
-                self.scans(object, start, len, &ending.runs, answer)
+                self.scans(object, start, len, ending.runs(), answer)
             }
             _ => Ok(false),
         }
@@ -182,11 +182,11 @@ impl KernelTable {
             on_object (kernel_of self.old) made.key name object made.last (outcome_of ending.now)
             made.call ≡ allowed ok (kernel_of self.new)) }
     {
-        let answer = ending.answer;
+        let (key, answer) = (u64::from(made.key), ending.answer);
         match made.call {
             Call::Api { api, features, .. } => self.api(name, object, api, features, answer),
             Call::Read { room, .. } => {
-                self.reads(made.key, name, object, room, &ending.messages, answer)
+                self.reads(key, name, object, room, &ending.messages, answer)
             }
             Call::Poll { .. } => Ok(self.polls(name, object, answer)),
             Call::NonBlock { set, .. } => self.unblocks(name, object, set, answer),
@@ -227,13 +227,14 @@ impl KernelTable {
             else on_space (kernel_of self.old) made.key made.space (outcome_of ending.now)
             made.call) ≡ allowed ok (kernel_of self.new)) }
     {
-        let (space, answer) = (made.space, ending.answer);
+        let (key, space) = (u64::from(made.key), u64::from(made.space));
+        let answer = ending.answer;
         match made.call {
             Call::Open { flags, .. } => self.open(space, flags, answer),
-            Call::Mmap { len, .. } => self.mmaps(made.key, space, len, answer),
-            Call::Munmap { addr, len } => self.munmaps(made.key, space, addr, len, answer),
+            Call::Mmap { len, .. } => self.mmaps(key, space, len, answer),
+            Call::Munmap { addr, len } => self.munmaps(key, space, addr, len, answer),
             Call::Madvise { addr, len, advice } => {
-                self.madvises(made.key, space, addr, len, advice, answer)
+                self.madvises(key, space, addr, len, advice, answer)
             }
             Call::Fork => Ok(true),
             _ => Ok(false),

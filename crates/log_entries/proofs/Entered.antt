@@ -16,7 +16,7 @@ use Rattle.kernel_rules.specs.declared.run.Entry.{Entry}
 use Rattle.kernel_rules.specs.declared.run.Entry.TheVariants as entry
 use Rattle.kernel_rules.specs.declared.run.Made.{Made}
 use Rattle.mig_base.specs.Tests.{is_empty}
-use Rattle.kernel_rules.specs.Runs.{Event, Outcome, begins, ends, event_of, outcome_of}
+use Rattle.kernel_rules.specs.Runs.{Event, Outcome, begins, ends, event_of, outcome_of, runs_in}
 use Rattle.uffd_log.specs.declared.call.Message.{Message}
 use Rattle.kernel_rules.specs.declared.run.Run.{Run}
 use Rattle.log_entries.specs.declared.log_line.LogLine.{LogLine}
@@ -51,13 +51,14 @@ events_more entries entry = ap (map said_of) (map-append event_of entries (entry
 said_line : (one : LogLine) (l : Line) (lines after : List LogLine) → with_line one l lines ≡ after → (l2 : Line) → l2 ≡ l → with_line one l2 lines ≡ after
 said_line one l lines after e l2 is = ap (λ (k : Line). with_line one k lines) is ∙ e
 
-pub begun : (lines : List LogLine) (old new : EntryReader) (one : LogLine) (stamp : Stamp) (n : ℕ) (c : Call) → one.line ≡ line.Begin stamp n c → new.whole ≡ old.whole → new.kept.items ≡ others stamp.pid n old.kept.items ++ one ∷ []
-    → new.entries.items ≡ old.entries.items ++ entry.Begins (made_by one.number stamp c) ∷ [] → HasRead lines old → HasRead (lines ++ one ∷ []) new
-begun lines old new one stamp n c is whole kept entries has = λ w.
+pub begun : (lines : List LogLine) (old new : EntryReader) (one : LogLine) (stamp : Stamp) (n : ℕ) (c : Call) (begin : Entry) → one.line ≡ line.Begin stamp n c → new.whole ≡ old.whole → new.kept.items ≡ others stamp.pid n old.kept.items ++ one ∷ []
+    → event_of begin ≡ begins (made_by one.number stamp c) → new.entries.items ≡ old.entries.items ++ begin ∷ [] → HasRead lines old → HasRead (lines ++ one ∷ []) new
+begun lines old new one stamp n c begin is whole kept begins_is entries has = λ w.
     let h = has (subst (λ (b : Bool). IsTrue b) whole w) in
     let own_events : List Event = begins (said (made_by one.number stamp c)) ∷ [] in
     has_push lines old.kept.items new.kept.items old.entries.items new.entries.items one own_events h
-    (ap (λ (l : List Entry). map said_of (map event_of l)) entries ∙ events_more old.entries.items (entry.Begins (made_by one.number stamp c)))
+    (ap (λ (l : List Entry). map said_of (map event_of l)) entries ∙ events_more old.entries.items begin
+    ∙ ap (λ (v : Event). map said_of (map event_of old.entries.items) ++ said_of v ∷ []) begins_is)
     (let P : Line → Type 0 = λ l. AreOwn (onto lines []) one.number l own_events in subst P (sym is) refl)
     (λ pid m.
     ap (λ (l : List LogLine). own pid m l) kept ∙ own_begun pid m stamp.pid n old.kept.items one (ap (λ (l : Line). is_of pid m l) is)
@@ -172,25 +173,26 @@ passed lines old new one events of o whole entries kept has = λ w.
 
 -- An object is found
 
-pub outcome_is : (a : Answer) (ending : Ending) → ending.answer ≡ a → ending.messages.items ≡ [] → ending.runs.items ≡ [] → outcome_of ending ≡ record { answer = a; messages = []; runs = [] }
+pub outcome_is : (a : Answer) (ending : Ending) → ending.answer ≡ a → ending.messages.items ≡ [] → runs_in ending.runs ≡ [] → outcome_of ending ≡ record { answer = a; messages = []; runs = [] }
 outcome_is a ending e m r =
     let mk : Answer → List Message → List Run → Outcome = λ x l k. record { answer = x; messages = l; runs = k } in
-    ap (λ (x : Answer). mk x ending.messages.items ending.runs.items) e ∙ ap (λ (l : List Message). mk a l ending.runs.items) m ∙ ap (λ (k : List Run). mk a [] k) r
+    ap (λ (x : Answer). mk x ending.messages.items (runs_in ending.runs)) e ∙ ap (λ (l : List Message). mk a l (runs_in ending.runs)) m ∙ ap (λ (k : List Run). mk a [] k) r
 
 pub found_old : (lines : List LogLine) (old new : EntryReader) (one : LogLine) (stamp : Stamp) (on : Descriptor) → one.line ≡ line.Found stamp on → new ≡ old → HasRead lines old → HasRead (lines ++ one ∷ []) new
 found_old lines old new one stamp on is same has =
     passed lines old new one [] (λ pid n. ap (λ (l : Line). is_of pid n l) is) (let P : Line → Type 0 = λ l. AreOwn (onto lines []) one.number l [] in subst P (sym is) (inl refl)) (ap (λ (r : EntryReader). r.whole) same)
     (ap (λ (r : EntryReader). map said_of (map event_of r.entries.items)) same ∙ sym (append-nil (map said_of (map event_of old.entries.items)))) (ap (λ (r : EntryReader). r.kept.items) same) has
 
-pub found_new : (lines : List LogLine) (old mid new : EntryReader) (one : LogLine) (stamp : Stamp) (on : Descriptor) (made : Made) (ending : Ending) → one.line ≡ line.Found stamp on → made ≡ made_by one.number stamp (call.Open false 2048)
-    → outcome_of ending ≡ record { answer = answer.Opened on; messages = []; runs = [] } → mid ≡ record old { entries = mid.entries } → new ≡ record mid { entries = new.entries } → mid.entries.items ≡ old.entries.items ++ entry.Begins made ∷ []
+pub found_new : (lines : List LogLine) (old mid new : EntryReader) (one : LogLine) (stamp : Stamp) (on : Descriptor) (made : Made) (begin : Entry) (ending : Ending) → one.line ≡ line.Found stamp on → made ≡ made_by one.number stamp (call.Open false 2048) → event_of begin ≡ begins made
+    → outcome_of ending ≡ record { answer = answer.Opened on; messages = []; runs = [] } → mid ≡ record old { entries = mid.entries } → new ≡ record mid { entries = new.entries } → mid.entries.items ≡ old.entries.items ++ begin ∷ []
     → new.entries.items ≡ mid.entries.items ++ entry.Ends one.number ending ∷ [] → HasRead lines old → HasRead (lines ++ one ∷ []) new
-found_new lines old mid new one stamp on made ending is by out first second begins_is ends_is has =
+found_new lines old mid new one stamp on made begin ending is by begin_event out first second begins_is ends_is has =
     let events : List Event = opening one.number stamp on in
     let whole : new.whole ≡ old.whole = ap (λ (r : EntryReader). r.whole) second ∙ ap (λ (r : EntryReader). r.whole) first in
     let kept : new.kept.items ≡ old.kept.items = ap (λ (r : EntryReader). r.kept.items) second ∙ ap (λ (r : EntryReader). r.kept.items) first in
     let front : map said_of (map event_of mid.entries.items) ≡ map said_of (map event_of old.entries.items) ++ begins (made_by one.number stamp (call.Open false 2048)) ∷ [] =
-    ap (λ (l : List Entry). map said_of (map event_of l)) begins_is ∙ events_more old.entries.items (entry.Begins made)
+    ap (λ (l : List Entry). map said_of (map event_of l)) begins_is ∙ events_more old.entries.items begin
+    ∙ ap (λ (v : Event). map said_of (map event_of old.entries.items) ++ said_of v ∷ []) begin_event
     ∙ ap (λ (m : Made). map said_of (map event_of old.entries.items) ++ begins (said m) ∷ []) by
     in
     let all : map said_of (map event_of new.entries.items) ≡ map said_of (map event_of old.entries.items) ++ events =

@@ -3,7 +3,7 @@
 ghost use Rattle.std.specs.Prelude.{◌≡◌, ◌++◌, ◌∷◌, [], List, true, not, filter_map, IfOk, OnOk};
 ghost use Rattle.mig_base.specs.Tests.{is_empty};
 ghost use Rattle.uffd_log.specs.declared.line.Line.TheVariants as line;
-ghost use Rattle.kernel_rules.specs.Runs.{outcome_of};
+ghost use Rattle.kernel_rules.specs.Runs.{outcome_of, runs_in};
 ghost use Rattle.log_entries.specs.declared.log_line.LogLine.{LogLine as LogLineOf};
 ghost use Rattle.log_entries.specs.Events.{is_of, is_read_line, made_by, message_in, outcome_from, run_in};
 ghost use Rattle.log_entries.specs.Readers.{others, own, HasRead};
@@ -64,7 +64,8 @@ fn remove_lines(kept: &mut Vec<LogLine>, pid: u32, call: u64)
 fn messages_in(alloc: Global, lines: &[LogLine]) -> Result<Vec<Message>, NoMemory>
     ensures { IfOk result (λ found. found.items ≡ filter_map message_in lines.now) }
 {
-    let mut found = Vec::new(alloc);
+    // Nearly each of these lines has a message, but the first. A log has as many reads as faults: no room is left over.
+    let mut found = Vec::with_capacity(alloc, lines.len().saturating_sub(1))?;
     for one in lines {
         if let Some(message) = message_in(*one) {
             found.push(message)?;
@@ -86,26 +87,46 @@ fn runs_in(alloc: Global, lines: &[LogLine]) -> Result<Vec<Run>, NoMemory>
     Ok(found)
 }
 
-/// How a call ended.
-fn ending_of(alloc: Global, lines: &[LogLine], answer: Answer) -> Result<Ending, NoMemory>
+/// Runs of pages, as an ending has them.
+fn boxed_runs(alloc: Global, runs: Vec<Run>) -> Result<Option<Box<Vec<Run>>>, NoMemory>
+    ensures { IfOk result (λ boxed. runs_in boxed ≡ runs.items) }
+{
+    if runs.is_empty() {
+        return Ok(None);
+    }
+    match Box::new(alloc, runs) {
+        Ok(boxed) => Ok(Some(boxed)),
+        Err(_) => Err(NoMemory),
+    }
+}
+
+/// How a call ended, and when.
+fn ending_of(
+    alloc: Global,
+    lines: &[LogLine],
+    answer: Answer,
+    time: u64,
+) -> Result<Ending, NoMemory>
     ensures { IfOk result (λ ending. outcome_of ending ≡ outcome_from lines.now answer) }
 {
     let messages = messages_in(alloc, lines)?;
     let runs = runs_in(alloc, lines)?;
+    let runs = boxed_runs(alloc, runs)?;
     Ok(Ending {
         answer,
         messages,
         runs,
+        time,
     })
 }
 
 /// A call as its line says it.
-fn made_by(number: u64, stamp: Stamp, call: Call) -> Made
+fn made_by(number: u32, stamp: Stamp, call: Call) -> Made
     ensures { result ≡ made_by number stamp call }
 {
     Made {
         key: number,
-        space: u64::from(stamp.pid),
+        space: stamp.pid,
         call,
         last: false,
     }
@@ -153,7 +174,7 @@ impl EntryReader {
     {
         remove_lines(&mut self.kept, stamp.pid, number);
         self.keep(one)?;
-        self.add_entry(Entry::Begins(made_by(one.number, stamp, call)))
+        self.add_entry(Entry::begin(made_by(one.number, stamp, call)))
     }
 
     /// A call ends. It has begun, or lines are missing.
@@ -175,7 +196,7 @@ impl EntryReader {
             return Ok(());
         };
         let key = first.number;
-        let ending = ending_of(alloc, &lines, answer)?;
+        let ending = ending_of(alloc, &lines, answer, stamp.time)?;
         remove_lines(&mut self.kept, stamp.pid, number);
         self.add_entry(Entry::Ends { key, ending })
     }
@@ -212,12 +233,13 @@ impl EntryReader {
             device: false,
             flags: NONBLOCK,
         };
-        self.add_entry(Entry::Begins(made_by(one.number, stamp, call)))?;
+        self.add_entry(Entry::begin(made_by(one.number, stamp, call)))?;
         let alloc = *self.kept.allocator();
         let ending = Ending {
             answer: Answer::Opened(on),
             messages: Vec::new(alloc),
-            runs: Vec::new(alloc),
+            runs: None,
+            time: stamp.time,
         };
         self.add_entry(Entry::Ends {
             key: one.number,
@@ -255,22 +277,25 @@ impl EntryReader {
     }
 
     /// The number of the line where the call of an entry begins, if one begins there.
-    pub fn key_of_begin(&self, at: usize) -> Option<u64> {
+    pub fn key_of_begin(&self, at: usize) -> Option<u32> {
         match self.entries.get(at) {
-            Some(Entry::Begins(made)) => Some(made.key),
+            Some(Entry::Begins { key, .. }) => Some(*key),
             _ => None,
         }
     }
 
     /// Puts in what no line says of the call that begins in an entry: the address space that it changes, if it is a map call, and whether it
     /// closes the last descriptor of its object.
-    pub fn settle(&mut self, at: usize, space: u64, last: bool)
+    pub fn settle(&mut self, at: usize, space: u32, last: bool)
         ensures whole { self.new.whole ≡ self.old.whole }
         ensures read { (lines : List LogLineOf) → HasRead lines self.old → HasRead lines self.new }
     {
-        if let Some(Entry::Begins(made)) = self.entries.get(at) {
-            let made = settled(*made, space, last);
-            self.entries[at] = Entry::Begins(made);
+        let Some(entry) = self.entries.get(at) else {
+            return;
+        };
+        if let Some(made) = entry.made() {
+            let made = settled(made, space, last);
+            self.entries[at] = Entry::begin(made);
         }
     }
 }

@@ -9,7 +9,7 @@ use uffd_log::{Line, Message};
 /// A line below the head of a log, with its number in the log.
 #[derive(Clone, Copy)]
 pub struct LogLine {
-    pub number: u64,
+    pub number: u32,
     pub line: Line,
 }
 

@@ -18,7 +18,7 @@ fn is_map_call(call: Call) -> bool
 }
 
 /// A call, with the address space that it changes if it is a map call, and whether it closes the last descriptor of its object.
-pub(crate) fn settled(made: Made, space: u64, last: bool) -> Made
+pub(crate) fn settled(made: Made, space: u32, last: bool) -> Made
     ensures { said result ≡ said made }
 {
     let space = if is_map_call(made.call) {

@@ -267,8 +267,8 @@ fn entries(alloc: Global, texts: &[&'static [u8]]) -> Result<Vec<Entry>, NoMemor
         match parse(&mut tokens, text)? {
             Some(Line::Begin { number, call, .. }) => add(
                 &mut log,
-                Entry::Begins(Made {
-                    key: number,
+                Entry::begin(Made {
+                    key: u32::try_from(number).unwrap_or(0),
                     space: 1,
                     call,
                     last: true,
@@ -286,11 +286,12 @@ fn entries(alloc: Global, texts: &[&'static [u8]]) -> Result<Vec<Entry>, NoMemor
             Some(Line::End { number, answer, .. }) => add(
                 &mut log,
                 Entry::Ends {
-                    key: number,
+                    key: u32::try_from(number).unwrap_or(0),
                     ending: Ending {
                         answer,
                         messages: mem::replace(&mut messages, Vec::new(alloc)),
-                        runs: mem::replace(&mut runs, Vec::new(alloc)),
+                        runs: Some(Box::new(alloc, mem::replace(&mut runs, Vec::new(alloc)))?),
+                        time: 0,
                     },
                 },
             )?,

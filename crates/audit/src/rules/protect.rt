@@ -30,16 +30,13 @@ impl Kernel {
         match made.call.errno() {
             None => {
                 let watched = self.count_protect(space, range);
-                let may_be = is_right && watched > 0;
                 need(
-                    may_be,
+                    is_right && watched > 0,
                     "not registered for write-protect faults, or wrong arguments",
                 )?;
                 need(!self.is_changing(name), "the space is changing")?;
-                let over_a_hole = watched < range.count;
-                self.note_if(over_a_hole, Difference::WriteProtectOverAHole)?;
-                self.protect(name, object, space, range, mode)?;
-                Ok(())
+                self.note_if(watched < range.count, Difference::WriteProtectOverAHole)?;
+                Ok(self.protect(name, object, space, range, mode)?)
             }
             Some(Errno::Eagain) => need(
                 self.may_be_changing(name),
@@ -48,14 +45,11 @@ impl Kernel {
             Some(Errno::Enoent) => {
                 let has_hole = is_right && self.count_protect(space, range) < range.count;
                 need(has_hole, "each page is registered for write-protect faults")?;
-                self.perhaps_protect(space, range, mode)?;
-                Ok(())
+                Ok(self.perhaps_protect(space, range, mode)?)
             }
             Some(Errno::Einval) => need(!is_right, "nothing is wrong with it"),
-            Some(errno) => need(
-                matches!(errno, Errno::Efault | Errno::Esrch | Errno::Enomem),
-                "no such error",
-            ),
+            Some(Errno::Efault | Errno::Esrch | Errno::Enomem) => Ok(()),
+            Some(_) => need(false, "no such error"),
         }
     }
 

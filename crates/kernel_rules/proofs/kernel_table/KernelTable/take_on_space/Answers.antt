@@ -12,7 +12,7 @@ returns-in-Open-clause-step c =
     quiet_step c.open.result (opened (kernel_of c.args.self.now) c.args.made.space c.in-Open.flags c.args.ending.now.answer)
     (quiet (if is_mremap c.args.made.call then None else on_space (kernel_of c.args.self.now) c.args.made.key c.args.made.space (outcome_of c.args.ending.now) c.args.made.call))
     c.open.new.self
-    (open_call (kernel_of c.args.self.now) c.args.made.key c.args.made.space (outcome_of c.args.ending.now) c.args.made.call c.in-Open.device c.in-Open.flags c.in-Open.is) c.open.ensures.step
+    (open_call (kernel_of c.args.self.now) c.args.made.key c.args.made.space (outcome_of c.args.ending.now) c.args.made.call c.in-Open.device c.in-Open.flags c.in-Open.is) (rw c.from-space.ensures at c.open.ensures.step)
 
 pub returns-in-Fork-clause-step : goal.returns-in-Fork-clause-step
 returns-in-Fork-clause-step c = fork_call c.args.self.now c.args.made.key c.args.made.space (outcome_of c.args.ending.now) c.args.made.call c.in-Fork.is

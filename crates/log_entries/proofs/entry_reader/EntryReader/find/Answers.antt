@@ -1,4 +1,4 @@
-use Rattle.std.proofs.Common.{refl}
+use Rattle.std.proofs.Common.{None, refl}
 use Rattle.std.proofs.lemmas.Result.{on_ok_weaker}
 use Rattle.uffd_log.specs.declared.line.Answer.TheVariants as answer
 use Rattle.kernel_rules.specs.declared.run.Ending.{Ending}
@@ -10,9 +10,9 @@ returns-then-not-opens c = λ lines has. found_old lines c.args.self.now c.args.
 
 pub returns : goal.returns
 returns c =
-    let ending : Ending = record { answer = answer.Opened c.args.on; messages = c.new.result; runs = c.new-2.result } in
+    let ending : Ending = record { answer = answer.Opened c.args.on; messages = c.new.result; runs = None; time = c.args.stamp.time } in
     on_ok_weaker c.add_entry-2.result
     (λ e lines has.
-    found_new lines c.args.self.now c.add_entry.new.self c.add_entry-2.new.self c.args.one c.args.stamp c.args.on c.made_by.result ending c.requires c.made_by.ensures
-    (outcome_is (answer.Opened c.args.on) ending refl c.new.ensures.items c.new-2.ensures.items) c.add_entry.ensures.same c.add_entry-2.ensures.same c.in_ok-add_entry.ensures.added e has)
+    found_new lines c.args.self.now c.add_entry.new.self c.add_entry-2.new.self c.args.one c.args.stamp c.args.on c.made_by.result c.begin.result ending c.requires c.made_by.ensures c.begin.ensures
+    (outcome_is (answer.Opened c.args.on) ending refl c.new.ensures.items refl) c.add_entry.ensures.same c.add_entry-2.ensures.same c.in_ok-add_entry.ensures.added e has)
     c.add_entry-2.ensures.added
