@@ -246,13 +246,7 @@ impl Search {
     }
 
     /// Whether a call puts a page, or takes its protection away, and the page is protected after it: the next fault of it that is read says so.
-    fn is_bared_before(
-        &self,
-        call: &LogCall,
-        object: u64,
-        range: Range,
-        line: u32,
-    ) -> bool {
+    fn is_bared_before(&self, call: &LogCall, object: u64, range: Range, line: u32) -> bool {
         if !bares(call) || call.object() != Some(object) {
             return false;
         }

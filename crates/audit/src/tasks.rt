@@ -141,9 +141,11 @@ impl Search {
 
     /// The same of an install: a fault which says that a page that it puts is write-protected comes after it.
     fn plan_reads_before(&mut self, call: &LogCall) -> Result<(), NoMemory> {
-        let (Some(object), Some(range), true) =
-            (call.object(), self.log.pages_of(call), call.is_ok())
-        else {
+        let (Some(object), Some(range), true) = (
+            call.object(),
+            self.log.pages_of(call),
+            call.is_ok(),
+        ) else {
             return self.plan_reads_of(call);
         };
         self.plan(others(Wanted::MissingFaults { object, range }))
