@@ -198,9 +198,10 @@ def order_of(call, orders, wrong):
     """The refusals of a call in their order. What is wrong with them is put into a list."""
     order = orders.get((call.crate, call.name))
     if order is None:
-        if call.fault != "NoMemory":
+        if call.fault not in ("NoMemory", "AllocError"):
             wrong.append(f"{call.crate} {call.name}: no order for {call.fault}")
-        return ["NoMemory"]
+            return ["NoMemory"]
+        return [call.fault]
     known = {"CopyFault": fault_names("Errno") + ["NoMemory"], "IoctlFault": fault_names("Errno") + ["NoMemory"]}.get(call.fault, fault_names(call.fault))
     wrong += [f"{call.crate} {call.name}: {name} is no name of {call.fault}" for name in order if name not in known]
     if ("NoMemory" in order) != takes_memory(call):
