@@ -1,8 +1,8 @@
 """Judges a log of userfaultfd calls: finds a run of the kernel's rules that has exactly the log's answers, or says which call has none.
 
 A run is the lines of the log in their order, with two kinds of steps put in between: `effect CALL`, once between the begin and the end of each call,
-and what the log does not show: a thread `sees` a page, `queues` its fault, `leaves` it; a map call `clears` its pages. `replay` checks a run, step by
-step, on a kernel of its own; how `Search` found it does not matter then.
+and what the log does not show: a thread `sees` a page, `queues` its fault, `leaves` it; a map call `clears` its pages; a protection of several pages
+`protects` one of them. `replay` checks a run, step by step, on a kernel of its own; how `Search` found it does not matter then.
 """
 
 import bisect
@@ -143,6 +143,7 @@ class Search:
                            if call.word in MAP_CALLS + ("unregister",) and call.answer == "ok" and call.end and call.range())
         self.begins = [call.begin for call in log.calls]
         self.impossible, self.kind, self.strangers, self.settling = [], {}, 0, set()
+        self.line = 0  # the line of the log that is looked at
         for call in sorted((call for call in log.calls if call.word == "read" and call.end), key=lambda call: call.end):
             self.reads[call.object].append(call)
             for place, values in self.fault_places(call):
@@ -153,6 +154,7 @@ class Search:
 
     def run(self):
         for line, what, call in self.log.lines:
+            self.line = line
             if what == "begin":
                 self.begin(call)
             else:
@@ -185,7 +187,7 @@ class Search:
         """A step that the log does not show. Whether the kernel allows it."""
         self.kernel.differs = []
         try:
-            getattr(self.kernel, word)(*values)
+            make(self.kernel, self.log, word, values)
         except Exception as reason:  # noqa: a search may try what is not allowed
             if type(reason).__name__ != "Refused":
                 raise
@@ -250,8 +252,15 @@ class Search:
         return places[0] if places else (None, 0)
 
     def read_first(self, found, places):
-        """The open reads that return a fault of these pages of an object take effect before the page changes."""
-        self.settle_where(lambda it: it.object == found and self.reads_fault_in(it, places))
+        """The open reads that return a fault of these pages of an object take effect before the page changes, but for those of a page that is to be
+        protected first."""
+        self.settle_where(lambda it: it.object == found and self.reads_fault_in(it, places) and self.may_be_read(it))
+
+    def may_be_read(self, call):
+        """Whether each fault of a write-protected page that a read returns waits already, or its page is protected."""
+        of = self.kernel.objects.get(call.object)
+        return not of or not any(values["FLAGS"] & FAULT_PROTECTED and self.is_bare((of.space, place)) and not self.is_waiting(
+            call.object, place, values["FLAGS"]) for place, values in self.fault_places(call))
 
     def reads_fault_in(self, call, places):
         return call.word == "read" and call.answer == "ok" and any(place in places.pages for place, _ in self.fault_places(call))
@@ -289,7 +298,7 @@ class Search:
         if not later:
             return
         for read, values in later:
-            if read.done or read.begin < call.end:
+            if read.done or read.begin < self.line:
                 continue
             if self.is_discarded(place, call.begin, read):
                 break
@@ -312,20 +321,22 @@ class Search:
         if call.answer == "EAGAIN" and not self.kernel.changing(call.object):
             self.settle_where(lambda it: it.word in TELLING)
         elif call.answer == "ok" and call.arguments["MODE"] == PROTECTS:
-            self.settle_where(lambda it: self.is_bared_before(it, call))
+            self.settle_where(lambda it: self.is_bared_before(it, call, call.range(), call.end))
         elif call.answer == "ok":
             self.read_first(call.object, self.places_of(call))
         return False
 
-    def is_bared_before(self, other, call):
-        """Whether a call under way puts a page that the call protects, or takes its protection away: the next fault of it that is read says that it
-        was protected after that."""
+    def is_bared_before(self, other, call, found, line):
+        """Whether a call under way puts a page of a range that the call protects, or takes its protection away: the next fault of it that is read after a
+        line says that it was protected after that."""
         is_baring = other.word in INSTALLS or other.word == "writeprotect" and not other.arguments["MODE"] & PROTECTS
         if not is_baring or other.object != call.object or other.answer != "ok":
             return False
-        page, (start, length) = self.first_place(other)[1], call.range()
-        later = [values for read, values in self.faults.get((call.object, page), ()) if read.end > call.end][:1]
-        return start <= page * self.log.page < start + length and any(values["FLAGS"] & FAULT_PROTECTED for values in later)
+        place, (start, length) = self.first_place(other), found
+        if not start <= place[1] * self.log.page < start + length or place in self.kernel.protected.get(call.key, ()):
+            return False
+        later = next((values for read, values in self.faults.get((call.object, place[1]), ()) if read.end > line), None)
+        return bool(later and later["FLAGS"] & FAULT_PROTECTED)
 
     def prepare_wake(self, call):
         self.read_first(call.object, self.places_of(call))
@@ -333,7 +344,7 @@ class Search:
 
     def prepare_unregister(self, call):
         places = self.places_of(call)
-        self.read_first(call.object, places)
+        self.settle_where(lambda it: it.object == call.object and self.reads_fault_in(it, places))
         if call.answer == "ok":
             self.settle_where(lambda it: self.is_put_in(it, places))
         return False
@@ -349,9 +360,15 @@ class Search:
             places = self.kernel.places(call.space, *found)
             self.settle_where(lambda it: self.space_of(it.object) == call.space and self.reads_fault_in(it, places))
             self.settle_where(lambda it: self.is_put_in(it, places) and (call.word != "madvise" or self.is_missing_after(it, call)))
+            if call.word != "madvise":
+                self.settle_where(lambda it: self.is_protecting_in(it, places))
         return False
 
     prepare_munmap = prepare_madvise = prepare_mremap = prepare_mmap
+
+    def is_protecting_in(self, call, places):
+        """Whether a protection that has one of these pages has changed a page already: a kernel changes the map before that, or after it has changed all."""
+        return call.key in self.kernel.protected and self.places_of(call).meets(places)
 
     def is_put_in(self, install, places):
         """Whether an install is of a page that loses its registration, or its bytes, by another call: it may only have been put before."""
@@ -396,9 +413,12 @@ class Search:
         """Whether a read returns a fault that waits to be read."""
         if call.word != "read" or call.answer != "ok":
             return False
-        waiting = [self.kernel.faults.get(it) for it in self.kernel.queue.get(call.object, ())]
-        return any(fault and fault.phase == UNREAD and fault.place[1] == place and fault.flags == values["FLAGS"]
-                   for place, values in self.fault_places(call) for fault in waiting)
+        return any(self.is_waiting(call.object, place, values["FLAGS"]) for place, values in self.fault_places(call))
+
+    def is_waiting(self, me, place, flags):
+        """Whether a fault of a page waits to be read."""
+        waiting = [self.kernel.faults.get(it) for it in self.kernel.queue.get(me, ())]
+        return any(fault and fault.phase == UNREAD and fault.place[1] == place and fault.flags == flags for fault in waiting)
 
     def drain(self, me, shown=()):
         """The unread faults go with a wake that is under way, or for no reason that the log has; not those of these threads."""
@@ -475,10 +495,35 @@ class Search:
                     self.step("clears", key)
 
     def make_protected(self, me, place):
-        """A page that is missing, or not write-protected, is put or protected by a call that is under way, where there is one."""
+        """A page that is missing, or not write-protected, is put or protected by a call that is under way, where there is one. A protection of several
+        pages is under way until it ends: it protects this one alone. Of several the one that ends first does."""
+        if place in self.kernel.pages and self.kernel.pages[place].presence == MISSING:
+            self.settle_where(lambda it: it.word in INSTALLS and it.object == me and place in self.places_of(it))
+        self.settle_where(lambda it: self.is_bare(place) and it.object == me and self.is_protecting(it) and not self.is_wide(it)
+                          and place in self.places_of(it))
+        if self.is_bare(place):
+            wide = (it for it in self.open.values() if it.object == me and self.is_wide(it) and place in self.places_of(it))
+            call = min((it for it in wide if place not in self.kernel.protected.get(it.key, ())), key=lambda it: it.end, default=None)
+            if call:
+                self.protect_alone(call, place)
+
+    def is_bare(self, place):
+        """Whether a page is registered, and not known to be write-protected."""
         page = self.kernel.pages.get(place)
-        if page and not (page.presence == PRESENT and page.guarded):
-            self.settle_where(lambda it: it.object == me and self.is_protecting(it) and place in self.places_of(it))
+        return bool(page and not (page.presence == PRESENT and page.guarded))
+
+    def is_wide(self, call):
+        """Whether a call write-protects several pages."""
+        if call.word != "writeprotect" or not call.judged or not self.is_protecting(call):
+            return False
+        return self.kernel.is_range(*call.range()) and self.places_of(call).count() > 1
+
+    def protect_alone(self, call, place):
+        """A protection of several pages protects one of them, after the calls under way that put it or take its protection away."""
+        found = (place[1] * self.log.page, self.log.page)
+        self.settle_where(lambda it: self.is_bared_before(it, call, found, self.line))
+        if not call.done:
+            self.step("protects", call.key, place)
 
     def is_protecting(self, call):
         """Whether a call write-protects its pages."""
@@ -601,6 +646,15 @@ class Search:
         return False
 
 
+def make(kernel, log, word, values):
+    """Makes a step that the log does not show."""
+    if word == "protects":
+        key, place = values
+        kernel.protects(log.calls[key], place)
+    else:
+        getattr(kernel, word)(*values)
+
+
 class Broken(Exception):
     """A step of a run that the rules do not allow."""
 
@@ -631,9 +685,10 @@ def replay(log, run):
             taken.add(call.key)
             reason = reason or kernel.takes(call)
         else:
-            call = None
-            reason = None
-            getattr(kernel, word)(*values)
+            call = calls[values[0]] if word == "protects" else None
+            reason = "it protects a page when it is not under way" if call and (call.key not in begun or call.key in taken) else None
+            if not reason:
+                make(kernel, log, word, values)
         if reason:
             raise Broken(f"line {call.begin}: {reason}")
         used.update(kernel.differs)

@@ -1,7 +1,8 @@
 """What a kernel's userfault objects answer, as a state machine: the rules by which audit/judge replays a log.
 
 `Kernel.takes(call)` is driven by the answer: it returns what follows from it, or None where no rule allows this answer. What the log does not show
-are steps of their own: `sees`, `queues` and `leaves` of a thread that touches a page, and `clears` of a MADV_DONTNEED.
+are steps of their own: `sees`, `queues` and `leaves` of a thread that touches a page, `clears` of a MADV_DONTNEED, and `protects` of a
+UFFDIO_WRITEPROTECT of several pages.
 """
 
 from dataclasses import dataclass, field
@@ -47,6 +48,10 @@ class Places:
 
     def __contains__(self, place):
         return place[0] == self.space and place[1] in self.pages
+
+    def meets(self, other):
+        """Whether a page is in both."""
+        return self.space == other.space and max(self.pages.start, other.pages.start) < min(self.pages.stop, other.pages.stop)
 
     def __getitem__(self, at):
         if isinstance(at, slice):
@@ -112,6 +117,7 @@ class Kernel:
         self.page = page
         self.objects = {it: Object(space, None) for it, space in (found or {}).items()}
         self.pages, self.faults, self.queue, self.calls = {}, {}, {}, {}
+        self.protected = {}  # for each protection under way, the pages that it has changed before its effect on the others
         self.owed, self.unanswered, self.twice, self.outside = [], [], [], []
         self.waits = []  # for each fault that a call has resolved: the read that returned it, that call, and the fault's flags
         self.unread_events = []  # the map calls an event of which was never read
@@ -223,6 +229,23 @@ class Kernel:
         need(call and call.clear and not any(call.events.values()), "nothing is to be cleared")
         self.clear(call.clear)
         call.clear = None
+
+    def protects(self, call, place):
+        """A UFFDIO_WRITEPROTECT of several pages protects one of them, and the others later."""
+        arguments, done, page = call.arguments, self.protected.get(call.key, set()), self.pages.get(place)
+        of, right = self.object_of(arguments), self.is_range(arguments["START"], arguments["LENGTH"])
+        need(call.word == "writeprotect" and call.answer == "ok" and arguments["MODE"] == PROTECTS, "the call does not protect")
+        places = self.places(of.space, arguments["START"], arguments["LENGTH"])
+        need(of.features is not None and right and places.count() > 1 and place in places, "the page is not one of several of the call")
+        need(page and page.modes & PROTECT_MODE, "the page is not registered for write-protect faults")
+        need(self.is_protectable(of, page), "the page is missing")
+        need(place not in done, "the call has protected the page")
+        need(done or not self.untold(arguments["O"][0]), "the space is changing")
+        page.guarded = True
+        self.protected.setdefault(call.key, set()).add(place)
+
+    def is_protectable(self, of, page):
+        return page.presence != MISSING or bool(of.features & WP_UNPOPULATED)
 
     def clear(self, places, presence=MISSING):
         for place in self.watched(places):
@@ -373,14 +396,15 @@ class Kernel:
         right = of.features is not None and mode < 3 and self.is_range(arguments["START"], arguments["LENGTH"])
         places = self.places(of.space, arguments["START"], arguments["LENGTH"]) if right else Places(of.space, 0, 0)
         watched = [it for it in self.watched(places) if self.pages[it].modes & PROTECT_MODE]
+        done = self.protected.pop(call.key, set())  # (where it has changed a page already, the kernel has looked at the range)
         if call.answer == "ok":
-            need(right and watched, "not registered for write-protect faults, or wrong arguments")
-            need(not self.untold(me), "the space is changing")
+            need(right and (watched or done), "not registered for write-protect faults, or wrong arguments")
+            need(done or not self.untold(me), "the space is changing")
             if len(watched) < places.count():
                 self.differs.append("writeprotect-over-a-hole")
             for place in watched:
-                page = self.pages[place]
-                page.guarded = bool(mode & PROTECTS) and (page.presence != MISSING or bool(of.features & WP_UNPOPULATED))
+                if place not in done:
+                    self.pages[place].guarded = bool(mode & PROTECTS) and self.is_protectable(of, self.pages[place])
             if mode == 0:
                 self.wake(me, places, True)
         elif call.answer == "EAGAIN":

@@ -5,6 +5,8 @@ import unittest
 from pathlib import Path
 
 import common
+import judge
+from kernel_rules import Refused
 
 HEAD = "uffdlog 1\nrecorder preload 1\nkernel Linux 6.18.44 x86_64\npage 4096\nclock log\ncommand ./monitor\n"
 # An object that asks for no thread's number, and two pages of it, of which none is present.
@@ -47,6 +49,22 @@ TWO_AT_A_PAGE = """70 70 begin 5 read 8:5 32
 70 70 end 8 ok 4096
 70 70 begin 9 copy 8:5 0x11000 0x7000 0x1000 0x0
 70 70 end 9 ok 4096
+"""
+# A poll has found the message of a thread that a copy let go before it was read. The page of the copy under way is not that thread's: its fault is
+# read before the copy ends.
+LET_GO_BEFORE = """70 71 begin 5 poll 8:5
+70 70 begin 6 copy 8:5 0x10000 0x7000 0x1000 0x0
+70 70 end 6 ok 4096
+70 70 begin 7 copy 8:5 0x11000 0x7000 0x1000 0x0
+70 71 end 5 ok 0x1
+70 71 begin 8 read 8:5 32
+70 71 end 8 EAGAIN
+70 71 begin 9 poll 8:5
+70 71 end 9 ok 0x1
+70 71 begin 10 read 8:5 32
+70 71 message 10 fault 0x11000 0 0
+70 71 end 10 ok 1
+70 70 end 7 ok 4096
 """
 # A read that begins before the fault of a missing page is read, and returns the fault of the page that the copy has write-protected.
 BEYOND_A_COPY = """70 71 begin 5 read 8:5 32
@@ -91,6 +109,113 @@ BARED_BEFORE = """70 70 begin 5 copy 8:5 0x10000 0x7000 0x2000 0x2
 70 70 end 9 ok 1
 70 70 begin 10 writeprotect 8:5 0x10000 0x2000 0x0
 70 70 end 10 ok
+"""
+# Two pages are being protected. One has been: it faults. The other's protection is taken away, and then the protection reaches it.
+PAGE_BY_PAGE = """70 70 begin 5 copy 8:5 0x10000 0x7000 0x2000 0x0
+70 70 end 5 ok 8192
+70 71 begin 6 writeprotect 8:5 0x10000 0x2000 0x1
+70 70 begin 7 read 8:5 32
+70 70 message 7 fault 0x10000 3 0
+70 70 end 7 ok 1
+70 70 begin 8 writeprotect 8:5 0x11000 0x1000 0x0
+70 70 end 8 ok
+70 70 begin 9 read 8:5 32
+70 70 message 9 fault 0x11000 3 0
+70 70 end 9 ok 1
+70 71 end 6 ok
+70 70 begin 10 writeprotect 8:5 0x10000 0x2000 0x0
+70 70 end 10 ok
+"""
+# The same, and the protection has ended before the second page's is taken away.
+PROTECTED_BEFORE = PAGE_BY_PAGE.replace("70 71 end 6 ok\n", "").replace("70 70 begin 8", "70 71 end 6 ok\n70 70 begin 8")
+# The same, of a page that is not among those which are being protected.
+OUTSIDE = """70 73 begin 5 register 8:5 0x12000 0x1000 0x3
+70 73 end 5 ok 0x17c
+""" + PAGE_BY_PAGE.replace("begin 5 copy 8:5 0x10000 0x7000 0x2000", "begin 5 copy 8:5 0x10000 0x7000 0x3000").replace("8192", "12288").replace(
+    "0x11000", "0x12000")
+# A page that is being protected with another faults, its protection is taken away, and it faults once more: it is protected once.
+TWICE_IN_ONE = PAGE_BY_PAGE.replace("0x11000", "0x10000")
+# The protection of one page, which faults twice: as that of several.
+ONE_PAGE = TWICE_IN_ONE.replace("writeprotect 8:5 0x10000 0x2000 0x1", "writeprotect 8:5 0x10000 0x1000 0x1")
+ONE_PAGE_ONCE = """70 70 begin 5 copy 8:5 0x10000 0x7000 0x2000 0x0
+70 70 end 5 ok 8192
+70 71 begin 6 writeprotect 8:5 0x10000 0x1000 0x1
+70 70 begin 7 read 8:5 32
+70 70 message 7 fault 0x10000 3 0
+70 70 end 7 ok 1
+70 70 begin 8 writeprotect 8:5 0x10000 0x1000 0x0
+70 70 end 8 ok
+70 71 end 6 ok
+"""
+# Two protections of two pages at a time: each protects the page that faults, in turn.
+TWO_PROTECTIONS = TWICE_IN_ONE.replace("70 70 begin 7", "70 72 begin 11 writeprotect 8:5 0x10000 0x2000 0x1\n70 70 begin 7").replace(
+    "70 71 end 6 ok\n", "70 71 end 6 ok\n70 72 end 11 ok\n")
+# The same, and the protection that began last ends before the second fault.
+TWO_OF_WHICH_ONE_ENDS = TWO_PROTECTIONS.replace("70 72 end 11 ok\n", "").replace("70 70 begin 8", "70 72 end 11 ok\n70 70 begin 8")
+# A page is put while it is being protected with another, and faults before the copy ends.
+PUT_MEANWHILE = """70 71 begin 5 copy 8:5 0x10000 0x7000 0x1000 0x0
+70 72 begin 6 writeprotect 8:5 0x10000 0x2000 0x1
+70 70 begin 7 read 8:5 32
+70 70 message 7 fault 0x10000 3 0
+70 70 end 7 ok 1
+70 71 end 5 ok 4096
+70 72 end 6 ok
+70 70 begin 8 writeprotect 8:5 0x10000 0x1000 0x0
+70 70 end 8 ok
+70 70 begin 9 copy 8:5 0x11000 0x7000 0x1000 0x0
+70 70 end 9 ok 4096
+"""
+# Two unprotections of a page, one of which ends after the protection has reached it: a second thread faults there after that.
+BARED_MEANWHILE = """70 70 begin 5 copy 8:5 0x10000 0x7000 0x2000 0x2
+70 70 end 5 ok 8192
+70 70 begin 6 writeprotect 8:5 0x10000 0x1000 0x0
+70 71 begin 7 writeprotect 8:5 0x10000 0x1000 0x0
+70 70 end 6 ok
+70 72 begin 8 writeprotect 8:5 0x10000 0x2000 0x1
+70 70 begin 9 read 8:5 32
+70 70 message 9 fault 0x10000 3 0
+70 70 end 9 ok 1
+70 71 end 7 ok
+70 70 begin 10 read 8:5 32
+70 70 message 10 fault 0x10000 3 0
+70 70 end 10 ok 1
+70 72 end 8 ok
+70 70 begin 11 writeprotect 8:5 0x10000 0x2000 0x0
+70 70 end 11 ok
+"""
+# A protection that a fault shows to be under way has changed all its pages before one of them is moved.
+MOVED_AFTER = """70 70 begin 5 copy 8:5 0x10000 0x7000 0x2000 0x0
+70 70 end 5 ok 8192
+70 71 begin 6 writeprotect 8:5 0x10000 0x2000 0x1
+70 70 begin 7 read 8:5 32
+70 70 message 7 fault 0x10000 3 0
+70 70 end 7 ok 1
+70 72 begin 8 mremap 0x11000 0x1000 0x1000 0x3 0x20000
+70 70 begin 9 read 8:5 32
+70 70 message 9 remap 0x11000 0x20000 0x1000
+70 70 end 9 ok 1
+70 72 end 8 ok 0x20000
+70 71 end 6 ok
+70 70 begin 10 read 8:5 32
+70 70 message 10 fault 0x20000 3 0
+70 70 end 10 ok 1
+70 70 begin 11 writeprotect 8:5 0x10000 0x1000 0x0
+70 70 end 11 ok
+70 70 begin 12 writeprotect 8:5 0x20000 0x1000 0x0
+70 70 end 12 ok
+"""
+# A read that begins before a wake of a page, and returns a fault of it that the protection after the wake has brought about.
+WOKEN_BEFORE = """70 70 begin 5 copy 8:5 0x10000 0x7000 0x2000 0x0
+70 70 end 5 ok 8192
+70 71 begin 6 read 8:5 32
+70 70 begin 7 wake 8:5 0x10000 0x1000
+70 70 end 7 ok
+70 70 begin 8 writeprotect 8:5 0x10000 0x1000 0x1
+70 70 end 8 ok
+70 71 message 6 fault 0x10000 3 0
+70 71 end 6 ok 1
+70 70 begin 9 writeprotect 8:5 0x10000 0x1000 0x0
+70 70 end 9 ok
 """
 # Two threads that poll and read: the message that one has found is read by the other, whose read ends later than that which found nothing.
 TWO_READERS = """70 70 begin 5 poll 8:5
@@ -276,6 +401,17 @@ class Search(unittest.TestCase):
         self.assert_clean(text_of(DURING_A_COPY, "0x1", "0x3"))
         self.assert_clean(text_of(BARED_BEFORE, "0x1", "0x3"))
         self.assert_clean(text_of(TWO_READERS))
+        self.assert_clean(text_of(LET_GO_BEFORE))
+
+    def test_page_by_page(self):
+        for text in (PAGE_BY_PAGE, ONE_PAGE_ONCE, TWO_PROTECTIONS, TWO_OF_WHICH_ONE_ENDS, PUT_MEANWHILE, BARED_MEANWHILE):
+            self.assert_clean(text_of(text, "0x1", "0x3"))
+        self.assert_clean(text_of(MOVED_AFTER, "0x5", "0x3"))
+        self.assert_clean(text_of(WOKEN_BEFORE, "0x1", "0x3"))
+        for text in (PROTECTED_BEFORE, OUTSIDE, TWICE_IN_ONE, ONE_PAGE):
+            status, said = self.judged(text_of(text, "0x1", "0x3"))
+            self.assertEqual(status, 3, said)
+            self.assertIn("1 impossible", said)
 
     def test_minor(self):
         status, said = self.judged(text_of(MINOR))
@@ -307,6 +443,34 @@ class Search(unittest.TestCase):
             self.assertEqual(status, 3, said)
         status, said = self.judged(text_of(PUT_AGAIN, "0x8"))
         self.assertEqual(status, 3, said)
+
+
+class Replay(unittest.TestCase):
+    def found(self, text):
+        """A log, and the run of it that is found."""
+        with tempfile.TemporaryDirectory() as folder:
+            name = Path(folder) / "log"
+            name.write_text(text)
+            log = judge.Log(str(name))
+        return log, judge.Search(log).run()
+
+    def test_protects(self):
+        """A page is protected alone while its call is under way, by a call that protects it, and once."""
+        log, run = self.found(text_of(PAGE_BY_PAGE, "0x1", "0x3"))
+        judge.replay(log, run)
+        at = next(at for at, step in enumerate(run) if step[0] == "protects")
+        step, rest = run[at], run[:at] + run[at + 1:]
+        word, key, (space, page) = step
+        effect = rest.index(("effect", key))
+        other = next(call.key for call in log.calls if call.word == "writeprotect" and call.arguments["MODE"] == 0)
+        for wrong, reason in ((run[:at] + [step] + run[at:], "the call has protected the page"),
+                              (run[:at] + [(word, key, (space, page + 2))] + run[at + 1:], "the page is not one of several of the call"),
+                              ([step] + rest, "it protects a page when it is not under way"),
+                              (rest[:effect + 1] + [step] + rest[effect + 1:], "the page is not missing or not protected"),
+                              (run[:effect + 2] + [step] + run[effect + 2:], "it protects a page when it is not under way"),
+                              (run[:at] + [(word, other, (space, page))] + run[at + 1:], "")):
+            with self.assertRaisesRegex((judge.Broken, Refused), reason):
+                judge.replay(log, wrong)
 
 
 if __name__ == "__main__":

@@ -290,29 +290,28 @@ def compare(program, cases, keep):
 
 
 def long_log(calls):
-    """A log of this many calls: a handler that reads a fault and puts its page, again and again."""
-    out = [b"uffdlog 1\nrecorder compare 1\nkernel Linux 6.1.0 x86_64\npage 4096\nclock thread\ncommand made\n"]
+    """The lines of a log of this many calls: a handler that reads a fault and puts its page, again and again."""
+    yield "uffdlog 1\nrecorder compare 1\nkernel Linux 6.1.0 x86_64\npage 4096\nclock thread\ncommand made\n"
     pages, base = (calls - 3) // 2, 1 << 32
-    lines = ["7 7 started 1 made", "7 7 begin 1 open syscall 0", "7 7 end 1 ok 9:3", "7 7 begin 2 api 9:3 0xaa 0x100", "7 7 end 2 ok 0x100 0x1ff",
-             f"7 7 begin 3 register 9:3 {base:#x} {4096 * pages} 1", "7 7 end 3 ok 0x1c"]
+    yield "1 7 7 started 1 made\n2 7 7 begin 1 open syscall 0\n3 7 7 end 1 ok 9:3\n4 7 7 begin 2 api 9:3 0xaa 0x100\n5 7 7 end 2 ok 0x100 0x1ff\n"
+    yield f"6 7 7 begin 3 register 9:3 {base:#x} {4096 * pages} 1\n7 7 7 end 3 ok 0x1c\n"
     for page in range(pages):
-        number, addr = 4 + 2 * page, base + 4096 * page
-        lines += [f"7 8 begin {number} read 9:3 32", f"7 8 message {number} fault {addr:#x} 0x0 7", f"7 8 end {number} ok 1",
-                  f"7 8 begin {number + 1} copy 9:3 {addr:#x} 0x7f0000000000 4096 0x0", f"7 8 end {number + 1} ok 4096"]
-    out += [f"{time} {line}\n".encode() for time, line in enumerate(lines, 1)]
-    return b"".join(out)
+        time, number, addr = 8 + 5 * page, 4 + 2 * page, base + 4096 * page
+        yield f"{time} 7 8 begin {number} read 9:3 32\n{time + 1} 7 8 message {number} fault {addr:#x} 0x0 7\n{time + 2} 7 8 end {number} ok 1\n"
+        yield f"{time + 3} 7 8 begin {number + 1} copy 9:3 {addr:#x} 0x7f0000000000 4096 0x0\n{time + 4} 7 8 end {number + 1} ok 4096\n"
 
 
 def time_logs(program):
     with tempfile.TemporaryDirectory() as folder, contextlib.chdir(folder):
         for calls in SIZES:
-            text = long_log(calls)
-            pathlib.Path("log").write_bytes(text)
+            # (line by line: a program's peak begins with that of the process that started it)
+            with open("log", "w") as log:
+                lines = sum(log.write(piece) and piece.count("\n") for piece in long_log(calls))
             begin = time.monotonic()
             child = os.posix_spawn(program, [str(program), "audit", "log"], os.environ, file_actions=[(os.POSIX_SPAWN_OPEN, 1, os.devnull, os.O_WRONLY, 0)])
             _, status, usage = os.wait4(child, 0)
             seconds = time.monotonic() - begin
-            print(f"{calls} calls, {text.count(10)} lines: status {os.waitstatus_to_exitcode(status)}, {seconds:.2f} s, "
+            print(f"{calls} calls, {lines} lines: status {os.waitstatus_to_exitcode(status)}, {seconds:.2f} s, "
                   f"{usage.ru_maxrss} KiB, {1024 * usage.ru_maxrss // calls} bytes a call")
 
 

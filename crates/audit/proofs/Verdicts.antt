@@ -1,6 +1,6 @@
 -- What is written of a log, from its parts.
 use Rattle.std.proofs.Common.{◌≡◌, ℕ, ◌+◌, ◌<◌, Bool, true, false, List, [], ◌∷◌, ◌++◌, length, Option, Some, None, refl, sym, ap, subst, ◌∙◌, append_assoc, append-nil, length-append, arith}
-use Rattle.std.specs.Prelude.{IfSome, IsSome, map}
+use Rattle.std.specs.Prelude.{IfSome, IsSome}
 use Rattle.std.specs.List.{concat}
 use Rattle.std.specs.Io.KnownBytes.{Appends}
 use Rattle.std.proofs.KnownBytes.{Appends-trans}
@@ -12,8 +12,7 @@ use Rattle.audit.specs.declared.certificate.Certificate.TheVariants.{Certified, 
 use Rattle.audit.specs.declared.certificate.Totals.{Totals}
 use Rattle.audit.specs.Certificates.{IsCertificate, IsCertifiedInput, Shows}
 use Rattle.audit.specs.Verdicts.{IsFinding, AreFindings, HasVerdict, FitsLog, IsWhole, IsSure, GoesWith, IsJudged, Audits, Prints, IsReport, certified_verdict, is_certified}
-use Rattle.kernel_rules.specs.Runs.{event_of}
-use Rattle.call_log.specs.declared.log.ReadLog.{ReadLog}
+use Rattle.call_log.specs.declared.complete.ReadLog.{ReadLog}
 use Rattle.call_log.specs.Listing.{IsLog, IsRead, ReadsEntries, ReadsLog}
 use Rattle.log_entries.specs.declared.entry_reader.EntryReader.{EntryReader}
 use Rattle.log_entries.specs.declared.log_line.LogLine.{LogLine}
@@ -109,7 +108,7 @@ shows_input entries (Missing why) input lines is log has = tt
 whole_input : (entries : EntryReader) (input : List ℕ) (lines : List LogLine) → IsLog input lines → HasRead lines entries → entries.whole ≡ true → IsWhole input
 whole_input entries input lines log has whole =
     let read = has whole in
-    (lines, map event_of entries.entries.items, log, read.events)
+    (lines, entries.entries, log, read.events)
 
 sure_of : (v : Verdict) (entries : EntryReader) (input : List ℕ) (lines : List LogLine) → IsLog input lines → HasRead lines entries → FitsLog v entries.whole → IsSure v input
 sure_of verdict.Certified entries input lines log has fits = whole_input entries input lines log has fits

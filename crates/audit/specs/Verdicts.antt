@@ -13,7 +13,7 @@ use Rattle.audit.specs.Certificates.{IsCertificate, IsCertifiedInput, Shows}
 use Rattle.kernel_rules.specs.Runs.{Event}
 use Rattle.log_entries.specs.declared.log_line.LogLine.{LogLine}
 use Rattle.log_entries.specs.Events.{HasEvents}
-use Rattle.call_log.specs.declared.log.ReadLog.{ReadLog}
+use Rattle.call_log.specs.declared.complete.ReadLog.{ReadLog}
 use Rattle.call_log.specs.Listing.{HasNoFeed, IsListed, IsLog, IsRead}
 
 -- a finding: a name, the line of the log that it is of, and a text

@@ -216,7 +216,7 @@ impl Search {
     }
 
     fn show(&mut self, read: u32, next: u32) -> Result<(), NoMemory> {
-        let Some(call) = self.log.call(read).copied() else {
+        let Some(call) = self.log.call(read) else {
             return Ok(());
         };
         let message = self.log.messages_of(&call).get(next as usize).copied();

@@ -16,10 +16,10 @@ use crate::certificate::{Certificate, certificate_of};
 use crate::findings::{Finding, list_findings};
 use crate::judging::{Judged, judge};
 use crate::summary::{front_of, summary};
-use call_log::ReadLog;
 use call_log::fault::LogFault;
 use call_log::input::{read_log, write_out};
 use call_log::split::first_line;
+use call_log::{CompleteLog, ReadLog};
 use mig_base::NoMemory;
 use std::alloc::Global;
 use std::io::{Read, Write};
@@ -89,14 +89,14 @@ struct Report {
 fn report_of(alloc: Global, name: &str, read: ReadLog, asked: Asked) -> Result<Report, NoMemory>
     ensures { IfOk result (λ report. IsReport name.now read report) }
 {
-    let ReadLog { log, entries } = read;
+    let CompleteLog { log, entries } = read.complete(alloc)?;
     let whole = entries.whole;
     let judged = judge(alloc, log)?;
     let found = list_findings(alloc, &judged, whole, asked.late_after)?;
     let findings = print_findings(alloc, name, &found)?;
     let judgement = verdict_of(&judged, &found, whole);
     let front = front_of(alloc, &judged, &found, whole, asked.explains)?;
-    let certificate = certificate_of(alloc, judged, entries)?;
+    let certificate = certificate_of(alloc, judged, &entries)?;
     let summary = summary(alloc, &front, certificate)?;
     let verdict = certified_verdict(judgement, certificate);
     Ok(Report {
@@ -159,8 +159,7 @@ fn verdict_of(judged: &Judged, found: &[Finding], whole: bool) -> Verdict
             Verdict::Impossible
         };
     }
-    let all_judged = judged.log.calls.iter().all(|call| call.judged);
-    if all_judged && judged.impossible.is_empty() && judged.broken.is_none() {
+    if judged.log.are_all_judged() && judged.impossible.is_empty() && judged.broken.is_none() {
         Verdict::Clean
     } else {
         Verdict::Undecided

@@ -1,22 +1,18 @@
 //! Certificates: a run that was found is handed to the checker of `kernel_rules`, which is proved.
 
-ghost use Rattle.std.specs.Prelude.{◌≡◌, true, map, option_map, List, IfNone, IfOk, IfSome};
+ghost use Rattle.std.specs.Prelude.{◌≡◌, true, option_map, List, IfNone, IfOk, IfSome};
 ghost use Rattle.kernel_rules.specs.Certified.{certified, fresh_place, moved_all, IsReached};
 ghost use Rattle.kernel_rules.specs.declared.run.Move.{Move as MoveOf};
 ghost use Rattle.kernel_rules.specs.Held.{AreTables};
-ghost use Rattle.kernel_rules.specs.Runs.{event_of};
 ghost use Rattle.kernel_rules.specs.Worlds.{if_made, place_of};
-ghost use Rattle.log_entries.specs.declared.log_line.LogLine.{LogLine};
-ghost use Rattle.log_entries.specs.Readers.{HasRead};
 ghost use Rattle.audit.specs.Certificates.{IsCertificate, MayBe, certificate_from, totals_at_end};
 
 use crate::judging::Judged;
 use crate::moves::Moves;
 use call_log::log::Log;
 use call_log::log_call::LogCall;
-use kernel_rules::Entry;
 use kernel_rules::certify::WorldTable;
-use log_entries::EntryReader;
+use log_entries::{EntryReader, EntryStore};
 use mig_base::{NoMemory, PAGE_SIZE};
 use std::alloc::Global;
 use std::fmt;
@@ -52,6 +48,8 @@ pub(crate) enum Missing {
     Call { line: u32, word: &'static str },
     /// A map call has something to tell an object.
     Told,
+    /// A protection of several pages has changed some of them before the others.
+    PageByPage,
     /// The checker takes no such run.
     Refused,
     /// The checker's kernel has other findings.
@@ -66,6 +64,10 @@ impl fmt::Display for Missing {
             Missing::PageSize(size) => write!(f, "pages of {size} bytes are not followed"),
             Missing::Call { line, word } => write!(f, "line {line}: {word} is not followed"),
             Missing::Told => write!(f, "a map call that tells an object is not followed"),
+            Missing::PageByPage => write!(
+                f,
+                "a protection that takes effect page by page is not followed"
+            ),
             Missing::Refused => write!(f, "the checker does not follow the run"),
             Missing::Differs => write!(f, "the checker finds other pages owed or put twice"),
         }
@@ -86,8 +88,9 @@ fn is_followed(call: &LogCall) -> bool {
 
 /// The first call that is not followed.
 fn not_followed(log: &Log) -> Option<Missing> {
-    for call in &log.calls {
-        if !is_followed(call) {
+    for place in 0..log.count() {
+        let call = log.call(u32::try_from(place).ok()?)?;
+        if !is_followed(&call) {
             return Some(Missing::Call {
                 line: call.begin,
                 word: call.word(),
@@ -114,26 +117,6 @@ fn missing_of(judged: &Judged, entries: &EntryReader) -> Option<Missing>
     not_followed(&judged.log)
 }
 
-/// Puts in what no line of a call says.
-fn settle(log: &Log, entries: &mut EntryReader)
-    ensures whole { entries.new.whole ≡ entries.old.whole }
-    ensures read { (lines : List LogLine) → HasRead lines entries.old → HasRead lines entries.new }
-{
-    let mut place = 0u32;
-    for at in 0..entries.entries.len() {
-        let Some(key) = entries.key_of_begin(at) else {
-            continue;
-        };
-        let Some(call) = log.call(place) else {
-            return;
-        };
-        if call.begin == key {
-            entries.settle(at, call.space, call.last);
-            place = place.saturating_add(1);
-        }
-    }
-}
-
 /// What the search found.
 fn totals_of(judged: &Judged) -> Totals {
     let mut owed = 0u64;
@@ -153,7 +136,11 @@ fn totals_of(judged: &Judged) -> Totals {
 }
 
 /// Makes moves until none is left. False where the checker refuses one.
-fn make_all(world: &mut WorldTable, entries: &[Entry], moves: &mut Moves) -> Result<bool, NoMemory>
+fn make_all(
+    world: &mut WorldTable,
+    entries: &EntryStore,
+    moves: &mut Moves,
+) -> Result<bool, NoMemory>
     requires tables { AreTables world.old.kernel }
     requires reached { IsReached entries.now (place_of world.old) }
     ensures tables { AreTables world.new.kernel }
@@ -164,7 +151,8 @@ fn make_all(world: &mut WorldTable, entries: &[Entry], moves: &mut Moves) -> Res
         let Some(step) = moves.next(entries) else {
             return Ok(true);
         };
-        if !world.step(entries, step)? {
+        let seen = entries.get(world.seen_at(step))?;
+        if !world.step(seen.as_ref(), step)? {
             return Ok(false);
         }
     }
@@ -172,8 +160,8 @@ fn make_all(world: &mut WorldTable, entries: &[Entry], moves: &mut Moves) -> Res
 }
 
 /// Has a run checked, move by move, and the kernel at its end judged as the log ends.
-fn check(alloc: Global, entries: &[Entry], moves: &mut Moves) -> Result<Option<Totals>, NoMemory>
-    ensures run { IfOk result (λ found. IfSome found (MayBe (map event_of entries.now))) }
+fn check(alloc: Global, entries: &EntryStore, moves: &mut Moves) -> Result<Option<Totals>, NoMemory>
+    ensures run { IfOk result (λ found. IfSome found (MayBe entries.now)) }
     ensures exact { IfOk result (λ found. (run : List MoveOf) ×
         (found ≡ option_map totals_at_end (certified entries.now run))) }
 {
@@ -181,7 +169,8 @@ fn check(alloc: Global, entries: &[Entry], moves: &mut Moves) -> Result<Option<T
     if !make_all(&mut world, entries, moves)? {
         return Ok(None);
     }
-    if world.next != entries.len() {
+    let count = entries.len();
+    if world.next != count {
         return Ok(None);
     }
     let mut kernel = world.kernel;
@@ -208,19 +197,17 @@ fn decide(found: Option<Totals>, wanted: Totals) -> Certificate
 pub(crate) fn certificate_of(
     alloc: Global,
     judged: Judged,
-    entries: EntryReader,
+    entries: &EntryReader,
 ) -> Result<Certificate, NoMemory>
-    ensures { IfOk result (IsCertificate entries) }
+    ensures { IfOk result (IsCertificate entries.now) }
 {
-    if let Some(missing) = missing_of(&judged, &entries) {
+    if let Some(missing) = missing_of(&judged, entries) {
         return Ok(Certificate::Missing(missing));
     }
-    let mut entries = entries;
-    settle(&judged.log, &mut entries);
     let wanted = totals_of(&judged);
     let mut moves = Moves::new(alloc, judged, &entries.entries)?;
     if !moves.are_known() {
-        return Ok(Certificate::Missing(Missing::Told));
+        return Ok(Certificate::Missing(moves.missing()));
     }
     let found = check(alloc, &entries.entries, &mut moves)?;
     Ok(decide(found, wanted))

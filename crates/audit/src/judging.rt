@@ -49,8 +49,7 @@ fn found_in(alloc: Global, log: Log) -> Result<Judged, NoMemory> {
 }
 
 /// Judges a log.
-pub(crate) fn judge(alloc: Global, mut log: Log) -> Result<Judged, NoMemory> {
-    log.complete(alloc)?;
+pub(crate) fn judge(alloc: Global, log: Log) -> Result<Judged, NoMemory> {
     let judged = found_in(alloc, log)?;
     if !judged.impossible.is_empty() {
         return Ok(judged);

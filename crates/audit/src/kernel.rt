@@ -2,7 +2,7 @@
 
 use crate::space::Space;
 use call_log::pages::{PageSize, Range};
-use indexmap::IndexMap;
+use indexmap::{IndexMap, IndexSet};
 use kernel_rules::fault::{has_unread_in, is_asleep, note_left, stops, wake_in};
 use kernel_rules::{Change, Difference, Fault, Object, Page, Phase, Reach};
 use mig_base::NoMemory;
@@ -30,6 +30,13 @@ pub(crate) struct Calling {
     pub(crate) told: Vec<Told>,
     /// Of MADV_DONTNEED: the pages that are to be cleared.
     pub(crate) clears: Range,
+}
+
+/// A protection of several pages that is under way, with those that it has changed.
+#[derive(Drop)]
+pub(crate) struct Protecting {
+    pub(crate) key: u32,
+    pub(crate) pages: IndexSet<u64>,
 }
 
 /// Pages that were registered with an object at some time.
@@ -83,6 +90,8 @@ pub(crate) struct Kernel {
     /// In the order in which the unread ones were queued.
     pub(crate) faults: Vec<Fault>,
     pub(crate) calls: Vec<Calling>,
+    /// Those that have changed a page.
+    pub(crate) protecting: Vec<Protecting>,
     pub(crate) registered: Vec<Registered>,
     /// What was done otherwise than by the model, the oldest first.
     pub(crate) differs: Vec<Difference>,
@@ -187,6 +196,7 @@ impl Kernel {
             spaces: IndexMap::new(alloc),
             faults: Vec::new(alloc),
             calls: Vec::new(alloc),
+            protecting: Vec::new(alloc),
             registered: Vec::new(alloc),
             differs: Vec::new(alloc),
             owed: Vec::new(alloc),

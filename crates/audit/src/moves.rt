@@ -1,20 +1,15 @@
 //! A run that was found, as the moves that the checker of `kernel_rules` takes, one after another.
 
+use crate::certificate::Missing;
 use crate::judging::Judged;
 use crate::replay::sorted_late;
 use crate::run::{Late, Run, Unseen, What};
 use call_log::log::Log;
-use kernel_rules::{Entry, Move};
+use kernel_rules::Move;
+use log_entries::EntryStore;
 use mig_base::NoMemory;
 use std::alloc::Global;
 use uffd_log::Answer;
-
-/// Where a call begins and ends: the number of its first line, and the entry of its end.
-#[derive(Clone, Copy)]
-struct Span {
-    key: u32,
-    end: u32,
-}
 
 /// How far the opening of an object that was found has come, whose two entries are no lines of calls.
 #[derive(Clone, Copy)]
@@ -24,12 +19,14 @@ enum Opening {
     Opened,
 }
 
-/// The moves of a run from its next one on. A log is not needed for them: of each call there is a span.
+/// The moves of a run from its next one on.
 #[derive(Drop)]
 pub(crate) struct Moves {
+    log: Log,
     run: Run,
     late: Vec<Late>,
-    spans: Vec<Span>,
+    /// The ending that a call is given which never returned: that of a call that was done.
+    done: usize,
     /// The next step, and the next one that was put in later.
     next: usize,
     next_late: usize,
@@ -43,14 +40,18 @@ pub(crate) struct Moves {
 
 impl Moves {
     /// The moves of the run that was found, of a log with these entries.
-    pub(crate) fn new(alloc: Global, judged: Judged, entries: &[Entry]) -> Result<Moves, NoMemory> {
-        let spans = spans_of(alloc, &judged.log, entries)?;
+    pub(crate) fn new(
+        alloc: Global,
+        judged: Judged,
+        entries: &EntryStore,
+    ) -> Result<Moves, NoMemory> {
         let late = sorted_late(alloc, &judged.run)?;
-        let Judged { run, .. } = judged;
+        let Judged { log, run, .. } = judged;
         Ok(Moves {
+            log,
             run,
             late,
-            spans,
+            done: done_entry(entries),
             next: 0,
             next_late: 0,
             at: 0,
@@ -60,7 +61,7 @@ impl Moves {
         })
     }
 
-    /// Whether each step is one that the checker knows: no map call has something to tell an object.
+    /// Whether each step is one that the checker knows: no map call has something to tell an object, and no protection takes effect page by page.
     pub(crate) fn are_known(&self) -> bool {
         self.run
             .steps
@@ -72,8 +73,22 @@ impl Moves {
                 .all(|step| self.move_of(step.what).is_some())
     }
 
+    /// Why the checker does not know some step.
+    pub(crate) fn missing(&self) -> Missing {
+        let protects = self
+            .run
+            .unseen
+            .iter()
+            .any(|unseen| matches!(*unseen, Unseen::Protects { .. }));
+        if protects {
+            Missing::PageByPage
+        } else {
+            Missing::Told
+        }
+    }
+
     /// No more moves than this are left.
-    pub(crate) fn most(&self, entries: &[Entry]) -> usize {
+    pub(crate) fn most(&self, entries: &EntryStore) -> usize {
         entries
             .len()
             .saturating_mul(2)
@@ -82,7 +97,7 @@ impl Moves {
     }
 
     /// The next move. `None` at the end.
-    pub(crate) fn next(&mut self, entries: &[Entry]) -> Option<Move> {
+    pub(crate) fn next(&mut self, entries: &EntryStore) -> Option<Move> {
         match self.opening {
             Opening::Begun(key) => {
                 self.opening = Opening::Opened;
@@ -94,16 +109,16 @@ impl Moves {
                 self.at = self.at.saturating_add(1);
                 Some(Move::Line)
             }
-            Opening::Nothing => self.next_before(entries.get(self.at)),
+            Opening::Nothing => self.next_before(entries),
         }
     }
 
     /// The next move before an entry or at it: the beginning of an opening, a step, or the line of a call.
-    fn next_before(&mut self, entry: Option<&Entry>) -> Option<Move> {
-        if let Some(Entry::Begins { key, .. }) = entry {
-            let key = *key;
-            if !self.is_begin(key) {
-                self.opening = Opening::Begun(key);
+    fn next_before(&mut self, entries: &EntryStore) -> Option<Move> {
+        let made = entries.made(self.at);
+        if let Some(made) = made {
+            if !self.is_begin(made.key) {
+                self.opening = Opening::Begun(made.key);
                 self.at = self.at.saturating_add(1);
                 return Some(Move::Line);
             }
@@ -111,17 +126,20 @@ impl Moves {
         if let Some(what) = self.next_step() {
             return self.move_of(what);
         }
-        self.next_line(entry?)
+        if self.at >= entries.len() {
+            return None;
+        }
+        self.pass_line(made.is_some());
+        Some(Move::Line)
     }
 
-    /// The line of an entry of a call.
-    fn next_line(&mut self, entry: &Entry) -> Option<Move> {
-        if matches!(entry, Entry::Begins { .. }) {
+    /// The line of an entry of a call, which begins or ends there, is passed.
+    fn pass_line(&mut self, begins: bool) {
+        if begins {
             self.begun = self.begun.saturating_add(1);
         }
         self.at = self.at.saturating_add(1);
         self.lines = self.lines.saturating_add(1);
-        Some(Move::Line)
     }
 
     /// The next step before the next line.
@@ -142,8 +160,8 @@ impl Moves {
 
     /// Whether the next call begins with the line of this number.
     fn is_begin(&self, key: u32) -> bool {
-        match self.spans.get(self.begun as usize) {
-            Some(span) => span.key == key,
+        match self.log.call(self.begun) {
+            Some(call) => call.begin == key,
             None => false,
         }
     }
@@ -152,10 +170,14 @@ impl Moves {
     fn move_of(&self, what: What) -> Option<Move> {
         match what {
             What::Effect(place) => {
-                let span = self.spans.get(place as usize)?;
+                let call = self.log.call(place)?;
+                let at = match call.ending {
+                    Some(entry) => entry as usize,
+                    None => self.done,
+                };
                 Some(Move::Effect {
-                    key: span.key,
-                    at: span.end as usize,
+                    key: call.begin,
+                    at,
                 })
             }
             What::Unseen(place) => move_unseen(self.run.unseen.get(place as usize).copied()?),
@@ -179,49 +201,16 @@ fn move_unseen(unseen: Unseen) -> Option<Move> {
         }),
         Unseen::Queues { thread } => Some(Move::Queues { thread }),
         Unseen::Leaves { thread } => Some(Move::Leaves { thread }),
-        Unseen::Tells { .. } | Unseen::Clears { .. } => None,
-    }
-}
-
-/// Whether an entry is the end of a call.
-fn is_end(entry: &Entry, call: u32) -> bool {
-    match entry {
-        Entry::Ends { key, .. } => call == *key,
-        Entry::Begins { .. } => false,
+        Unseen::Tells { .. } | Unseen::Clears { .. } | Unseen::Protects { .. } => None,
     }
 }
 
 /// An entry where a call ends that did what it was asked to and returned nothing else.
-fn done_entry(entries: &[Entry]) -> u32 {
+fn done_entry(entries: &EntryStore) -> usize {
     for at in 0..entries.len() {
-        if let Some(Entry::Ends { ending, .. }) = entries.get(at) {
-            if ending.answer == Answer::Done {
-                return u32::try_from(at).unwrap_or(u32::MAX);
-            }
+        if entries.answer(at) == Some(Answer::Done) {
+            return at;
         }
     }
-    u32::MAX
-}
-
-/// The span of each call. One that never returned is given the ending of a call that was done.
-fn spans_of(alloc: Global, log: &Log, entries: &[Entry]) -> Result<Vec<Span>, NoMemory> {
-    let end = done_entry(entries);
-    let mut spans = Vec::with_capacity(alloc, log.calls.len())?;
-    for call in &log.calls {
-        let key = call.begin;
-        spans.push(Span { key, end })?;
-    }
-    let mut next = 0usize;
-    for at in 0..entries.len() {
-        let (Some(entry), Some(place)) = (entries.get(at), log.ends.get(next).copied()) else {
-            break;
-        };
-        if let Some(span) = spans.get_mut(place as usize) {
-            if is_end(entry, span.key) {
-                span.end = u32::try_from(at).unwrap_or(u32::MAX);
-                next = next.saturating_add(1);
-            }
-        }
-    }
-    Ok(spans)
+    usize::MAX
 }

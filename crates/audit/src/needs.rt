@@ -1,7 +1,9 @@
 //! Open calls that take effect before another one, for its answer.
 
 use crate::kernel::{is_guarded, is_missing};
+use crate::rules::protects_several;
 use crate::search::Search;
+use crate::search::index::message_of;
 use call_log::log_call::{COPY_PROTECTS, LogCall, PROTECTS, is_event};
 use call_log::pages::Range;
 use kernel_rules::fault::is_protection;
@@ -18,6 +20,11 @@ pub(crate) enum Wanted {
     },
     /// Reads that return a fault of some pages of an object.
     Faults {
+        object: u64,
+        range: Range,
+    },
+    /// The same, but for those of a page that is to be protected first.
+    FaultsNow {
         object: u64,
         range: Range,
     },
@@ -51,16 +58,23 @@ pub(crate) enum Wanted {
         object: u64,
         page: u64,
     },
-    /// Those that write-protect a page of an object.
+    /// Those that write-protect a page of an object, but for protections of several pages, until it is write-protected.
     Protects {
         object: u64,
         page: u64,
     },
-    /// Those that put a page of a range, or take its protection away, which is protected by a call that ends at this line.
+    /// Those that put a page of a range, or take its protection away, which is protected by a call after that, as a fault shows that is read after
+    /// this line.
     Protected {
         object: u64,
         range: Range,
         line: u32,
+        by: u32,
+    },
+    /// Protections of several pages of an address space, one of them in a range, which have changed a page already.
+    Protecting {
+        space: u32,
+        range: Range,
     },
     /// Those that put a page which loses its registration.
     PutIn {
@@ -109,7 +123,7 @@ impl Search {
                 continue;
             }
             if let Some(call) = self.log.call(open.call) {
-                if self.is_wanted(wanted, call) {
+                if self.is_wanted(wanted, open.call, &call) {
                     return Some(open.call);
                 }
             }
@@ -117,13 +131,57 @@ impl Search {
         None
     }
 
-    /// Whether a call is what is looked for.
-    fn is_wanted(&self, wanted: Wanted, call: &LogCall) -> bool {
+    /// Of the open protections of several pages that have not changed this one of them yet, the one that ends first.
+    pub(crate) fn next_protecting(&self, object: u64, page: u64) -> Option<u32> {
+        let mut first = None;
+        let mut until = u32::MAX;
+        for open in &self.open {
+            if let Some(call) = self.log.call(open.call) {
+                let is_wide = protects_several(self.log.size, &call);
+                let is_one = is_wide && self.may_protect(open.call, &call, object, page);
+                if is_one && call.end < until {
+                    first = Some(open.call);
+                    until = call.end;
+                }
+            }
+        }
+        first
+    }
+
+    /// Whether the call at a place of the log write-protects a page of an object, and has not changed it yet.
+    fn may_protect(&self, place: u32, call: &LogCall, object: u64, page: u64) -> bool {
+        let is_there = call.object() == Some(object) && call.covers(self.log.size, page);
+        protects(call) && is_there && !self.kernel.has_protected(place, page)
+    }
+
+    /// Whether each fault of a write-protected page that a read returns waits already, or its page is protected.
+    fn may_be_read(&self, object: u64, read: &LogCall) -> bool {
+        for message in self.log.messages_of(read) {
+            if let Message::Fault { addr, flags, .. } = *message {
+                let page = self.log.size.number(addr);
+                let is_early = is_protection(flags) && self.is_bare(object, page);
+                if is_early && !self.is_waiting(object, page, flags) {
+                    return false;
+                }
+            }
+        }
+        true
+    }
+
+    /// Whether the call at a place of the log is what is looked for.
+    fn is_wanted(&self, wanted: Wanted, place: u32, call: &LogCall) -> bool {
         let size = self.log.size;
         match wanted {
+            Wanted::Protecting { space, range } => {
+                self.kernel.has_begun(place) && self.has_page_in(call, space, range)
+            }
             Wanted::Wakers { object, page } => call.wakes(size, object, page),
             Wanted::Faults { object, range } => {
                 call.object() == Some(object) && self.reads_fault(call, range)
+            }
+            Wanted::FaultsNow { object, range } => {
+                let is_of = call.object() == Some(object) && self.reads_fault(call, range);
+                is_of && self.may_be_read(object, call)
             }
             Wanted::MissingFaults { object, range } => {
                 call.object() == Some(object) && self.reads_missing(call, range)
@@ -138,13 +196,15 @@ impl Search {
             Wanted::MovesTo { space, page } => self.moves_to(call, space, page),
             Wanted::OfObject(object) => call.object() == Some(object),
             Wanted::Protects { object, page } => {
-                protects(call) && call.object() == Some(object) && call.covers(size, page)
+                let may_be = self.is_bare(object, page) && !protects_several(size, call);
+                may_be && self.may_protect(place, call, object, page)
             }
             Wanted::Protected {
                 object,
                 range,
                 line,
-            } => self.is_bared_before(call, object, range, line),
+                by,
+            } => self.is_bared_before(call, object, range, line, by),
             _ => self.is_wanted_install(wanted, call),
         }
     }
@@ -164,6 +224,14 @@ impl Search {
                 self.is_put_in(call, space, range) && self.is_missing_after(call, space, line)
             }
             _ => false,
+        }
+    }
+
+    /// Whether a page of a call is in a range of an address space.
+    fn has_page_in(&self, call: &LogCall, space: u32, range: Range) -> bool {
+        match self.log.pages_of(call) {
+            Some(pages) => self.watches_space(call, space) && pages.common(range).count > 0,
+            None => false,
         }
     }
 
@@ -245,19 +313,23 @@ impl Search {
         Some((space, self.log.pages_of(call)?.first))
     }
 
-    /// Whether a call puts a page, or takes its protection away, and the page is protected after it: the next fault of it that is read says so.
-    fn is_bared_before(&self, call: &LogCall, object: u64, range: Range, line: u32) -> bool {
-        if !bares(call) || call.object() != Some(object) {
+    /// Whether a call puts a page, or takes its protection away, and another one protects the page after it: the next fault of it that is read says so.
+    fn is_bared_before(
+        &self,
+        call: &LogCall,
+        object: u64,
+        range: Range,
+        line: u32,
+        by: u32,
+    ) -> bool {
+        let Some(pages) = self.log.pages_of(call) else {
             return false;
-        }
-        match self.log.pages_of(call) {
-            Some(pages) => range.contains(pages.first)
-                && matches!(
-                    self.is_next_protected(object, pages.first, line),
-                    Some(true)
-                ),
-            None => false,
-        }
+        };
+        let is_of = call.object() == Some(object) && range.contains(pages.first);
+        bares(call)
+            && is_of
+            && !self.kernel.has_protected(by, pages.first)
+            && self.is_next_protected(object, pages.first, line) == Some(true)
     }
 
     /// Whether the next fault of a page that is read after a line says that it is write-protected, if one is read.
@@ -269,8 +341,8 @@ impl Search {
         if fault.object != object || fault.page != page {
             return None;
         }
-        match self.log.messages.get(fault.message as usize) {
-            Some(Message::Fault { flags, .. }) => Some(is_protection(*flags)),
+        match message_of(&self.log, *fault) {
+            Some(Message::Fault { flags, .. }) => Some(is_protection(flags)),
             _ => None,
         }
     }

@@ -71,7 +71,7 @@ impl Search {
     }
 
     fn prepare_poll(&mut self, poll: u32) -> Result<(), NoMemory> {
-        let Some(call) = self.log.call(poll).copied() else {
+        let Some(call) = self.log.call(poll) else {
             return Ok(());
         };
         let (Some(object), Some(Answer::Value(events))) = (call.object(), call.answer) else {
@@ -114,7 +114,7 @@ impl Search {
             }
             if let Some(call) = self.log.call(read.call) {
                 if !call.done {
-                    let beside = self.read_beside(call, place.saturating_add(1));
+                    let beside = self.read_beside(&call, place.saturating_add(1));
                     return Some(beside.unwrap_or(read.call));
                 }
             }
@@ -144,7 +144,7 @@ impl Search {
     fn first_message(&self, read: u32) -> Option<Message> {
         let call = self.log.call(read)?;
         if call.is_ok() {
-            self.log.messages_of(call).first().copied()
+            self.log.messages_of(&call).first().copied()
         } else {
             None
         }
@@ -195,7 +195,7 @@ impl Search {
             self.set_kind(poll, Kind::Must);
             return Ok(());
         }
-        let Some(call) = self.log.call(poll).copied() else {
+        let Some(call) = self.log.call(poll) else {
             return Ok(());
         };
         let Some(object) = call.object() else {
@@ -246,14 +246,13 @@ impl Search {
 
     /// The place of the first call that begins after a line.
     fn first_begun_after(&self, line: u32) -> u32 {
-        let place = self.log.calls.partition_point(|call| call.begin <= line);
-        u32::try_from(place).unwrap_or(u32::MAX)
+        u32::try_from(self.log.first_below(line)).unwrap_or(u32::MAX)
     }
 
     /// A thread that waits at the first page of a call which wakes it.
     fn woken_first(&mut self, waker: u32, object: u64) -> Option<Access> {
         let call = self.log.call(waker)?;
-        let (space, page) = self.first_page(call)?;
+        let (space, page) = self.first_page(&call)?;
         let flags = if self.is_there(space, page) {
             PROTECTED_STORE
         } else {
@@ -326,7 +325,7 @@ impl Search {
         let mode = call.install_mode()?;
         let wakes = call.is_ok() && mode & DONTWAKE == 0;
         if wakes && call.object() == Some(object) {
-            Some(self.log.pages_of(call)?.first)
+            Some(self.log.pages_of(&call)?.first)
         } else {
             None
         }

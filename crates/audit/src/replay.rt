@@ -4,7 +4,7 @@
 use crate::kernel::Kernel;
 use crate::refusal::{Refusal, Stop};
 use crate::rules::Made;
-use crate::run::{Late, Run, What};
+use crate::run::{Late, Run, Unseen, What};
 use call_log::log::Log;
 use call_log::log_call::LogCall;
 use mig_base::NoMemory;
@@ -100,7 +100,8 @@ impl Replay<'_> {
                 let Some(unseen) = self.run.unseen.get(place as usize).copied() else {
                     return Err(stop_at(None, "a step is missing"));
                 };
-                if self.kernel.make(unseen)? {
+                self.look_at(unseen)?;
+                if self.kernel.make(self.log, unseen)? {
                     Ok(())
                 } else {
                     Err(stop_at(None, "a step that the log does not show is not allowed"))
@@ -109,13 +110,36 @@ impl Replay<'_> {
         }
     }
 
+    /// Whether a call has begun and has not ended.
+    fn is_open(&self, call: &LogCall) -> bool {
+        let has_ended = call.end > 0 && call.end <= self.line;
+        call.begin <= self.line && !has_ended
+    }
+
+    /// A protection protects a page alone while it is under way, and before its effect.
+    fn look_at(&self, unseen: Unseen) -> Result<(), Fault> {
+        let Unseen::Protects { key, .. } = unseen else {
+            return Ok(());
+        };
+        let Some(call) = self.log.call(key) else {
+            return Err(stop_at(None, "a call is missing"));
+        };
+        let is_taken = !matches!(self.taken.get(key as usize), Some(false));
+        if self.is_open(&call) && !is_taken {
+            Ok(())
+        } else {
+            Err(stop_at(
+                Some(call.begin),
+                "it protects a page when it is not under way",
+            ))
+        }
+    }
+
     /// A call takes effect, once and between its lines.
     fn take_effect(&mut self, place: u32) -> Result<(), Fault> {
         let Some(call) = self.log.call(place) else {
             return Err(stop_at(None, "a call is missing"));
         };
-        let has_ended = call.end > 0 && call.end <= self.line;
-        let is_open = call.begin <= self.line && !has_ended;
         let is_first = match self.taken.get_mut(place as usize) {
             Some(taken) => {
                 let is_first = !*taken;
@@ -124,10 +148,10 @@ impl Replay<'_> {
             }
             None => false,
         };
-        if !is_open || !is_first {
+        if !self.is_open(&call) || !is_first {
             return Err(stop_at(Some(call.begin), "its effect is not in its time"));
         }
-        self.judge(place, call)
+        self.judge(place, &call)
     }
 
     fn judge(&mut self, key: u32, call: &LogCall) -> Result<(), Fault> {
@@ -197,10 +221,10 @@ impl Replay<'_> {
     }
 }
 
-/// A flag for each call.
-fn flags_of(alloc: Global, calls: &[LogCall]) -> Result<Vec<bool>, NoMemory> {
-    let mut flags = Vec::with_capacity(alloc, calls.len())?;
-    for _ in calls {
+/// A flag for each call, by their number.
+fn flags_of(alloc: Global, count: usize) -> Result<Vec<bool>, NoMemory> {
+    let mut flags = Vec::with_capacity(alloc, count)?;
+    for _ in 0..count {
         flags.push(false)?;
     }
     Ok(flags)
@@ -221,7 +245,7 @@ pub(crate) fn replay_run(alloc: Global, log: &Log, run: &Run) -> Result<Replayed
         run,
         late: sorted_late(alloc, run)?,
         kernel: Kernel::new(alloc, log.size, &log.found)?,
-        taken: flags_of(alloc, &log.calls)?,
+        taken: flags_of(alloc, log.count())?,
         line: 0,
         next: 0,
         next_late: 0,

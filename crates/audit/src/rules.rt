@@ -11,10 +11,10 @@ mod reads;
 
 use crate::kernel::Kernel;
 use crate::refusal::Stop;
+pub(crate) use crate::rules::protect::protects_several;
 pub(crate) use crate::rules::reads::has_next;
-use call_log::log::PageRun;
 use call_log::log_call::LogCall;
-use kernel_rules::Object;
+use kernel_rules::{Object, Run};
 use uffd_log::{Call, Message};
 
 /// A call, with what it read.
@@ -24,7 +24,7 @@ pub(crate) struct Made<'a> {
     pub(crate) key: u32,
     pub(crate) call: &'a LogCall,
     pub(crate) messages: &'a [Message],
-    pub(crate) runs: &'a [PageRun],
+    pub(crate) runs: &'a [Run],
 }
 
 /// The object of a call, which is open.

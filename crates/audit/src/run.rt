@@ -1,6 +1,6 @@
 //! A run of a log: its lines in their order, with the effects of calls put in between, and what no line shows.
 
-use call_log::log::narrow;
+use call_log::call_table::narrow;
 use mig_base::NoMemory;
 use std::alloc::Global;
 
@@ -30,6 +30,11 @@ pub(crate) enum Unseen {
     /// A map call clears its pages.
     Clears {
         key: u32,
+    },
+    /// A protection of several pages protects this one of them, and the others later.
+    Protects {
+        key: u32,
+        page: u64,
     },
 }
 

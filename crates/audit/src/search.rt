@@ -17,7 +17,6 @@ use call_log::log::Log;
 use call_log::log_call::{Kind, LogCall};
 use mig_base::NoMemory;
 use std::alloc::Global;
-use uffd_log::Call;
 
 /// A call that has begun and has not taken effect.
 #[derive(Clone, Copy)]
@@ -64,6 +63,8 @@ pub(crate) struct Search {
     pub(crate) unnamed: u64,
     pub(crate) strangers: u64,
     pub(crate) impossible: Vec<Impossible>,
+    /// The line of the log that is looked at.
+    pub(crate) line: u32,
 }
 
 impl Search {
@@ -85,6 +86,7 @@ impl Search {
             unnamed: 0,
             strangers: 0,
             impossible: Vec::new(alloc),
+            line: 0,
         })
     }
 
@@ -135,6 +137,7 @@ impl Search {
         let Some(call) = self.log.call(place) else {
             return Ok(());
         };
+        self.line = call.end;
         if call.has_effect() && !call.done {
             self.carry_out(Task::Settle(place))?;
         }
@@ -157,7 +160,7 @@ impl Search {
 
     /// A step that the log does not show. Whether the rules allow it.
     pub(crate) fn step(&mut self, unseen: Unseen) -> Result<bool, NoMemory> {
-        let made = self.kernel.make(unseen)?;
+        let made = self.kernel.make(&self.log, unseen)?;
         if made {
             self.run.add_unseen(unseen)?;
         }
@@ -175,15 +178,13 @@ impl Search {
     }
 
     pub(crate) fn set_kind(&mut self, place: u32, kind: Kind) {
-        if let Some(call) = self.log.calls.get_mut(place as usize) {
-            call.kind = kind;
-        }
+        self.log.set_kind(place, kind);
     }
 
     /// A call takes effect, and its answer is judged.
     pub(crate) fn take_effect(&mut self, frame: Frame) -> Result<(), NoMemory> {
         let place = frame.call;
-        let Some(call) = self.log.call(place).copied() else {
+        let Some(call) = self.log.call(place) else {
             return Ok(());
         };
         let step = self.run.len()?;
@@ -226,7 +227,7 @@ impl Search {
         if is_noted {
             return;
         }
-        let has_messages = matches!(call.call, Call::Read { .. }) && call.count > 0;
+        let has_messages = !self.log.messages_of(call).is_empty();
         let may = has_messages || self.kernel.resolved > 0 || self.run.has_access_from(frame.first);
         self.set_kind(frame.call, if may { Kind::May } else { Kind::Must });
     }
@@ -266,9 +267,7 @@ impl Search {
 
     /// A call has taken effect, by this step.
     fn finish(&mut self, place: u32, call: &LogCall, step: u32) -> Result<(), NoMemory> {
-        if let Some(call) = self.log.calls.get_mut(place as usize) {
-            call.done = true;
-        }
+        self.log.set_done(place);
         self.open.retain(|open| open.call != place);
         self.settling.retain(|other| *other != place);
         self.shown.retain(|shown| shown.read != place);

@@ -36,17 +36,6 @@ const DIFFERENCES: &[(Difference, &str)] = &[
     ),
 ];
 
-/// How many calls are of a kind.
-fn count_of(judged: &Judged, kind: Kind) -> u64 {
-    let mut count = 0u64;
-    for call in &judged.log.calls {
-        if call.kind == kind {
-            count = count.saturating_add(1);
-        }
-    }
-    count
-}
-
 /// How often a difference from the model was noted.
 fn count_difference(judged: &Judged, wanted: Difference) -> u64 {
     let mut count = 0u64;
@@ -162,7 +151,7 @@ pub(crate) fn front_of(
     }
     add_details(&mut rest, alloc, judged, found, explains)?;
     Ok(Front {
-        calls: judged.log.calls.len(),
+        calls: judged.log.count(),
         counts: counts(alloc, judged, whole)?,
         rest,
     })
@@ -171,11 +160,11 @@ pub(crate) fn front_of(
 /// How many calls there are of each kind. An answer that no rule allows is not impossible where a lost line may explain it.
 fn counts(alloc: Global, judged: &Judged, whole: bool) -> Result<String, NoMemory> {
     let mut text = String::new(alloc);
-    let must = count_of(judged, Kind::Must);
-    let may = count_of(judged, Kind::May);
-    let refused = count_of(judged, Kind::Impossible);
+    let must = judged.log.count_of(Kind::Must);
+    let may = judged.log.count_of(Kind::May);
+    let refused = judged.log.count_of(Kind::Impossible);
     let impossible = if whole { refused } else { 0 };
-    let unjudged = count_of(judged, Kind::Unjudged);
+    let unjudged = judged.log.count_of(Kind::Unjudged);
     write!(
         text,
         "{must} with the only answer that the rules allow, {may} that an access explains which the log does not show, "

@@ -7,7 +7,7 @@ use crate::needs::Wanted;
 use crate::polls::PollTask;
 use crate::run::Unseen;
 use crate::search::Search;
-use crate::search::index::FaultRead;
+use crate::search::index::{FaultRead, message_of};
 use call_log::log_call::{LogCall, PROTECTS};
 use call_log::pages::Range;
 use kernel_rules::fault::{find, is_protection};
@@ -38,6 +38,10 @@ pub(crate) enum Task {
     Clear { space: u32, page: u64 },
     /// A page that is not write-protected is put or protected by a call that is under way, where there is one.
     MakeProtected { object: u64, page: u64 },
+    /// The same by a protection of several pages, which changes the others later.
+    ProtectAlone { object: u64, page: u64 },
+    /// The same by this one.
+    ProtectBy { call: u32, page: u64 },
     /// The events of an object are read.
     ReadEvents(u64),
     /// Threads saw the pages of an install missing whose faults are read after it.
@@ -80,6 +84,8 @@ impl Search {
             Task::Install(call) => self.prepare_install(call),
             Task::MakeMissing { space, range } => self.make_missing(space, range),
             Task::MakeProtected { object, page } => self.make_protected(object, page),
+            Task::ProtectAlone { object, page } => self.protect_alone(object, page),
+            Task::ProtectBy { call, page } => self.protect_by(call, page),
             Task::Clear { space, page } => self.clear_page(space, page),
             Task::ReadEvents(object) => self.read_events(object),
             Task::Foresee(call) => self.foresee(call),
@@ -90,7 +96,7 @@ impl Search {
 
     /// A call is to take effect, unless it has, or is about to.
     fn begin_settling(&mut self, place: u32) -> Result<(), NoMemory> {
-        let Some(call) = self.log.call(place).copied() else {
+        let Some(call) = self.log.call(place) else {
             return Ok(());
         };
         if call.done || self.settling.contains(&place) {
@@ -121,7 +127,7 @@ impl Search {
                 self.plan(Task::Install(place))?;
                 self.plan_reads_before(call)
             }
-            Call::WriteProtect { mode, .. } => self.prepare_protect(call, mode),
+            Call::WriteProtect { mode, .. } => self.prepare_protect(place, call, mode),
             Call::Wake { .. } => self.plan_reads_of(call),
             Call::Unregister { .. } => self.prepare_unregister(call),
             Call::Close { on } if call.last => self.plan(others(Wanted::OfObject(on.object))),
@@ -131,12 +137,13 @@ impl Search {
         }
     }
 
-    /// The open reads that return a fault of the pages of a call take effect before these change.
+    /// The open reads that return a fault of the pages of a call take effect before these change, but for those of a page that is to be protected
+    /// first.
     fn plan_reads_of(&mut self, call: &LogCall) -> Result<(), NoMemory> {
         let (Some(object), Some(range)) = (call.object(), self.log.pages_of(call)) else {
             return Ok(());
         };
-        self.plan(others(Wanted::Faults { object, range }))
+        self.plan(others(Wanted::FaultsNow { object, range }))
     }
 
     /// The same of an install: a fault which says that a page that it puts is write-protected comes after it.
@@ -158,6 +165,7 @@ impl Search {
         let space = call.space;
         let line = call.end;
         if !matches!(call.call, Call::Madvise { .. }) {
+            self.plan(others(Wanted::Protecting { space, range }))?;
             self.plan(others(Wanted::PutIn { space, range }))?;
         } else if line > 0 {
             self.plan(others(Wanted::PutBefore { space, range, line }))?;
@@ -172,10 +180,13 @@ impl Search {
         if let (Some(space), Some(range), true) = (space, self.log.pages_of(call), call.is_ok()) {
             self.plan(others(Wanted::PutIn { space, range }))?;
         }
-        self.plan_reads_of(call)
+        match (call.object(), self.log.pages_of(call)) {
+            (Some(object), Some(range)) => self.plan(others(Wanted::Faults { object, range })),
+            _ => Ok(()),
+        }
     }
 
-    fn prepare_protect(&mut self, call: &LogCall, mode: u64) -> Result<(), NoMemory> {
+    fn prepare_protect(&mut self, place: u32, call: &LogCall, mode: u64) -> Result<(), NoMemory> {
         let (Some(object), Some(range)) = (call.object(), self.log.pages_of(call)) else {
             return Ok(());
         };
@@ -188,18 +199,18 @@ impl Search {
         if mode != PROTECTS {
             return self.plan_reads_of(call);
         }
-        let line = call.end;
         self.plan(others(Wanted::Protected {
             object,
             range,
-            line,
+            line: call.end,
+            by: place,
         }))
     }
 
     // UFFDIO_COPY and UFFDIO_ZEROPAGE
 
     fn prepare_install(&mut self, place: u32) -> Result<(), NoMemory> {
-        let Some(call) = self.log.call(place).copied() else {
+        let Some(call) = self.log.call(place) else {
             return Ok(());
         };
         let (Some(object), Some(range)) = (call.object(), self.log.pages_of(&call)) else {
@@ -207,7 +218,7 @@ impl Search {
         };
         match call.errno() {
             None => self.prepare_put(place, object, range),
-            Some(Errno::Eexist) => self.prepare_twice(object, range.first),
+            Some(Errno::Eexist) => self.make_there(object, range.first),
             Some(Errno::Eagain) if !self.kernel.may_be_changing(object) => self.plan(others(
                 Wanted::Tellers,
             )),
@@ -225,8 +236,8 @@ impl Search {
         self.plan(Task::MakeMissing { space, range })
     }
 
-    /// EEXIST: another call has put the page.
-    fn prepare_twice(&mut self, object: u64, page: u64) -> Result<(), NoMemory> {
+    /// A page that is missing is put by a call that is under way, where there is one.
+    fn make_there(&mut self, object: u64, page: u64) -> Result<(), NoMemory> {
         match self.kernel.space_of(object) {
             Some(space) if self.is_known_missing(space, page) => self.plan(others(Wanted::Installs {
                 object,
@@ -254,10 +265,40 @@ impl Search {
 
     fn make_protected(&mut self, object: u64, page: u64) -> Result<(), NoMemory> {
         if self.is_bare(object, page) {
-            self.plan(others(Wanted::Protects { object, page }))
-        } else {
-            Ok(())
+            self.plan(Task::ProtectAlone { object, page })?;
+            self.plan(others(Wanted::Protects { object, page }))?;
         }
+        self.make_there(object, page)
+    }
+
+    /// A page that is still not write-protected is by a protection of several pages, after the calls under way that put it or take its protection away.
+    fn protect_alone(&mut self, object: u64, page: u64) -> Result<(), NoMemory> {
+        let (true, Some(by)) = (
+            self.is_bare(object, page),
+            self.next_protecting(object, page),
+        ) else {
+            return Ok(());
+        };
+        self.plan(Task::ProtectBy { call: by, page })?;
+        self.plan(others(Wanted::Protected {
+            object,
+            range: Range {
+                first: page,
+                count: 1,
+            },
+            line: self.line,
+            by,
+        }))
+    }
+
+    /// A protection of several pages that is under way protects this one.
+    fn protect_by(&mut self, key: u32, page: u64) -> Result<(), NoMemory> {
+        if let Some(call) = self.log.call(key)
+            && !call.done
+        {
+            self.step(Unseen::Protects { key, page })?;
+        }
+        Ok(())
     }
 
     /// The map calls clear a page that are about to.
@@ -282,7 +323,7 @@ impl Search {
     }
 
     fn foresee(&mut self, place: u32) -> Result<(), NoMemory> {
-        let Some(call) = self.log.call(place).copied() else {
+        let Some(call) = self.log.call(place) else {
             return Ok(());
         };
         let (Some(object), Some(range)) = (call.object(), self.log.pages_of(&call)) else {
@@ -296,7 +337,7 @@ impl Search {
 
     /// A fault of the page that is read after it was put, while it stays: a thread has seen the page missing before.
     fn foresee_page(&mut self, call: &LogCall, object: u64, number: u64) -> Result<(), NoMemory> {
-        let first = self.index.first_fault(object, number, call.end);
+        let first = self.index.first_fault(object, number, self.line);
         for place in first..self.index.faults.len() {
             let Some(read) = self.index.faults.get(place).copied() else {
                 return Ok(());
@@ -310,10 +351,10 @@ impl Search {
 
     /// The same of one read. Whether those after it are to be looked at.
     fn foresee_read(&mut self, call: &LogCall, fault: FaultRead) -> Result<bool, NoMemory> {
-        let Some(read) = self.log.call(fault.call).copied() else {
+        let Some(read) = self.log.call(fault.call) else {
             return Ok(false);
         };
-        if read.done || read.begin < call.end {
+        if read.done || read.begin < self.line {
             return Ok(true);
         }
         let Some(space) = self.kernel.space_of(fault.object) else {
@@ -323,12 +364,7 @@ impl Search {
         if self.index.is_gone(space, addr, call.begin, read.end) {
             return Ok(false);
         }
-        let Some(Message::Fault { flags, thread, .. }) = self
-            .log
-            .messages
-            .get(fault.message as usize)
-            .copied()
-        else {
+        let Some(Message::Fault { flags, thread, .. }) = message_of(&self.log, fault) else {
             return Ok(true);
         };
         let access = self.access_of(fault.object, addr, flags, thread, None);

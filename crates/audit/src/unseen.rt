@@ -1,15 +1,16 @@
-//! What a log does not show: threads that touch a page, and map calls that queue an event or clear their pages.
+//! What a log does not show: threads that touch a page, map calls that queue an event or clear their pages, and protections that change one page.
 
 use crate::kernel::{Kernel, is_unknown};
 use crate::run::Unseen;
+use call_log::log::Log;
 use call_log::pages::Range;
 use kernel_rules::fault::{find, has_seen, has_twin, is_protection, note_thread, remove, stops};
 use kernel_rules::{Change, Difference, Fault, Phase, Presence};
 use mig_base::NoMemory;
 
 impl Kernel {
-    /// Makes a step. False where no rule allows it, and nothing has changed then.
-    pub(crate) fn make(&mut self, unseen: Unseen) -> Result<bool, NoMemory> {
+    /// Makes a step of a run of a log. False where no rule allows it, and nothing has changed then.
+    pub(crate) fn make(&mut self, log: &Log, unseen: Unseen) -> Result<bool, NoMemory> {
         match unseen {
             Unseen::Sees {
                 thread,
@@ -21,6 +22,10 @@ impl Kernel {
             Unseen::Leaves { thread } => self.leaves(thread),
             Unseen::Tells { key, object } => Ok(self.tells(key, object)),
             Unseen::Clears { key } => self.clears(key),
+            Unseen::Protects { key, page } => match log.call(key) {
+                Some(call) => self.protects(key, &call, page),
+                None => Ok(false),
+            },
         }
     }
 

@@ -1,7 +1,7 @@
 -- What the reader of lines does with one line.
-use Rattle.std.proofs.Common.{◌≡◌, ℕ, ◌+◌, ◌<◌, ◌≤◌, ◌↔◌, IsTrue, Bool, true, false, List, [], ◌∷◌, ◌++◌, length, Option, Some, None, refl, sym, ap, subst, ◌∙◌, append_assoc, append-nil, inl, inr, arith}
+use Rattle.std.proofs.Common.{◌≡◌, ℕ, ◌+◌, ◌<◌, ◌≤◌, IsTrue, Bool, true, false, List, [], ◌∷◌, ◌++◌, length, Option, Some, None, refl, sym, ap, subst, ◌∙◌, append_assoc, append-nil, inl, inr, arith}
 use Rattle.std.specs.Prelude.{IsNone, IsSome, IfNone, IfSome, codes}
-use Rattle.std.specs.List.{concat, AllByRecursion}
+use Rattle.std.specs.List.{concat}
 use Rattle.uffd_log.specs.declared.line.Line.{Line}
 use Rattle.uffd_log.specs.Lines.{Spells}
 use Rattle.call_log.specs.declared.log_reader.LogReader.{LogReader}
@@ -10,8 +10,6 @@ use Rattle.call_log.specs.declared.wrong.Wrong.{Wrong}
 use Rattle.call_log.specs.Listing.{IsListed, AreListed, IsRight, BeginsWith, head_word}
 use Rattle.call_log.specs.Reading.{Adds, AddsAny, Enters, Reads, Takes, TakesLine}
 use Rattle.log_entries.specs.declared.entry_reader.EntryReader.{EntryReader}
-use Rattle.log_entries.specs.declared.log_line.LogLine.{LogLine}
-use Rattle.log_entries.specs.Readers.{HasRead}
 
 pub adds_one : (old new : LogReader) (text : List ℕ) → IsListed old.name.now old.line text → new.output.items ≡ old.output.items ++ text → new.is_right ≡ false → new.name.now ≡ old.name.now → new.line ≡ old.line
     → Adds old.line old (text ∷ []) new

@@ -1,25 +1,25 @@
 -- Lines of a log that are read in pieces: it does not matter where the pieces end.
-use Rattle.std.proofs.Common.{◌≡◌, ℕ, zero, suc, ◌+◌, ◌<◌, ◌≤◌, ◌↔◌, IsTrue, Bool, true, false, List, [], ◌∷◌, ◌++◌, length, take, Option, Some, None, refl, sym, ap, subst, ◌∙◌, append_assoc, append-nil, length-append, inl, inr, arith, ◌-◌, min, nat_lt, ◌⊎◌}
-use Rattle.std.specs.Prelude.{OnOk, IfSome, codes}
+use Rattle.std.proofs.Common.{◌≡◌, ℕ, ◌+◌, ◌<◌, ◌≤◌, ◌↔◌, IsTrue, Bool, true, false, List, [], ◌∷◌, ◌++◌, length, take, Option, Some, None, refl, sym, ap, subst, ◌∙◌, append_assoc, append-nil, length-append, inl, inr, arith, ◌-◌, min, nat_lt, ◌⊎◌}
+use Rattle.std.specs.Prelude.{IfSome, codes}
 use Rattle.std.specs.Fmt.{decimal}
 use Rattle.std.proofs.lemmas.List.{take_all, take_min, length-take, take-append-le}
 use Rattle.std.proofs.Math.Seq.{take-append-add}
 use Rattle.std.proofs.lemmas.Bool.Decides.{nat_tests}
 use Rattle.call_log.specs.declared.head.Head.{Head}
 use Rattle.std.specs.List.{concat}
-use Rattle.std.specs.Io.KnownBytes.{Appends, Consumes, IsAtEnd}
+use Rattle.std.specs.Io.KnownBytes.{Consumes, IsAtEnd}
 use Rattle.std.proofs.KnownBytes.{Appends-nil, Appends-trans, Consumes-nil, Consumes-trans}
 use Rattle.call_log.specs.declared.log_reader.LogReader.{LogReader}
 use Rattle.call_log.specs.declared.input.LineReader.{LineReader}
-use Rattle.call_log.specs.declared.log.ReadLog.{ReadLog}
+use Rattle.call_log.specs.declared.complete.ReadLog.{ReadLog}
 use Rattle.uffd_log.specs.declared.line.Line.{Line}
 use Rattle.uffd_log.specs.Lines.{Spells}
 use Rattle.log_entries.specs.declared.entry_reader.EntryReader.{EntryReader}
 use Rattle.log_entries.specs.declared.log_line.LogLine.{LogLine}
 use Rattle.log_entries.specs.Readers.{HasRead}
 use Rattle.call_log.proofs.Lines.{right_of}
-use Rattle.call_log.specs.Listing.{AreLines, BeginsWith, IsLog, head_word, HasNoFeed, ListsLine, Lists, Ends, IsRead, ReadsLog, joined, AreListed, IsRight}
-use Rattle.call_log.specs.Reading.{At, Enters, Reads, Leads, EndsLine, TakesLine, Writes, Finished, ReadsLines, AddsAny}
+use Rattle.call_log.specs.Listing.{AreLines, BeginsWith, IsLog, head_word, HasNoFeed, ListsLine, Lists, IsRead, ReadsLog, joined, AreListed, IsRight}
+use Rattle.call_log.specs.Reading.{At, Enters, Leads, EndsLine, Writes, Finished, ReadsLines, AddsAny}
 
 no_feed-append : (xs ys : List ℕ) → HasNoFeed xs → HasNoFeed ys → HasNoFeed (xs ++ ys)
 no_feed-append [] ys p q = q

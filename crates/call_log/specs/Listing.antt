@@ -6,7 +6,7 @@ use Rattle.std.specs.Io.KnownBytes.{Appends}
 use Rattle.uffd_log.specs.declared.line.Line.{Line}
 use Rattle.uffd_log.specs.Words.{HasNone}
 use Rattle.uffd_log.specs.Lines.{Spells}
-use Rattle.call_log.specs.declared.log.ReadLog.{ReadLog}
+use Rattle.call_log.specs.declared.complete.ReadLog.{ReadLog}
 use Rattle.log_entries.specs.declared.log_line.LogLine.{LogLine}
 use Rattle.log_entries.specs.Readers.{HasRead}
 

@@ -6,8 +6,8 @@ ghost use Rattle.call_log.specs.declared.fault.LogFault.TheVariants.{WriteFault}
 ghost use Rattle.call_log.specs.Listing.{HasNoFeed, ReadsLog};
 ghost use Rattle.call_log.specs.Reading.{At, EndsLine, Finished, Leads, ReadsLines, Writes};
 
+use crate::complete::ReadLog;
 use crate::fault::LogFault;
-use crate::log::ReadLog;
 use crate::log_reader::{LONGEST_LINE, LogReader};
 use crate::split::split_line;
 use std::alloc::Global;
@@ -125,7 +125,7 @@ fn read_lines<'a, R: Read, W: Write>(
 
 /// Reads a whole log, and writes `NAME:LINE: reason` for each line that is wrong. Some log where none is.
 ///
-/// Its calls are kept: some 200 bytes for each. Of a line no more than 4,097 bytes are. At most 4,294,967,295 reads are made, and as many
+/// Its entries are kept, some 100 bytes for each call. Of a line no more than 4,097 bytes are. At most 4,294,967,295 reads are made, and as many
 /// lines are read; an input that needs more ends with `ReadFault`. An interrupted read or write is a fault. After a fault the wrong lines
 /// before it may have been written.
 pub fn read_log<R: Read, W: Write>(

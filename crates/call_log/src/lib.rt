@@ -4,12 +4,14 @@
 //! not one of the language, or contradicts those above it, and returns the calls where there is no such line. `specs/Listing.antt` says what
 //! is listed. What a single line means is in `uffd_log`.
 //!
-//! A [`Log`] keeps its calls in the order in which they begin, each with its answer, and says of which address space each is. No contract
-//! says that these are the calls of the lines.
+//! A [`ReadLog`] has the entries of the lines, and where among them each call is. Completed it is a [`Log`], which reads each call from its
+//! entries, with its answer and the address space that it changes. No contract says that these are the calls of the lines.
 //!
 //! The crate judges no call. It names no file, no command line and no exit status: readers and writers are its callers'.
 #![tactic(auto)]
 
+pub mod call_table;
+pub mod complete;
 pub mod fault;
 mod head;
 pub mod input;
@@ -23,8 +25,9 @@ pub mod split;
 mod strace;
 mod wrong;
 
+pub use crate::complete::{CompleteLog, ReadLog};
 pub use crate::fault::LogFault;
 pub use crate::input::{read_log, write_out};
-pub use crate::log::{Log, PageRun, ReadLog};
+pub use crate::log::Log;
 pub use crate::log_call::{Kind, LogCall};
 pub use crate::pages::{PageSize, Range};

@@ -41,10 +41,8 @@ pub struct LogCall {
     pub until: u64,
     /// The address space that it changes, by its process.
     pub space: u32,
-    /// The place of its first message, or of its first run of pages, among those of the log.
-    pub first: u32,
-    /// How many messages or runs it has.
-    pub count: u32,
+    /// The entry where it ends, which has its messages and its runs of pages; absent where it never returned.
+    pub ending: Option<u32>,
     /// Of close: no descriptor of the object is left.
     pub last: bool,
     /// Whether the rules speak of it.
@@ -185,30 +183,35 @@ impl LogCall {
 
     /// Its name in a log.
     pub fn word(&self) -> &'static str {
-        match self.call {
-            Call::Open { .. } => "open",
-            Call::Api { .. } => "api",
-            Call::Register { .. } => "register",
-            Call::Unregister { .. } => "unregister",
-            Call::Wake { .. } => "wake",
-            Call::Copy { .. } => "copy",
-            Call::Move { .. } => "move",
-            Call::ZeroPage { .. } => "zeropage",
-            Call::Continue { .. } => "continue",
-            Call::Poison { .. } => "poison",
-            Call::WriteProtect { .. } => "writeprotect",
-            Call::Read { .. } => "read",
-            Call::Poll { .. } => "poll",
-            Call::NonBlock { .. } => "nonblock",
-            Call::Dup { .. } => "dup",
-            Call::Close { .. } => "close",
-            Call::Scan { .. } => "scan",
-            Call::Mmap { .. } => "mmap",
-            Call::Munmap { .. } => "munmap",
-            Call::Mremap { .. } => "mremap",
-            Call::Madvise { .. } => "madvise",
-            Call::Fork => "fork",
-        }
+        word_of(&self.call)
+    }
+}
+
+/// The name of a call in a log.
+pub(crate) fn word_of(call: &Call) -> &'static str {
+    match *call {
+        Call::Open { .. } => "open",
+        Call::Api { .. } => "api",
+        Call::Register { .. } => "register",
+        Call::Unregister { .. } => "unregister",
+        Call::Wake { .. } => "wake",
+        Call::Copy { .. } => "copy",
+        Call::Move { .. } => "move",
+        Call::ZeroPage { .. } => "zeropage",
+        Call::Continue { .. } => "continue",
+        Call::Poison { .. } => "poison",
+        Call::WriteProtect { .. } => "writeprotect",
+        Call::Read { .. } => "read",
+        Call::Poll { .. } => "poll",
+        Call::NonBlock { .. } => "nonblock",
+        Call::Dup { .. } => "dup",
+        Call::Close { .. } => "close",
+        Call::Scan { .. } => "scan",
+        Call::Mmap { .. } => "mmap",
+        Call::Munmap { .. } => "munmap",
+        Call::Mremap { .. } => "mremap",
+        Call::Madvise { .. } => "madvise",
+        Call::Fork => "fork",
     }
 }
 

@@ -5,9 +5,10 @@ ghost use Rattle.call_log.specs.Listing.{IsListed, BeginsWith, head_word};
 ghost use Rattle.call_log.specs.Reading.{Adds, AddsAny, Reads, Takes, TakesLine};
 ghost use Rattle.log_entries.specs.Readers.{HasRead};
 
+use crate::call_table::narrow;
+use crate::complete::ReadLog;
 use crate::fault::LogFault;
 use crate::head::Head;
-use crate::log::ReadLog;
 use crate::pages::PageSize;
 use crate::reader::CallReader;
 use crate::split::first_line;
@@ -210,8 +211,12 @@ impl<'a> LogReader<'a> {
         ensures { OnOk result (Takes self.old bytes.now self.new) }
     {
         let line = parse(&mut self.tokens, bytes)?;
+        let first = self.entries.entries.len();
         self.enter(line)?;
-        let wrong = self.calls.take_line(self.line, line, self.head.one_clock)?;
+        let entry = self.entry_after(first)?;
+        let wrong = self
+            .calls
+            .take_line(self.line, line, entry, self.head.one_clock)?;
         self.list_any(wrong)
     }
 
@@ -229,13 +234,22 @@ impl<'a> LogReader<'a> {
         self.entries.take(LogLine { number, line }, opens)
     }
 
+    /// The first entry that was added after this number of them, if any was.
+    fn entry_after(&self, first: usize) -> Result<Option<u32>, NoMemory> {
+        if self.entries.entries.len() > first {
+            Ok(Some(narrow(first)?))
+        } else {
+            Ok(None)
+        }
+    }
+
     /// The log that was read.
     pub(crate) fn into_log(self) -> ReadLog
         ensures { result.entries ≡ self.entry.entries }
     {
         let LogReader { calls, entries, .. } = self;
         ReadLog {
-            log: calls.into_log(),
+            table: calls.into_table(),
             entries,
         }
     }

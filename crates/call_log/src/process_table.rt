@@ -4,7 +4,7 @@ use crate::wrong::Wrong;
 use indexmap::{IndexMap, IndexSet};
 use mig_base::NoMemory;
 use std::alloc::Global;
-use uffd_log::Descriptor;
+use uffd_log::{Call, Descriptor};
 
 /// A call of a process, by its number there.
 #[derive(Clone, Copy, PartialEq, Eq, Hash)]
@@ -31,10 +31,15 @@ struct Bound {
 /// A call that has not returned.
 #[derive(Clone, Copy)]
 pub(crate) struct OpenCall {
+    pub(crate) call: Call,
     /// Its place in the log.
-    pub(crate) call: u32,
+    pub(crate) place: u32,
     pub(crate) line: u32,
     pub(crate) tid: u32,
+    /// How many messages or runs of pages it has so far.
+    pub(crate) found: u32,
+    /// The end of its last run of pages.
+    pub(crate) above: u64,
 }
 
 #[derive(Drop)]
@@ -107,6 +112,14 @@ impl ProcessTable {
                 line: call.line,
             }),
             None => Err(Wrong::NoCall(number)),
+        }
+    }
+
+    /// An open call has a message more, or a run of pages that ends at this address.
+    pub(crate) fn note_found(&mut self, pid: u32, number: u64, above: u64) {
+        if let Some(open) = self.open.get_mut(&Numbered { pid, number }) {
+            open.found = open.found.saturating_add(1);
+            open.above = above;
         }
     }
 
@@ -185,28 +198,16 @@ impl ProcessTable {
         self.objects.contains(&object)
     }
 
-    /// How many calls have not returned.
-    pub(crate) fn open_count(&self) -> usize {
-        self.open.len()
-    }
-
-    /// The open call at this place among them, if it is of a process.
-    pub(crate) fn open_at(&self, pid: u32, place: usize) -> Option<u32> {
-        match self.open.get_index(place) {
-            Some((key, open)) if key.pid == pid => Some(open.call),
-            _ => None,
-        }
-    }
-
-    /// The open calls of a process.
-    pub(crate) fn open_calls(&self, pid: u32, alloc: Global) -> Result<Vec<u32>, NoMemory> {
-        let mut calls = Vec::new(alloc);
+    /// Whether a close of a descriptor of a process is under way.
+    pub(crate) fn is_closing(&self, pid: u32, fd: u32) -> bool {
         for (key, open) in self.open.iter() {
-            if key.pid == pid {
-                calls.push(open.call)?;
+            if let Call::Close { on } = open.call {
+                if key.pid == pid && on.fd == fd {
+                    return true;
+                }
             }
         }
-        Ok(calls)
+        false
     }
 }
 

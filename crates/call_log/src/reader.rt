@@ -4,12 +4,13 @@ ghost use Rattle.std.specs.Prelude.{IfOk, IfNone, IsSome};
 
 mod answers;
 
-use crate::log::{Log, PageRun, narrow};
-use crate::log_call::{Kind, LogCall};
+use crate::call_table::{CallTable, narrow};
+use crate::log_call::{Kind, LogCall, word_of};
 use crate::pages::PageSize;
 use crate::process_table::{OpenCall, ProcessTable};
 use crate::reader::answers::check_answer;
 use crate::wrong::{Fields, Wrong};
+use kernel_rules::Run;
 use mig_base::NoMemory;
 use std::alloc::{AllocError, Global};
 use uffd_log::{Answer, Call, Descriptor, Line, Message, Stamp};
@@ -44,28 +45,24 @@ fn refuse(wrong: Option<Wrong>) -> Result<(), Fault> {
 /// What the lines of a log have said so far, below its head.
 #[derive(Drop)]
 pub(crate) struct CallReader {
-    alloc: Global,
-    log: Log,
+    table: CallTable,
     /// The number of the line that is read.
     line: u32,
+    /// The entry that it added, if any.
+    entry: Option<u32>,
     processes: ProcessTable,
     /// Whether lines are missing, which may have what others lack.
     has_lost: bool,
-    /// The messages of open reads, and the runs of open scans.
-    messages: Vec<(u32, Message)>,
-    runs: Vec<(u32, PageRun)>,
 }
 
 impl CallReader {
     pub(crate) fn new(alloc: Global) -> CallReader {
         CallReader {
-            alloc,
-            log: Log::new(alloc),
+            table: CallTable::new(alloc),
             line: 0,
+            entry: None,
             processes: ProcessTable::new(alloc),
             has_lost: false,
-            messages: Vec::new(alloc),
-            runs: Vec::new(alloc),
         }
     }
 
@@ -77,10 +74,10 @@ impl CallReader {
         }
     }
 
-    /// The log that was read.
-    pub(crate) fn into_log(self) -> Log {
-        let CallReader { log, .. } = self;
-        log
+    /// The calls that were read.
+    pub(crate) fn into_table(self) -> CallTable {
+        let CallReader { table, .. } = self;
+        table
     }
 
     /// Notes a line of the head, the last of which is the command, and the size of a page so far.
@@ -90,24 +87,26 @@ impl CallReader {
         is_last: bool,
         size: PageSize,
     ) -> Result<(), NoMemory> {
-        self.log.size = size;
+        self.table.size = size;
         if is_last {
-            self.log.command.extend_from_slice(bytes)?;
+            self.table.command.extend_from_slice(bytes)?;
         }
         Ok(())
     }
 
-    /// Takes the line with this number, or none where it is not one of the language. What is wrong with it, if anything. Times do not run back
-    /// in the whole log, or else in those of each thread.
+    /// Takes the line with this number, or none where it is not one of the language, and the entry that it added, if it begins or ends a call.
+    /// What is wrong with it, if anything. Times do not run back in the whole log, or else in those of each thread.
     pub(crate) fn take_line(
         &mut self,
         number: u32,
         line: Option<Line>,
+        entry: Option<u32>,
         one_clock: bool,
     ) -> Result<Option<Wrong>, NoMemory>
         ensures { IfOk result (λ wrong. IfNone wrong (IsSome line)) }
     {
         self.line = number;
+        self.entry = entry;
         let Some(line) = line else {
             // What it would have said may be what later lines lack.
             self.has_lost = true;
@@ -146,7 +145,7 @@ impl CallReader {
                 len,
                 bits,
                 ..
-            } => self.take_run(stamp, number, PageRun { start, len, bits }),
+            } => self.take_run(stamp, number, Run { start, len, bits }),
             Line::Found { on, .. } => self.take_found(stamp.pid, on),
             Line::Dropped { on, .. } => self.take_dropped(stamp.pid, on),
             Line::Started { .. } | Line::Forked { .. } => {
@@ -159,12 +158,9 @@ impl CallReader {
 
     /// A process begins anew: its open calls never return.
     fn take_renewed(&mut self, pid: u32) -> Result<(), NoMemory> {
-        let open = self.processes.open_calls(pid, self.alloc)?;
-        self.messages.retain(|message| !open.contains(&message.0));
-        self.runs.retain(|run| !open.contains(&run.0));
         self.processes.renew(pid);
-        if !self.log.own.contains_key(&pid) {
-            self.log.own.insert(pid, self.line)?;
+        if !self.table.own.contains_key(&pid) {
+            self.table.own.insert(pid, self.line)?;
         }
         Ok(())
     }
@@ -181,39 +177,22 @@ impl CallReader {
     // Calls
 
     fn take_begin(&mut self, stamp: Stamp, number: u64, call: Call) -> Result<(), Fault> {
-        let place = narrow(self.log.calls.len())?;
-        let made = LogCall {
-            call,
-            answer: None,
-            begin: self.line,
-            end: 0,
-            until: 0,
-            space: stamp.pid,
-            first: 0,
-            count: 0,
-            last: false,
-            judged: false,
-            done: false,
-            kind: Kind::Unjudged,
-        };
         let open = OpenCall {
-            call: place,
+            call,
+            place: narrow(self.table.places.len())?,
             line: self.line,
             tid: stamp.tid,
+            found: 0,
+            above: 0,
         };
         let wrong = self.processes.begin(stamp.pid, number, open)?;
-        self.log.last_line = self.line;
-        self.push_call(made)?;
+        self.table.last_line = self.line;
+        self.table.add(self.entry)?;
         refuse(wrong)?;
         match crate::reader::answers::descriptor_of(&call) {
             Some(on) => self.use_descriptor(stamp.pid, on),
             None => Ok(()),
         }
-    }
-
-    fn push_call(&mut self, call: LogCall) -> Result<(), NoMemory> {
-        self.log.calls.push(call)?;
-        Ok(())
     }
 
     /// A descriptor that a line uses has to be known. It is named once, and known then.
@@ -248,22 +227,11 @@ impl CallReader {
             return Ok(());
         };
         self.processes.end(stamp.pid, number);
-        let Some(call) = self.log.call(open.call).copied() else {
-            return Ok(());
-        };
-        let call = LogCall {
-            until: stamp.time,
-            ..self.ended(open.call, call, answer)?
-        };
-        let followed = self.follow(stamp.pid, &call, answer);
-        let call = LogCall {
-            last: self.is_last(&call),
-            ..call
-        };
-        if let Some(kept) = self.log.calls.get_mut(open.call as usize) {
-            *kept = call;
-        }
-        let wrong = check_answer(self.log.size, &call, answer);
+        let followed = self.follow(stamp.pid, open.call, answer);
+        let ended = self.ended(open, stamp, answer);
+        self.table.last_line = self.line;
+        self.table.end(open.place, &ended)?;
+        let wrong = check_answer(self.table.size, &ended, answer, open.found);
         if let Some(Wrong::Count { count, found, .. }) = wrong {
             if count > found && self.has_lost {
                 return followed;
@@ -273,61 +241,34 @@ impl CallReader {
         followed
     }
 
-    /// A call with its end.
-    fn ended(&mut self, place: u32, call: LogCall, answer: Answer) -> Result<LogCall, NoMemory> {
-        self.log.ends.push(place)?;
-        self.log.last_line = self.line;
-        let (first, count) = match call.call {
-            Call::Read { .. } => self.gather_messages(place)?,
-            Call::Scan { .. } => self.gather_runs(place)?,
-            _ => (0, 0),
-        };
-        Ok(LogCall {
+    /// A call that ends with the line that is read.
+    fn ended(&self, open: OpenCall, stamp: Stamp, answer: Answer) -> LogCall {
+        LogCall {
+            call: open.call,
             answer: Some(answer),
+            begin: open.line,
             end: self.line,
-            first,
-            count,
-            ..call
-        })
-    }
-
-    /// The messages of a read, which ends.
-    fn gather_messages(&mut self, place: u32) -> Result<(u32, u32), NoMemory> {
-        let first = narrow(self.log.messages.len())?;
-        for (read, message) in &self.messages {
-            if *read == place {
-                self.log.messages.push(*message)?;
-            }
+            until: stamp.time,
+            space: stamp.pid,
+            ending: self.entry,
+            last: self.is_last(open.call),
+            judged: false,
+            done: false,
+            kind: Kind::Unjudged,
         }
-        self.messages.retain(|message| message.0 != place);
-        let end = narrow(self.log.messages.len())?;
-        Ok((first, end.saturating_sub(first)))
-    }
-
-    /// The runs of a scan, which ends.
-    fn gather_runs(&mut self, place: u32) -> Result<(u32, u32), NoMemory> {
-        let first = narrow(self.log.runs.len())?;
-        for (scan, run) in &self.runs {
-            if *scan == place {
-                self.log.runs.push(*run)?;
-            }
-        }
-        self.runs.retain(|run| run.0 != place);
-        let end = narrow(self.log.runs.len())?;
-        Ok((first, end.saturating_sub(first)))
     }
 
     /// Whether a call has closed the last descriptor of its object.
-    fn is_last(&self, call: &LogCall) -> bool {
-        match call.call {
+    fn is_last(&self, call: Call) -> bool {
+        match call {
             Call::Close { on } => !self.processes.has_descriptor(on.object),
             _ => false,
         }
     }
 
     /// What a call that returned does to descriptors.
-    fn follow(&mut self, pid: u32, call: &LogCall, answer: Answer) -> Result<(), Fault> {
-        match (call.call, answer) {
+    fn follow(&mut self, pid: u32, call: Call, answer: Answer) -> Result<(), Fault> {
+        match (call, answer) {
             (Call::Close { on }, _) => {
                 self.processes.release(pid, on)?;
                 Ok(())
@@ -352,7 +293,7 @@ impl CallReader {
     fn take_number(&mut self, pid: u32, on: Descriptor) -> Result<(), Fault> {
         let held = self.processes.held(pid, on.fd);
         match held {
-            Some(held) if !self.is_closing(pid, on.fd) => {
+            Some(held) if !self.processes.is_closing(pid, on.fd) => {
                 self.processes.replace(pid, on)?;
                 self.excuse(Wrong::Unclosed { fd: on.fd, held })
             }
@@ -361,27 +302,6 @@ impl CallReader {
                 Ok(())
             }
         }
-    }
-
-    /// Whether a close of a descriptor is under way.
-    fn is_closing(&self, pid: u32, fd: u32) -> bool {
-        for place in 0..self.processes.open_count() {
-            let Some(open) = self.processes.open_at(pid, place) else {
-                continue;
-            };
-            if let Some(
-                LogCall {
-                    call: Call::Close { on },
-                    ..
-                },
-            ) = self.log.call(open)
-            {
-                if on.fd == fd {
-                    return true;
-                }
-            }
-        }
-        false
     }
 
     fn duplicate(
@@ -409,69 +329,43 @@ impl CallReader {
 
     fn take_message(&mut self, stamp: Stamp, number: u64, message: Message) -> Result<(), Fault> {
         if let Some(open) = self.open_call(stamp, number)? {
-            self.push_message(open.call, message)?;
-            if let Some(call) = self.log.call(open.call) {
-                if !matches!(call.call, Call::Read { .. }) {
-                    let word = call.word();
-                    return Err(Fault::Wrong(Wrong::NoRead { number, word }));
-                }
+            self.processes.note_found(stamp.pid, number, 0);
+            if !matches!(open.call, Call::Read { .. }) {
+                let word = word_of(&open.call);
+                return Err(Fault::Wrong(Wrong::NoRead { number, word }));
             }
         }
         if let Message::Fork { child } = message {
             return self.introduce(stamp.pid, child);
         }
-        refuse(crate::reader::answers::check_message(self.log.size, &message))
+        refuse(crate::reader::answers::check_message(self.table.size, &message))
     }
 
-    fn push_message(&mut self, place: u32, message: Message) -> Result<(), NoMemory> {
-        self.messages.push((place, message))?;
-        Ok(())
-    }
-
-    fn take_run(&mut self, stamp: Stamp, number: u64, run: PageRun) -> Result<(), Fault> {
+    fn take_run(&mut self, stamp: Stamp, number: u64, run: Run) -> Result<(), Fault> {
         let open = self.open_call(stamp, number)?;
         let fields = Fields {
             names: "START and LENGTH",
             line: None,
         };
-        refuse(crate::reader::answers::check_range(self.log.size, run.start, run.len, fields))?;
+        refuse(crate::reader::answers::check_range(self.table.size, run.start, run.len, fields))?;
         let Some(open) = open else {
             return Ok(());
         };
-        let above = self.last_run(open.call);
-        self.push_run(open.call, run)?;
-        let Some(call) = self.log.call(open.call) else {
-            return Ok(());
-        };
-        let Call::Scan { start, len, .. } = call.call else {
-            let word = call.word();
+        let end = run.start.saturating_add(run.len);
+        self.processes.note_found(stamp.pid, number, end);
+        let Call::Scan { start, len, .. } = open.call else {
+            let word = word_of(&open.call);
             return Err(Fault::Wrong(Wrong::NoScan { number, word }));
         };
-        if run.start < start || run.start.saturating_add(run.len) > start.saturating_add(len) {
-            return Err(Fault::Wrong(Wrong::OutsideScan(call.begin)));
+        if run.start < start || end > start.saturating_add(len) {
+            return Err(Fault::Wrong(Wrong::OutsideScan(open.line)));
         }
-        if above > run.start {
+        if open.above > run.start {
             return Err(Fault::Wrong(Wrong::Plain(
                 "pages that are not above those of the line before",
             )));
         }
         Ok(())
-    }
-
-    fn push_run(&mut self, place: u32, run: PageRun) -> Result<(), NoMemory> {
-        self.runs.push((place, run))?;
-        Ok(())
-    }
-
-    /// Where the last run of a scan ends.
-    fn last_run(&self, place: u32) -> u64 {
-        let mut end = 0u64;
-        for (scan, run) in &self.runs {
-            if *scan == place {
-                end = run.start.saturating_add(run.len);
-            }
-        }
-        end
     }
 
     // Descriptors
@@ -485,7 +379,7 @@ impl CallReader {
     }
 
     fn note_met(&mut self, pid: u32, on: Descriptor) -> Result<(), NoMemory> {
-        self.log.met.insert((pid, on.object))?;
+        self.table.met.insert((pid, on.object))?;
         Ok(())
     }
 

@@ -8,20 +8,16 @@ use Rattle.std.proofs.Math.Seq.{take-length}
 use Rattle.std.proofs.lemmas.List.Elements.{filter_map-append}
 use Rattle.mig_base.specs.Tests.{is_empty}
 use Rattle.mig_base.proofs.TestLemmas.{and_first, and_second}
-use Rattle.uffd_log.specs.declared.call.Call.{Call}
 use Rattle.uffd_log.specs.declared.line.Answer.{Answer}
 use Rattle.uffd_log.specs.declared.line.Answer.TheVariants.{Interrupted}
 use Rattle.kernel_rules.specs.declared.certify.BegunCall.{BegunCall}
-use Rattle.kernel_rules.specs.declared.run.Ending.{Ending}
-use Rattle.kernel_rules.specs.declared.run.Entry.{Entry}
-use Rattle.kernel_rules.specs.declared.run.Entry.TheVariants as entry
 use Rattle.kernel_rules.specs.declared.run.Made.{Made}
 use Rattle.kernel_rules.specs.declared.run.Move.{Move}
 use Rattle.kernel_rules.specs.declared.run.Move.TheVariants as move
-use Rattle.kernel_rules.specs.Certified.{Place, affected, at_end, certified, effected, ended_at, entered, find_of, fresh_place, is_ended_by, is_mremap, judged, lined, moved, moved_all, next_after, others_than, outcome_in, quiet, read_on, ruled, step_of, steps_of, then_moved, IsCertified}
+use Rattle.kernel_rules.specs.Certified.{Place, affected, at_end, certified, effected, ended_at, entered, find_of, fresh_place, is_ended_by, is_mremap, judged, lined, moved, moved_all, moved_by, next_after, others_than, outcome_in, quiet, read_on, ruled, step_of, steps_of, then_moved, IsCertified}
 use Rattle.kernel_rules.specs.Faults.{sees, queues, leaves}
 use Rattle.kernel_rules.specs.MapCalls.{may_return, returned}
-use Rattle.kernel_rules.specs.Runs.{IsClean, Begun, Outcome, Step, World, begins, begun_of, effect, effect_at_end, ends, event_of, line, line_of, lines_of, made_with, outcome_of, takes, thread_leaves, thread_queues, thread_sees, without_begun, world_with, IsStep, Leads}
+use Rattle.kernel_rules.specs.Runs.{IsClean, Begun, Outcome, Step, World, Event, begins, begun_of, effect, effect_at_end, ends, line, line_of, lines_of, takes, thread_leaves, thread_queues, thread_sees, without_begun, world_with, IsStep, Leads}
 use Rattle.kernel_rules.specs.State.{Kernel}
 use Rattle.kernel_rules.specs.Held.{kernel_of}
 use Rattle.kernel_rules.specs.Worlds.{if_made}
@@ -29,19 +25,19 @@ use Rattle.kernel_rules.specs.declared.kernel_table.KernelTable.{KernelTable}
 
 -- The world of a place
 
--- the outcome with which a call has taken effect, by the place of its entry in a log
-abbrev pub out_of : List Entry → Option ℕ → Option Outcome
+-- the outcome with which a call has taken effect, by the place of its ending in a log
+abbrev pub out_of : List Event → Option ℕ → Option Outcome
 out_of log None = None
 out_of log (Some at) = outcome_in (slice_get log at)
 
 -- a call that has begun
-abbrev pub begun_in : List Entry → BegunCall → Begun
+abbrev pub begun_in : List Event → BegunCall → Begun
 begun_in log call = record { made = call.made; out = out_of log call.at }
 
-abbrev pub world_of : List Entry → Place → World
+abbrev pub world_of : List Event → Place → World
 world_of log place = record { kernel = place.kernel; begun = map (begun_in log) place.begun }
 
-found_in : (log : List Entry) (calls : List BegunCall) (key : ℕ) → begun_of (map (begun_in log) calls) key ≡ option_map (begun_in log) (find_of calls key)
+found_in : (log : List Event) (calls : List BegunCall) (key : ℕ) → begun_of (map (begun_in log) calls) key ≡ option_map (begun_in log) (find_of calls key)
 found_in log [] key = refl
 found_in log (one ∷ calls) key =
     elim (one.made.key == key) as (λ b. (if b then Some (begun_in log one) else begun_of (map (begun_in log) calls) key) ≡ option_map (begun_in log) (if b then Some one else find_of calls key)) [
@@ -49,7 +45,7 @@ found_in log (one ∷ calls) key =
       | false ↦ found_in log calls key
     ]
 
-without_in : (log : List Entry) (calls : List BegunCall) (key : ℕ) → without_begun (map (begun_in log) calls) key ≡ map (begun_in log) (others_than key calls)
+without_in : (log : List Event) (calls : List BegunCall) (key : ℕ) → without_begun (map (begun_in log) calls) key ≡ map (begun_in log) (others_than key calls)
 without_in log [] key = refl
 without_in log (one ∷ calls) key =
     elim (one.made.key == key) as (λ b. (if not b then begun_in log one ∷ without_begun (map (begun_in log) calls) key else without_begun (map (begun_in log) calls) key)
@@ -58,86 +54,86 @@ without_in log (one ∷ calls) key =
       | false ↦ ap (λ xs. begun_in log one ∷ xs) (without_in log calls key)
     ]
 
--- one more entry of a log
-taken_more : (log : List Entry) (n : ℕ) (x : Entry) → slice_get log n ≡ Some x → map event_of (take (suc n) log) ≡ map event_of (take n log) ++ event_of x ∷ []
+-- one more event of a log
+taken_more : (log : List Event) (n : ℕ) (x : Event) → slice_get log n ≡ Some x → take (suc n) log ≡ take n log ++ x ∷ []
 taken_more [] n x h = cc
 taken_more (y ∷ log) zero x h = let e : y ≡ x = cc in rw e refl
-taken_more (y ∷ log) (suc n) x h = ap (λ es. event_of y ∷ es) (taken_more log n x h)
+taken_more (y ∷ log) (suc n) x h = ap (λ es. y ∷ es) (taken_more log n x h)
 
 -- Moves
 
 -- a move that leads from one place to another is a step of a run
-pub record Advance (log : List Entry) (old : Place) (step : Move) (new : Place) : Type 0 where
+pub record Advance (log : List Event) (old : Place) (step : Move) (new : Place) : Type 0 where
   pub made : Step
   pub is : step_of log old.next step ≡ Some made
   pub leads : IsStep (world_of log old) made (world_of log new)
-  pub lines : map event_of (take new.next log) ≡ map event_of (take old.next log) ++ option_to_list (line_of made)
+  pub lines : take new.next log ≡ take old.next log ++ option_to_list (line_of made)
   pub next : new.next ≡ next_after old.next step
 
-begin_advances : (log : List Entry) (old : Place) (last : Bool) (key space : ℕ) (c : Call) → find_of old.begun key ≡ None → slice_get log old.next ≡ Some (entry.Begins last key space c)
-    → Advance log old move.Line (read_on (record old { begun = old.begun ++ record { made = made_with last key space c; at = None } ∷ [] }))
-begin_advances log old last key space c fresh here =
+begin_advances : (log : List Event) (old : Place) (made : Made) → find_of old.begun made.key ≡ None → slice_get log old.next ≡ Some (begins made)
+    → Advance log old move.Line (read_on (record old { begun = old.begun ++ record { made = made; at = None } ∷ [] }))
+begin_advances log old made fresh here =
     record {
-      made = line (begins (made_with last key space c));
-      is = ap (option_map (λ (e : Entry). line (event_of e))) here;
+      made = line (begins made);
+      is = ap (option_map line) here;
       leads = (
-        found_in log old.begun key ∙ ap (option_map (begun_in log)) fresh,
-        ap (λ (b : List Begun). record (world_of log old) { begun = b }) (map-append (begun_in log) old.begun (record { made = made_with last key space c; at = None } ∷ [])),
+        found_in log old.begun made.key ∙ ap (option_map (begun_in log)) fresh,
+        ap (λ (b : List Begun). record (world_of log old) { begun = b }) (map-append (begun_in log) old.begun (record { made = made; at = None } ∷ [])),
       );
-      lines = rw add-one (taken_more log old.next (entry.Begins last key space c) here);
+      lines = rw add-one (taken_more log old.next (begins made) here);
       next = refl;
     }
 
-ended_out : (log : List Entry) (answer : Answer) (at : Option ℕ) (next of : ℕ) (ending : Ending) → slice_get log next ≡ Some (entry.Ends of ending) → is_ended_by at answer next ≡ true
-    → out_of log at ≡ effect_at_end answer (outcome_of ending)
-ended_out log Interrupted None next of ending here ended = refl
-ended_out log Interrupted (Some at) next of ending here ended = cc
-ended_out log _ (Some at) next of ending here ended = rw (eqb-true at next ended, here) refl
-ended_out log _ None next of ending here ended = cc
+ended_out : (log : List Event) (answer : Answer) (at : Option ℕ) (next of : ℕ) (out : Outcome) → slice_get log next ≡ Some (ends of out) → is_ended_by at answer next ≡ true
+    → out_of log at ≡ effect_at_end answer out
+ended_out log Interrupted None next of out here ended = refl
+ended_out log Interrupted (Some at) next of out here ended = cc
+ended_out log _ (Some at) next of out here ended = rw (eqb-true at next ended, here) refl
+ended_out log _ None next of out here ended = cc
 
-end_advances : (log : List Entry) (old : Place) (key : ℕ) (one : BegunCall) (ending : Ending) → find_of old.begun key ≡ Some one → slice_get log old.next ≡ Some (entry.Ends key ending)
-    → (may_return old.kernel key && is_ended_by one.at ending.answer old.next) ≡ true
+end_advances : (log : List Event) (old : Place) (key : ℕ) (one : BegunCall) (out : Outcome) → find_of old.begun key ≡ Some one → slice_get log old.next ≡ Some (ends key out)
+    → (may_return old.kernel key && is_ended_by one.at out.answer old.next) ≡ true
     → Advance log old move.Line (read_on (record old { kernel = returned old.kernel key; begun = others_than key old.begun }))
-end_advances log old key one ending found here may =
+end_advances log old key one out found here may =
     record {
-      made = line (ends key (outcome_of ending));
-      is = ap (option_map (λ (e : Entry). line (event_of e))) here;
+      made = line (ends key out);
+      is = ap (option_map line) here;
       leads = (
         begun_in log one,
         found_in log old.begun key ∙ ap (option_map (begun_in log)) found,
         and_first _ _ may,
-        ended_out log ending.answer one.at old.next key ending here (and_second (may_return old.kernel key) _ may),
+        ended_out log out.answer one.at old.next key out here (and_second (may_return old.kernel key) _ may),
         ap (λ (b : List Begun). record { kernel = returned old.kernel key; begun = b }) (sym (without_in log old.begun key)),
       );
-      lines = rw add-one (taken_more log old.next (entry.Ends key ending) here);
+      lines = rw add-one (taken_more log old.next (ends key out) here);
       next = refl;
     }
 
-entry_advances : (log : List Entry) (old new : Place) (one : Entry) → slice_get log old.next ≡ Some one → option_map read_on (entered old one) ≡ Some new → Advance log old move.Line new
-entry_advances log old new (entry.Begins last key space c) here is =
-    elim (find_of old.begun key) as (λ o. find_of old.begun key ≡ o → option_map read_on (if is_some o then None else Some (record old { begun = old.begun ++ record { made = made_with last key space c; at = None } ∷ [] })) ≡ Some new
+event_advances : (log : List Event) (old new : Place) (one : Event) → slice_get log old.next ≡ Some one → option_map read_on (entered old one) ≡ Some new → Advance log old move.Line new
+event_advances log old new (begins made) here is =
+    elim (find_of old.begun made.key) as (λ o. find_of old.begun made.key ≡ o → option_map read_on (if is_some o then None else Some (record old { begun = old.begun ++ record { made = made; at = None } ∷ [] })) ≡ Some new
     → Advance log old move.Line new) [
       | Some one ↦ λ e h. absurd cc
       | None ↦ λ e h.
-          let same : read_on (record old { begun = old.begun ++ record { made = made_with last key space c; at = None } ∷ [] }) ≡ new = cc in
-          subst (λ (p : Place). Advance log old move.Line p) same (begin_advances log old last key space c e here)
+          let same : read_on (record old { begun = old.begun ++ record { made = made; at = None } ∷ [] }) ≡ new = cc in
+          subst (λ (p : Place). Advance log old move.Line p) same (begin_advances log old made e here)
     ] refl is
-entry_advances log old new (entry.Ends key ending) here is =
-    elim (find_of old.begun key) as (λ o. find_of old.begun key ≡ o → option_map read_on (ended_at old key ending.answer o) ≡ Some new → Advance log old move.Line new) [
+event_advances log old new (ends key out) here is =
+    elim (find_of old.begun key) as (λ o. find_of old.begun key ≡ o → option_map read_on (ended_at old key out.answer o) ≡ Some new → Advance log old move.Line new) [
       | None ↦ λ e h. absurd cc
       | Some one ↦ λ e h.
-          elim (may_return old.kernel key && is_ended_by one.at ending.answer old.next) as (λ b. (may_return old.kernel key && is_ended_by one.at ending.answer old.next) ≡ b
+          elim (may_return old.kernel key && is_ended_by one.at out.answer old.next) as (λ b. (may_return old.kernel key && is_ended_by one.at out.answer old.next) ≡ b
           → option_map read_on (if b then Some (record old { kernel = returned old.kernel key; begun = others_than key old.begun }) else None) ≡ Some new → Advance log old move.Line new) [
             | false ↦ λ may i. absurd cc
             | true ↦ λ may i.
                 let same : read_on (record old { kernel = returned old.kernel key; begun = others_than key old.begun }) ≡ new = cc in
-                subst (λ (p : Place). Advance log old move.Line p) same (end_advances log old key one ending e here may)
+                subst (λ (p : Place). Advance log old move.Line p) same (end_advances log old key one out e here may)
           ] refl h
     ] refl is
 
-line_advances : (log : List Entry) (old new : Place) (one : Option Entry) → slice_get log old.next ≡ one → lined old one ≡ Some new → Advance log old move.Line new
+line_advances : (log : List Event) (old new : Place) (one : Option Event) → slice_get log old.next ≡ one → lined old one ≡ Some new → Advance log old move.Line new
 line_advances log old new None here is = absurd cc
-line_advances log old new (Some one) here is = entry_advances log old new one here is
+line_advances log old new (Some one) here is = event_advances log old new one here is
 
 quiet_taken : (taken : Option Kernel) (kernel : Kernel) → quiet taken ≡ Some kernel → taken ≡ Some kernel
 quiet_taken None kernel is = absurd cc
@@ -152,7 +148,7 @@ judged_taken kernel after made out is =
       | false ↦ λ h. quiet_taken (takes kernel made out) after h
     ] is
 
-effect_advances : (log : List Entry) (old : Place) (key at : ℕ) (one : BegunCall) (out : Outcome) (kernel : Kernel) → find_of old.begun key ≡ Some one → one.at ≡ None
+effect_advances : (log : List Event) (old : Place) (key at : ℕ) (one : BegunCall) (out : Outcome) (kernel : Kernel) → find_of old.begun key ≡ Some one → one.at ≡ None
     → outcome_in (slice_get log at) ≡ Some out → judged old.kernel one.made out ≡ Some kernel
     → Advance log old (move.Effect key at) (record old { kernel = kernel; begun = others_than key old.begun ++ record { made = one.made; at = Some at } ∷ [] })
 effect_advances log old key at one out kernel found none here took =
@@ -168,11 +164,11 @@ effect_advances log old key at one out kernel found none here took =
         here,
         without_in log old.begun key,
       ) refl;
-      lines = sym (append-nil (map event_of (take old.next log)));
+      lines = sym (append-nil (take old.next log));
       next = refl;
     }
 
-out_advances : (log : List Entry) (old new : Place) (key at : ℕ) (one : BegunCall) (out : Option Outcome) → find_of old.begun key ≡ Some one → outcome_in (slice_get log at) ≡ out
+out_advances : (log : List Event) (old new : Place) (key at : ℕ) (one : BegunCall) (out : Option Outcome) → find_of old.begun key ≡ Some one → outcome_in (slice_get log at) ≡ out
     → effected old key at (Some one) out ≡ Some new → Advance log old (move.Effect key at) new
 out_advances log old new key at one None found here is = absurd cc
 out_advances log old new key at one (Some out) found here is =
@@ -187,13 +183,13 @@ out_advances log old new key at one (Some out) found here is =
           ] refl h
     ] refl is
 
-call_advances : (log : List Entry) (old new : Place) (key at : ℕ) (one : Option BegunCall) → find_of old.begun key ≡ one → effected old key at one (outcome_in (slice_get log at)) ≡ Some new
+call_advances : (log : List Event) (old new : Place) (key at : ℕ) (one : Option BegunCall) → find_of old.begun key ≡ one → effected old key at one (outcome_in (slice_get log at)) ≡ Some new
     → Advance log old (move.Effect key at) new
 call_advances log old new key at None found is = absurd cc
 call_advances log old new key at (Some one) found is = out_advances log old new key at one (outcome_in (slice_get log at)) found refl is
 
 -- a step by a rule of the kernel, of which no line speaks
-rule_advances : (log : List Entry) (old new : Place) (step : Move) (made : Step) (rule : Option Kernel) → step_of log old.next step ≡ Some made → next_after old.next step ≡ old.next → line_of made ≡ None
+rule_advances : (log : List Event) (old new : Place) (step : Move) (made : Step) (rule : Option Kernel) → step_of log old.next step ≡ Some made → next_after old.next step ≡ old.next → line_of made ≡ None
     → ((after : World) → world_with (world_of log old) rule ≡ Some after → IsStep (world_of log old) made after) → ruled old rule ≡ Some new → Advance log old step new
 rule_advances log old new step made None made_is same silent steps is = absurd cc
 rule_advances log old new step made (Some kernel) made_is same silent steps is =
@@ -203,12 +199,12 @@ rule_advances log old new step made (Some kernel) made_is same silent steps is =
       made = made;
       is = made_is;
       leads = steps (world_of log (record old { kernel = kernel })) refl;
-      lines = rw silent (sym (append-nil (map event_of (take old.next log))));
+      lines = rw silent (sym (append-nil (take old.next log)));
       next = sym same;
     })
 
-advances : (log : List Entry) (old new : Place) (step : Move) → moved log old step ≡ Some new → Advance log old step new
-unfolding moved
+advances : (log : List Event) (old new : Place) (step : Move) → moved log old step ≡ Some new → Advance log old step new
+unfolding moved_by
 advances log old new move.Line is = line_advances log old new (slice_get log old.next) refl is
 advances log old new (move.Effect key at) is = call_advances log old new key at (find_of old.begun key) refl is
 advances log old new (move.Sees thread object page flags) is =
@@ -219,9 +215,9 @@ advances log old new (move.Leaves thread) is = rule_advances log old new (move.L
 -- Runs
 
 -- moves that lead from one place to another are steps of a run, with the lines in between
-pub record Led (log : List Entry) (old : Place) (run : List Move) (new : Place) : Type 0 where
+pub record Led (log : List Event) (old : Place) (run : List Move) (new : Place) : Type 0 where
   pub leads : Leads (world_of log old) (steps_of log old.next run) (world_of log new)
-  pub lines : map event_of (take new.next log) ≡ map event_of (take old.next log) ++ lines_of (steps_of log old.next run)
+  pub lines : take new.next log ≡ take old.next log ++ lines_of (steps_of log old.next run)
 
 one_line : (step : Step) → lines_of (step ∷ []) ≡ option_to_list (line_of step)
 one_line step = elim (line_of step) as (λ o. filter_map (λ (s : Step). o) (step ∷ []) ≡ option_to_list o) [ Some event ↦ refl | None ↦ refl ]
@@ -229,40 +225,40 @@ one_line step = elim (line_of step) as (λ o. filter_map (λ (s : Step). o) (ste
 one_more : (made : Step) (others : List Step) → option_to_list (line_of made) ++ lines_of others ≡ lines_of (made ∷ others)
 one_more made others = sym (filter_map-append line_of (made ∷ []) others ∙ ap (λ es. es ++ lines_of others) (one_line made))
 
-led_more : (log : List Entry) (old mid new : Place) (step : Move) (run : List Move) → Advance log old step mid → Led log mid run new → Led log old (step ∷ run) new
+led_more : (log : List Event) (old mid new : Place) (step : Move) (run : List Move) → Advance log old step mid → Led log mid run new → Led log old (step ∷ run) new
 led_more log old mid new step run first rest =
     let steps : steps_of log old.next (step ∷ run) ≡ first.made ∷ steps_of log mid.next run = rw (first.is, ← first.next) refl in
     record {
       leads = subst (λ (ss : List Step). Leads (world_of log old) ss (world_of log new)) (sym steps) (world_of log mid, first.leads, rest.leads);
       lines =
           rest.lines ∙ ap (λ es. es ++ lines_of (steps_of log mid.next run)) first.lines
-          ∙ append_assoc (map event_of (take old.next log)) (option_to_list (line_of first.made)) (lines_of (steps_of log mid.next run))
-          ∙ ap (λ es. map event_of (take old.next log) ++ es) (one_more first.made (steps_of log mid.next run))
-          ∙ ap (λ ss. map event_of (take old.next log) ++ lines_of ss) (sym steps);
+          ∙ append_assoc (take old.next log) (option_to_list (line_of first.made)) (lines_of (steps_of log mid.next run))
+          ∙ ap (λ es. take old.next log ++ es) (one_more first.made (steps_of log mid.next run))
+          ∙ ap (λ ss. take old.next log ++ lines_of ss) (sym steps);
     }
 
-leads_all : (log : List Entry) (old new : Place) (run : List Move) → moved_all log old run ≡ Some new → Led log old run new
+leads_all : (log : List Event) (old new : Place) (run : List Move) → moved_all log old run ≡ Some new → Led log old run new
 leads_all log old new [] is =
     let same : old ≡ new = cc in
-    record { leads = ap (world_of log) same; lines = ap (λ (p : Place). map event_of (take p.next log)) (sym same) ∙ sym (append-nil (map event_of (take old.next log))) }
+    record { leads = ap (world_of log) same; lines = ap (λ (p : Place). take p.next log) (sym same) ∙ sym (append-nil (take old.next log)) }
 leads_all log old new (step ∷ run) is =
     elim (moved log old step) as (λ o. moved log old step ≡ o → then_moved o (λ next. moved_all log next run) ≡ Some new → Led log old (step ∷ run) new) [
       | None ↦ λ e h. absurd cc
       | Some mid ↦ λ e h. led_more log old mid new step run (advances log old mid step e) (leads_all log mid new run h)
     ] refl is
 
-ended_run : (log : List Entry) (run : List Move) (last : Place) (kernel : Kernel) → moved_all log fresh_place run ≡ Some last → at_end log (Some last) ≡ Some kernel → IsCertified log run kernel
+ended_run : (log : List Event) (run : List Move) (last : Place) (kernel : Kernel) → moved_all log fresh_place run ≡ Some last → at_end log (Some last) ≡ Some kernel → IsCertified log run kernel
 ended_run log run last kernel moves is =
     elim (last.next == length log) as (λ b. (last.next == length log) ≡ b → (if b then Some last.kernel else None) ≡ Some kernel → IsCertified log run kernel) [
       | false ↦ λ e h. absurd cc
       | true ↦ λ e h.
           let led : Led log fresh_place run last = leads_all log fresh_place last run moves in
           let all : take last.next log ≡ log = rw (eqb-true last.next (length log) e) (take-length log) in
-          (world_of log last, record { whole = sym led.lines ∙ ap (map event_of) all; leads = led.leads }, cc)
+          (world_of log last, record { whole = sym led.lines ∙ all; leads = led.leads }, cc)
     ] refl is
 
 -- the law of the checker
-pub certified_run : (log : List Entry) (run : List Move) (kernel : Kernel) → certified log run ≡ Some kernel → IsCertified log run kernel
+pub certified_run : (log : List Event) (run : List Move) (kernel : Kernel) → certified log run ≡ Some kernel → IsCertified log run kernel
 unfolding certified
 certified_run log run kernel is =
     elim (moved_all log fresh_place run) as (λ o. moved_all log fresh_place run ≡ o → at_end log o ≡ Some kernel → IsCertified log run kernel) [
@@ -277,7 +273,7 @@ then_some None = refl
 then_some (Some next) = refl
 
 -- one move more, where it leads if it is made
-pub moved_more : (log : List Entry) (first mid : Place) (run : List Move) (step : Move) (after : Option Place) → moved_all log first run ≡ Some mid → moved log mid step ≡ after
+pub moved_more : (log : List Event) (first mid : Place) (run : List Move) (step : Move) (after : Option Place) → moved_all log first run ≡ Some mid → moved log mid step ≡ after
     → moved_all log first (run ++ step ∷ []) ≡ after
 moved_more log first mid [] step after at is =
     let same : first ≡ mid = cc in
@@ -291,23 +287,23 @@ moved_more log first mid (one ∷ run) step after at is =
 -- Tables of a run
 
 -- the kernel to which the moves of a table lead
-pub certified_some : (log : List Entry) (run : List Move) (first last : Place) (made : Bool) → first ≡ fresh_place → moved_all log first run ≡ if_made made last → made ≡ true → last.next ≡ length log
+pub certified_some : (log : List Event) (run : List Move) (first last : Place) (made : Bool) → first ≡ fresh_place → moved_all log first run ≡ if_made made last → made ≡ true → last.next ≡ length log
     → certified log run ≡ Some last.kernel
 unfolding certified
 certified_some log run first last made fresh moves all end = rw (← fresh, moves, all, eq-eqb last.next (length log) end) refl
 
 -- a run that is not made
-pub certified_none : (log : List Entry) (run : List Move) (first last : Place) (made : Bool) → first ≡ fresh_place → moved_all log first run ≡ if_made made last → made ≡ false → certified log run ≡ None
+pub certified_none : (log : List Event) (run : List Move) (first last : Place) (made : Bool) → first ≡ fresh_place → moved_all log first run ≡ if_made made last → made ≡ false → certified log run ≡ None
 unfolding certified
 certified_none log run first last made fresh moves fails = rw (← fresh, moves, fails) refl
 
 -- a run that ends before the log
-pub certified_short : (log : List Entry) (run : List Move) (first last : Place) (made : Bool) → first ≡ fresh_place → moved_all log first run ≡ if_made made last → made ≡ true → (last.next ≡ length log → ⊥)
+pub certified_short : (log : List Event) (run : List Move) (first last : Place) (made : Bool) → first ≡ fresh_place → moved_all log first run ≡ if_made made last → made ≡ true → (last.next ≡ length log → ⊥)
     → certified log run ≡ None
 unfolding certified
 certified_short log run first last made fresh moves all short = rw (← fresh, moves, all, ne_eqb last.next (length log) short) refl
 
 -- a run of a table says that the log may be a kernel's, with its differences
-pub certified_clean : (log : List Entry) (run : List Move) (table : KernelTable) → certified log run ≡ Some (kernel_of table) → IsClean (map event_of log) table.differs.items
+pub certified_clean : (log : List Event) (run : List Move) (table : KernelTable) → certified log run ≡ Some (kernel_of table) → IsClean log table.differs.items
 unfolding kernel_of
 certified_clean log run table is = let found : IsCertified log run (kernel_of table) = certified_run log run (kernel_of table) is in (steps_of log 0 run, found.0, found.1, ap (λ (k : Kernel). k.differs) found.2)

@@ -1,19 +1,21 @@
 -- What tables of a run hold after a step.
-use Rattle.std.proofs.Common.{◌≡◌, ◌∙◌, ℕ, Bool, true, false, List, [], ◌∷◌, ◌++◌, Option, Some, None, Result, Ok, Err, refl, sym, ap}
-use Rattle.std.specs.Prelude.{is_some, slice_get, IfOk}
+use Rattle.std.proofs.Common.{◌≡◌, ◌∙◌, ℕ, Bool, Bor, true, false, List, [], ◌∷◌, ◌++◌, Option, Some, None, Result, Ok, Err, refl, sym, ap, length}
+use Rattle.std.proofs.lemmas.Option.{slice_get-map, slice_get_past, slice_get_read}
+use Rattle.std.specs.Slice.{IsItemAt}
+use Rattle.std.specs.Prelude.{is_some, map, option_map, slice_get, IfOk}
 use Rattle.mig_base.specs.declared.NoMemory.{NoMemory}
 use Rattle.uffd_log.specs.declared.line.Answer.{Answer}
 use Rattle.kernel_rules.specs.declared.certify.BegunCall.{BegunCall}
 use Rattle.kernel_rules.specs.declared.certify.WorldTable.{WorldTable}
 use Rattle.kernel_rules.specs.declared.kernel_table.KernelTable.{KernelTable}
-use Rattle.kernel_rules.specs.declared.run.Entry.{Entry}
 use Rattle.kernel_rules.specs.declared.run.Made.{Made}
 use Rattle.kernel_rules.specs.declared.run.Move.{Move}
 use Rattle.kernel_rules.specs.declared.run.Move.TheVariants as move
-use Rattle.kernel_rules.specs.Certified.{Place, begun_at, effected, ended_at, entered, find_of, is_ended_by, judged, lined, moved, others_than, outcome_in, read_on, ruled}
+use Rattle.kernel_rules.specs.Certified.{Place, begun_at, effected, ended_at, entered, find_of, is_ended_by, judged, lined, moved, moved_by, others_than, outcome_in, read_on, ruled, seen_at}
 use Rattle.kernel_rules.specs.Faults.{leaves, queues, sees}
 use Rattle.kernel_rules.specs.Held.{kernel_of}
-use Rattle.kernel_rules.specs.Runs.{Outcome}
+use Rattle.kernel_rules.specs.declared.run.Entry.{Entry}
+use Rattle.kernel_rules.specs.Runs.{Event, Outcome, event_of}
 use Rattle.kernel_rules.specs.State.{Kernel, allowed}
 use Rattle.kernel_rules.specs.Worlds.{if_made, place_of}
 
@@ -41,13 +43,13 @@ unfolding kernel_of
 ended_unfit table key answer one found unfit = rw (found, unfit) refl
 
 -- the next line is read
-pub line_made : (old mid : WorldTable) (one : Option Entry) (entry : Entry) (made : Bool) → one ≡ Some entry → entered (place_of old) entry ≡ if_made made (place_of mid) → made ≡ true
+pub line_made : (old mid : WorldTable) (one : Option Event) (event : Event) (made : Bool) → one ≡ Some event → entered (place_of old) event ≡ if_made made (place_of mid) → made ≡ true
     → lined (place_of old) one ≡ Some (read_on (place_of mid))
-line_made old mid one entry made here is holds = rw (here, is, holds) refl
+line_made old mid one event made here is holds = rw (here, is, holds) refl
 
-pub line_refused : (old mid : WorldTable) (one : Option Entry) (entry : Entry) (made : Bool) → one ≡ Some entry → entered (place_of old) entry ≡ if_made made (place_of mid) → made ≡ false
+pub line_refused : (old mid : WorldTable) (one : Option Event) (event : Event) (made : Bool) → one ≡ Some event → entered (place_of old) event ≡ if_made made (place_of mid) → made ≡ false
     → lined (place_of old) one ≡ None
-line_refused old mid one entry made here is fails = rw (here, is, fails) refl
+line_refused old mid one event made here is fails = rw (here, is, fails) refl
 
 -- a call takes effect
 pub effect_made : (old new : WorldTable) (key at : ℕ) (one : BegunCall) (out : Outcome) (of_out : Option Outcome) (table : KernelTable) (took : Bool) → find_of old.begun.items key ≡ Some one → of_out ≡ Some out
@@ -87,24 +89,35 @@ rule_step old table rule place (Err e) is made = tt
 rule_step old table rule place (Ok made) is steps = is ∙ rule_made old table rule made steps
 
 -- moves by what they are
-pub line_moved : (log : List Entry) (place : Place) (step : Move) → step ≡ move.Line → moved log place step ≡ lined place (slice_get log place.next)
-unfolding moved
-line_moved log place step is = rw is refl
+pub line_moved : (seen : Option Event) (place : Place) (step : Move) → step ≡ move.Line → moved_by seen place step ≡ lined place seen
+unfolding moved_by
+line_moved seen place step is = rw is refl
 
-pub effect_moved : (log : List Entry) (place : Place) (step : Move) (key at : ℕ) → step ≡ move.Effect key at
-    → moved log place step ≡ effected place key at (find_of place.begun key) (outcome_in (slice_get log at))
-unfolding moved
-effect_moved log place step key at is = rw is refl
+pub effect_moved : (seen : Option Event) (place : Place) (step : Move) (key at : ℕ) → step ≡ move.Effect key at
+    → moved_by seen place step ≡ effected place key at (find_of place.begun key) (outcome_in seen)
+unfolding moved_by
+effect_moved seen place step key at is = rw is refl
 
-pub sees_moved : (log : List Entry) (place : Place) (step : Move) (thread object page flags : ℕ) → step ≡ move.Sees thread object page flags
-    → moved log place step ≡ ruled place (sees place.kernel thread object page flags)
-unfolding moved
-sees_moved log place step thread object page flags is = rw is refl
+pub sees_moved : (seen : Option Event) (place : Place) (step : Move) (thread object page flags : ℕ) → step ≡ move.Sees thread object page flags
+    → moved_by seen place step ≡ ruled place (sees place.kernel thread object page flags)
+unfolding moved_by
+sees_moved seen place step thread object page flags is = rw is refl
 
-pub queues_moved : (log : List Entry) (place : Place) (step : Move) (thread : ℕ) → step ≡ move.Queues thread → moved log place step ≡ ruled place (queues place.kernel thread)
-unfolding moved
-queues_moved log place step thread is = rw is refl
+pub queues_moved : (seen : Option Event) (place : Place) (step : Move) (thread : ℕ) → step ≡ move.Queues thread → moved_by seen place step ≡ ruled place (queues place.kernel thread)
+unfolding moved_by
+queues_moved seen place step thread is = rw is refl
 
-pub leaves_moved : (log : List Entry) (place : Place) (step : Move) (thread : ℕ) → step ≡ move.Leaves thread → moved log place step ≡ ruled place (leaves place.kernel thread)
-unfolding moved
-leaves_moved log place step thread is = rw is refl
+pub leaves_moved : (seen : Option Event) (place : Place) (step : Move) (thread : ℕ) → step ≡ move.Leaves thread → moved_by seen place step ≡ ruled place (leaves place.kernel thread)
+unfolding moved_by
+leaves_moved seen place step thread is = rw is refl
+
+-- the event of an entry of a log
+lent_event : (log : List Entry) (at : ℕ) (seen : Option (Bor Entry)) → IsItemAt log at seen → slice_get (map event_of log) at ≡ option_map (λ (e : Bor Entry). event_of e.now) seen
+lent_event log at None lends = slice_get-map event_of log at ∙ ap (option_map event_of) (slice_get_past log at lends.3)
+lent_event log at (Some one) lends = slice_get-map event_of log at ∙ ap (option_map event_of) (slice_get_read log (length log) at one.now refl lends.3.0 lends.1)
+
+-- a move of a run, by the entry that it looks at
+pub moved_seen : (log : List Entry) (place : Place) (step : Move) (at : ℕ) (seen : Option (Bor Entry)) → at ≡ seen_at place.next step → IsItemAt log at seen
+    → moved (map event_of log) place step ≡ moved_by (option_map (λ (e : Bor Entry). event_of e.now) seen) place step
+moved_seen log place step at seen at_is lends =
+    ap (λ (e : Option Event). moved_by e place step) (ap (λ (n : ℕ). slice_get (map event_of log) n) (sym at_is) ∙ lent_event log at seen lends)

@@ -1,51 +1,49 @@
 -- What a checker of runs does: a function of a log and of a run. That what it finds is a run of the log is a law (`certify`). It follows
 -- no call of which an event tells anybody, and no mremap(2).
-use Rattle.std.specs.Prelude.{◌≡◌, ℕ, ◌+◌, ◌==◌, ◌&&◌, Bool, true, false, if◌then◌else◌, Option, Some, None, is_some, not, option_map, option_to_list, List, [], ◌∷◌, ◌++◌, filter, length, map, slice_get}
+use Rattle.std.specs.Prelude.{◌≡◌, ℕ, ◌+◌, ◌==◌, ◌&&◌, Bool, true, false, if◌then◌else◌, Option, Some, None, is_some, not, option_map, option_to_list, List, [], ◌∷◌, ◌++◌, filter, length, slice_get}
 use Rattle.mig_base.specs.Tests.{is_empty}
 use Rattle.uffd_log.specs.declared.call.Call.{Call}
 use Rattle.uffd_log.specs.declared.call.Call.TheVariants as call
 use Rattle.uffd_log.specs.declared.line.Answer.{Answer}
 use Rattle.uffd_log.specs.declared.line.Answer.TheVariants.{Interrupted}
 use Rattle.kernel_rules.specs.declared.certify.BegunCall.{BegunCall}
-use Rattle.kernel_rules.specs.declared.run.Entry.{Entry}
-use Rattle.kernel_rules.specs.declared.run.Entry.TheVariants as entry
 use Rattle.kernel_rules.specs.declared.run.Made.{Made}
 use Rattle.kernel_rules.specs.declared.run.Move.{Move}
 use Rattle.kernel_rules.specs.declared.run.Move.TheVariants as move
 use Rattle.kernel_rules.specs.Faults.{sees, queues, leaves}
 use Rattle.kernel_rules.specs.MapCalls.{may_return, returned}
-use Rattle.kernel_rules.specs.Runs.{Outcome, Step, World, effect, event_of, line, made_with, outcome_of, takes, thread_leaves, thread_queues, thread_sees, IsRun}
+use Rattle.kernel_rules.specs.Runs.{Event, Outcome, Step, World, begins, effect, ends, line, takes, thread_leaves, thread_queues, thread_sees, IsRun}
 use Rattle.kernel_rules.specs.State.{Kernel, fresh_kernel}
 
 -- The run that moves are
 
--- the outcome of an entry, if a call ends there
-abbrev pub outcome_in : Option Entry → Option Outcome
+-- the outcome of an event, if a call ends there
+abbrev pub outcome_in : Option Event → Option Outcome
 outcome_in None = None
-outcome_in (Some (entry.Begins last key space c)) = None
-outcome_in (Some (entry.Ends key ending)) = Some (outcome_of ending)
+outcome_in (Some (begins made)) = None
+outcome_in (Some (ends key out)) = Some out
 
--- the step of a move, where `next` is the next entry of the log
-abbrev pub step_of : List Entry → ℕ → Move → Option Step
-step_of log next move.Line = option_map (λ e. line (event_of e)) (slice_get log next)
+-- the step of a move, where `next` is the next event of the log
+abbrev pub step_of : List Event → ℕ → Move → Option Step
+step_of log next move.Line = option_map line (slice_get log next)
 step_of log next (move.Effect key at) = option_map (effect key) (outcome_in (slice_get log at))
 step_of log next (move.Sees thread object page flags) = Some (thread_sees thread object page flags)
 step_of log next (move.Queues thread) = Some (thread_queues thread)
 step_of log next (move.Leaves thread) = Some (thread_leaves thread)
 
--- the next entry after a move
+-- the next event after a move
 abbrev pub next_after : ℕ → Move → ℕ
 next_after next move.Line = next + 1
 next_after next _ = next
 
 -- the steps of a run
-abbrev pub steps_of : List Entry → ℕ → List Move → List Step
+abbrev pub steps_of : List Event → ℕ → List Move → List Step
 steps_of log next [] = []
 steps_of log next (move ∷ moves) = option_to_list (step_of log next move) ++ steps_of log (next_after next move) moves
 
 -- the run is one of the log, with this kernel at its end
-abbrev pub IsCertified : List Entry → List Move → Kernel → Type 0
-IsCertified log run kernel = (last : World) × IsRun (map event_of log) (steps_of log 0 run) last × (last.kernel ≡ kernel)
+abbrev pub IsCertified : List Event → List Move → Kernel → Type 0
+IsCertified log run kernel = (last : World) × IsRun log (steps_of log 0 run) last × (last.kernel ≡ kernel)
 
 -- The calls that the checker follows
 
@@ -65,7 +63,7 @@ judged kernel made out = if is_mremap made.call then None else quiet (takes kern
 
 -- What the checker has, and what becomes of it
 
--- a kernel, the calls that have begun and not ended, each with the entry of its ending once it has taken effect, and the next entry
+-- a kernel, the calls that have begun and not ended, each with the place of its ending once it has taken effect, and that of the next event
 pub record Place : Type 0 where
   pub kernel : Kernel
   pub begun : List BegunCall
@@ -84,7 +82,7 @@ find_of (one ∷ others) key = if one.made.key == key then Some one else find_of
 abbrev pub others_than : ℕ → List BegunCall → List BegunCall
 others_than key calls = filter (λ (one : BegunCall). not (one.made.key == key)) calls
 
--- whether a call has taken effect with the ending of the entry where it ends: one that was interrupted has had no effect
+-- whether a call has taken effect with the ending of the event where it ends: one that was interrupted has had no effect
 abbrev pub is_ended_by : Option ℕ → Answer → ℕ → Bool
 is_ended_by at Interrupted next = not (is_some at)
 is_ended_by (Some at) _ next = at == next
@@ -103,21 +101,21 @@ ended_at place key answer (Some one) =
     then Some (record place { kernel = returned place.kernel key; begun = others_than key place.begun })
     else None
 
--- the line of an entry
-abbrev pub entered : Place → Entry → Option Place
-entered place (entry.Begins last key space c) = begun_at place (made_with last key space c)
-entered place (entry.Ends key ending) = ended_at place key ending.answer (find_of place.begun key)
+-- the line of an event
+abbrev pub entered : Place → Event → Option Place
+entered place (begins made) = begun_at place made
+entered place (ends key out) = ended_at place key out.answer (find_of place.begun key)
 
--- one entry more is read
+-- one event more is read
 abbrev pub read_on : Place → Place
 read_on place = record place { next = place.next + 1 }
 
 -- the next line, if there is one
-abbrev pub lined : Place → Option Entry → Option Place
+abbrev pub lined : Place → Option Event → Option Place
 lined place None = None
 lined place (Some one) = option_map read_on (entered place one)
 
--- a call has taken effect, and stays begun, with the entry of its ending
+-- a call has taken effect, and stays begun, with the place of its ending
 abbrev pub affected : Place → ℕ → ℕ → Made → Option Kernel → Option Place
 affected place key at made None = None
 affected place key at made (Some kernel) =
@@ -134,13 +132,22 @@ abbrev pub ruled : Place → Option Kernel → Option Place
 ruled place None = None
 ruled place (Some kernel) = Some (record place { kernel = kernel })
 
--- a move, if the rules allow it and the checker follows it
-unfoldable pub moved : List Entry → Place → Move → Option Place
-moved log place move.Line = lined place (slice_get log place.next)
-moved log place (move.Effect key at) = effected place key at (find_of place.begun key) (outcome_in (slice_get log at))
-moved log place (move.Sees thread object page flags) = ruled place (sees place.kernel thread object page flags)
-moved log place (move.Queues thread) = ruled place (queues place.kernel thread)
-moved log place (move.Leaves thread) = ruled place (leaves place.kernel thread)
+-- the place of the event that a move looks at: where its call ends if one takes effect, else the next
+abbrev pub seen_at : ℕ → Move → ℕ
+seen_at next (move.Effect key at) = at
+seen_at next _ = next
+
+-- a move by the event that it looks at, if the rules allow it and the checker follows it
+unfoldable pub moved_by : Option Event → Place → Move → Option Place
+moved_by seen place move.Line = lined place seen
+moved_by seen place (move.Effect key at) = effected place key at (find_of place.begun key) (outcome_in seen)
+moved_by seen place (move.Sees thread object page flags) = ruled place (sees place.kernel thread object page flags)
+moved_by seen place (move.Queues thread) = ruled place (queues place.kernel thread)
+moved_by seen place (move.Leaves thread) = ruled place (leaves place.kernel thread)
+
+-- a move of a run of a log
+abbrev pub moved : List Event → Place → Move → Option Place
+moved log place move = moved_by (slice_get log (seen_at place.next move)) place move
 
 -- one move after another, if the first is made
 abbrev pub then_moved : Option Place → (Place → Option Place) → Option Place
@@ -148,19 +155,19 @@ then_moved None rest = None
 then_moved (Some place) rest = rest place
 
 -- moves in turn
-abbrev pub moved_all : List Entry → Place → List Move → Option Place
+abbrev pub moved_all : List Event → Place → List Move → Option Place
 moved_all log place [] = Some place
 moved_all log place (move ∷ moves) = then_moved (moved log place move) (λ next. moved_all log next moves)
 
 -- moves lead from the beginning to this place
-abbrev pub IsReached : List Entry → Place → Type 0
+abbrev pub IsReached : List Event → Place → Type 0
 IsReached log place = (run : List Move) × (moved_all log fresh_place run ≡ Some place)
 
--- the kernel at the end of a log, if each entry was read
-abbrev pub at_end : List Entry → Option Place → Option Kernel
+-- the kernel at the end of a log, if each event was read
+abbrev pub at_end : List Event → Option Place → Option Kernel
 at_end log None = None
 at_end log (Some place) = if place.next == length log then Some place.kernel else None
 
 -- the kernel to which a run leads, if the checker finds that it is one of the log
-unfoldable pub certified : List Entry → List Move → Option Kernel
+unfoldable pub certified : List Event → List Move → Option Kernel
 certified log run = at_end log (moved_all log fresh_place run)

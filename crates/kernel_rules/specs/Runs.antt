@@ -2,9 +2,6 @@
 -- it begins and the one where it ends; so a call that ended before another began took effect first. The rules of a kernel allow each step
 -- with exactly the answer of the log.
 use Rattle.std.specs.Prelude.{◌≡◌, ℕ, ◌==◌, Contains, not, Bool, true, false, if◌then◌else◌, Option, Some, None, is_some, List, [], ◌∷◌, ◌++◌, filter, filter_map}
-use Rattle.std.specs.declared.alloc.Global.{Global}
-use Rattle.std.specs.declared.boxed.Box.{Box}
-use Rattle.std.specs.declared.vec.Vec.{Vec}
 use Rattle.uffd_log.specs.declared.call.Call.{Call}
 use Rattle.uffd_log.specs.declared.call.Call.TheVariants as call
 use Rattle.uffd_log.specs.declared.call.Message.{Message}
@@ -37,22 +34,13 @@ pub data Event : Type 0 where
   begins : Made → Event
   ends : ℕ → Outcome → Event
 
--- a call with these fields
-abbrev pub made_with : Bool → ℕ → ℕ → Call → Made
-made_with last key space c = record { key = key; space = space; call = c; last = last }
-
--- runs of pages, if there are any
-abbrev pub runs_in : Option (Box (Vec Run Global) Global) → List Run
-runs_in None = []
-runs_in (Some runs) = runs.value.items
-
 -- the outcome of a call, by its ending in a log
 abbrev pub outcome_of : Ending → Outcome
-outcome_of ending = record { answer = ending.answer; messages = ending.messages.items; runs = runs_in ending.runs }
+outcome_of ending = record { answer = ending.answer; messages = ending.messages.items; runs = ending.runs.items }
 
 -- the line of an entry
 abbrev pub event_of : Entry → Event
-event_of (entry.Begins last key space c) = begins (made_with last key space c)
+event_of (entry.Begins made) = begins made
 event_of (entry.Ends key ending) = ends key (outcome_of ending)
 
 -- the call that begins with a line, if one does

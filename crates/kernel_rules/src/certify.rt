@@ -1,7 +1,7 @@
 //! A run of a log: the lines of the log in their order, with steps put in between, each of which the rules of a kernel allow.
 
-ghost use Rattle.std.specs.Prelude.{◌≡◌, ◌++◌, ◌∷◌, [], map, slice_get, IfOk, OnOk, IfSome, option_map};
-ghost use Rattle.kernel_rules.specs.Certified.{begun_at, certified, effected, ended_at, entered, find_of, fresh_place, is_ended_by, lined, moved, moved_all, others_than, outcome_in, IsCertified};
+ghost use Rattle.std.specs.Prelude.{◌≡◌, ◌++◌, ◌∷◌, [], map, IfOk, OnOk, IfSome, option_map};
+ghost use Rattle.kernel_rules.specs.Certified.{begun_at, certified, effected, ended_at, entered, find_of, fresh_place, is_ended_by, lined, moved, moved_all, moved_by, others_than, outcome_in, seen_at, IsCertified};
 ghost use Rattle.kernel_rules.specs.Runs.{event_of, outcome_of, IsClean};
 ghost use Rattle.kernel_rules.specs.Held.{kernel_of, AreTables};
 ghost use Rattle.kernel_rules.specs.Worlds.{if_made, place_of};
@@ -58,11 +58,11 @@ fn fits(one: BegunCall, answer: Answer, next: usize) -> bool
 }
 
 /// The ending of an entry, if a call ends there.
-fn ending_at(log: &[Entry], at: usize) -> Option<&Ending>
+fn ending_of(seen: Option<&Entry>) -> Option<&Ending>
     ensures { option_map (λ ending. outcome_of ending.now) result ≡
-        outcome_in (slice_get log.now at) }
+        outcome_in (option_map (λ e. event_of e.now) seen.entry) }
 {
-    match log.get(at) {
+    match seen {
         Some(Entry::Ends { ending, .. }) => Some(ending),
         _ => None,
     }
@@ -132,39 +132,33 @@ impl WorldTable {
         ensures tables { AreTables self.new.kernel }
         ensures next { self.new.next ≡ self.old.next }
         ensures step { IfOk result (λ ok.
-            entered (place_of self.old) one.now ≡ if_made ok (place_of self.new)) }
+            entered (place_of self.old) (event_of one.now) ≡ if_made ok (place_of self.new)) }
     {
         match one {
-            Entry::Begins {
-                last,
-                key,
-                space,
-                call,
-            } => self.begin(Made {
-                key: *key,
-                space: *space,
-                call: *call,
-                last: *last,
-            }),
+            Entry::Begins(made) => self.begin(*made),
             Entry::Ends { key, ending } => Ok(self.end(*key, ending.answer)),
         }
     }
 
     /// The next line of the log.
-    fn line(&mut self, log: &[Entry]) -> Result<bool, NoMemory>
+    fn line(&mut self, seen: Option<&Entry>) -> Result<bool, NoMemory>
         requires { AreTables self.old.kernel }
         ensures tables { AreTables self.new.kernel }
         ensures step { IfOk result (λ ok.
-            lined (place_of self.old) (slice_get log.now self.old.next) ≡
+            lined (place_of self.old) (option_map (λ e. event_of e.now) seen.entry) ≡
             if_made ok (place_of self.new)) }
     {
-        let Some(one) = log.get(self.next) else {
+        let Some(one) = seen else {
             return Ok(false);
         };
         if !self.enter(one)? {
             return Ok(false);
         }
-        self.next += 1;
+        // No memory holds a log with more entries than this.
+        let Some(next) = self.next.checked_add(1) else {
+            return Err(NoMemory);
+        };
+        self.next = next;
         Ok(true)
     }
 
@@ -180,17 +174,18 @@ impl WorldTable {
     }
 
     /// A call takes effect with the ending in an entry, if it has begun and has not taken effect.
-    fn effect(&mut self, log: &[Entry], key: u32, at: usize) -> Result<bool, NoMemory>
+    fn effect(&mut self, seen: Option<&Entry>, key: u32, at: usize) -> Result<bool, NoMemory>
         requires { AreTables self.old.kernel }
         ensures tables { AreTables self.new.kernel }
         ensures step { IfOk result (λ ok.
             effected (place_of self.old) key at (find_of self.old.begun.items key)
-            (outcome_in (slice_get log.now at)) ≡ if_made ok (place_of self.new)) }
+            (outcome_in (option_map (λ e. event_of e.now) seen.entry)) ≡
+            if_made ok (place_of self.new)) }
     {
         let Some(one) = find_begun(&self.begun, key) else {
             return Ok(false);
         };
-        let Some(ending) = ending_at(log, at) else {
+        let Some(ending) = ending_of(seen) else {
             return Ok(false);
         };
         if one.at.is_some() {
@@ -203,17 +198,28 @@ impl WorldTable {
         Ok(true)
     }
 
-    /// Makes the next move of a run of the log. False where no rule allows it, or it is of a call that is not followed. After `NoMemory`, or
-    /// then, a table is not to be used.
-    pub fn step(&mut self, log: &[Entry], step: Move) -> Result<bool, NoMemory>
+    /// The place of the entry that a move looks at: that of its ending where a call takes effect, else the next one.
+    pub fn seen_at(&self, step: Move) -> usize
+        ensures { result ≡ seen_at self.now.next step }
+    {
+        match step {
+            Move::Effect { at, .. } => at,
+            _ => self.next,
+        }
+    }
+
+    /// Makes the next move of a run of the log; `seen` is the entry of the log at `seen_at`, if there is one. False where no rule allows the
+    /// move, or it is of a call that is not followed. After `NoMemory`, or then, a table is not to be used.
+    pub fn step(&mut self, seen: Option<&Entry>, step: Move) -> Result<bool, NoMemory>
         requires { AreTables self.old.kernel }
         ensures tables { AreTables self.new.kernel }
         ensures step { IfOk result (λ ok.
-            moved log.now (place_of self.old) step ≡ if_made ok (place_of self.new)) }
+            moved_by (option_map (λ e. event_of e.now) seen.entry) (place_of self.old) step ≡
+            if_made ok (place_of self.new)) }
     {
         match step {
-            Move::Line => self.line(log),
-            Move::Effect { key, at } => self.effect(log, key, at),
+            Move::Line => self.line(seen),
+            Move::Effect { key, at } => self.effect(seen, key, at),
             Move::Sees {
                 thread,
                 object,
@@ -225,15 +231,28 @@ impl WorldTable {
         }
     }
 
+    /// Makes a move of a run of the log.
+    fn step_in(&mut self, log: &[Entry], step: Move) -> Result<bool, NoMemory>
+        requires { AreTables self.old.kernel }
+        ensures tables { AreTables self.new.kernel }
+        ensures step { IfOk result (λ ok.
+            moved (map event_of log.now) (place_of self.old) step ≡
+            if_made ok (place_of self.new)) }
+    {
+        let seen = log.get(self.seen_at(step));
+        self.step(seen, step)
+    }
+
     /// The moves of a run. False where one is not made.
     fn steps(&mut self, log: &[Entry], run: &[Move]) -> Result<bool, NoMemory>
         requires { AreTables self.old.kernel }
         ensures tables { AreTables self.new.kernel }
         ensures steps { IfOk result (λ ok.
-            moved_all log.now (place_of self.old) run.now ≡ if_made ok (place_of self.new)) }
+            moved_all (map event_of log.now) (place_of self.old) run.now ≡
+            if_made ok (place_of self.new)) }
     {
         for step in run {
-            if !self.step(log, *step)? {
+            if !self.step_in(log, *step)? {
                 return Ok(false);
             }
         }
@@ -253,10 +272,11 @@ impl WorldTable {
 pub fn certify(alloc: Global, log: &[Entry], run: &[Move]) -> Result<Option<KernelTable>, NoMemory>
     ensures tables { IfOk result (λ found. IfSome found AreTables) }
     ensures run { IfOk result (λ found. IfSome found (λ table.
-        IsCertified log.now run.now (kernel_of table))) }
+        IsCertified (map event_of log.now) run.now (kernel_of table))) }
     ensures clean { IfOk result (λ found. IfSome found (λ table.
         IsClean (map event_of log.now) table.differs.items)) }
-    ensures exact { IfOk result (λ found. option_map kernel_of found ≡ certified log.now run.now) }
+    ensures exact { IfOk result (λ found.
+        option_map kernel_of found ≡ certified (map event_of log.now) run.now) }
 {
     let mut world = WorldTable::new(alloc);
     if !world.steps(log, run)? {

@@ -159,7 +159,7 @@ impl KernelTable {
             }
             Call::Wake { start, len, .. } => self.wakes(name, object, start, len, answer),
             Call::Scan { start, len, .. } => {
-                self.scans(object, start, len, ending.runs(), answer)
+                self.scans(object, start, len, &ending.runs, answer)
             }
             _ => Ok(false),
         }

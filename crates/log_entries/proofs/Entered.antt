@@ -1,8 +1,7 @@
 -- What a reader of entries has read after one line more.
-use Rattle.std.proofs.Common.{◌≡◌, ℕ, Bool, true, false, List, [], ◌∷◌, ◌++◌, refl, sym, ap, subst, ◌∙◌, append-nil, append_assoc, inl, inr, zero, suc, Some, ◌<◌, length, get_or, arith}
-use Rattle.std.proofs.Math.ListN.{set}
+use Rattle.std.proofs.Common.{◌≡◌, ℕ, Bool, true, false, List, [], ◌∷◌, ◌++◌, refl, sym, ap, subst, ◌∙◌, append-nil, append_assoc, inl, inr, zero, suc, Some, Result, Ok, Err}
 use Rattle.std.proofs.lemmas.List.{map-append}
-use Rattle.std.specs.Prelude.{if◌then◌else◌, IsTrue, map, not, slice_get}
+use Rattle.std.specs.Prelude.{if◌then◌else◌, IsTrue, map, not, slice_get, OnErr, OnOk}
 use Rattle.uffd_log.specs.declared.call.Call.{Call}
 use Rattle.uffd_log.specs.declared.call.Call.TheVariants as call
 use Rattle.uffd_log.specs.declared.call.Descriptor.{Descriptor}
@@ -11,18 +10,15 @@ use Rattle.uffd_log.specs.declared.line.Answer.TheVariants as answer
 use Rattle.uffd_log.specs.declared.line.Line.{Line}
 use Rattle.uffd_log.specs.declared.line.Line.TheVariants as line
 use Rattle.uffd_log.specs.declared.line.Stamp.{Stamp}
-use Rattle.kernel_rules.specs.declared.run.Ending.{Ending}
-use Rattle.kernel_rules.specs.declared.run.Entry.{Entry}
-use Rattle.kernel_rules.specs.declared.run.Entry.TheVariants as entry
 use Rattle.kernel_rules.specs.declared.run.Made.{Made}
+use Rattle.mig_base.specs.declared.NoMemory.{NoMemory}
 use Rattle.mig_base.specs.Tests.{is_empty}
-use Rattle.kernel_rules.specs.Runs.{Event, Outcome, begins, ends, event_of, outcome_of, runs_in}
-use Rattle.uffd_log.specs.declared.call.Message.{Message}
-use Rattle.kernel_rules.specs.declared.run.Run.{Run}
+use Rattle.kernel_rules.specs.Runs.{Event, Outcome, begins, ends}
 use Rattle.log_entries.specs.declared.log_line.LogLine.{LogLine}
 use Rattle.log_entries.specs.declared.entry_reader.EntryReader.{EntryReader}
-use Rattle.log_entries.specs.Events.{is_of, is_read_line, after_some, with_line, lines_of, outcome_from, said, said_of, made_by, opening, AreOwn, AreEvents}
+use Rattle.log_entries.specs.Events.{is_map_call, is_of, is_read_line, after_some, with_line, lines_of, outcome_from, said, said_of, made_by, opening, AreOwn, AreEvents}
 use Rattle.log_entries.specs.Readers.{others, own, onto, Has, HasRead}
+use Rattle.log_entries.specs.Stores.{settled, settled_at, settled_event}
 use Rattle.log_entries.proofs.Calls.{own_begun, own_others, own_push, same_call}
 
 onto_push : (lines above : List LogLine) (one : LogLine) → onto (lines ++ one ∷ []) above ≡ one ∷ onto lines above
@@ -35,30 +31,30 @@ events_push above (x ∷ lines) one events own e o =
     (e.0, e.1 ++ own, e.2, ap (λ (l : List Event). l ++ own) e.3 ∙ append_assoc e.0 e.1 own, events_push (x ∷ above) lines one e.1 own e.4 o)
 
 -- a line more, with its events
-pub has_push : (lines kept after : List LogLine) (entries all : List Entry) (one : LogLine) (events : List Event) → Has lines entries kept → map said_of (map event_of all) ≡ map said_of (map event_of entries) ++ events
+pub has_push : (lines kept after : List LogLine) (entries all : List Event) (one : LogLine) (events : List Event) → Has lines entries kept → map said_of all ≡ map said_of entries ++ events
     → AreOwn (onto lines []) one.number one.line events → ((pid n : ℕ) → own pid n after ≡ (if is_of pid n one.line then with_line one one.line (own pid n kept) else own pid n kept)) → Has (lines ++ one ∷ []) all after
 has_push lines kept after entries all one events has e o next = record {
-  events = subst (λ (l : List Event). AreEvents [] (lines ++ one ∷ []) l) (sym e) (events_push [] lines one (map said_of (map event_of entries)) events has.events o);
+  events = subst (λ (l : List Event). AreEvents [] (lines ++ one ∷ []) l) (sym e) (events_push [] lines one (map said_of entries) events has.events o);
   calls = λ pid n.
       next pid n ∙ ap (λ (l : List LogLine). if is_of pid n one.line then with_line one one.line l else l) (has.calls pid n) ∙ ap (λ (l : List LogLine). lines_of l pid n) (sym (onto_push lines [] one));
 }
 
-pub events_more : (entries : List Entry) (entry : Entry) → map said_of (map event_of (entries ++ entry ∷ [])) ≡ map said_of (map event_of entries) ++ said_of (event_of entry) ∷ []
-events_more entries entry = ap (map said_of) (map-append event_of entries (entry ∷ [])) ∙ map-append said_of (map event_of entries) (event_of entry ∷ [])
+pub events_more : (entries : List Event) (event : Event) → map said_of (entries ++ event ∷ []) ≡ map said_of entries ++ said_of event ∷ []
+events_more entries event = map-append said_of entries (event ∷ [])
 
 -- A call begins
 
 said_line : (one : LogLine) (l : Line) (lines after : List LogLine) → with_line one l lines ≡ after → (l2 : Line) → l2 ≡ l → with_line one l2 lines ≡ after
 said_line one l lines after e l2 is = ap (λ (k : Line). with_line one k lines) is ∙ e
 
-pub begun : (lines : List LogLine) (old new : EntryReader) (one : LogLine) (stamp : Stamp) (n : ℕ) (c : Call) (begin : Entry) → one.line ≡ line.Begin stamp n c → new.whole ≡ old.whole → new.kept.items ≡ others stamp.pid n old.kept.items ++ one ∷ []
-    → event_of begin ≡ begins (made_by one.number stamp c) → new.entries.items ≡ old.entries.items ++ begin ∷ [] → HasRead lines old → HasRead (lines ++ one ∷ []) new
-begun lines old new one stamp n c begin is whole kept begins_is entries has = λ w.
+pub begun : (lines : List LogLine) (old new : EntryReader) (one : LogLine) (stamp : Stamp) (n : ℕ) (c : Call) (made : Made) → one.line ≡ line.Begin stamp n c → new.whole ≡ old.whole → new.kept.items ≡ others stamp.pid n old.kept.items ++ one ∷ []
+    → made ≡ made_by one.number stamp c → new.entries ≡ old.entries ++ begins made ∷ [] → HasRead lines old → HasRead (lines ++ one ∷ []) new
+begun lines old new one stamp n c made is whole kept made_is entries has = λ w.
     let h = has (subst (λ (b : Bool). IsTrue b) whole w) in
     let own_events : List Event = begins (said (made_by one.number stamp c)) ∷ [] in
-    has_push lines old.kept.items new.kept.items old.entries.items new.entries.items one own_events h
-    (ap (λ (l : List Entry). map said_of (map event_of l)) entries ∙ events_more old.entries.items begin
-    ∙ ap (λ (v : Event). map said_of (map event_of old.entries.items) ++ said_of v ∷ []) begins_is)
+    has_push lines old.kept.items new.kept.items old.entries new.entries one own_events h
+    (ap (λ (l : List Event). map said_of l) entries ∙ events_more old.entries (begins made)
+    ∙ ap (λ (m : Made). map said_of old.entries ++ begins (said m) ∷ []) made_is)
     (let P : Line → Type 0 = λ l. AreOwn (onto lines []) one.number l own_events in subst P (sym is) refl)
     (λ pid m.
     ap (λ (l : List LogLine). own pid m l) kept ∙ own_begun pid m stamp.pid n old.kept.items one (ap (λ (l : Line). is_of pid m l) is)
@@ -70,16 +66,16 @@ pub first_rest : (xs : List LogLine) (x : LogLine) → Some x ≡ slice_get xs 0
 first_rest [] x e = absurd (cc)
 first_rest (y ∷ ys) x e = let same : y ≡ x = cc in (ys, ap (λ (k : LogLine). k ∷ ys) same)
 
-pub ended : (lines : List LogLine) (old new : EntryReader) (one first : LogLine) (rest : List LogLine) (stamp : Stamp) (n : ℕ) (a : Answer) (key : ℕ) (ending : Ending) → one.line ≡ line.End stamp n a → new.whole ≡ old.whole
-    → own stamp.pid n old.kept.items ≡ first ∷ rest → key ≡ first.number → outcome_of ending ≡ outcome_from (first ∷ rest) a → new.kept.items ≡ others stamp.pid n old.kept.items
-    → new.entries.items ≡ old.entries.items ++ entry.Ends key ending ∷ [] → HasRead lines old → HasRead (lines ++ one ∷ []) new
-ended lines old new one first rest stamp n a key ending is whole found named out kept entries has = λ w.
+pub ended : (lines : List LogLine) (old new : EntryReader) (one first : LogLine) (rest : List LogLine) (stamp : Stamp) (n : ℕ) (a : Answer) (key : ℕ) (out : Outcome) → one.line ≡ line.End stamp n a → new.whole ≡ old.whole
+    → own stamp.pid n old.kept.items ≡ first ∷ rest → key ≡ first.number → out ≡ outcome_from (first ∷ rest) a → new.kept.items ≡ others stamp.pid n old.kept.items
+    → new.entries ≡ old.entries ++ ends key out ∷ [] → HasRead lines old → HasRead (lines ++ one ∷ []) new
+ended lines old new one first rest stamp n a key out is whole found named out_is kept entries has = λ w.
     let h = has (subst (λ (b : Bool). IsTrue b) whole w) in
-    let own_events : List Event = ends key (outcome_of ending) ∷ [] in
-    has_push lines old.kept.items new.kept.items old.entries.items new.entries.items one own_events h
-    (ap (λ (l : List Entry). map said_of (map event_of l)) entries ∙ events_more old.entries.items (entry.Ends key ending))
+    let own_events : List Event = ends key out ∷ [] in
+    has_push lines old.kept.items new.kept.items old.entries new.entries one own_events h
+    (ap (λ (l : List Event). map said_of l) entries ∙ events_more old.entries (ends key out))
     (let P : Line → Type 0 = λ l. AreOwn (onto lines []) one.number l own_events in
-    subst P (sym is) (first, rest, sym (h.calls stamp.pid n) ∙ found, ap (λ (k : ℕ). ends k (outcome_of ending) ∷ []) named ∙ ap (λ (o : Outcome). ends first.number o ∷ []) out))
+    subst P (sym is) (first, rest, sym (h.calls stamp.pid n) ∙ found, ap (λ (k : ℕ). ends k out ∷ []) named ∙ ap (λ (o : Outcome). ends first.number o ∷ []) out_is))
     (λ pid m.
     ap (λ (l : List LogLine). own pid m l) kept ∙ own_others pid m stamp.pid n old.kept.items
     ∙ ap (λ (b : Bool). if b then [] else own pid m old.kept.items) (sym (ap (λ (l : Line). is_of pid m l) is))
@@ -150,56 +146,48 @@ added pid m p n kept one of kind some =
     )
 
 pub read_more : (lines : List LogLine) (old new : EntryReader) (one : LogLine) (p n : ℕ) (some : Bool) → is_of p n one.line ≡ true → is_read_line one.line ≡ true → some ≡ not (is_empty (own p n old.kept.items)) → some ≡ true → new.whole ≡ old.whole
-    → new.entries.items ≡ old.entries.items → new.kept.items ≡ old.kept.items ++ one ∷ [] → HasRead lines old → HasRead (lines ++ one ∷ []) new
+    → new.entries ≡ old.entries → new.kept.items ≡ old.kept.items ++ one ∷ [] → HasRead lines old → HasRead (lines ++ one ∷ []) new
 read_more lines old new one p n some of kind test is whole entries kept has = λ w.
-    has_push lines old.kept.items new.kept.items old.entries.items new.entries.items one [] (has (subst (λ (b : Bool). IsTrue b) whole w))
-    (ap (λ (l : List Entry). map said_of (map event_of l)) entries ∙ sym (append-nil (map said_of (map event_of old.entries.items)))) (no_events (onto lines []) one.number one.line kind)
+    has_push lines old.kept.items new.kept.items old.entries new.entries one [] (has (subst (λ (b : Bool). IsTrue b) whole w))
+    (ap (λ (l : List Event). map said_of l) entries ∙ sym (append-nil (map said_of old.entries))) (no_events (onto lines []) one.number one.line kind)
     (λ pid m. ap (λ (l : List LogLine). own pid m l) kept ∙ added pid m p n old.kept.items one of kind (sym test ∙ is))
 
 pub read_none : (lines : List LogLine) (old new : EntryReader) (one : LogLine) (p n : ℕ) (some : Bool) → is_of p n one.line ≡ true → is_read_line one.line ≡ true → some ≡ not (is_empty (own p n old.kept.items)) → some ≡ false → new ≡ old
     → HasRead lines old → HasRead (lines ++ one ∷ []) new
 read_none lines old new one p n some of kind test is same has = subst (λ (r : EntryReader). HasRead (lines ++ one ∷ []) r) (sym same) (λ w.
-    has_push lines old.kept.items old.kept.items old.entries.items old.entries.items one [] (has w) (sym (append-nil (map said_of (map event_of old.entries.items)))) (no_events (onto lines []) one.number one.line kind)
+    has_push lines old.kept.items old.kept.items old.entries old.entries one [] (has w) (sym (append-nil (map said_of old.entries))) (no_events (onto lines []) one.number one.line kind)
     (λ pid m. unread pid m p n old.kept.items one of kind (sym test ∙ is)))
 
 -- A line of no call
 
 pub passed : (lines : List LogLine) (old new : EntryReader) (one : LogLine) (events : List Event) → ((pid n : ℕ) → is_of pid n one.line ≡ false) → AreOwn (onto lines []) one.number one.line events → new.whole ≡ old.whole
-    → map said_of (map event_of new.entries.items) ≡ map said_of (map event_of old.entries.items) ++ events → new.kept.items ≡ old.kept.items → HasRead lines old → HasRead (lines ++ one ∷ []) new
+    → map said_of new.entries ≡ map said_of old.entries ++ events → new.kept.items ≡ old.kept.items → HasRead lines old → HasRead (lines ++ one ∷ []) new
 passed lines old new one events of o whole entries kept has = λ w.
-    has_push lines old.kept.items new.kept.items old.entries.items new.entries.items one events (has (subst (λ (b : Bool). IsTrue b) whole w)) entries o
+    has_push lines old.kept.items new.kept.items old.entries new.entries one events (has (subst (λ (b : Bool). IsTrue b) whole w)) entries o
     (λ pid m.
     ap (λ (l : List LogLine). own pid m l) kept ∙ ap (λ (b : Bool). if b then with_line one one.line (own pid m old.kept.items) else own pid m old.kept.items) (sym (of pid m)))
 
 -- An object is found
 
-pub outcome_is : (a : Answer) (ending : Ending) → ending.answer ≡ a → ending.messages.items ≡ [] → runs_in ending.runs ≡ [] → outcome_of ending ≡ record { answer = a; messages = []; runs = [] }
-outcome_is a ending e m r =
-    let mk : Answer → List Message → List Run → Outcome = λ x l k. record { answer = x; messages = l; runs = k } in
-    ap (λ (x : Answer). mk x ending.messages.items (runs_in ending.runs)) e ∙ ap (λ (l : List Message). mk a l (runs_in ending.runs)) m ∙ ap (λ (k : List Run). mk a [] k) r
-
 pub found_old : (lines : List LogLine) (old new : EntryReader) (one : LogLine) (stamp : Stamp) (on : Descriptor) → one.line ≡ line.Found stamp on → new ≡ old → HasRead lines old → HasRead (lines ++ one ∷ []) new
 found_old lines old new one stamp on is same has =
     passed lines old new one [] (λ pid n. ap (λ (l : Line). is_of pid n l) is) (let P : Line → Type 0 = λ l. AreOwn (onto lines []) one.number l [] in subst P (sym is) (inl refl)) (ap (λ (r : EntryReader). r.whole) same)
-    (ap (λ (r : EntryReader). map said_of (map event_of r.entries.items)) same ∙ sym (append-nil (map said_of (map event_of old.entries.items)))) (ap (λ (r : EntryReader). r.kept.items) same) has
+    (ap (λ (r : EntryReader). map said_of r.entries) same ∙ sym (append-nil (map said_of old.entries))) (ap (λ (r : EntryReader). r.kept.items) same) has
 
-pub found_new : (lines : List LogLine) (old mid new : EntryReader) (one : LogLine) (stamp : Stamp) (on : Descriptor) (made : Made) (begin : Entry) (ending : Ending) → one.line ≡ line.Found stamp on → made ≡ made_by one.number stamp (call.Open false 2048) → event_of begin ≡ begins made
-    → outcome_of ending ≡ record { answer = answer.Opened on; messages = []; runs = [] } → mid ≡ record old { entries = mid.entries } → new ≡ record mid { entries = new.entries } → mid.entries.items ≡ old.entries.items ++ begin ∷ []
-    → new.entries.items ≡ mid.entries.items ++ entry.Ends one.number ending ∷ [] → HasRead lines old → HasRead (lines ++ one ∷ []) new
-found_new lines old mid new one stamp on made begin ending is by begin_event out first second begins_is ends_is has =
+pub found_new : (lines : List LogLine) (old mid new : EntryReader) (one : LogLine) (stamp : Stamp) (on : Descriptor) (made : Made) → one.line ≡ line.Found stamp on → made ≡ made_by one.number stamp (call.Open false 2048)
+    → mid ≡ record old { entries = mid.entries } → new ≡ record mid { entries = new.entries } → mid.entries ≡ old.entries ++ begins made ∷ []
+    → new.entries ≡ mid.entries ++ ends one.number (record { answer = answer.Opened on; messages = []; runs = [] }) ∷ [] → HasRead lines old → HasRead (lines ++ one ∷ []) new
+found_new lines old mid new one stamp on made is by first second begins_is ends_is has =
     let events : List Event = opening one.number stamp on in
+    let opened : Event = ends one.number (record { answer = answer.Opened on; messages = []; runs = [] }) in
     let whole : new.whole ≡ old.whole = ap (λ (r : EntryReader). r.whole) second ∙ ap (λ (r : EntryReader). r.whole) first in
     let kept : new.kept.items ≡ old.kept.items = ap (λ (r : EntryReader). r.kept.items) second ∙ ap (λ (r : EntryReader). r.kept.items) first in
-    let front : map said_of (map event_of mid.entries.items) ≡ map said_of (map event_of old.entries.items) ++ begins (made_by one.number stamp (call.Open false 2048)) ∷ [] =
-    ap (λ (l : List Entry). map said_of (map event_of l)) begins_is ∙ events_more old.entries.items begin
-    ∙ ap (λ (v : Event). map said_of (map event_of old.entries.items) ++ said_of v ∷ []) begin_event
-    ∙ ap (λ (m : Made). map said_of (map event_of old.entries.items) ++ begins (said m) ∷ []) by
+    let front : map said_of mid.entries ≡ map said_of old.entries ++ begins (made_by one.number stamp (call.Open false 2048)) ∷ [] =
+    ap (λ (l : List Event). map said_of l) begins_is ∙ events_more old.entries (begins made) ∙ ap (λ (m : Made). map said_of old.entries ++ begins (said m) ∷ []) by
     in
-    let all : map said_of (map event_of new.entries.items) ≡ map said_of (map event_of old.entries.items) ++ events =
-    ap (λ (l : List Entry). map said_of (map event_of l)) ends_is ∙ events_more mid.entries.items (entry.Ends one.number ending)
-    ∙ ap (λ (l : List Event). l ++ ends one.number (outcome_of ending) ∷ []) front
-    ∙ ap (λ (o : Outcome). (map said_of (map event_of old.entries.items) ++ begins (made_by one.number stamp (call.Open false 2048)) ∷ []) ++ ends one.number o ∷ []) out
-    ∙ append_assoc (map said_of (map event_of old.entries.items)) (begins (made_by one.number stamp (call.Open false 2048)) ∷ []) (ends one.number (record { answer = answer.Opened on; messages = []; runs = [] }) ∷ [])
+    let all : map said_of new.entries ≡ map said_of old.entries ++ events =
+    ap (λ (l : List Event). map said_of l) ends_is ∙ events_more mid.entries opened ∙ ap (λ (l : List Event). l ++ opened ∷ []) front
+    ∙ append_assoc (map said_of old.entries) (begins (made_by one.number stamp (call.Open false 2048)) ∷ []) (opened ∷ [])
     in
     passed lines old new one events (λ pid n. ap (λ (l : Line). is_of pid n l) is) (let P : Line → Type 0 = λ l. AreOwn (onto lines []) one.number l events in subst P (sym is) (inr refl)) whole all kept has
 
@@ -239,20 +227,36 @@ other_own (line.Lost count) above number e = absurd (cc)
 
 pub other : (lines : List LogLine) (old : EntryReader) (one : LogLine) → is_other one.line ≡ true → HasRead lines old → HasRead (lines ++ one ∷ []) old
 other lines old one is has =
-    passed lines old old one [] (λ pid n. other_of one.line pid n is) (other_own one.line (onto lines []) one.number is) refl (sym (append-nil (map said_of (map event_of old.entries.items)))) refl has
+    passed lines old old one [] (λ pid n. other_of one.line pid n is) (other_own one.line (onto lines []) one.number is) refl (sym (append-nil (map said_of old.entries))) refl has
 
 -- What no line says is put in
 
-said_set : (xs : List Entry) (i : ℕ) (x y : Entry) → i < length xs → ((d : Entry) → x ≡ get_or xs i d) → said_of (event_of y) ≡ said_of (event_of x) → map said_of (map event_of (set xs i y)) ≡ map said_of (map event_of xs)
-said_set [] i x y few at same = absurd (omega arith)
-said_set (z ∷ xs) zero x y few at same = ap (λ (v : Event). v ∷ map said_of (map event_of xs)) (same ∙ ap (λ (k : Entry). said_of (event_of k)) (at x))
-said_set (z ∷ xs) (suc i) x y few at same = ap (λ (l : List Event). said_of (event_of z) ∷ l) (said_set xs i x y (omega arith) at same)
+said_settled : (made : Made) (space : ℕ) (last : Bool) → said (settled made space last) ≡ said made
+said_settled made space last =
+    elim (is_map_call made.call) as (λ b. record made { space = (if b then 0 else (if b then space else made.space)); last = false } ≡ record made { space = (if b then 0 else made.space); last = false }) [
+      | true ↦ refl
+      | false ↦ refl
+    ]
 
-pub settled : (lines : List LogLine) (old : EntryReader) (i : ℕ) (x y : Entry) → i < length old.entries.items → ((d : Entry) → x ≡ get_or old.entries.items i d) → said_of (event_of y) ≡ said_of (event_of x) → HasRead lines old → IsTrue old.whole
-    → Has lines (set old.entries.items i y) old.kept.items
-settled lines old i x y few at same has w =
+said_event : (event : Event) (space : ℕ) (last : Bool) → said_of (settled_event event space last) ≡ said_of event
+said_event (begins made) space last = ap (λ (m : Made). begins m) (said_settled made space last)
+said_event (ends key out) space last = refl
+
+said_set : (events : List Event) (at space : ℕ) (last : Bool) → map said_of (settled_at events at space last) ≡ map said_of events
+said_set [] at space last = refl
+said_set (event ∷ events) zero space last = ap (λ (v : Event). v ∷ map said_of events) (said_event event space last)
+said_set (event ∷ events) (suc at) space last = ap (λ (l : List Event). said_of event ∷ l) (said_set events at space last)
+
+pub settled_read : (lines : List LogLine) (old : EntryReader) (entries : List Event) (at space : ℕ) (last : Bool) → entries ≡ settled_at old.entries at space last → HasRead lines old
+    → HasRead lines (record old { entries = entries })
+settled_read lines old entries at space last is has = λ w.
     let h = has w in
     record {
-      events = subst (λ (l : List Event). AreEvents [] lines l) (sym (said_set old.entries.items i x y few at same)) h.events;
+      events = subst (λ (l : List Event). AreEvents [] lines l) (sym (ap (map said_of) is ∙ said_set old.entries at space last)) h.events;
       calls = h.calls;
     }
+
+pub settled_or_same : (lines : List LogLine) (old : EntryReader) (entries : List Event) (at space : ℕ) (last : Bool) (result : Result Unit NoMemory) → OnOk result (entries ≡ settled_at old.entries at space last)
+    → OnErr result (entries ≡ old.entries) → HasRead lines old → HasRead lines (record old { entries = entries })
+settled_or_same lines old entries at space last (Ok u) is same has = settled_read lines old entries at space last is has
+settled_or_same lines old entries at space last (Err e) is same has = subst (λ (l : List Event). HasRead lines (record old { entries = l })) (sym same) has

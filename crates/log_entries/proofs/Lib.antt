@@ -1,2 +1,5 @@
 pub mod Calls
 pub mod Entered
+pub mod Same
+pub mod Shaped
+pub mod Stored

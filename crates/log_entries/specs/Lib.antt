@@ -1,2 +1,4 @@
 pub mod Events
 pub mod Readers
+pub mod Shapes
+pub mod Stores

@@ -1,7 +1,6 @@
 -- What a reader of entries has read.
-use Rattle.std.specs.Prelude.{◌≡◌, ℕ, IsTrue, List, [], ◌∷◌, filter, map, not}
-use Rattle.kernel_rules.specs.declared.run.Entry.{Entry}
-use Rattle.kernel_rules.specs.Runs.{event_of}
+use Rattle.std.specs.Prelude.{◌≡◌, ℕ, IsTrue, List, [], ◌∷◌, filter, not}
+use Rattle.kernel_rules.specs.Runs.{Event}
 use Rattle.log_entries.specs.declared.log_line.LogLine.{LogLine}
 use Rattle.log_entries.specs.declared.entry_reader.EntryReader.{EntryReader}
 use Rattle.log_entries.specs.Events.{is_of, lines_of, HasEvents}
@@ -19,11 +18,11 @@ others pid n lines = filter (λ (one : LogLine). not (is_of pid n one.line)) lin
 abbrev pub own : ℕ → ℕ → List LogLine → List LogLine
 own pid n lines = filter (λ (one : LogLine). is_of pid n one.line) lines
 
--- the lines were read: the entries are their events, and the lines of calls under way are kept
-pub record Has (lines : List LogLine) (entries : List Entry) (kept : List LogLine) : Type 0 where
-  pub events : HasEvents lines (map event_of entries)
+-- the lines were read: these are their events, and the lines of calls under way are kept
+pub record Has (lines : List LogLine) (entries : List Event) (kept : List LogLine) : Type 0 where
+  pub events : HasEvents lines entries
   pub calls : (pid n : ℕ) → own pid n kept ≡ lines_of (onto lines []) pid n
 
 -- the same, unless a line was lost
 abbrev pub HasRead : List LogLine → EntryReader → Type 0
-HasRead lines reader = IsTrue reader.whole → Has lines reader.entries.items reader.kept.items
+HasRead lines reader = IsTrue reader.whole → Has lines reader.entries reader.kept.items

@@ -1,16 +1,15 @@
-//! Reading entries from the lines of a log.
+//! Reading events from the lines of a log.
 
 ghost use Rattle.std.specs.Prelude.{◌≡◌, ◌++◌, ◌∷◌, [], List, true, not, filter_map, IfOk, OnOk};
 ghost use Rattle.mig_base.specs.Tests.{is_empty};
 ghost use Rattle.uffd_log.specs.declared.line.Line.TheVariants as line;
-ghost use Rattle.kernel_rules.specs.Runs.{outcome_of, runs_in};
 ghost use Rattle.log_entries.specs.declared.log_line.LogLine.{LogLine as LogLineOf};
-ghost use Rattle.log_entries.specs.Events.{is_of, is_read_line, made_by, message_in, outcome_from, run_in};
+ghost use Rattle.log_entries.specs.Events.{is_of, is_read_line, made_by, message_in, run_in};
 ghost use Rattle.log_entries.specs.Readers.{others, own, HasRead};
 
 use crate::log_line::{LogLine, is_of, message_in, run_in};
-use crate::settle::settled;
-use kernel_rules::{Ending, Entry, Made, Run};
+use crate::store::EntryStore;
+use kernel_rules::{Made, Run};
 use mig_base::NoMemory;
 use std::alloc::Global;
 use uffd_log::{Answer, Call, Descriptor, Line, Message, Stamp};
@@ -18,10 +17,10 @@ use uffd_log::{Answer, Call, Descriptor, Line, Message, Stamp};
 /// O_NONBLOCK.
 const NONBLOCK: u64 = 2048;
 
-/// The entries of the lines that were read.
+/// The events of the lines that were read.
 #[derive(Drop)]
 pub struct EntryReader {
-    pub entries: Vec<Entry>,
+    pub entries: EntryStore,
     /// The lines of the calls that have begun and not ended.
     pub kept: Vec<LogLine>,
     /// Whether each call that ends has begun, and no line was lost.
@@ -64,8 +63,7 @@ fn remove_lines(kept: &mut Vec<LogLine>, pid: u32, call: u64)
 fn messages_in(alloc: Global, lines: &[LogLine]) -> Result<Vec<Message>, NoMemory>
     ensures { IfOk result (λ found. found.items ≡ filter_map message_in lines.now) }
 {
-    // Nearly each of these lines has a message, but the first. A log has as many reads as faults: no room is left over.
-    let mut found = Vec::with_capacity(alloc, lines.len().saturating_sub(1))?;
+    let mut found = Vec::new(alloc);
     for one in lines {
         if let Some(message) = message_in(*one) {
             found.push(message)?;
@@ -87,39 +85,6 @@ fn runs_in(alloc: Global, lines: &[LogLine]) -> Result<Vec<Run>, NoMemory>
     Ok(found)
 }
 
-/// Runs of pages, as an ending has them.
-fn boxed_runs(alloc: Global, runs: Vec<Run>) -> Result<Option<Box<Vec<Run>>>, NoMemory>
-    ensures { IfOk result (λ boxed. runs_in boxed ≡ runs.items) }
-{
-    if runs.is_empty() {
-        return Ok(None);
-    }
-    match Box::new(alloc, runs) {
-        Ok(boxed) => Ok(Some(boxed)),
-        Err(_) => Err(NoMemory),
-    }
-}
-
-/// How a call ended, and when.
-fn ending_of(
-    alloc: Global,
-    lines: &[LogLine],
-    answer: Answer,
-    time: u64,
-) -> Result<Ending, NoMemory>
-    ensures { IfOk result (λ ending. outcome_of ending ≡ outcome_from lines.now answer) }
-{
-    let messages = messages_in(alloc, lines)?;
-    let runs = runs_in(alloc, lines)?;
-    let runs = boxed_runs(alloc, runs)?;
-    Ok(Ending {
-        answer,
-        messages,
-        runs,
-        time,
-    })
-}
-
 /// A call as its line says it.
 fn made_by(number: u32, stamp: Stamp, call: Call) -> Made
     ensures { result ≡ made_by number stamp call }
@@ -138,20 +103,9 @@ impl EntryReader {
         ensures { HasRead [] result }
     {
         EntryReader {
-            entries: Vec::new(alloc),
+            entries: EntryStore::new(alloc),
             kept: Vec::new(alloc),
             whole: true,
-        }
-    }
-
-    /// Adds an entry.
-    fn add_entry(&mut self, one: Entry) -> Result<(), NoMemory>
-        ensures added { OnOk result (self.new.entries.items ≡ self.old.entries.items ++ one ∷ []) }
-        ensures same { self.new ≡ record self.old { entries = self.new.entries } }
-    {
-        match self.entries.push(one) {
-            Ok(()) => Ok(()),
-            Err(_) => Err(NoMemory),
         }
     }
 
@@ -174,7 +128,7 @@ impl EntryReader {
     {
         remove_lines(&mut self.kept, stamp.pid, number);
         self.keep(one)?;
-        self.add_entry(Entry::begin(made_by(one.number, stamp, call)))
+        self.entries.push_begin(made_by(one.number, stamp, call))
     }
 
     /// A call ends. It has begun, or lines are missing.
@@ -196,9 +150,10 @@ impl EntryReader {
             return Ok(());
         };
         let key = first.number;
-        let ending = ending_of(alloc, &lines, answer, stamp.time)?;
+        let messages = messages_in(alloc, &lines)?;
+        let runs = runs_in(alloc, &lines)?;
         remove_lines(&mut self.kept, stamp.pid, number);
-        self.add_entry(Entry::Ends { key, ending })
+        self.entries.push_end(key, answer, &messages, &runs)
     }
 
     /// A line of a call that is under way.
@@ -233,18 +188,9 @@ impl EntryReader {
             device: false,
             flags: NONBLOCK,
         };
-        self.add_entry(Entry::begin(made_by(one.number, stamp, call)))?;
-        let alloc = *self.kept.allocator();
-        let ending = Ending {
-            answer: Answer::Opened(on),
-            messages: Vec::new(alloc),
-            runs: None,
-            time: stamp.time,
-        };
-        self.add_entry(Entry::Ends {
-            key: one.number,
-            ending,
-        })
+        self.entries.push_begin(made_by(one.number, stamp, call))?;
+        self.entries
+            .push_end(one.number, Answer::Opened(on), &[], &[])
     }
 
     /// Takes the next line. Where it is a descriptor that was found, `opens` says whether it stands for the opening of its object. After
@@ -276,26 +222,12 @@ impl EntryReader {
         }
     }
 
-    /// The number of the line where the call of an entry begins, if one begins there.
-    pub fn key_of_begin(&self, at: usize) -> Option<u32> {
-        match self.entries.get(at) {
-            Some(Entry::Begins { key, .. }) => Some(*key),
-            _ => None,
-        }
-    }
-
-    /// Puts in what no line says of the call that begins in an entry: the address space that it changes, if it is a map call, and whether it
+    /// Puts in what no line says of the call that begins in an event: the address space that it changes, if it is a map call, and whether it
     /// closes the last descriptor of its object.
-    pub fn settle(&mut self, at: usize, space: u32, last: bool)
+    pub fn settle(&mut self, at: usize, space: u32, last: bool) -> Result<(), NoMemory>
         ensures whole { self.new.whole ≡ self.old.whole }
         ensures read { (lines : List LogLineOf) → HasRead lines self.old → HasRead lines self.new }
     {
-        let Some(entry) = self.entries.get(at) else {
-            return;
-        };
-        if let Some(made) = entry.made() {
-            let made = settled(made, space, last);
-            self.entries[at] = Entry::begin(made);
-        }
+        self.entries.settle(at, space, last)
     }
 }

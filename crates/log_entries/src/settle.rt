@@ -1,7 +1,8 @@
 //! What no line says of a call, put in by the caller.
 
 ghost use Rattle.std.specs.Prelude.{◌≡◌};
-ghost use Rattle.log_entries.specs.Events.{is_map_call, said};
+ghost use Rattle.log_entries.specs.Events.{is_map_call};
+ghost use Rattle.log_entries.specs.Stores.{settled};
 
 use kernel_rules::Made;
 use uffd_log::Call;
@@ -19,7 +20,7 @@ fn is_map_call(call: Call) -> bool
 
 /// A call, with the address space that it changes if it is a map call, and whether it closes the last descriptor of its object.
 pub(crate) fn settled(made: Made, space: u32, last: bool) -> Made
-    ensures { said result ≡ said made }
+    ensures { result ≡ settled made space last }
 {
     let space = if is_map_call(made.call) {
         space

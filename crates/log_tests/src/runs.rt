@@ -267,7 +267,7 @@ fn entries(alloc: Global, texts: &[&'static [u8]]) -> Result<Vec<Entry>, NoMemor
         match parse(&mut tokens, text)? {
             Some(Line::Begin { number, call, .. }) => add(
                 &mut log,
-                Entry::begin(Made {
+                Entry::Begins(Made {
                     key: u32::try_from(number).unwrap_or(0),
                     space: 1,
                     call,
@@ -290,8 +290,7 @@ fn entries(alloc: Global, texts: &[&'static [u8]]) -> Result<Vec<Entry>, NoMemor
                     ending: Ending {
                         answer,
                         messages: mem::replace(&mut messages, Vec::new(alloc)),
-                        runs: Some(Box::new(alloc, mem::replace(&mut runs, Vec::new(alloc)))?),
-                        time: 0,
+                        runs: mem::replace(&mut runs, Vec::new(alloc)),
                     },
                 },
             )?,

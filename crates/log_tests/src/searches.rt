@@ -18,12 +18,16 @@ const EVENTS: &[u8] =
 const PROTECTS: &[u8] =
     b"1 70 70 started 69 ./monitor\n1 70 70 begin 1 open syscall 0x800\n1 70 70 end 1 ok 8:5\n1 70 70 begin 2 api 8:5 0xaa 0x1\n1 70 70 end 2 ok 0x1ffff 0x8000000000000003\n1 70 70 begin 3 register 8:5 0x10000 0x2000 0x3\n1 70 70 end 3 ok 0x17c\n1 70 70 begin 4 scan 8:5 0x10000 0x2000\n1 70 70 end 4 ok 0\n";
 
+/// The same, and for UFFD_EVENT_REMAP.
+const MOVES: &[u8] =
+    b"1 70 70 started 69 ./monitor\n1 70 70 begin 1 open syscall 0x800\n1 70 70 end 1 ok 8:5\n1 70 70 begin 2 api 8:5 0xaa 0x5\n1 70 70 end 2 ok 0x1ffff 0x8000000000000003\n1 70 70 begin 3 register 8:5 0x10000 0x2000 0x3\n1 70 70 end 3 ok 0x17c\n1 70 70 begin 4 scan 8:5 0x10000 0x2000\n1 70 70 end 4 ok 0\n";
+
 /// The same, and it asks for UFFD_EVENT_REMOVE.
 const REMOVES: &[u8] =
     b"1 70 70 started 69 ./monitor\n1 70 70 begin 1 open syscall 0x800\n1 70 70 end 1 ok 8:5\n1 70 70 begin 2 api 8:5 0xaa 0x8\n1 70 70 end 2 ok 0x1ffff 0x8000000000000003\n1 70 70 begin 3 register 8:5 0x10000 0x2000 0x1\n1 70 70 end 3 ok 0x17c\n1 70 70 begin 4 scan 8:5 0x10000 0x2000\n1 70 70 end 4 ok 0\n";
 
 /// What an object is registered for, the calls after it, what is said of the log, and what is written.
-static LOGS: [(&'static [u8], &'static [u8], Verdict, &'static [u8]); 22] = [
+static LOGS: [(&'static [u8], &'static [u8], Verdict, &'static [u8]); 23] = [
     // A madvise of the thread that the copy has woken: it ends before the copy does.
     (
         PLAIN,
@@ -37,6 +41,14 @@ static LOGS: [(&'static [u8], &'static [u8], Verdict, &'static [u8]); 22] = [
         b"1 70 70 begin 5 read 8:5 32\n1 70 70 message 5 fault 0x10000 0 0\n1 70 70 end 5 ok 1\n1 70 70 begin 6 copy 8:5 0x10000 0x7000 0x1000 0x0\n1 70 71 begin 7 madvise 0x10000 0x1000 0x4\n1 70 70 end 6 ok 4096\n1 70 71 end 7 EINVAL\n1 70 70 begin 8 read 8:5 32\n1 70 70 message 8 fault 0x10000 0 0\n1 70 70 end 8 ok 1\n1 70 70 begin 9 copy 8:5 0x10000 0x7000 0x1000 0x0\n1 70 70 end 9 ok 4096\n1 70 70 begin 10 copy 8:5 0x11000 0x7000 0x1000 0x0\n1 70 70 end 10 ok 4096\n",
         Verdict::Impossible,
         b"log:26: kernel: copy: no run of the rules has this answer: the page is present [impossible-answer]\n10 calls: 6 with the only answer that the rules allow, 3 that an access explains which the log does not show, 1 impossible, 0 not judged\nnot certified: no run was found\npage faults that waited until a call woke their thread: 1, the longest 0.0 us, read at line 16, woken at line 21\n",
+    ),
+    // A poll has found the message of a thread that a copy let go before it was read. The page of the copy under way is not that thread's: its
+    // fault is read before the copy ends.
+    (
+        PLAIN,
+        b"1 70 71 begin 5 poll 8:5\n1 70 70 begin 6 copy 8:5 0x10000 0x7000 0x1000 0x0\n1 70 70 end 6 ok 4096\n1 70 70 begin 7 copy 8:5 0x11000 0x7000 0x1000 0x0\n1 70 71 end 5 ok 0x1\n1 70 71 begin 8 read 8:5 32\n1 70 71 end 8 EAGAIN\n1 70 71 begin 9 poll 8:5\n1 70 71 end 9 ok 0x1\n1 70 71 begin 10 read 8:5 32\n1 70 71 message 10 fault 0x11000 0 0\n1 70 71 end 10 ok 1\n1 70 70 end 7 ok 4096\n",
+        Verdict::Certified,
+        b"10 calls: 7 with the only answer that the rules allow, 3 that an access explains which the log does not show, 0 impossible, 0 not judged\ncertified: a kernel of the rules may have answered so; pages owed 0, put twice 0\n",
     ),
     // Two threads at one page, and a poll that finds the second one's message.
     (
@@ -180,9 +192,105 @@ static LOGS: [(&'static [u8], &'static [u8], Verdict, &'static [u8]); 22] = [
     ),
 ];
 
+/// Protections of several pages, which a kernel changes one after another while other calls come in between.
+static PROTECTIONS: [(&'static [u8], &'static [u8], Verdict, &'static [u8]); 12] = [
+    // Two pages are being protected. One has been: it faults. The other's protection is taken away, and then the protection reaches it.
+    (
+        PROTECTS,
+        b"1 70 70 begin 5 copy 8:5 0x10000 0x7000 0x2000 0x0\n1 70 70 end 5 ok 8192\n1 70 71 begin 6 writeprotect 8:5 0x10000 0x2000 0x1\n1 70 70 begin 7 read 8:5 32\n1 70 70 message 7 fault 0x10000 3 0\n1 70 70 end 7 ok 1\n1 70 70 begin 8 writeprotect 8:5 0x11000 0x1000 0x0\n1 70 70 end 8 ok\n1 70 70 begin 9 read 8:5 32\n1 70 70 message 9 fault 0x11000 3 0\n1 70 70 end 9 ok 1\n1 70 71 end 6 ok\n1 70 70 begin 10 writeprotect 8:5 0x10000 0x2000 0x0\n1 70 70 end 10 ok\n",
+        Verdict::Clean,
+        b"10 calls: 8 with the only answer that the rules allow, 2 that an access explains which the log does not show, 0 impossible, 0 not judged\nnot certified: a protection that takes effect page by page is not followed\npage faults that waited until a call woke their thread: 2, the longest 0.0 us, read at line 19, woken at line 29\n",
+    ),
+    // The protection has ended before the second page's is taken away.
+    (
+        PROTECTS,
+        b"1 70 70 begin 5 copy 8:5 0x10000 0x7000 0x2000 0x0\n1 70 70 end 5 ok 8192\n1 70 71 begin 6 writeprotect 8:5 0x10000 0x2000 0x1\n1 70 70 begin 7 read 8:5 32\n1 70 70 message 7 fault 0x10000 3 0\n1 70 70 end 7 ok 1\n1 70 71 end 6 ok\n1 70 70 begin 8 writeprotect 8:5 0x11000 0x1000 0x0\n1 70 70 end 8 ok\n1 70 70 begin 9 read 8:5 32\n1 70 70 message 9 fault 0x11000 3 0\n1 70 70 end 9 ok 1\n1 70 70 begin 10 writeprotect 8:5 0x10000 0x2000 0x0\n1 70 70 end 10 ok\n",
+        Verdict::Impossible,
+        b"log:25: kernel: read: no run of the rules has this answer: no thread has queued a fault [impossible-answer]\n10 calls: 8 with the only answer that the rules allow, 1 that an access explains which the log does not show, 1 impossible, 0 not judged\nnot certified: no run was found\npage faults that waited until a call woke their thread: 1, the longest 0.0 us, read at line 19, woken at line 29\n",
+    ),
+    // The second page is not among those which are being protected.
+    (
+        PROTECTS,
+        b"1 70 73 begin 5 register 8:5 0x12000 0x1000 0x3\n1 70 73 end 5 ok 0x17c\n1 70 70 begin 5 copy 8:5 0x10000 0x7000 0x3000 0x0\n1 70 70 end 5 ok 12288\n1 70 71 begin 6 writeprotect 8:5 0x10000 0x2000 0x1\n1 70 70 begin 7 read 8:5 32\n1 70 70 message 7 fault 0x10000 3 0\n1 70 70 end 7 ok 1\n1 70 70 begin 8 writeprotect 8:5 0x12000 0x1000 0x0\n1 70 70 end 8 ok\n1 70 70 begin 9 read 8:5 32\n1 70 70 message 9 fault 0x12000 3 0\n1 70 70 end 9 ok 1\n1 70 71 end 6 ok\n1 70 70 begin 10 writeprotect 8:5 0x10000 0x2000 0x0\n1 70 70 end 10 ok\n",
+        Verdict::Impossible,
+        b"log:26: kernel: read: no run of the rules has this answer: no thread has queued a fault [impossible-answer]\n11 calls: 8 with the only answer that the rules allow, 2 that an access explains which the log does not show, 1 impossible, 0 not judged\nnot certified: no run was found\npage faults that waited until a call woke their thread: 1, the longest 0.0 us, read at line 21, woken at line 31\n",
+    ),
+    // It is the first page once more, which is protected once.
+    (
+        PROTECTS,
+        b"1 70 70 begin 5 copy 8:5 0x10000 0x7000 0x2000 0x0\n1 70 70 end 5 ok 8192\n1 70 71 begin 6 writeprotect 8:5 0x10000 0x2000 0x1\n1 70 70 begin 7 read 8:5 32\n1 70 70 message 7 fault 0x10000 3 0\n1 70 70 end 7 ok 1\n1 70 70 begin 8 writeprotect 8:5 0x10000 0x1000 0x0\n1 70 70 end 8 ok\n1 70 70 begin 9 read 8:5 32\n1 70 70 message 9 fault 0x10000 3 0\n1 70 70 end 9 ok 1\n1 70 71 end 6 ok\n1 70 70 begin 10 writeprotect 8:5 0x10000 0x2000 0x0\n1 70 70 end 10 ok\n",
+        Verdict::Impossible,
+        b"log:24: kernel: read: no run of the rules has this answer: no thread has queued a fault [impossible-answer]\n10 calls: 8 with the only answer that the rules allow, 1 that an access explains which the log does not show, 1 impossible, 0 not judged\nnot certified: no run was found\npage faults that waited until a call woke their thread: 1, the longest 0.0 us, read at line 19, woken at line 23\n",
+    ),
+    // The same where only that page is being protected.
+    (
+        PROTECTS,
+        b"1 70 70 begin 5 copy 8:5 0x10000 0x7000 0x2000 0x0\n1 70 70 end 5 ok 8192\n1 70 71 begin 6 writeprotect 8:5 0x10000 0x1000 0x1\n1 70 70 begin 7 read 8:5 32\n1 70 70 message 7 fault 0x10000 3 0\n1 70 70 end 7 ok 1\n1 70 70 begin 8 writeprotect 8:5 0x10000 0x1000 0x0\n1 70 70 end 8 ok\n1 70 70 begin 9 read 8:5 32\n1 70 70 message 9 fault 0x10000 3 0\n1 70 70 end 9 ok 1\n1 70 71 end 6 ok\n1 70 70 begin 10 writeprotect 8:5 0x10000 0x2000 0x0\n1 70 70 end 10 ok\n",
+        Verdict::Impossible,
+        b"log:24: kernel: read: no run of the rules has this answer: no thread has queued a fault [impossible-answer]\n10 calls: 8 with the only answer that the rules allow, 1 that an access explains which the log does not show, 1 impossible, 0 not judged\nnot certified: no run was found\npage faults that waited until a call woke their thread: 1, the longest 0.0 us, read at line 19, woken at line 23\n",
+    ),
+    // It faults once.
+    (
+        PROTECTS,
+        b"1 70 70 begin 5 copy 8:5 0x10000 0x7000 0x2000 0x0\n1 70 70 end 5 ok 8192\n1 70 71 begin 6 writeprotect 8:5 0x10000 0x1000 0x1\n1 70 70 begin 7 read 8:5 32\n1 70 70 message 7 fault 0x10000 3 0\n1 70 70 end 7 ok 1\n1 70 70 begin 8 writeprotect 8:5 0x10000 0x1000 0x0\n1 70 70 end 8 ok\n1 70 71 end 6 ok\n",
+        Verdict::Certified,
+        b"8 calls: 7 with the only answer that the rules allow, 1 that an access explains which the log does not show, 0 impossible, 0 not judged\ncertified: a kernel of the rules may have answered so; pages owed 0, put twice 0\npage faults that waited until a call woke their thread: 1, the longest 0.0 us, read at line 19, woken at line 23\n",
+    ),
+    // Two protections of two pages at a time: each protects the page that faults, in turn.
+    (
+        PROTECTS,
+        b"1 70 70 begin 5 copy 8:5 0x10000 0x7000 0x2000 0x0\n1 70 70 end 5 ok 8192\n1 70 71 begin 6 writeprotect 8:5 0x10000 0x2000 0x1\n1 70 72 begin 11 writeprotect 8:5 0x10000 0x2000 0x1\n1 70 70 begin 7 read 8:5 32\n1 70 70 message 7 fault 0x10000 3 0\n1 70 70 end 7 ok 1\n1 70 70 begin 8 writeprotect 8:5 0x10000 0x1000 0x0\n1 70 70 end 8 ok\n1 70 70 begin 9 read 8:5 32\n1 70 70 message 9 fault 0x10000 3 0\n1 70 70 end 9 ok 1\n1 70 71 end 6 ok\n1 70 72 end 11 ok\n1 70 70 begin 10 writeprotect 8:5 0x10000 0x2000 0x0\n1 70 70 end 10 ok\n",
+        Verdict::Clean,
+        b"11 calls: 9 with the only answer that the rules allow, 2 that an access explains which the log does not show, 0 impossible, 0 not judged\nnot certified: a protection that takes effect page by page is not followed\npage faults that waited until a call woke their thread: 2, the longest 0.0 us, read at line 20, woken at line 24\n",
+    ),
+    // The protection that began last ends before the second fault.
+    (
+        PROTECTS,
+        b"1 70 70 begin 5 copy 8:5 0x10000 0x7000 0x2000 0x0\n1 70 70 end 5 ok 8192\n1 70 71 begin 6 writeprotect 8:5 0x10000 0x2000 0x1\n1 70 72 begin 11 writeprotect 8:5 0x10000 0x2000 0x1\n1 70 70 begin 7 read 8:5 32\n1 70 70 message 7 fault 0x10000 3 0\n1 70 70 end 7 ok 1\n1 70 72 end 11 ok\n1 70 70 begin 8 writeprotect 8:5 0x10000 0x1000 0x0\n1 70 70 end 8 ok\n1 70 70 begin 9 read 8:5 32\n1 70 70 message 9 fault 0x10000 3 0\n1 70 70 end 9 ok 1\n1 70 71 end 6 ok\n1 70 70 begin 10 writeprotect 8:5 0x10000 0x2000 0x0\n1 70 70 end 10 ok\n",
+        Verdict::Clean,
+        b"11 calls: 9 with the only answer that the rules allow, 2 that an access explains which the log does not show, 0 impossible, 0 not judged\nnot certified: a protection that takes effect page by page is not followed\npage faults that waited until a call woke their thread: 2, the longest 0.0 us, read at line 20, woken at line 25\n",
+    ),
+    // A page is put while it is being protected with another, and faults before the copy ends.
+    (
+        PROTECTS,
+        b"1 70 71 begin 5 copy 8:5 0x10000 0x7000 0x1000 0x0\n1 70 72 begin 6 writeprotect 8:5 0x10000 0x2000 0x1\n1 70 70 begin 7 read 8:5 32\n1 70 70 message 7 fault 0x10000 3 0\n1 70 70 end 7 ok 1\n1 70 71 end 5 ok 4096\n1 70 72 end 6 ok\n1 70 70 begin 8 writeprotect 8:5 0x10000 0x1000 0x0\n1 70 70 end 8 ok\n1 70 70 begin 9 copy 8:5 0x11000 0x7000 0x1000 0x0\n1 70 70 end 9 ok 4096\n",
+        Verdict::Clean,
+        b"9 calls: 8 with the only answer that the rules allow, 1 that an access explains which the log does not show, 0 impossible, 0 not judged\nnot certified: a protection that takes effect page by page is not followed\npage faults that waited until a call woke their thread: 1, the longest 0.0 us, read at line 18, woken at line 24\n",
+    ),
+    // Two unprotections of a page, one of which ends after the protection has reached it: a second thread faults there after that.
+    (
+        PROTECTS,
+        b"1 70 70 begin 5 copy 8:5 0x10000 0x7000 0x2000 0x2\n1 70 70 end 5 ok 8192\n1 70 70 begin 6 writeprotect 8:5 0x10000 0x1000 0x0\n1 70 71 begin 7 writeprotect 8:5 0x10000 0x1000 0x0\n1 70 70 end 6 ok\n1 70 72 begin 8 writeprotect 8:5 0x10000 0x2000 0x1\n1 70 70 begin 9 read 8:5 32\n1 70 70 message 9 fault 0x10000 3 0\n1 70 70 end 9 ok 1\n1 70 71 end 7 ok\n1 70 70 begin 10 read 8:5 32\n1 70 70 message 10 fault 0x10000 3 0\n1 70 70 end 10 ok 1\n1 70 72 end 8 ok\n1 70 70 begin 11 writeprotect 8:5 0x10000 0x2000 0x0\n1 70 70 end 11 ok\n",
+        Verdict::Clean,
+        b"11 calls: 9 with the only answer that the rules allow, 2 that an access explains which the log does not show, 0 impossible, 0 not judged\nnot certified: a protection that takes effect page by page is not followed\npage faults that waited until a call woke their thread: 2, the longest 0.0 us, read at line 22, woken at line 31\n",
+    ),
+    // A protection that a fault shows to be under way has changed all its pages before one of them is moved.
+    (
+        MOVES,
+        b"1 70 70 begin 5 copy 8:5 0x10000 0x7000 0x2000 0x0\n1 70 70 end 5 ok 8192\n1 70 71 begin 6 writeprotect 8:5 0x10000 0x2000 0x1\n1 70 70 begin 7 read 8:5 32\n1 70 70 message 7 fault 0x10000 3 0\n1 70 70 end 7 ok 1\n1 70 72 begin 8 mremap 0x11000 0x1000 0x1000 0x3 0x20000\n1 70 70 begin 9 read 8:5 32\n1 70 70 message 9 remap 0x11000 0x20000 0x1000\n1 70 70 end 9 ok 1\n1 70 72 end 8 ok 0x20000\n1 70 71 end 6 ok\n1 70 70 begin 10 read 8:5 32\n1 70 70 message 10 fault 0x20000 3 0\n1 70 70 end 10 ok 1\n1 70 70 begin 11 writeprotect 8:5 0x10000 0x1000 0x0\n1 70 70 end 11 ok\n1 70 70 begin 12 writeprotect 8:5 0x20000 0x1000 0x0\n1 70 70 end 12 ok\n",
+        Verdict::Clean,
+        b"12 calls: 9 with the only answer that the rules allow, 3 that an access explains which the log does not show, 0 impossible, 0 not judged\nnot certified: line 22: mremap is not followed\npage faults that waited until a call woke their thread: 2, the longest 0.0 us, read at line 19, woken at line 32\n",
+    ),
+    // A read that begins before a wake of a page, and returns a fault of it that the protection after the wake has brought about.
+    (
+        PROTECTS,
+        b"1 70 70 begin 5 copy 8:5 0x10000 0x7000 0x2000 0x0\n1 70 70 end 5 ok 8192\n1 70 71 begin 6 read 8:5 32\n1 70 70 begin 7 wake 8:5 0x10000 0x1000\n1 70 70 end 7 ok\n1 70 70 begin 8 writeprotect 8:5 0x10000 0x1000 0x1\n1 70 70 end 8 ok\n1 70 71 message 6 fault 0x10000 3 0\n1 70 71 end 6 ok 1\n1 70 70 begin 9 writeprotect 8:5 0x10000 0x1000 0x0\n1 70 70 end 9 ok\n",
+        Verdict::Certified,
+        b"9 calls: 8 with the only answer that the rules allow, 1 that an access explains which the log does not show, 0 impossible, 0 not judged\ncertified: a kernel of the rules may have answered so; pages owed 0, put twice 0\npage faults that waited until a call woke their thread: 1, the longest 0.0 us, read at line 18, woken at line 26\n",
+    ),
+];
+
 #[test]
 fn searches(rt: HostRuntime) -> Result<(), Fail> {
     for (front, lines, verdict, written) in &LOGS {
+        play_whole(&rt, rt.alloc(), front, lines, *verdict, written)?;
+    }
+    Ok(())
+}
+
+#[test]
+fn protections(rt: HostRuntime) -> Result<(), Fail> {
+    for (front, lines, verdict, written) in &PROTECTIONS {
         play_whole(&rt, rt.alloc(), front, lines, *verdict, written)?;
     }
     Ok(())

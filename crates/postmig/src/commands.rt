@@ -3,6 +3,7 @@
 ghost use Rattle.std.specs.Prelude.{◌≤◌};
 
 use crate::input::Input;
+use crate::progress::{Counted, Erasing, ProgressLine};
 use crate::reasons::{say_wrong_line, say_wrong_lines};
 use crate::showing::show;
 use crate::status::{
@@ -178,19 +179,22 @@ fn lint(rt: &HostRuntime, matches: &ArgMatches) -> u8 {
     end_lint(rt, matches, &input, &output, outcome)
 }
 
-/// Judges the calls of a log or of what strace has written, by the name of its file, or `-`.
+/// Judges the calls of a log or of what strace has written, by the name of its file, or `-`. At a terminal it says how far it is.
 fn audit(rt: &HostRuntime, matches: &ArgMatches) -> u8 {
     let name = matches.get_str("file").unwrap_or("-");
     let asked = Asked {
         explains: matches.get_flag("explain"),
         late_after: matches.get_one::<u64>("late"),
     };
-    let Some(mut input) = open_input(rt, matches) else {
+    let Some(input) = open_input(rt, matches) else {
         return READ_OR_WRITE_FAULT;
     };
-    let mut output = open_output(rt);
-    let outcome = audit_input(rt.alloc(), &mut input, &mut output, name, asked);
-    end_audit(rt, matches, &input, &output, outcome)
+    let line = ProgressLine::new(rt);
+    let mut reader = Counted::new(rt, matches, input, &line);
+    let mut writer = Erasing::new(open_output(rt), &line);
+    let outcome = audit_input(rt.alloc(), &mut reader, &mut writer, name, asked);
+    line.erase();
+    end_audit(rt, matches, reader.input(), writer.output(), outcome)
 }
 
 /// Hands frames to a destination. A strict command differs where one was refused.

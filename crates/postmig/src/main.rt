@@ -20,11 +20,12 @@
 //!
 //! `command_line` has the arguments of each. The exit statuses are those of `specs/Status.antt`. Reading and writing is done by `engine`
 //! for scripts and transcripts, and by the crate of the same name for each other command. `bench/check/programs.py` runs the program on
-//! arguments, files and input of many kinds.
+//! arguments, files and input of many kinds, and `progress.py` beside it on logs that are slow, at a terminal.
 #![tactic(auto)]
 
 mod commands;
 mod input;
+mod progress;
 mod reasons;
 mod renewal;
 mod showing;

@@ -14,7 +14,7 @@ use crate::log::LogText;
 use crate::number::OBJECT;
 use crate::plan::Plan;
 use crate::stop::{Shown, Stop, refused};
-use crate::text::has;
+use crate::text::{has, is_among};
 use crate::traced::Traced;
 use indexmap::{IndexMap, IndexSet};
 use mig_base::NoMemory;
@@ -57,29 +57,15 @@ pub(crate) struct Converter {
     ranges: IndexSet<Range>,
 }
 
-/// Calls that may be made with an object, and are none of the language.
+/// Calls that may be made with an object, and are none of the language: those that wait for it or send it, and others.
+const WAITING_CALLS: &[u8] =
+    b"epoll_ctl epoll_wait epoll_pwait epoll_pwait2 select pselect6 sendmsg recvmsg";
+
+const OTHER_CALLS: &[u8] =
+    b"fstat newfstatat statx fstatfs kcmp readlink readlinkat exit_group exit rt_sigprocmask";
+
 fn is_other_call(name: &[u8]) -> bool {
-    matches!(
-        name,
-        b"epoll_ctl"
-            | b"epoll_wait"
-            | b"epoll_pwait"
-            | b"epoll_pwait2"
-            | b"fstat"
-            | b"newfstatat"
-            | b"statx"
-            | b"sendmsg"
-            | b"recvmsg"
-            | b"select"
-            | b"pselect6"
-            | b"kcmp"
-            | b"readlink"
-            | b"readlinkat"
-            | b"exit_group"
-            | b"exit"
-            | b"rt_sigprocmask"
-            | b"fstatfs"
-    )
+    is_among(WAITING_CALLS, name) || is_among(OTHER_CALLS, name)
 }
 
 impl Converter {

@@ -116,6 +116,16 @@ pub(crate) fn has(text: &[u8], mark: &[u8]) -> bool {
     memmem::find(text, mark).is_some()
 }
 
+/// Whether a word is one of these, between which there are blanks.
+pub(crate) fn is_among(words: &[u8], word: &[u8]) -> bool {
+    for one in words.split(|byte| *byte == b' ') {
+        if one == word {
+            return !word.is_empty();
+        }
+    }
+    false
+}
+
 /// Without the blanks at both ends.
 pub(crate) fn trimmed(text: &[u8]) -> &[u8] {
     let (_, text) = front(text, Class::Space);

@@ -3,9 +3,8 @@
 use crate::kernel::{ALL, Kernel};
 use crate::refusal::{Stop, need};
 use crate::rules::{Made, refused};
-use call_log::log::PageRun;
 use call_log::pages::Range;
-use kernel_rules::{Change, Difference, Object, Presence};
+use kernel_rules::{Change, Difference, Object, Presence, Run};
 use mig_base::NoMemory;
 use mig_base::flags::{API, EVENT_FEATURES, has_bit};
 use uffd_log::{Answer, Errno};
@@ -255,7 +254,7 @@ impl Kernel {
     }
 
     /// A run with bit 0 or 1 is present; one that is protected alone may be a marker.
-    fn settle_run(&mut self, space: u32, range: Range, run: PageRun) -> Result<(), NoMemory> {
+    fn settle_run(&mut self, space: u32, range: Range, run: Run) -> Result<(), NoMemory> {
         if run.bits & 3 == 0 {
             return Ok(());
         }

@@ -1,16 +1,41 @@
 //! UFFDIO_WRITEPROTECT.
 
-use crate::kernel::Kernel;
+use crate::kernel::{Kernel, Protecting, is_missing};
 use crate::refusal::{Stop, need};
 use crate::rules::Made;
-use call_log::log_call::PROTECTS;
-use call_log::pages::Range;
+use call_log::log_call::{LogCall, PROTECTS};
+use call_log::pages::{PageSize, Range};
+use indexmap::IndexSet;
 use kernel_rules::{Change, Difference, Object, Page};
 use mig_base::NoMemory;
-use uffd_log::Errno;
+use uffd_log::{Call, Errno};
 
 /// The bit of UFFD_FEATURE_WP_UNPOPULATED.
 const WP_UNPOPULATED: u64 = 0x2000;
+
+/// Why no call succeeds.
+const NOT_REGISTERED: &str = "not registered for write-protect faults, or wrong arguments";
+
+/// Whether a call write-protects several pages.
+pub(crate) fn protects_several(size: PageSize, call: &LogCall) -> bool {
+    match call.call {
+        Call::WriteProtect {
+            start,
+            len,
+            mode,
+            ..
+        } => {
+            let protects = mode == PROTECTS && call.is_ok();
+            protects && size.is_range(start, len) && size.range(start, len).count > 1
+        }
+        _ => false,
+    }
+}
+
+/// Whether missing pages of an object are protected too.
+fn protects_missing(object: Object) -> bool {
+    object.features.unwrap_or(0) & WP_UNPOPULATED != 0
+}
 
 impl Kernel {
     pub(super) fn take_writeprotect(
@@ -29,14 +54,8 @@ impl Kernel {
         let range = self.size.range(start, len);
         match made.call.errno() {
             None => {
-                let watched = self.count_protect(space, range);
-                need(
-                    is_right && watched > 0,
-                    "not registered for write-protect faults, or wrong arguments",
-                )?;
-                need(!self.is_changing(name), "the space is changing")?;
-                self.note_if(watched < range.count, Difference::WriteProtectOverAHole)?;
-                Ok(self.protect(name, object, space, range, mode)?)
+                need(is_right, NOT_REGISTERED)?;
+                self.take_protected(made.key, name, object, range, mode)
             }
             Some(Errno::Eagain) => need(
                 self.may_be_changing(name),
@@ -64,9 +83,34 @@ impl Kernel {
         count
     }
 
-    fn protect(
+    /// A call has succeeded. Where it has changed a page already, the kernel has looked at its range before that.
+    fn take_protected(
         &mut self,
+        key: u32,
         name: u64,
+        object: Object,
+        range: Range,
+        mode: u64,
+    ) -> Result<(), Stop> {
+        let Some(space) = self.space_of(name) else {
+            return Ok(());
+        };
+        let begun = self.has_begun(key);
+        let watched = self.count_protect(space, range);
+        need(begun || watched > 0, NOT_REGISTERED)?;
+        need(begun || !self.is_changing(name), "the space is changing")?;
+        self.note_if(watched < range.count, Difference::WriteProtectOverAHole)?;
+        self.protect_others(key, object, space, range, mode)?;
+        if mode == 0 {
+            self.wake(name, range, true)?;
+        }
+        Ok(())
+    }
+
+    /// A call changes the pages of a range that it has not changed yet.
+    fn protect_others(
+        &mut self,
+        key: u32,
         object: Object,
         space: u32,
         range: Range,
@@ -74,12 +118,89 @@ impl Kernel {
     ) -> Result<(), NoMemory> {
         let change = Change::Protect {
             protect: mode & PROTECTS != 0,
-            unpopulated: object.features.unwrap_or(0) & WP_UNPOPULATED != 0,
+            unpopulated: protects_missing(object),
         };
+        let changed = self.changed_by(key, space)?;
         self.change(space, range, change)?;
-        if mode == 0 {
-            self.wake(name, range, true)?;
+        for (number, page) in &changed {
+            self.set(space, *number, *page)?;
         }
+        self.protecting.retain(|protecting| protecting.key != key);
+        Ok(())
+    }
+
+    /// The pages that a call has changed already, as they are.
+    fn changed_by(&self, key: u32, space: u32) -> Result<Vec<(u64, Option<Page>)>, NoMemory> {
+        let mut changed = Vec::new(self.alloc);
+        for protecting in &self.protecting {
+            if protecting.key == key {
+                for number in protecting.pages.iter() {
+                    changed.push((*number, self.page(space, *number)))?;
+                }
+            }
+        }
+        Ok(changed)
+    }
+
+    /// Whether a protection of several pages has changed one already.
+    pub(crate) fn has_begun(&self, key: u32) -> bool {
+        for protecting in &self.protecting {
+            if protecting.key == key {
+                return true;
+            }
+        }
+        false
+    }
+
+    /// Whether a protection of several pages has changed this one already.
+    pub(crate) fn has_protected(&self, key: u32, number: u64) -> bool {
+        for protecting in &self.protecting {
+            if protecting.key == key {
+                return protecting.pages.contains(&number);
+            }
+        }
+        false
+    }
+
+    /// A call that protects several pages protects this one of them, and the others later. False where no rule allows it.
+    pub(crate) fn protects(
+        &mut self,
+        key: u32,
+        call: &LogCall,
+        number: u64,
+    ) -> Result<bool, NoMemory> {
+        let (true, Some(name)) = (protects_several(self.size, call), call.object()) else {
+            return Ok(false);
+        };
+        let (Some(object), Some(space)) = (self.object(name), self.space_of(name)) else {
+            return Ok(false);
+        };
+        let Some(page) = self.page(space, number) else {
+            return Ok(false);
+        };
+        let may_be = page.protect && (protects_missing(object) || !is_missing(page));
+        let is_first = call.covers(self.size, number) && !self.has_protected(key, number);
+        let may_begin = object.features.is_some() && !self.is_changing(name);
+        if !may_be || !is_first || !(may_begin || self.has_begun(key)) {
+            return Ok(false);
+        }
+        let guarded = true;
+        self.set(space, number, Some(Page { guarded, ..page }))?;
+        self.note_protected(key, number)?;
+        Ok(true)
+    }
+
+    /// Notes that a protection of several pages has changed this one.
+    fn note_protected(&mut self, key: u32, number: u64) -> Result<(), NoMemory> {
+        for protecting in self.protecting.iter_mut() {
+            if protecting.key == key {
+                protecting.pages.insert(number)?;
+                return Ok(());
+            }
+        }
+        let mut pages = IndexSet::new(self.alloc);
+        pages.insert(number)?;
+        self.protecting.push(Protecting { key, pages })?;
         Ok(())
     }
 

@@ -14,7 +14,7 @@ pub(crate) struct FaultRead {
     /// The line where it ends.
     pub(crate) end: u32,
     pub(crate) call: u32,
-    /// The place of its message.
+    /// The place of its message among those of the read.
     pub(crate) message: u32,
 }
 
@@ -57,7 +57,7 @@ impl Index {
         };
         for place in &log.ends {
             if let Some(call) = log.call(*place) {
-                index.add(log, *place, call)?;
+                index.add(log, *place, &call)?;
             }
         }
         index.faults.sort()?;
@@ -80,7 +80,7 @@ impl Index {
             end: call.end,
             call: place,
         })?;
-        let mut message = call.first;
+        let mut message = 0u32;
         for found in log.messages_of(call) {
             if let Message::Fault { addr, .. } = *found {
                 self.faults.push(FaultRead {
@@ -145,6 +145,12 @@ impl Index {
         }
         false
     }
+}
+
+/// The message of a read that returns a fault.
+pub(crate) fn message_of(log: &Log, fault: FaultRead) -> Option<Message> {
+    let read = log.call(fault.call)?;
+    log.messages_of(&read).get(fault.message as usize).copied()
 }
 
 fn is_read_before(read: &ObjectRead, object: u64, line: u32) -> bool {

@@ -127,8 +127,13 @@ pub(crate) fn check_message(size: PageSize, message: &Message) -> Option<Wrong> 
     }
 }
 
-/// What is wrong with the answer of a call.
-pub(crate) fn check_answer(size: PageSize, call: &LogCall, answer: Answer) -> Option<Wrong> {
+/// What is wrong with the answer of a call that has this number of messages or of runs of pages.
+pub(crate) fn check_answer(
+    size: PageSize,
+    call: &LogCall,
+    answer: Answer,
+    found: u32,
+) -> Option<Wrong> {
     if !is_answer_of(&call.call, answer) {
         return Some(Wrong::Plain("an answer of another call's form"));
     }
@@ -136,7 +141,7 @@ pub(crate) fn check_answer(size: PageSize, call: &LogCall, answer: Answer) -> Op
         return None;
     }
     match call.call {
-        Call::Read { room, .. } => check_read(call, room),
+        Call::Read { room, .. } => check_read(call, room, found),
         Call::Scan { start, len, .. } => match check_ioctl(
             size,
             call,
@@ -145,7 +150,7 @@ pub(crate) fn check_answer(size: PageSize, call: &LogCall, answer: Answer) -> Op
             "START and LENGTH",
         ) {
             Some(wrong) => Some(wrong),
-            None => check_count(call, "have lines"),
+            None => check_count(call, "have lines", found),
         },
         Call::Mmap { .. } => check_returned(size, call),
         Call::Mremap { addr, .. } => match check_named(size, call, addr) {
@@ -214,9 +219,9 @@ fn check_returned(size: PageSize, call: &LogCall) -> Option<Wrong> {
 }
 
 /// The number of lines that belong to a call.
-fn check_count(call: &LogCall, what: &'static str) -> Option<Wrong> {
+fn check_count(call: &LogCall, what: &'static str, found: u32) -> Option<Wrong> {
     let count = call.value()?;
-    let found = u64::from(call.count);
+    let found = u64::from(found);
     if count == found {
         None
     } else {
@@ -224,8 +229,8 @@ fn check_count(call: &LogCall, what: &'static str) -> Option<Wrong> {
     }
 }
 
-fn check_read(call: &LogCall, room: Option<u64>) -> Option<Wrong> {
-    if let Some(wrong) = check_count(call, "messages") {
+fn check_read(call: &LogCall, room: Option<u64>, found: u32) -> Option<Wrong> {
+    if let Some(wrong) = check_count(call, "messages", found) {
         return Some(wrong);
     }
     let count = call.value()?;

@@ -6,7 +6,7 @@ use crate::files::Held;
 use crate::number::{descriptor, number};
 use crate::plan::{After, Plan, answer, one};
 use crate::stop::{Stop, refused};
-use crate::text::{comma_parts, has};
+use crate::text::{comma_parts, has, is_among};
 use crate::traced::Traced;
 
 /// The target of a copy, if the call asks for one, and whether execve closes the copy.
@@ -14,6 +14,29 @@ use crate::traced::Traced;
 struct Copy {
     target: Option<u64>,
     closes: bool,
+}
+
+/// What an fcntl does with a descriptor.
+#[derive(Clone, Copy)]
+enum Fcntl {
+    Asks,
+    Duplicates { closes: bool },
+    SetsFlags,
+    Other,
+}
+
+impl Fcntl {
+    fn from_text(command: &[u8]) -> Fcntl {
+        if is_among(b"F_GETFD F_SETFD F_GETFL F_GETOWN F_GETPIPE_SZ", command) {
+            return Fcntl::Asks;
+        }
+        match command {
+            b"F_DUPFD" => Fcntl::Duplicates { closes: false },
+            b"F_DUPFD_CLOEXEC" => Fcntl::Duplicates { closes: true },
+            b"F_SETFL" => Fcntl::SetsFlags,
+            _ => Fcntl::Other,
+        }
+    }
 }
 
 impl Converter {
@@ -157,15 +180,16 @@ impl Converter {
         let Some(on) = self.object_at(call.entered_at, call.thread, source)? else {
             return self.none();
         };
-        match parts.as_slice() {
-            [
-                _,
-                b"F_GETFD" | b"F_SETFD" | b"F_GETFL" | b"F_GETOWN" | b"F_GETPIPE_SZ",
-                ..
-            ] => { self.none() }
-            [_, b"F_DUPFD", _] => self.duplicate_from(call, on, false),
-            [_, b"F_DUPFD_CLOEXEC", _] => self.duplicate_from(call, on, true),
-            [_, b"F_SETFL", flags] => self.nonblock(call, on, has(flags, b"O_NONBLOCK")),
+        let command = parts.get(1).copied().unwrap_or(b"".as_slice());
+        let last = if parts.len() == 3 {
+            parts.get(2).copied()
+        } else {
+            None
+        };
+        match (Fcntl::from_text(command), last) {
+            (Fcntl::Asks, _) => self.none(),
+            (Fcntl::Duplicates { closes }, Some(_)) => self.duplicate_from(call, on, closes),
+            (Fcntl::SetsFlags, Some(flags)) => self.nonblock(call, on, has(flags, b"O_NONBLOCK")),
             _ => Err(self.refuse("an fcntl of a userfault object that is no call of a log")),
         }
     }

@@ -15,12 +15,12 @@ returns-then-not-branch-clause-exact c =
     let led = c.in_ok-make_all.ensures.run in
     (led.0, none_found c.args.entries.now led.0 None (sym (certified_none c.args.entries.now led.0 fresh_place (place_of c.make_all.new.world) c.in_ok-make_all.field-0 refl led.1 c.if-not-branch.true)) refl)
 
-pub returns-then-world-entries-clause-exact : goal.returns-then-world-entries-clause-exact
-returns-then-world-entries-clause-exact c =
+pub returns-then-world-count-clause-exact : goal.returns-then-world-count-clause-exact
+returns-then-world-count-clause-exact c =
     let led = c.in_ok-make_all.ensures.run in (
       led.0,
       none_found c.args.entries.now led.0 None
-          (sym (certified_short c.args.entries.now led.0 fresh_place (place_of c.make_all.new.world) c.in_ok-make_all.field-0 refl led.1 c.if-not-branch.false c.if-world-entries.true)) refl,
+          (sym (certified_short c.args.entries.now led.0 fresh_place (place_of c.make_all.new.world) c.in_ok-make_all.field-0 refl led.1 c.if-not-branch.false (rw c.len-count.ensures at c.if-world-count.true))) refl,
     )
 
 pub returns-clause-run : goal.returns-clause-run
@@ -29,7 +29,7 @@ returns-clause-run c =
     let totals : Totals = record { owed = c.len.result; twice = c.len-2.result } in
     let made : IsCertified c.args.entries.now led.0 (kernel_of c.make_all.new.world.kernel) =
     certified_run c.args.entries.now led.0 (kernel_of c.make_all.new.world.kernel)
-    (certified_some c.args.entries.now led.0 fresh_place (place_of c.make_all.new.world) c.in_ok-make_all.field-0 refl led.1 c.if-not-branch.false c.if-world-entries.false)
+    (certified_some c.args.entries.now led.0 fresh_place (place_of c.make_all.new.world) c.in_ok-make_all.field-0 refl led.1 c.if-not-branch.false (rw c.len-count.ensures at c.if-world-count.false))
     in
     let owed : c.len.result ≡ length c.finish.new.self.owed.items = omega (arith, c.len.ensures, c.finish.new.self.owed.ok.0) in
     let twice : c.len-2.result ≡ length c.finish.new.self.twice.items = omega (arith, c.len-2.ensures, c.finish.new.self.twice.ok.0) in
@@ -42,6 +42,6 @@ returns-clause-exact c =
     let twice : c.len-2.result ≡ length c.finish.new.self.twice.items = omega (arith, c.len-2.ensures, c.finish.new.self.twice.ok.0) in (
       led.0,
       some_found c.args.entries.now led.0 (Some c.make_all.new.world.kernel) c.make_all.new.world.kernel c.finish.new.self c.len.result c.len-2.result
-          (sym (certified_some c.args.entries.now led.0 fresh_place (place_of c.make_all.new.world) c.in_ok-make_all.field-0 refl led.1 c.if-not-branch.false c.if-world-entries.false)) refl
+          (sym (certified_some c.args.entries.now led.0 fresh_place (place_of c.make_all.new.world) c.in_ok-make_all.field-0 refl led.1 c.if-not-branch.false (rw c.len-count.ensures at c.if-world-count.false))) refl
           c.in_ok-finish.ensures.finished owed twice,
     )

@@ -1,4 +1,3 @@
-use Rattle.std.proofs.Common.{arith, length-append, ap, length}
 use Rattle.std.proofs.lemmas.Result.{on_ok_weaker}
 use Rattle.call_log.proofs.Reading.{led_none, led_then, led_rest}
 use Rattle.call_log.proofs.input.LineReader.feed.Goals as goal

@@ -1,4 +1,3 @@
-use Rattle.std.proofs.Common.{refl}
 use Rattle.std.proofs.lemmas.Result.{on_ok_weaker}
 use Rattle.call_log.proofs.Lines.{takes_after}
 use Rattle.call_log.proofs.log_reader.LogReader.take.Goals as goal

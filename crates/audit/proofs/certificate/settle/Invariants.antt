@@ -1,7 +1,0 @@
-use Rattle.std.proofs.Common.{◌≡◌, List}
-use Rattle.log_entries.specs.declared.log_line.LogLine.{LogLine}
-use Rattle.log_entries.specs.Readers.{HasRead}
-use Rattle.audit.proofs.certificate.settle.Given as goal
-
-abbrev pub invariant-loop-at : goal.invariant-loop-at
-invariant-loop-at l = (l.entries.whole ≡ l.fn.entries.whole) × ((lines : List LogLine) → HasRead lines l.fn.entries → HasRead lines l.entries)

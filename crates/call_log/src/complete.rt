@@ -1,0 +1,274 @@
+//! What no single line of a log says: whose address space a map call changes, and which calls the rules speak of.
+
+ghost use Rattle.std.specs.Prelude.{◌≡◌, List, IfOk};
+ghost use Rattle.log_entries.specs.declared.log_line.LogLine.{LogLine};
+ghost use Rattle.log_entries.specs.Readers.{HasRead};
+
+use crate::call_table::CallTable;
+use crate::log::Log;
+use crate::log_call::LogCall;
+use crate::pages::MOST_PAGES;
+use indexmap::{IndexMap, IndexSet};
+use log_entries::{EntryReader, EntryStore};
+use mig_base::NoMemory;
+use std::alloc::Global;
+use std::rc::Rc;
+use uffd_log::{Answer, Call};
+
+/// UFFDIO_REGISTER_MODE_MINOR.
+const MINOR_MODE: u64 = 4;
+
+/// A log that was read: where its calls are among its entries, and these.
+#[derive(Drop)]
+pub struct ReadLog {
+    pub table: CallTable,
+    pub entries: EntryReader,
+}
+
+/// A log as it is judged: its calls, and the entries from which they are read.
+#[derive(Drop)]
+pub struct CompleteLog {
+    pub log: Log,
+    pub entries: Rc<EntryReader>,
+}
+
+/// A range of registered bytes of an address space.
+#[derive(Clone, Copy, PartialEq, Eq, Hash)]
+struct Registered {
+    space: u32,
+    start: u64,
+    len: u64,
+}
+
+impl Registered {
+    /// Whether it has a byte of another range.
+    fn meets(self, start: u64, len: u64) -> bool {
+        self.start < start.saturating_add(len) && start < self.start.saturating_add(self.len)
+    }
+}
+
+/// The address spaces that were met.
+#[derive(Clone, Copy)]
+enum Met {
+    Nobody,
+    One(u32),
+    Several,
+}
+
+impl Met {
+    /// Those, and this one.
+    fn and(self, space: u32) -> Met {
+        match self {
+            Met::Nobody => Met::One(space),
+            Met::One(other) if other == space => self,
+            _ => Met::Several,
+        }
+    }
+}
+
+/// What the calls of a log say of its objects and of the pages that they watch.
+#[derive(Drop)]
+struct Known {
+    /// The ranges that were registered.
+    ranges: IndexSet<Registered>,
+    /// The objects that the log has seen open, with the address space of each.
+    openers: IndexMap<u64, u32>,
+    /// The objects that the log has seen open, and those whose handshake it has, where the rules speak of their faults.
+    opened: IndexSet<u64>,
+    shaken: IndexSet<u64>,
+}
+
+impl Known {
+    /// What all calls of a log say.
+    fn new(alloc: Global, table: &CallTable, entries: &EntryStore) -> Result<Known, NoMemory> {
+        let mut known = Known {
+            ranges: IndexSet::new(alloc),
+            openers: IndexMap::new(alloc),
+            opened: IndexSet::new(alloc),
+            shaken: IndexSet::new(alloc),
+        };
+        for place in 0..table.places.len() {
+            if let Some(call) = table.call(entries, place) {
+                known.add(&call)?;
+            }
+        }
+        for place in 0..table.places.len() {
+            if let Some(call) = table.call(entries, place) {
+                known.leave_minor(&call);
+            }
+        }
+        Ok(known)
+    }
+
+    /// What one call says.
+    fn add(&mut self, call: &LogCall) -> Result<(), NoMemory> {
+        match (call.call, call.answer) {
+            (Call::Register { start, len, .. }, _) if call.is_ok() => {
+                self.ranges.insert(Registered {
+                    space: call.space,
+                    start,
+                    len,
+                })?;
+            }
+            (Call::Open { .. }, Some(Answer::Opened(on))) => {
+                self.opened.insert(on.object)?;
+                self.openers.insert(on.object, call.space)?;
+            }
+            (Call::Api { on, .. }, Some(Answer::Features { .. })) => {
+                self.shaken.insert(on.object)?;
+            }
+            _ => {}
+        }
+        Ok(())
+    }
+
+    /// Takes away an object that is registered for minor faults, of which no rule speaks.
+    fn leave_minor(&mut self, call: &LogCall) {
+        if let Call::Register { on, mode, .. } = call.call {
+            if mode & MINOR_MODE != 0 && call.is_ok() {
+                self.opened.swap_remove(&on.object);
+                self.shaken.swap_remove(&on.object);
+            }
+        }
+    }
+
+    /// The address space that a call changes. A process that the log has not seen begin may share that whose registered pages it meets, and
+    /// where there are several, that of an object that it has found.
+    fn space_of(&self, table: &CallTable, call: &LogCall) -> u32 {
+        if !call.is_map_call() || has_own_space(table, call) {
+            return call.space;
+        }
+        let Some((start, len)) = call.bytes() else {
+            return call.space;
+        };
+        let mut met = Met::Nobody;
+        let mut found = Met::Nobody;
+        for range in self.ranges.iter() {
+            if range.meets(start, len) {
+                met = met.and(range.space);
+                if self.has_found(table, call.space, range.space) {
+                    found = found.and(range.space);
+                }
+            }
+        }
+        match (met, found) {
+            (Met::One(space), _) | (Met::Several, Met::One(space)) => space,
+            _ => call.space,
+        }
+    }
+
+    /// Whether a process has found an object that was opened in an address space.
+    fn has_found(&self, table: &CallTable, process: u32, space: u32) -> bool {
+        for (met, object) in table.met.iter() {
+            if *met == process && self.openers.get(object) == Some(&space) {
+                return true;
+            }
+        }
+        false
+    }
+
+    /// Whether the rules speak of a call: not where the log has seen its object neither open nor make its handshake, and not where its range
+    /// is too long. A map call takes no more pages away than there are, and only mremap makes any registered.
+    fn is_judged(&self, table: &CallTable, call: &LogCall) -> bool {
+        if call.is_map_call() {
+            return match call.call {
+                Call::Mremap { new_len, .. } => {
+                    !call.is_ok() || table.size.number(new_len) <= MOST_PAGES
+                }
+                _ => true,
+            };
+        }
+        if let Some((_, len)) = call.bytes() {
+            if table.size.number(len) > MOST_PAGES {
+                return false;
+            }
+        }
+        match call.object() {
+            Some(object) => self.opened.contains(&object) || self.shaken.contains(&object),
+            None => true,
+        }
+    }
+
+    /// The object of a call, if it was open before the log begins.
+    fn found_by(&self, call: &LogCall) -> Option<u64> {
+        let object = call.object()?;
+        if self.shaken.contains(&object) && !self.opened.contains(&object) {
+            Some(object)
+        } else {
+            None
+        }
+    }
+}
+
+/// Whether the log has seen the process of a call begin above it.
+fn has_own_space(table: &CallTable, call: &LogCall) -> bool {
+    match table.own.get(&call.space) {
+        Some(line) => *line < call.begin,
+        None => false,
+    }
+}
+
+/// The objects that were open before the log begins, with the address space of the first call on each.
+fn found_objects(
+    alloc: Global,
+    known: &Known,
+    table: &CallTable,
+    entries: &EntryStore,
+) -> Result<IndexMap<u64, u32>, NoMemory> {
+    let mut found = IndexMap::new(alloc);
+    for place in 0..table.places.len() {
+        let Some(call) = table.call(entries, place) else {
+            continue;
+        };
+        if let Some(object) = known.found_by(&call) {
+            if !found.contains_key(&object) {
+                found.insert(object, call.space)?;
+            }
+        }
+    }
+    Ok(found)
+}
+
+/// Puts into the entries and into the table what no line says of a call.
+fn settle(known: &Known, table: &mut CallTable, entries: &mut EntryReader) -> Result<(), NoMemory>
+    ensures whole { entries.new.whole ≡ entries.old.whole }
+    ensures read { (lines : List LogLine) → HasRead lines entries.old → HasRead lines entries.new }
+{
+    for place in 0..table.places.len() {
+        let Some(call) = table.call(&entries.entries, place) else {
+            continue;
+        };
+        let space = known.space_of(table, &call);
+        let judged = known.is_judged(table, &call);
+        if let Some(kept) = table.places.get_mut(place) {
+            kept.judged = judged;
+            entries.settle(kept.begin as usize, space, kept.last)?;
+        }
+    }
+    Ok(())
+}
+
+impl ReadLog {
+    /// Finds out what no single line says, and puts it into the entries.
+    pub fn complete(self, alloc: Global) -> Result<CompleteLog, NoMemory>
+        ensures whole { IfOk result (λ done.
+            done.entries.value.whole ≡ self.entries.whole) }
+        ensures read { IfOk result (λ done. (lines : List LogLine) →
+            HasRead lines self.entries → HasRead lines done.entries.value) }
+    {
+        let ReadLog { table, entries } = self;
+        let mut table = table;
+        let mut entries = entries;
+        let known = Known::new(alloc, &table, &entries.entries)?;
+        let found = found_objects(alloc, &known, &table, &entries.entries)?;
+        settle(&known, &mut table, &mut entries)?;
+        let Ok(entries) = Rc::new(alloc, entries) else {
+            return Err(NoMemory);
+        };
+        let Ok(shared) = entries.clone() else {
+            return Err(NoMemory);
+        };
+        let log = Log::new(table, found, shared);
+        Ok(CompleteLog { log, entries })
+    }
+}
