@@ -108,23 +108,22 @@ static void end_ioctl(const struct call *call, const struct kind *kind, bool fai
     end_call(call, failed, error, has_answer ? put_answer : NULL, &after);
 }
 
-/* What a REGISTER that was taken asks of the recorder. */
-static void after_register(uint64_t object, int fd, const struct passed *passed)
-{
-    ranges_add(shared(), passed->numbers[0], passed->numbers[1]);
-    if (object_is_own(object, fd))
-        record_pages(object, fd, passed->numbers[0], passed->numbers[1]);
-}
-
 static int recorded_ioctl(const struct kind *kind, uint64_t object, int fd, void *argument)
 {
     struct passed passed = read_passed(kind, argument, false);
-    struct call call = begin_ioctl(kind, object, fd, &passed);
-    int result = next()->ioctl(fd, kind->request, argument), error = errno;
+    bool registers = kind->request == UFFDIO_REGISTER && passed.readable;
+    struct call call;
+    int result, error;
 
+    /* Before the kernel has the range: another thread's map call may take effect as soon as it does. */
+    if (registers)
+        ranges_add(shared(), passed.numbers[0], passed.numbers[1]);
+    call = begin_ioctl(kind, object, fd, &passed);
+    result = next()->ioctl(fd, kind->request, argument);
+    error = errno;
     end_ioctl(&call, kind, result < 0, error, argument);
-    if (kind->request == UFFDIO_REGISTER && result >= 0)
-        after_register(object, fd, &passed);
+    if (registers && result >= 0 && object_is_own(object, fd))
+        record_pages(object, fd, passed.numbers[0], passed.numbers[1]);
     errno = error;
     return result;
 }
