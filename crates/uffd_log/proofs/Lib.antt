@@ -1,4 +1,3 @@
-pub mod Bytes
 pub mod Keywords
 pub mod Numbers
 pub mod OneToken

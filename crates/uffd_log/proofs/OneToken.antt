@@ -1,5 +1,5 @@
 -- A word has one token, and so the words of a line one list of tokens.
-use Rattle.std.proofs.Common.{◌≡◌, ◌≢◌, ℕ, ◌<◌, ◌≤◌, ◌^◌, true, List, [], ◌∷◌, ◌++◌, arith, refl, ap, ◌∙◌, sym, subst, inl, inr, lit≤, Some, None, Option, suc, ◌+◌, take, drop, IfNone}
+use Rattle.std.proofs.Common.{◌≡◌, ◌≢◌, ℕ, ◌<◌, ◌≤◌, ◌^◌, true, List, [], ◌∷◌, ◌++◌, arith, refl, ap, ◌∙◌, sym, subst, inl, inr, lit≤, Some, None, Option, ◌+◌, take, drop, IfNone}
 use Rattle.std.proofs.lemmas.Bool.Decides.{nat_tests}
 use Rattle.std.specs.Char.{digit_value}
 use Rattle.std.specs.Str.Parse.{AllDigits, digits_value}
@@ -10,30 +10,23 @@ use Rattle.uffd_log.specs.declared.token.Token.TheVariants.{Key, Number, Minus, 
 use Rattle.memchr.specs.Find.{IsFirstByte, is_byte}
 use Rattle.uffd_log.specs.declared.line.Line.{Line}
 use Rattle.uffd_log.specs.Lines.{line_from, Spells}
-use Rattle.uffd_log.proofs.Bytes.{found_before}
-use Rattle.uffd_log.proofs.Words.{cut_at}
+use Rattle.uffd_log.proofs.Words.{cut_at, none_of, others_before}
 use Rattle.uffd_log.specs.Words.{words_of, HasNone, Digits, IsNumber, IsMinus, IsDescriptor, keyword_text, IsToken, AreTokens}
 use Rattle.uffd_log.proofs.Keywords.{is_fine, keyword_fine, one_keyword}
 
-behind_digits : (b : ℕ) → 58 ≤ b → digit_value b < 10 → ⊥
-behind_digits b le lt = grind (arith, nat_tests)
-
-tail_is : (xs ys : List ℕ) → 48 ∷ 120 ∷ xs ≡ 48 ∷ 120 ∷ ys → xs ≡ ys
-tail_is xs ys e = cc
-
--- no word is both decimal and hexadecimal
-mixed : (w : List ℕ) (m n : ℕ) → Digits 10 20 w m → (text : List ℕ) → w ≡ 48 ∷ 120 ∷ text → ⊥
-mixed w m n d text e = behind_digits 120 (lit≤ tt) (subst (λ (t : List ℕ). AllDigits 10 t) e d.each).1.0
+-- no decimal number begins with 0x
+no_mark : (text : List ℕ) (n : ℕ) → Digits 10 20 (48 ∷ 120 ∷ text) n → ⊥
+no_mark text n d = absurd (omega (arith, d.each.1.0))
 
 pub one_number : (w : List ℕ) (m n : ℕ) → IsNumber w m → IsNumber w n → m ≡ n
 one_number w m n p q = elim p.1 [
   | inl a ↦ elim q.1 [
     | inl b ↦ sym a.value ∙ b.value
-    | inr b ↦ absurd (mixed w m n a b.0 b.1)
+    | inr b ↦ absurd (no_mark b.0 m (subst (λ (t : List ℕ). Digits 10 20 t m) b.1 a))
   ]
   | inr a ↦ elim q.1 [
-    | inl b ↦ absurd (mixed w n m b a.0 a.1)
-    | inr b ↦ let e : a.0 ≡ b.0 = tail_is a.0 b.0 (sym a.1 ∙ b.1) in sym a.2.value ∙ ap (digits_value 16) e ∙ b.2.value
+    | inl b ↦ absurd (no_mark a.0 n (subst (λ (t : List ℕ). Digits 10 20 t n) a.1 b))
+    | inr b ↦ sym a.2.value ∙ ap (λ (t : List ℕ). digits_value 16 (drop 2 t)) (sym a.1 ∙ b.1) ∙ b.2.value
   ]
 ]
 
@@ -85,10 +78,8 @@ keyword_no_minus k w n e m =
 
 one_minus : (w : List ℕ) (m n : ℕ) → IsMinus w m → IsMinus w n → m ≡ n
 one_minus w m n p q =
-    let same : p.0 ≡ q.0 = tails p.0 q.0 (sym p.1 ∙ q.1) in
-    one_number q.0 m n (subst (λ (t : List ℕ). IsNumber t m) same p.2) q.2 where
-      tails : (xs ys : List ℕ) → 45 ∷ xs ≡ 45 ∷ ys → xs ≡ ys
-      tails xs ys e = cc
+    let same : p.0 ≡ q.0 = ap (λ (t : List ℕ). drop 1 t) (sym p.1 ∙ q.1) in
+    one_number q.0 m n (subst (λ (t : List ℕ). IsNumber t m) same p.2) q.2
 
 -- Colons
 
@@ -192,9 +183,8 @@ one_list (s ∷ ss) (t ∷ ts) (w ∷ ws) p q = rw (one_token s t w p.0 q.0, one
 pub parts_at : (w : List ℕ) (n : ℕ) (object fd : List ℕ) → IsFirstByte (is_byte 58) w (Some n) → object ≡ take n w → fd ≡ drop (n + 1) w
     → (on : Descriptor) → IsDescriptor w on → (d : (IsNumber object on.object) × (IsNumber fd on.fd)) × (on.fd < 2 ^ 31)
 parts_at w n object fd found front back on d =
-    let one : n + 1 ≡ suc n = omega arith in
-    let whole : w ≡ object ++ 58 ∷ fd = rw (front, back, one) (cut_at 58 w n found) in
-    let none : HasNone 58 object = rw front (found_before 58 w n found) in
+    let whole : w ≡ object ++ 58 ∷ fd = rw (front, back) (cut_at 58 w n found) in
+    let none : HasNone 58 object = rw front (none_of 58 (take n w) (others_before 58 w n found)) in
     parts_of w on object fd none whole d
 
 -- a fact that follows where there is no value

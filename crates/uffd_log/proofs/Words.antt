@@ -1,38 +1,42 @@
--- Where the words of a text end.
-use Rattle.std.proofs.Common.{◌≡◌, ◌≢◌, ℕ, suc, ◌+◌, false, List, [], ◌∷◌, ◌++◌, eqb, refl, sym, ap, ◌∙◌, arith, Some, None, take, drop}
-use Rattle.std.specs.List.{AllByRecursion}
-use Rattle.std.proofs.lemmas.List.Elements.{All-from_recursion}
+-- Where a byte is first found, and the words around it.
+use Rattle.std.proofs.Common.{◌≡◌, ◌≢◌, ℕ, ◌+◌, ◌<◌, true, false, eqb, List, [], ◌∷◌, ◌++◌, get_or, take, drop, All, Some, None, refl, sym, ap, ◌∙◌, arith}
+use Rattle.std.proofs.lemmas.Bool.{eq-eqb, eqb-true, false_from_ne_true}
+use Rattle.std.proofs.lemmas.List.{take-append-drop, drop_more, get_or-take, length-take-le}
+use Rattle.std.proofs.lemmas.List.Elements.{All-from_get_or, recursion_from_All}
 use Rattle.std.proofs.lemmas.List.Splits.{slice_split_at, slice_split_none}
-use Rattle.std.proofs.lemmas.Bool.Decides.{nat_tests}
-use Rattle.std.proofs.lemmas.List.{take-append-drop}
 use Rattle.memchr.specs.Find.{IsFirstByte, is_byte}
-use Rattle.uffd_log.proofs.Bytes.{none_found, found_before, found_at}
 use Rattle.uffd_log.specs.Words.{HasNone, words_of}
 
-not_blank : (b : ℕ) → b ≢ 32 → eqb b 32 ≡ false
-not_blank b ne = grind (arith, nat_tests)
+-- where the byte is not found
+pub all_others : (byte : ℕ) (text : List ℕ) → IsFirstByte (is_byte byte) text None → All (λ b. eqb b byte ≡ false) text
+all_others byte text none =
+    All-from_get_or (λ b. eqb b byte ≡ false) text 0 (λ i lt. false_from_ne_true (eqb (get_or text i 0) byte) (none i (omega arith) lt))
 
-no_blank : (w : List ℕ) → HasNone 32 w → AllByRecursion (λ b. eqb b 32 ≡ false) w
-no_blank [] h = tt
-no_blank (b ∷ w) h = (not_blank b h.0, no_blank w h.1)
+-- the bytes before the place where it is found first
+pub others_before : (byte : ℕ) (text : List ℕ) (n : ℕ) → IsFirstByte (is_byte byte) text (Some n) → All (λ b. eqb b byte ≡ false) (take n text)
+others_before byte text n found = All-from_get_or (λ b. eqb b byte ≡ false) (take n text) 0 (λ i lt.
+    let fits = length-take-le n text (omega (arith, found.0.high)) in
+    let low : i < n = omega (arith, lt, fits) in
+    rw (get_or-take n text i 0 low) (false_from_ne_true (eqb (get_or text i 0) byte) (found.0.before i (omega arith) low)))
+
+-- bytes that differ from one have none of it
+pub none_of : (byte : ℕ) (text : List ℕ) → All (λ b. eqb b byte ≡ false) text → HasNone byte text
+none_of byte text others = recursion_from_All (λ b. b ≢ byte) text (All-from_get_or (λ b. b ≢ byte) text 0 (λ i lt e.
+    let is : eqb (get_or text i 0) byte ≡ true = eq-eqb (get_or text i 0) byte e in
+    let no : eqb (get_or text i 0) byte ≡ false = others i 0 lt in
+    absurd cc))
 
 -- the bytes around the first place of a byte
-pub cut_at : (byte : ℕ) (text : List ℕ) (n : ℕ) → IsFirstByte (is_byte byte) text (Some n) → text ≡ take n text ++ byte ∷ drop (suc n) text
-cut_at byte text n found = sym (take-append-drop n text) ∙ ap (λ (t : List ℕ). take n text ++ t) (found_at byte text n found)
+pub cut_at : (byte : ℕ) (text : List ℕ) (n : ℕ) → IsFirstByte (is_byte byte) text (Some n) → text ≡ take n text ++ byte ∷ drop (n + 1) text
+cut_at byte text n found =
+    sym (take-append-drop n text)
+    ∙ ap (λ (t : List ℕ). take n text ++ t) (drop_more text n 0 found.0.high ∙ ap (λ (b : ℕ). b ∷ drop (n + 1) text) (eqb-true (get_or text n 0) byte found.1))
 
 -- a text without a blank is one word
 pub words_last : (text : List ℕ) → IsFirstByte (is_byte 32) text None → words_of text ≡ text ∷ []
-words_last text none = slice_split_none (λ b. eqb b 32) text (All-from_recursion (λ b. eqb b 32 ≡ false) text (no_blank text (none_found 32 text none)))
+words_last text none = slice_split_none (λ b. eqb b 32) text (all_others 32 text none)
 
 -- the first word of a text ends at its first blank
-pub words_first : (text : List ℕ) (n : ℕ) → IsFirstByte (is_byte 32) text (Some n) → words_of text ≡ take n text ∷ words_of (drop (suc n) text)
-words_first text n found =
-    ap words_of (cut_at 32 text n found)
-    ∙ slice_split_at (λ b. eqb b 32) (take n text) 32 (drop (suc n) text) (All-from_recursion (λ b. eqb b 32 ≡ false) (take n text) (no_blank (take n text) (found_before 32 text n found))) refl
-
-one_more : (n : ℕ) → n + 1 ≡ suc n
-one_more n = omega arith
-
--- the same, by the parts of the text
-pub words_parts : (text : List ℕ) (n : ℕ) (word behind : List ℕ) → IsFirstByte (is_byte 32) text (Some n) → word ≡ take n text → behind ≡ drop (n + 1) text → words_of text ≡ word ∷ words_of behind
-words_parts text n word behind found front back = rw (front, back, one_more n) (words_first text n found)
+pub words_first : (text : List ℕ) (n : ℕ) (word behind : List ℕ) → IsFirstByte (is_byte 32) text (Some n) → word ≡ take n text → behind ≡ drop (n + 1) text → words_of text ≡ word ∷ words_of behind
+words_first text n word behind found front back =
+    rw (front, back) (ap words_of (cut_at 32 text n found) ∙ slice_split_at (λ b. eqb b 32) (take n text) 32 (drop (n + 1) text) (others_before 32 text n found) refl)

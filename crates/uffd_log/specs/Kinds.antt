@@ -1,4 +1,4 @@
--- The keywords by kind: those of calls, of lines and messages, of answers, and long ones.
+-- The keywords by kind: those of calls, of lines and messages, and of answers.
 use Rattle.std.specs.Prelude.{Bool, true, false}
 use Rattle.uffd_log.specs.declared.keyword.Keyword.{Keyword}
 use Rattle.uffd_log.specs.declared.keyword.Keyword.TheVariants as key
@@ -15,6 +15,7 @@ is_of_call key.Move = true
 is_of_call key.ZeroPage = true
 is_of_call key.Continue = true
 is_of_call key.Poison = true
+is_of_call key.WriteProtect = true
 is_of_call key.Read = true
 is_of_call key.Poll = true
 is_of_call key.NonBlock = true
@@ -52,6 +53,7 @@ is_of_line _ = false
 -- the keywords of answers
 abbrev pub is_of_answer : Keyword → Bool
 is_of_answer key.Ok = true
+is_of_answer key.Interrupted = true
 is_of_answer key.Eperm = true
 is_of_answer key.Enoent = true
 is_of_answer key.Esrch = true
@@ -63,9 +65,3 @@ is_of_answer key.Ebusy = true
 is_of_answer key.Eexist = true
 is_of_answer key.Einval = true
 is_of_answer _ = false
-
--- the keywords of more than ten letters
-abbrev pub is_long : Keyword → Bool
-is_long key.WriteProtect = true
-is_long key.Interrupted = true
-is_long _ = false

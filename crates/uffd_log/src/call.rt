@@ -2,7 +2,7 @@
 //! userfaultfd(2), ioctl_userfaultfd(2) and of each call's manual page. Addresses and lengths are in bytes.
 
 /// A descriptor of a userfault object, in the process that uses it.
-#[derive(Clone, Copy, Debug, PartialEq, Eq)]
+#[derive(Clone, Copy, PartialEq, Eq)]
 pub struct Descriptor {
     /// The object, by its number in the log.
     pub object: u64,
@@ -10,7 +10,7 @@ pub struct Descriptor {
 }
 
 /// A call.
-#[derive(Clone, Copy, Debug, PartialEq, Eq)]
+#[derive(Clone, Copy, PartialEq, Eq)]
 pub enum Call {
     /// userfaultfd(2), or USERFAULTFD_IOC_NEW on the device.
     Open {
@@ -140,7 +140,7 @@ pub enum Call {
 }
 
 /// A message that read(2) returned.
-#[derive(Clone, Copy, Debug, PartialEq, Eq)]
+#[derive(Clone, Copy, PartialEq, Eq)]
 pub enum Message {
     /// UFFD_EVENT_PAGEFAULT: `flags` as in `struct uffd_msg`; `thread` is 0 without UFFD_FEATURE_THREAD_ID.
     Fault { addr: u64, flags: u64, thread: u32 },

@@ -3,10 +3,10 @@
 ghost use Rattle.std.specs.Prelude.{◌≡◌, ◌↔◌, IsTrue, IfSome, IfNone, true};
 ghost use Rattle.uffd_log.specs.declared.keyword.Keyword.{Keyword as KeywordOf};
 ghost use Rattle.uffd_log.specs.Words.{keyword_text};
-ghost use Rattle.uffd_log.specs.Kinds.{is_of_call, is_of_line, is_of_answer, is_long};
+ghost use Rattle.uffd_log.specs.Kinds.{is_of_call, is_of_line, is_of_answer};
 
 /// A word of a log.
-#[derive(Clone, Copy, Debug, PartialEq, Eq)]
+#[derive(Clone, Copy)]
 pub enum Keyword {
     // Calls
     Open,
@@ -72,39 +72,21 @@ impl Keyword {
         ensures found { IfSome result (λ keyword. word.now ≡ keyword_text keyword) }
         ensures none { IfNone result ((keyword : KeywordOf) → word.now ≡ keyword_text keyword → ⊥) }
     {
-        if let Some(keyword) = of_call(word) {
-            return Some(keyword);
-        }
         if let Some(keyword) = of_line(word) {
             return Some(keyword);
         }
         if let Some(keyword) = of_answer(word) {
             return Some(keyword);
         }
-        of_long(word)
+        of_call(word)
     }
 }
 
-/// Whether two words are the same.
+/// Whether two words are the same. A pattern for each keyword would be compared, and proved, byte by byte.
 fn is_same(word: &[u8], other: &[u8]) -> bool
     ensures { IsTrue result ↔ (word.now ≡ other.now) }
 {
     word == other
-}
-
-/// A word of more than ten letters.
-fn of_long(word: &[u8]) -> Option<Keyword>
-    ensures found { IfSome result (λ keyword. word.now ≡ keyword_text keyword) }
-    ensures none { IfNone result ((keyword : KeywordOf) → is_long keyword ≡ true →
-        word.now ≡ keyword_text keyword → ⊥) }
-{
-    if is_same(word, b"writeprotect") {
-        return Some(Keyword::WriteProtect);
-    }
-    if is_same(word, b"interrupted") {
-        return Some(Keyword::Interrupted);
-    }
-    None
 }
 
 /// A word of calls.
@@ -114,30 +96,31 @@ fn of_call(word: &[u8]) -> Option<Keyword>
         word.now ≡ keyword_text keyword → ⊥) }
 {
     match word {
-        b"open" => Some(Keyword::Open),
-        b"api" => Some(Keyword::Api),
-        b"register" => Some(Keyword::Register),
-        b"unregister" => Some(Keyword::Unregister),
-        b"wake" => Some(Keyword::Wake),
-        b"copy" => Some(Keyword::Copy),
-        b"move" => Some(Keyword::Move),
-        b"zeropage" => Some(Keyword::ZeroPage),
-        b"continue" => Some(Keyword::Continue),
-        b"poison" => Some(Keyword::Poison),
-        b"read" => Some(Keyword::Read),
-        b"poll" => Some(Keyword::Poll),
-        b"nonblock" => Some(Keyword::NonBlock),
-        b"dup" => Some(Keyword::Dup),
-        b"close" => Some(Keyword::Close),
-        b"scan" => Some(Keyword::Scan),
-        b"mmap" => Some(Keyword::Mmap),
-        b"munmap" => Some(Keyword::Munmap),
-        b"mremap" => Some(Keyword::Mremap),
-        b"madvise" => Some(Keyword::Madvise),
-        b"fork" => Some(Keyword::Fork),
-        b"syscall" => Some(Keyword::Syscall),
-        b"device" => Some(Keyword::Device),
-        b"-" => Some(Keyword::Dash),
+        _ if is_same(word, b"open") => Some(Keyword::Open),
+        _ if is_same(word, b"api") => Some(Keyword::Api),
+        _ if is_same(word, b"register") => Some(Keyword::Register),
+        _ if is_same(word, b"unregister") => Some(Keyword::Unregister),
+        _ if is_same(word, b"wake") => Some(Keyword::Wake),
+        _ if is_same(word, b"copy") => Some(Keyword::Copy),
+        _ if is_same(word, b"move") => Some(Keyword::Move),
+        _ if is_same(word, b"zeropage") => Some(Keyword::ZeroPage),
+        _ if is_same(word, b"continue") => Some(Keyword::Continue),
+        _ if is_same(word, b"poison") => Some(Keyword::Poison),
+        _ if is_same(word, b"writeprotect") => Some(Keyword::WriteProtect),
+        _ if is_same(word, b"read") => Some(Keyword::Read),
+        _ if is_same(word, b"poll") => Some(Keyword::Poll),
+        _ if is_same(word, b"nonblock") => Some(Keyword::NonBlock),
+        _ if is_same(word, b"dup") => Some(Keyword::Dup),
+        _ if is_same(word, b"close") => Some(Keyword::Close),
+        _ if is_same(word, b"scan") => Some(Keyword::Scan),
+        _ if is_same(word, b"mmap") => Some(Keyword::Mmap),
+        _ if is_same(word, b"munmap") => Some(Keyword::Munmap),
+        _ if is_same(word, b"mremap") => Some(Keyword::Mremap),
+        _ if is_same(word, b"madvise") => Some(Keyword::Madvise),
+        _ if is_same(word, b"fork") => Some(Keyword::Fork),
+        _ if is_same(word, b"syscall") => Some(Keyword::Syscall),
+        _ if is_same(word, b"device") => Some(Keyword::Device),
+        _ if is_same(word, b"-") => Some(Keyword::Dash),
         _ => None,
     }
 }
@@ -149,20 +132,20 @@ fn of_line(word: &[u8]) -> Option<Keyword>
         word.now ≡ keyword_text keyword → ⊥) }
 {
     match word {
-        b"begin" => Some(Keyword::Begin),
-        b"end" => Some(Keyword::End),
-        b"message" => Some(Keyword::Message),
-        b"have" => Some(Keyword::Have),
-        b"found" => Some(Keyword::Found),
-        b"dropped" => Some(Keyword::Dropped),
-        b"started" => Some(Keyword::Started),
-        b"forked" => Some(Keyword::Forked),
-        b"exit" => Some(Keyword::Exit),
-        b"lost" => Some(Keyword::Lost),
-        b"fault" => Some(Keyword::Fault),
-        b"remap" => Some(Keyword::Remap),
-        b"remove" => Some(Keyword::Remove),
-        b"unmap" => Some(Keyword::Unmap),
+        _ if is_same(word, b"begin") => Some(Keyword::Begin),
+        _ if is_same(word, b"end") => Some(Keyword::End),
+        _ if is_same(word, b"message") => Some(Keyword::Message),
+        _ if is_same(word, b"have") => Some(Keyword::Have),
+        _ if is_same(word, b"found") => Some(Keyword::Found),
+        _ if is_same(word, b"dropped") => Some(Keyword::Dropped),
+        _ if is_same(word, b"started") => Some(Keyword::Started),
+        _ if is_same(word, b"forked") => Some(Keyword::Forked),
+        _ if is_same(word, b"exit") => Some(Keyword::Exit),
+        _ if is_same(word, b"lost") => Some(Keyword::Lost),
+        _ if is_same(word, b"fault") => Some(Keyword::Fault),
+        _ if is_same(word, b"remap") => Some(Keyword::Remap),
+        _ if is_same(word, b"remove") => Some(Keyword::Remove),
+        _ if is_same(word, b"unmap") => Some(Keyword::Unmap),
         _ => None,
     }
 }
@@ -174,17 +157,18 @@ fn of_answer(word: &[u8]) -> Option<Keyword>
         word.now ≡ keyword_text keyword → ⊥) }
 {
     match word {
-        b"ok" => Some(Keyword::Ok),
-        b"EPERM" => Some(Keyword::Eperm),
-        b"ENOENT" => Some(Keyword::Enoent),
-        b"ESRCH" => Some(Keyword::Esrch),
-        b"EINTR" => Some(Keyword::Eintr),
-        b"EAGAIN" => Some(Keyword::Eagain),
-        b"ENOMEM" => Some(Keyword::Enomem),
-        b"EFAULT" => Some(Keyword::Efault),
-        b"EBUSY" => Some(Keyword::Ebusy),
-        b"EEXIST" => Some(Keyword::Eexist),
-        b"EINVAL" => Some(Keyword::Einval),
+        _ if is_same(word, b"ok") => Some(Keyword::Ok),
+        _ if is_same(word, b"interrupted") => Some(Keyword::Interrupted),
+        _ if is_same(word, b"EPERM") => Some(Keyword::Eperm),
+        _ if is_same(word, b"ENOENT") => Some(Keyword::Enoent),
+        _ if is_same(word, b"ESRCH") => Some(Keyword::Esrch),
+        _ if is_same(word, b"EINTR") => Some(Keyword::Eintr),
+        _ if is_same(word, b"EAGAIN") => Some(Keyword::Eagain),
+        _ if is_same(word, b"ENOMEM") => Some(Keyword::Enomem),
+        _ if is_same(word, b"EFAULT") => Some(Keyword::Efault),
+        _ if is_same(word, b"EBUSY") => Some(Keyword::Ebusy),
+        _ if is_same(word, b"EEXIST") => Some(Keyword::Eexist),
+        _ if is_same(word, b"EINVAL") => Some(Keyword::Einval),
         _ => None,
     }
 }

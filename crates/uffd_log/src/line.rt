@@ -4,7 +4,7 @@ use crate::call::{Call, Descriptor, Message};
 use crate::errno::Errno;
 
 /// What most lines begin with.
-#[derive(Clone, Copy, Debug, PartialEq, Eq)]
+#[derive(Clone, Copy, PartialEq, Eq)]
 pub struct Stamp {
     /// Nanoseconds of one clock.
     pub time: u64,
@@ -13,7 +13,7 @@ pub struct Stamp {
 }
 
 /// How a call ended.
-#[derive(Clone, Copy, Debug, PartialEq, Eq)]
+#[derive(Clone, Copy, PartialEq, Eq)]
 pub enum Answer {
     /// It returned a descriptor: `open`.
     Opened(Descriptor),
@@ -32,7 +32,7 @@ pub enum Answer {
 }
 
 /// What a line says. `number` names a call in its process.
-#[derive(Clone, Copy, Debug, PartialEq, Eq)]
+#[derive(Clone, Copy, PartialEq, Eq)]
 pub enum Line {
     Begin {
         stamp: Stamp,

@@ -14,7 +14,7 @@ use memchr::memchr;
 use mig_base::NoMemory;
 
 /// A token: the meaning of a word of a line.
-#[derive(Clone, Copy, Debug, PartialEq, Eq)]
+#[derive(Clone, Copy)]
 pub enum Token {
     Key(Keyword),
     Number(u64),

@@ -1,10 +1,10 @@
 use Rattle.std.proofs.Common.{arith}
-use Rattle.uffd_log.proofs.Bytes.{none_found}
+use Rattle.uffd_log.proofs.Words.{all_others, none_of}
 use Rattle.uffd_log.proofs.OneToken.{no_descriptor, parts_at, one_number}
 use Rattle.uffd_log.proofs.token.descriptor.Goals as goal
 
 pub returns-in_err-at-clause-none : goal.returns-in_err-at-clause-none
-returns-in_err-at-clause-none c = rw c.from_residual.ensures (λ on. no_descriptor c.args.word.now on (none_found 58 c.args.word.now c.in_err-at.ensures))
+returns-in_err-at-clause-none c = rw c.from_residual.ensures (λ on. no_descriptor c.args.word.now on (none_of 58 c.args.word.now (all_others 58 c.args.word.now c.in_err-at.ensures)))
 
 pub returns-in_err-object-clause-none : goal.returns-in_err-object-clause-none
 returns-in_err-object-clause-none c = rw c.from_residual-in_err-object.ensures (λ on d.

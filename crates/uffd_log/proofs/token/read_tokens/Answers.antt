@@ -1,17 +1,17 @@
 use Rattle.std.proofs.Common.{[]}
 use Rattle.uffd_log.specs.Words.{words_of}
-use Rattle.uffd_log.proofs.Words.{words_parts, words_last}
+use Rattle.uffd_log.proofs.Words.{words_first, words_last}
 use Rattle.uffd_log.proofs.Tokens.{tokens_more, tokens_last, tokens_wrong}
 use Rattle.uffd_log.proofs.token.read_tokens.Goals as goal
 
 pub returns-in_default-token_of-clause-none : goal.returns-in_default-token_of-clause-none
 returns-in_default-token_of-clause-none c =
-    let first = words_parts c.loop-end.rest.now c.in-Some.end c.around.result.0.now c.around.result.1.now c.in-Some.ensures c.around.ensures.front c.around.ensures.back in
+    let first = words_first c.loop-end.rest.now c.in-Some.end c.around.result.0.now c.around.result.1.now c.in-Some.ensures c.around.ensures.front c.around.ensures.back in
     tokens_wrong c.args.text.now c.loop-end.tokens.items c.loop-end.rest.now c.around.result.0.now (words_of c.around.result.1.now) c.loop-end.invariant first c.in_default-token_of.ensures.none
 
 pub loop-end-preserved : goal.loop-end-preserved
 loop-end-preserved c =
-    let first = words_parts c.loop-end.rest.now c.in-Some.end c.around.result.0.now c.around.result.1.now c.in-Some.ensures c.around.ensures.front c.around.ensures.back in
+    let first = words_first c.loop-end.rest.now c.in-Some.end c.around.result.0.now c.around.result.1.now c.in-Some.ensures c.around.ensures.front c.around.ensures.back in
     rw c.in-Ok.ensures.items
     (tokens_more c.args.text.now c.loop-end.tokens.items c.loop-end.rest.now c.around.result.0.now c.around.result.1.now c.in-Some-token_of.token c.loop-end.invariant first c.in-Some-token_of.ensures.found)
 
