@@ -15,14 +15,10 @@ use Rattle.kernel_rules.specs.Ioctls.{is_part, is_right, may_be_protected, may_b
 use Rattle.kernel_rules.specs.Reads.{first_unread, has_unread, message_taken}
 use Rattle.kernel_rules.specs.State.{Kernel, allowed, some_page}
 
-or_none : (b : Bool) → (b || false) ≡ b
-or_none true = refl
-or_none false = refl
-
 -- what waits to be read are faults alone
 pub has_unread_is : (table : KernelTable) (name : ℕ) → has_unread (kernel_of table) name ≡ is_some (first_unread (kernel_of table).faults name)
 unfolding kernel_of
-has_unread_is table name = or_none (is_some (first_unread table.faults.items name))
+has_unread_is table name = elim (is_some (first_unread table.faults.items name)) as (λ b. (b || false) ≡ b) [ true ↦ refl | false ↦ refl ]
 
 none_either_way : (b : Bool) → (if b then None else None) ≡ (let none : Option Kernel = None in none)
 none_either_way true = refl

@@ -7,7 +7,7 @@ ghost use Rattle.kernel_rules.specs.Pages.{cleared_page, perhaps_protected, prot
 use crate::known::{Page, Presence};
 
 /// A change of a page, which may be registered or not.
-#[derive(Clone, Copy, Debug, PartialEq, Eq)]
+#[derive(Clone, Copy)]
 pub enum Change {
     /// UFFDIO_REGISTER with an object, in these modes.
     Register {

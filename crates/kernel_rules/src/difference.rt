@@ -1,7 +1,7 @@
 //! Where a kernel may do what the model does not: the lines of docs/LINUX.md of which a log can have a case.
 
 /// A difference from the model.
-#[derive(Clone, Copy, Debug, PartialEq, Eq)]
+#[derive(Clone, Copy)]
 pub enum Difference {
     /// The handshake asked for a feature that the model does not have.
     OtherFeatures,

@@ -11,7 +11,7 @@ use mig_base::NoMemory;
 use mig_base::flags::has_bit;
 
 /// A thread that found a page missing or write-protected, until it is woken or leaves.
-#[derive(Clone, Copy, Debug, PartialEq, Eq)]
+#[derive(Clone, Copy)]
 pub struct Fault {
     /// The thread, by its number in the log. One that the log does not name has a number from 2^31 on.
     pub thread: u64,

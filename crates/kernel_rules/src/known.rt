@@ -2,7 +2,7 @@
 
 /// Whether a page is present. One that is not registered for missing faults may be touched at any time, so nothing is known of it until
 /// a call shows it.
-#[derive(Clone, Copy, Debug, PartialEq, Eq)]
+#[derive(Clone, Copy)]
 pub enum Presence {
     Unknown,
     Missing,
@@ -10,7 +10,7 @@ pub enum Presence {
 }
 
 /// A page that is registered.
-#[derive(Clone, Copy, Debug, PartialEq, Eq)]
+#[derive(Clone, Copy)]
 pub struct Page {
     /// The object with which it is registered.
     pub object: u64,
@@ -27,7 +27,7 @@ pub struct Page {
 }
 
 /// How far a thread's fault has come.
-#[derive(Clone, Copy, Debug, PartialEq, Eq)]
+#[derive(Clone, Copy)]
 pub enum Phase {
     /// The thread has found the page missing or write-protected, and has queued no message yet. It cannot be woken.
     Seen,

@@ -1,7 +1,7 @@
 //! Userfault objects, and what was registered with them.
 
 /// A userfault object that is open.
-#[derive(Clone, Copy, Debug, PartialEq, Eq)]
+#[derive(Clone, Copy)]
 pub struct Object {
     /// The address space that it watches.
     pub space: u64,
@@ -14,7 +14,7 @@ pub struct Object {
 }
 
 /// A range of pages that was registered with an object.
-#[derive(Clone, Copy, Debug, PartialEq, Eq)]
+#[derive(Clone, Copy)]
 pub struct Registration {
     pub object: u64,
     pub first: u64,

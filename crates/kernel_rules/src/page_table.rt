@@ -15,14 +15,14 @@ use std::alloc::Global;
 const SHORT: u64 = 1024;
 
 /// A single page, and how many changes of ranges were made before it was kept: it includes these.
-#[derive(Clone, Copy, Debug, PartialEq, Eq)]
+#[derive(Clone, Copy)]
 pub struct Kept {
     pub page: Option<Page>,
     pub since: usize,
 }
 
 /// A change of `count` pages from `first` on.
-#[derive(Clone, Copy, Debug, PartialEq, Eq)]
+#[derive(Clone, Copy)]
 pub struct Layer {
     pub first: u64,
     pub count: u64,

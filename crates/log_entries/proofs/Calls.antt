@@ -1,8 +1,7 @@
 -- The lines of a call among others.
-use Rattle.std.proofs.Common.{◌≡◌, ℕ, ◌==◌, ◌&&◌, Bool, true, false, List, [], ◌∷◌, ◌++◌, refl, sym, ap, subst, ◌∙◌, append-nil, inl, inr}
+use Rattle.std.proofs.Common.{◌≡◌, ℕ, ◌==◌, ◌&&◌, Bool, true, false, List, [], ◌∷◌, ◌++◌, refl, sym, ap, subst, ◌∙◌, append-nil}
 use Rattle.std.specs.Prelude.{if◌then◌else◌, not, filter}
-use Rattle.std.proofs.lemmas.Bool.{and_parts, and_from}
-use Rattle.std.proofs.lemmas.Bool.Decides.{eqb_tells}
+use Rattle.std.proofs.lemmas.Bool.{and_parts, and_from, eq-eqb, eqb-true}
 use Rattle.std.proofs.lemmas.List.Elements.{filter-append}
 use Rattle.uffd_log.specs.declared.line.Line.{Line}
 use Rattle.uffd_log.specs.declared.line.Line.TheVariants as line
@@ -10,19 +9,12 @@ use Rattle.log_entries.specs.declared.log_line.LogLine.{LogLine}
 use Rattle.log_entries.specs.Events.{is_of}
 use Rattle.log_entries.specs.Readers.{others, own}
 
--- numbers that a test finds equal are equal
-equal : (a b : ℕ) → (a == b) ≡ true → a ≡ b
-equal a b e = elim (eqb_tells a b) [ inl t ↦ t.1 | inr f ↦ let g = f.0 in absurd (cc) ]
-
-same : (a b : ℕ) → a ≡ b → (a == b) ≡ true
-same a b e = elim (eqb_tells a b) [ inl t ↦ t.0 | inr f ↦ absurd (f.1 e) ]
-
 -- the numbers of two pairs
 two : (a b x y p q : ℕ) → (a == x && b == y) ≡ true → (a == p && b == q) ≡ true → (p == x && q == y) ≡ true
 two a b x y p q e f =
     let u = and_parts (a == x) (b == y) e in
     let v = and_parts (a == p) (b == q) f in
-    and_from (p == x) (q == y) (same p x (sym (equal a p v.0) ∙ equal a x u.0)) (same q y (sym (equal b q v.1) ∙ equal b y u.1))
+    and_from (p == x) (q == y) (eq-eqb p x (sym (eqb-true a p v.0) ∙ eqb-true a x u.0)) (eq-eqb q y (sym (eqb-true b q v.1) ∙ eqb-true b y u.1))
 
 -- a line is of one call
 pub of_one : (pid n p m : ℕ) (l : Line) → is_of pid n l ≡ true → is_of p m l ≡ true → (p == pid && m == n) ≡ true
@@ -70,7 +62,7 @@ of_same pid n p m e l f =
     let u = and_parts (p == pid) (m == n) e in
     let P : ℕ → Type 0 = λ k. is_of k m l ≡ true in
     let Q : ℕ → Type 0 = λ k. is_of pid k l ≡ true in
-    subst P (sym (equal p pid u.0)) (subst Q (sym (equal m n u.1)) f)
+    subst P (sym (eqb-true p pid u.0)) (subst Q (sym (eqb-true m n u.1)) f)
 
 not_of : (pid n p m : ℕ) → (p == pid && m == n) ≡ false → (l : Line) → is_of p m l ≡ true → is_of pid n l ≡ false
 not_of pid n p m e l f =
@@ -99,7 +91,7 @@ own_push pid n lines one =
 pub same_call : (pid n p m : ℕ) (l : Line) → is_of pid n l ≡ true → is_of p m l ≡ true → (p ≡ pid) × (m ≡ n)
 same_call pid n p m l e f =
     let u = and_parts (p == pid) (m == n) (of_one pid n p m l e f) in
-    (equal p pid u.0, equal m n u.1)
+    (eqb-true p pid u.0, eqb-true m n u.1)
 
 -- the lines that are kept where a call begins: they are those of the calls under way
 
