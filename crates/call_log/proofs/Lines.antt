@@ -1,6 +1,6 @@
 -- What the reader of lines does with one line.
 use Rattle.std.proofs.Common.{◌≡◌, ℕ, ◌+◌, ◌<◌, ◌≤◌, IsTrue, Bool, true, false, List, [], ◌∷◌, ◌++◌, length, Option, Some, None, refl, sym, ap, subst, ◌∙◌, append_assoc, append-nil, inl, inr, arith}
-use Rattle.std.specs.Prelude.{IsNone, IsSome, IfNone, IfSome, codes}
+use Rattle.std.specs.Prelude.{IsNone, IsSome, IfNone, IfSome, codes, string_bytes}
 use Rattle.std.specs.List.{concat}
 use Rattle.uffd_log.specs.declared.line.Line.{Line}
 use Rattle.uffd_log.specs.Lines.{Spells}
@@ -11,7 +11,7 @@ use Rattle.call_log.specs.Listing.{IsListed, AreListed, IsRight, BeginsWith, hea
 use Rattle.call_log.specs.Reading.{Adds, AddsAny, Enters, Reads, Takes, TakesLine}
 use Rattle.log_entries.specs.declared.entry_reader.EntryReader.{EntryReader}
 
-pub adds_one : (old new : LogReader) (text : List ℕ) → IsListed old.name.now old.line text → new.output.items ≡ old.output.items ++ text → new.is_right ≡ false → new.name.now ≡ old.name.now → new.line ≡ old.line
+pub adds_one : (old new : LogReader) (text : List ℕ) → IsListed (string_bytes old.name) old.line text → new.output.items ≡ old.output.items ++ text → new.is_right ≡ false → string_bytes new.name ≡ string_bytes old.name → new.line ≡ old.line
     → Adds old.line old (text ∷ []) new
 adds_one old new text listed output wrong name line = record {
   listed = (listed, tt);
@@ -21,7 +21,7 @@ adds_one old new text listed output wrong name line = record {
   line = line;
 }
 
-pub adds_none : (old new : LogReader) → new.output.items ≡ old.output.items → new.is_right ≡ old.is_right → new.name.now ≡ old.name.now → new.line ≡ old.line → Adds old.line old [] new
+pub adds_none : (old new : LogReader) → new.output.items ≡ old.output.items → new.is_right ≡ old.is_right → string_bytes new.name ≡ string_bytes old.name → new.line ≡ old.line → Adds old.line old [] new
 adds_none old new output right name line = record {
   listed = tt;
   output = output ∙ sym (append-nil old.output.items);
@@ -44,7 +44,7 @@ both_none (x ∷ xs) ys e = absurd (cc)
 
 pub adds_then : (a b c : LogReader) (xs ys : List (List ℕ)) → Adds a.line a xs b → Adds b.line b ys c → Adds a.line a (xs ++ ys) c
 adds_then a b c xs ys p q = record {
-  listed = listed_then a.name.now a.line xs ys p.listed (subst (λ (n : ℕ). AreListed a.name.now n ys) p.line (subst (λ (s : List ℕ). AreListed s b.line ys) p.name q.listed));
+  listed = listed_then (string_bytes a.name) a.line xs ys p.listed (subst (λ (n : ℕ). AreListed (string_bytes a.name) n ys) p.line (subst (λ (s : List ℕ). AreListed s b.line ys) p.name q.listed));
   output = q.output ∙ ap (λ (t : List ℕ). t ++ concat ys) p.output ∙ append_assoc a.output.items (concat xs) (concat ys) ∙ ap (λ (t : List ℕ). a.output.items ++ t) (sym (concat_then xs ys));
   right = (
     (λ t. let s = q.right.0 t in let r = p.right.0 s.0 in (r.0, rw (r.1, s.1) refl)),
@@ -67,7 +67,7 @@ right_of n head entries raw new (inr b) = inr (b.0, (b.1.0, b.1.1), b.2)
 -- the reader is as it was, but for the number of the line, and for what no contract speaks of
 pub record Numbers (old mid : LogReader) : Type 0 where
   pub line : mid.line ≡ old.line + 1
-  pub name : mid.name.now ≡ old.name.now
+  pub name : string_bytes mid.name ≡ string_bytes old.name
   pub output : mid.output.items ≡ old.output.items
   pub right : mid.is_right ≡ old.is_right
   pub head : mid.head ≡ old.head
@@ -77,7 +77,7 @@ taken : (old mid new : LogReader) (raw : List ℕ) (ended : Bool) (texts : List 
     → (texts ≡ [] → (length raw < 4096) × (ended ≡ true) × Enters (old.line + 1) old.head old.entries raw new) → old.head.read ≤ new.head.read → TakesLine old raw ended new
 taken old mid new raw ended texts numbers first adds is_right more = record {
   texts = texts;
-  listed = subst (λ (n : ℕ). AreListed old.name.now n texts) numbers.line (subst (λ (s : List ℕ). AreListed s mid.line texts) numbers.name adds.listed);
+  listed = subst (λ (n : ℕ). AreListed (string_bytes old.name) n texts) numbers.line (subst (λ (s : List ℕ). AreListed s mid.line texts) numbers.name adds.listed);
   output = adds.output ∙ ap (λ (t : List ℕ). t ++ concat texts) numbers.output;
   right = (
     (λ t. let r = adds.right.0 t in (subst (λ (b : Bool). IsTrue b) numbers.right r.0, r.1)),
@@ -104,7 +104,7 @@ taken_whole old mid new raw ended numbers first short whole takes =
 -- the reader is as it was, but for its head, and for what no contract speaks of
 pub record Same (old mid : LogReader) : Type 0 where
   pub line : mid.line ≡ old.line
-  pub name : mid.name.now ≡ old.name.now
+  pub name : string_bytes mid.name ≡ string_bytes old.name
   pub output : mid.output.items ≡ old.output.items
   pub right : mid.is_right ≡ old.is_right
 
@@ -112,7 +112,7 @@ pub takes_any : (old mid new : LogReader) (raw : List ℕ) (P : Type 0) → Same
 takes_any old mid new raw P same any is_right more = record {
   texts = any.0;
   adds = record {
-    listed = subst (λ (n : ℕ). AreListed old.name.now n any.0) same.line (subst (λ (s : List ℕ). AreListed s mid.line any.0) same.name any.1.listed);
+    listed = subst (λ (n : ℕ). AreListed (string_bytes old.name) n any.0) same.line (subst (λ (s : List ℕ). AreListed s mid.line any.0) same.name any.1.listed);
     output = any.1.output ∙ ap (λ (t : List ℕ). t ++ concat any.0) same.output;
     right = (
       (λ t. let r = any.1.right.0 t in (subst (λ (b : Bool). IsTrue b) same.right r.0, r.1)),

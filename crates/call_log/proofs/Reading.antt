@@ -1,6 +1,6 @@
 -- Lines of a log that are read in pieces: it does not matter where the pieces end.
 use Rattle.std.proofs.Common.{◌≡◌, ℕ, ◌+◌, ◌<◌, ◌≤◌, ◌↔◌, IsTrue, Bool, true, false, List, [], ◌∷◌, ◌++◌, length, take, Option, Some, None, refl, sym, ap, subst, ◌∙◌, append_assoc, append-nil, length-append, inl, inr, arith, ◌-◌, min, nat_lt, ◌⊎◌}
-use Rattle.std.specs.Prelude.{IfSome, codes}
+use Rattle.std.specs.Prelude.{IfSome, IsSome, codes, string_bytes}
 use Rattle.std.specs.Fmt.{decimal}
 use Rattle.std.proofs.lemmas.List.{take_all, take_min, length-take, take-append-le}
 use Rattle.std.proofs.Math.Seq.{take-append-add}
@@ -19,7 +19,7 @@ use Rattle.log_entries.specs.declared.log_line.LogLine.{LogLine}
 use Rattle.log_entries.specs.Readers.{HasRead}
 use Rattle.call_log.proofs.Lines.{right_of}
 use Rattle.call_log.specs.Listing.{AreLines, BeginsWith, IsLog, head_word, HasNoFeed, ListsLine, Lists, IsRead, ReadsLog, joined, AreListed, IsRight}
-use Rattle.call_log.specs.Reading.{At, Enters, Leads, EndsLine, Writes, Finished, ReadsLines, AddsAny}
+use Rattle.call_log.specs.Reading.{At, Completes, Enters, IsNew, IsWhole, Leads, EndsLine, Ran, Writes, Finished, ReadsLines, AddsAny}
 
 no_feed-append : (xs ys : List ℕ) → HasNoFeed xs → HasNoFeed ys → HasNoFeed (xs ++ ys)
 no_feed-append [] ys p q = q
@@ -39,20 +39,20 @@ lists_push name n m before [] t mid raw texts after p e one lists =
 lists_push name n m before (x ∷ xs) t mid raw texts after p e one lists =
     (p.0, p.1 ++ concat texts, p.2, p.3, p.4, ap (λ (z : List ℕ). z ++ concat texts) p.5 ∙ append_assoc (concat p.0) p.1 (concat texts), lists_push name (n + 1) m p.2 xs p.1 mid raw texts after p.6 (omega (arith, e)) one lists)
 
-pub at_new : (name : List ℕ) (p : LineReader) (w : Option (List ℕ)) → p.lines.name.now ≡ name → p.lines.output.items ≡ [] → p.lines.is_right ≡ true → p.lines.line ≡ 0 → p.lines.head.read ≡ 0 → HasRead [] p.lines.entries → p.held.items ≡ [] → At name [] w p w
-at_new name p w named output right line head entries held = record {
+pub at_new : (name : List ℕ) (p : LineReader) (w : Option (List ℕ)) → IsNew name p.lines → p.held.items ≡ [] → At name [] w p w
+at_new name p w new held = record {
   raws = [];
   held = [];
   written = [];
   whole = refl;
-  lists = (output, head);
-  number = line;
-  named = named;
-  right = ((λ _. output), (λ _. rw right refl));
+  lists = (new.output, new.head);
+  number = new.line;
+  named = new.named;
+  right = ((λ _. new.output), (λ _. rw new.right refl));
   is_held = held;
   one = tt;
   appends = Appends-nil w;
-  entered = λ _. ([], (refl, head), entries);
+  entered = λ _. ([], (refl, new.head), new.entries);
 }
 
 -- The open line
@@ -96,7 +96,7 @@ leads_held p q w bytes room one is held same = λ name read before at. record {
   whole = ap (λ (t : List ℕ). t ++ bytes) at.whole ∙ append_assoc (joined at.raws) at.held bytes;
   lists = subst (λ (l : LogReader). Lists name 1 0 at.raws (at.written ++ l.output.items) l.head.read) (sym same) at.lists;
   number = ap (λ (l : LogReader). l.line) same ∙ at.number;
-  named = ap (λ (l : LogReader). l.name.now) same ∙ at.named;
+  named = ap (λ (l : LogReader). string_bytes l.name) same ∙ at.named;
   right = subst (λ (l : LogReader). IsTrue l.is_right ↔ (at.written ++ l.output.items ≡ [])) (sym same) at.right;
   is_held = held ∙ front_then p.held.items at.held bytes room at.is_held is;
   one = no_feed-append at.held bytes at.one one;
@@ -198,7 +198,7 @@ leads_ended p q w e = λ name read before at. record {
       (lists_push name 1 (length at.raws + 1) 0 at.raws (at.written ++ p.lines.output.items) p.lines.head.read at.held e.takes.texts q.lines.head.read at.lists (omega arith) at.one (line_is name read before w p true q at e));
   number = omega (arith, e.takes.line, at.number, length-append at.raws (at.held ∷ []));
   named = e.takes.name ∙ at.named;
-  right = still_right p.lines.name.now (p.lines.line + 1) (IsTrue p.lines.is_right) (IsTrue q.lines.is_right) at.written p.lines.output.items q.lines.output.items e.takes.texts e.takes.listed e.takes.right at.right e.takes.output;
+  right = still_right (string_bytes p.lines.name) (p.lines.line + 1) (IsTrue p.lines.is_right) (IsTrue q.lines.is_right) at.written p.lines.output.items q.lines.output.items e.takes.texts e.takes.listed e.takes.right at.right e.takes.output;
   is_held = e.held;
   one = tt;
   appends = at.appends;
@@ -269,7 +269,7 @@ finished_none name input before w p q none adds at =
         ends = record { cuts = []; shorts = adds.0; number = p.lines.line; cut = tt; short = subst (λ (s : List ℕ). AreListed s p.lines.line adds.0) at.named adds.1.listed; is_cut = λ _. refl; is_short = λ _ e. adds.4 e; parts = refl };
         parts = ap (λ (t : List ℕ). at.written ++ t) adds.1.output ∙ sym (append_assoc at.written p.lines.output.items (concat adds.0));
       };
-      right = still_right p.lines.name.now p.lines.line (IsTrue p.lines.is_right) (IsTrue q.lines.is_right) at.written p.lines.output.items q.lines.output.items adds.0 adds.1.listed adds.1.right at.right adds.1.output;
+      right = still_right (string_bytes p.lines.name) p.lines.line (IsTrue p.lines.is_right) (IsTrue q.lines.is_right) at.written p.lines.output.items q.lines.output.items adds.0 adds.1.listed adds.1.right at.right adds.1.output;
       appends = at.appends;
       entered = λ right.
           let r = adds.1.right.0 right in
@@ -311,27 +311,40 @@ finished_last name input before w p q r e adds at =
         };
         parts = ap (λ (t : List ℕ). at.written ++ t) out ∙ sym (append_assoc at.written p.lines.output.items (concat texts ++ concat adds.0));
       };
-      right = still_right q.lines.name.now q.lines.line (IsTrue q.lines.is_right) (IsTrue r.lines.is_right) at.written q.lines.output.items r.lines.output.items adds.0 adds.1.listed adds.1.right
-          (still_right p.lines.name.now (p.lines.line + 1) (IsTrue p.lines.is_right) (IsTrue q.lines.is_right) at.written p.lines.output.items q.lines.output.items texts e.takes.listed e.takes.right at.right e.takes.output) adds.1.output;
+      right = still_right (string_bytes q.lines.name) q.lines.line (IsTrue q.lines.is_right) (IsTrue r.lines.is_right) at.written q.lines.output.items r.lines.output.items adds.0 adds.1.listed adds.1.right
+          (still_right (string_bytes p.lines.name) (p.lines.line + 1) (IsTrue p.lines.is_right) (IsTrue q.lines.is_right) at.written p.lines.output.items q.lines.output.items texts e.takes.listed e.takes.right at.right e.takes.output) adds.1.output;
       appends = at.appends;
       entered = λ right. absurd (never_right p q e (e.takes.right.0 (adds.1.right.0 right).0).1);
     }
 
--- The whole input
+-- The listing is written
 
-pub record Ran (name : List ℕ) (r0 r1 : Option (List ℕ)) (reader : LineReader) (w0 w1 : Option (List ℕ)) : Type 0 where
-  pub read : List ℕ
-  pub consumes : Consumes r0 r1 read
-  pub at : At name read w0 reader w1
+pub leads_written : (p h q : LineReader) (piece : List ℕ) (u v : Option (List ℕ)) → ((w : Option (List ℕ)) → Leads p w piece h w) → Writes h u q v → Leads p u piece q v
+leads_written p h q piece u v leads wrote = λ name read before at. at_written name (read ++ piece) before u v h q (leads u name read before at) wrote
+
+pub completes : (p h q : LineReader) (u v : Option (List ℕ)) → ((name input : List ℕ) (before w : Option (List ℕ)) → At name input before p w → Finished name input before h w) → Writes h u q v → Completes p u q v
+completes p h q u v ends wrote = λ name input before at.
+    let f = ends name input before u at in
+    let text = f.written ++ h.lines.output.items in (
+      text,
+      f.read,
+      subst (λ (b : Bool). IsTrue b ↔ (text ≡ [])) (sym wrote.right) f.right,
+      Appends-trans before u v f.written h.lines.output.items f.appends wrote.appends,
+      λ right.
+          let was = f.entered (subst (λ (b : Bool). IsTrue b) wrote.right right) in
+          (was.0, was.1, subst (λ (e : EntryReader). HasRead was.0 e) (sym wrote.entries) was.2),
+    )
+
+-- The whole input
 
 pub ran_new : (name : List ℕ) (r w : Option (List ℕ)) (p : LineReader) → At name [] w p w → Ran name r r p w w
 ran_new name r w p at = record { read = []; consumes = Consumes-nil r; at = at }
 
-pub ran_then : (name : List ℕ) (r0 r1 r2 w0 w1 w2 : Option (List ℕ)) (p h q : LineReader) (piece : List ℕ) → Ran name r0 r1 p w0 w1 → Consumes r1 r2 piece → Leads p w1 piece h w1 → Writes h w1 q w2 → Ran name r0 r2 q w0 w2
-ran_then name r0 r1 r2 w0 w1 w2 p h q piece ran more leads wrote = record {
+pub ran_then : (name : List ℕ) (r0 r1 r2 w0 w1 w2 : Option (List ℕ)) (p q : LineReader) (piece : List ℕ) → Ran name r0 r1 p w0 w1 → Consumes r1 r2 piece → Leads p w1 piece q w2 → Ran name r0 r2 q w0 w2
+ran_then name r0 r1 r2 w0 w1 w2 p q piece ran more leads = record {
   read = ran.read ++ piece;
   consumes = Consumes-trans r0 r1 r2 ran.read piece ran.consumes more;
-  at = at_written name (ran.read ++ piece) w0 w1 w2 h q (leads name ran.read w0 ran.at) wrote;
+  at = leads name ran.read w0 ran.at;
 }
 
 -- at the end of the input, what was read is the input
@@ -344,33 +357,21 @@ input_is x consumed (Some y) (Some z) p q e = p ∙ ap (λ (t : List ℕ). consu
 at_end : (r1 r2 : Option (List ℕ)) (n : ℕ) (buf : List ℕ) → n ≡ 0 → 0 < length buf → Consumes r1 r2 (take n buf) × (n ≡ 0 → 0 < length buf → IsAtEnd r2) → Consumes r1 r2 [] × IsAtEnd r2
 at_end r1 r2 n buf none some p = (subst (λ (k : ℕ). Consumes r1 r2 (take k buf)) none p.0, p.1 none some)
 
-pub ran_end : (name : List ℕ) (r0 r1 r2 w0 w1 w2 : Option (List ℕ)) (p h q : LineReader) (n : ℕ) (buf : List ℕ) → Ran name r0 r1 p w0 w1 → n ≡ 0 → 0 < length buf → Consumes r1 r2 (take n buf) × (n ≡ 0 → 0 < length buf → IsAtEnd r2)
-    → ((name input : List ℕ) (before w : Option (List ℕ)) → At name input before p w → Finished name input before h w) → Writes h w1 q w2 → IfSome r0 (λ input. ReadsLines name input q.lines.is_right q.lines.entries w0 w2)
-ran_end name None r1 r2 w0 w1 w2 p h q n buf ran none some last ends wrote = tt
-ran_end name (Some x) r1 r2 w0 w1 w2 p h q n buf ran none some last ends wrote =
+pub ran_end : (name : List ℕ) (r0 r1 r2 w0 w1 w2 : Option (List ℕ)) (p q : LineReader) (n : ℕ) (buf : List ℕ) → Ran name r0 r1 p w0 w1 → n ≡ 0 → 0 < length buf → Consumes r1 r2 (take n buf) × (n ≡ 0 → 0 < length buf → IsAtEnd r2)
+    → Completes p w1 q w2 → IsWhole name r0 q w0 w2
+ran_end name None r1 r2 w0 w1 w2 p q n buf ran none some last ends = tt
+ran_end name (Some x) r1 r2 w0 w1 w2 p q n buf ran none some last ends =
     let end = at_end r1 r2 n buf none some last in
     let same : x ≡ ran.read = input_is x ran.read r1 r2 ran.consumes end.0 end.1 in
-    let f = ends name ran.read w0 w1 ran.at in
-    let text = f.written ++ h.lines.output.items in (
-      text,
-      subst (λ (t : List ℕ). IsRead name t text) (sym same) f.read,
-      subst (λ (b : Bool). IsTrue b ↔ (text ≡ [])) (sym wrote.right) f.right,
-      Appends-trans w0 w1 w2 f.written h.lines.output.items f.appends wrote.appends,
-      λ right.
-          let was = f.entered (subst (λ (b : Bool). IsTrue b) wrote.right right) in
-          (was.0, subst (λ (t : List ℕ). IsLog t was.0) (sym same) was.1, subst (λ (e : EntryReader). HasRead was.0 e) (sym wrote.entries) was.2),
-    )
+    subst (λ (t : List ℕ). ReadsLines name t q.lines.is_right q.lines.entries w0 w2) (sym same) (ends name ran.read w0 ran.at)
 
 -- The log that is returned
 
-pub found_none : (name : List ℕ) (right : Bool) (entries : EntryReader) (r w0 w1 : Option (List ℕ)) → right ≡ false → IfSome r (λ input. ReadsLines name input right entries w0 w1) → IfSome r (λ input. ReadsLog name input None w0 w1)
-found_none name right entries None w0 w1 wrong read = tt
-found_none name right entries (Some input) w0 w1 wrong read =
-    (read.0, read.1, ((λ t. let e : false ≡ true = t in absurd (cc)), (λ none. let e : false ≡ true = subst (λ (b : Bool). IsTrue b) wrong (read.2.1 none) in absurd (cc))), read.3, tt)
-
-pub found_some : (name : List ℕ) (right : Bool) (entries : EntryReader) (log : ReadLog) (r w0 w1 : Option (List ℕ)) → right ≡ true → log.entries ≡ entries → IfSome r (λ input. ReadsLines name input right entries w0 w1)
-    → IfSome r (λ input. ReadsLog name input (Some log) w0 w1)
-found_some name right entries log None w0 w1 is same read = tt
-found_some name right entries log (Some input) w0 w1 is same read =
-    let was = read.4 (rw is refl) in
-    (read.0, read.1, ((λ t. read.2.0 (rw is refl)), (λ none. refl)), read.3, (was.0, was.1, subst (λ (e : EntryReader). HasRead was.0 e) (sym same) was.2))
+pub found_log : (name : List ℕ) (reader : LineReader) (found : Option ReadLog) (r w0 w1 : Option (List ℕ)) → IsSome found ↔ IsTrue reader.lines.is_right → IfSome found (λ log. log.entries ≡ reader.lines.entries) → IsWhole name r reader w0 w1
+    → IfSome r (λ input. ReadsLog name input found w0 w1)
+found_log name reader found None w0 w1 right same read = tt
+found_log name reader None (Some input) w0 w1 right same read =
+    (read.0, read.1, ((λ some. read.2.0 (right.0 some)), (λ none. right.1 (read.2.1 none))), read.3, tt)
+found_log name reader (Some log) (Some input) w0 w1 right same read =
+    let was = read.4 (right.0 refl) in
+    (read.0, read.1, ((λ some. read.2.0 (right.0 some)), (λ none. right.1 (read.2.1 none))), read.3, (was.0, was.1, subst (λ (e : EntryReader). HasRead was.0 e) (sym same) was.2))

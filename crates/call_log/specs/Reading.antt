@@ -1,7 +1,7 @@
 -- The parts of the reader of a log, and what each does.
-use Rattle.std.specs.Prelude.{◌≡◌, ℕ, ◌+◌, ◌<◌, ◌≤◌, ◌↔◌, ◌⊎◌, IsTrue, Bool, true, List, [], ◌∷◌, ◌++◌, length, take, codes, Option}
+use Rattle.std.specs.Prelude.{◌≡◌, ℕ, ◌+◌, ◌<◌, ◌≤◌, ◌↔◌, ◌⊎◌, IsTrue, Bool, true, false, List, [], ◌∷◌, ◌++◌, length, take, codes, Option, IfSome, string_bytes}
 use Rattle.std.specs.List.{concat}
-use Rattle.std.specs.Io.KnownBytes.{Appends}
+use Rattle.std.specs.Io.KnownBytes.{Appends, Consumes}
 use Rattle.uffd_log.specs.declared.line.Line.{Line}
 use Rattle.uffd_log.specs.Lines.{Spells}
 use Rattle.log_entries.specs.declared.entry_reader.EntryReader.{EntryReader}
@@ -14,12 +14,21 @@ use Rattle.call_log.specs.Listing.{HasNoFeed, AreListed, AreLines, BeginsWith, I
 
 -- One line
 
+-- no line was read, and this is the name of the log
+pub record IsNew (name : List ℕ) (reader : LogReader) : Type 0 where
+  pub named : string_bytes reader.name ≡ name
+  pub output : reader.output.items ≡ []
+  pub right : reader.is_right ≡ true
+  pub line : reader.line ≡ 0
+  pub head : reader.head.read ≡ 0
+  pub entries : HasRead [] reader.entries
+
 -- these lines were added to the listing, for the line with this number
 pub record Adds (number : ℕ) (old : LogReader) (texts : List (List ℕ)) (new : LogReader) : Type 0 where
-  pub listed : AreListed old.name.now number texts
+  pub listed : AreListed (string_bytes old.name) number texts
   pub output : new.output.items ≡ old.output.items ++ concat texts
   pub right : IsTrue new.is_right ↔ (IsTrue old.is_right × (texts ≡ []))
-  pub name : new.name.now ≡ old.name.now
+  pub name : string_bytes new.name ≡ string_bytes old.name
   pub line : new.line ≡ old.line
 
 -- lines were added; where none was, this holds
@@ -46,10 +55,10 @@ pub record Takes (old : LogReader) (raw : List ℕ) (new : LogReader) : Type 0 w
 -- a line was taken
 pub record TakesLine (old : LogReader) (raw : List ℕ) (ended : Bool) (new : LogReader) : Type 0 where
   pub texts : List (List ℕ)
-  pub listed : AreListed old.name.now (old.line + 1) texts
+  pub listed : AreListed (string_bytes old.name) (old.line + 1) texts
   pub output : new.output.items ≡ old.output.items ++ concat texts
   pub right : IsTrue new.is_right ↔ (IsTrue old.is_right × (texts ≡ []))
-  pub name : new.name.now ≡ old.name.now
+  pub name : string_bytes new.name ≡ string_bytes old.name
   pub line : new.line ≡ old.line + 1
   pub first : old.line ≡ 0 → raw ≡ codes "uffdlog 1"
   pub is_right : texts ≡ [] → (length raw < 4096) × (ended ≡ true) × Enters (old.line + 1) old.head old.entries raw new
@@ -65,7 +74,7 @@ pub record At (name read : List ℕ) (before : Option (List ℕ)) (reader : Line
   pub whole : read ≡ joined raws ++ held
   pub lists : Lists name 1 0 raws (written ++ reader.lines.output.items) reader.lines.head.read
   pub number : reader.lines.line ≡ length raws
-  pub named : reader.lines.name.now ≡ name
+  pub named : string_bytes reader.lines.name ≡ name
   pub right : IsTrue reader.lines.is_right ↔ (written ++ reader.lines.output.items ≡ [])
   pub is_held : reader.held.items ≡ take 4097 held
   pub one : HasNoFeed held
@@ -89,7 +98,7 @@ pub record Writes (old : LineReader) (u : Option (List ℕ)) (new : LineReader) 
   pub head : new.lines.head ≡ old.lines.head
   pub entries : new.lines.entries ≡ old.lines.entries
   pub line : new.lines.line ≡ old.lines.line
-  pub name : new.lines.name.now ≡ old.lines.name.now
+  pub name : string_bytes new.lines.name ≡ string_bytes old.lines.name
   pub right : new.lines.is_right ≡ old.lines.is_right
   pub held : new.held.items ≡ old.held.items
 
@@ -105,3 +114,23 @@ pub record Finished (name input : List ℕ) (before : Option (List ℕ)) (reader
 abbrev pub ReadsLines : List ℕ → List ℕ → Bool → EntryReader → Option (List ℕ) → Option (List ℕ) → Type 0
 ReadsLines name input right entries before after =
     (text : List ℕ) × IsRead name input text × (IsTrue right ↔ (text ≡ [])) × Appends before after text × (IsTrue right → (lines : List LogLine) × IsLog input lines × HasRead lines entries)
+
+-- the end of the input was taken, and the listing written
+abbrev pub Completes : LineReader → Option (List ℕ) → LineReader → Option (List ℕ) → Type 0
+Completes old u new v =
+    (name input : List ℕ) (before : Option (List ℕ)) → At name input before old u → ReadsLines name input new.lines.is_right new.lines.entries before v
+
+-- bytes of the input were read, and led to this state
+pub record Ran (name : List ℕ) (start rest : Option (List ℕ)) (reader : LineReader) (before after : Option (List ℕ)) : Type 0 where
+  pub read : List ℕ
+  pub consumes : Consumes start rest read
+  pub at : At name read before reader after
+
+-- the whole input was read, if it is known, and its listing written
+abbrev pub IsWhole : List ℕ → Option (List ℕ) → LineReader → Option (List ℕ) → Option (List ℕ) → Type 0
+IsWhole name start reader before after = IfSome start (λ input. ReadsLines name input reader.lines.is_right reader.lines.entries before after)
+
+-- a piece of the input was read, after which there may be more, or its end
+abbrev pub Runs : Bool → List ℕ → Option (List ℕ) → Option (List ℕ) → LineReader → Option (List ℕ) → Option (List ℕ) → Type 0
+Runs true name start rest reader before after = Ran name start rest reader before after
+Runs false name start rest reader before after = IsWhole name start reader before after

@@ -76,28 +76,46 @@ struct Known {
     /// The objects that the log has seen open, and those whose handshake it has, where the rules speak of their faults.
     opened: IndexSet<u64>,
     shaken: IndexSet<u64>,
+    /// The objects that were open before the log begins, with the address space of the first call on each.
+    found: IndexMap<u64, u32>,
 }
 
 impl Known {
-    /// What all calls of a log say.
-    fn new(alloc: Global, table: &CallTable, entries: &EntryStore) -> Result<Known, NoMemory> {
-        let mut known = Known {
+    /// No call was read.
+    fn new(alloc: Global) -> Known {
+        Known {
             ranges: IndexSet::new(alloc),
             openers: IndexMap::new(alloc),
             opened: IndexSet::new(alloc),
             shaken: IndexSet::new(alloc),
-        };
+            found: IndexMap::new(alloc),
+        }
+    }
+
+    /// What all calls of a log say.
+    fn read(&mut self, table: &CallTable, entries: &EntryStore) -> Result<(), NoMemory> {
+        self.add_all(table, entries)?;
+        self.leave_all_minor(table, entries);
+        self.find_all(table, entries)
+    }
+
+    /// Adds what each call of a log says.
+    fn add_all(&mut self, table: &CallTable, entries: &EntryStore) -> Result<(), NoMemory> {
         for place in 0..table.places.len() {
             if let Some(call) = table.call(entries, place) {
-                known.add(&call)?;
+                self.add(&call)?;
             }
         }
+        Ok(())
+    }
+
+    /// Takes away all objects that are registered for minor faults.
+    fn leave_all_minor(&mut self, table: &CallTable, entries: &EntryStore) {
         for place in 0..table.places.len() {
             if let Some(call) = table.call(entries, place) {
-                known.leave_minor(&call);
+                self.leave_minor(&call);
             }
         }
-        Ok(known)
     }
 
     /// What one call says.
@@ -198,6 +216,26 @@ impl Known {
             None
         }
     }
+
+    /// Notes the objects of all calls that were open before the log begins.
+    fn find_all(&mut self, table: &CallTable, entries: &EntryStore) -> Result<(), NoMemory> {
+        for place in 0..table.places.len() {
+            if let Some(call) = table.call(entries, place) {
+                self.find(&call)?;
+            }
+        }
+        Ok(())
+    }
+
+    /// Notes the object of a call, if it was open before the log begins.
+    fn find(&mut self, call: &LogCall) -> Result<(), NoMemory> {
+        if let Some(object) = self.found_by(call) {
+            if !self.found.contains_key(&object) {
+                self.found.insert(object, call.space)?;
+            }
+        }
+        Ok(())
+    }
 }
 
 /// Whether the log has seen the process of a call begin above it.
@@ -206,27 +244,6 @@ fn has_own_space(table: &CallTable, call: &LogCall) -> bool {
         Some(line) => *line < call.begin,
         None => false,
     }
-}
-
-/// The objects that were open before the log begins, with the address space of the first call on each.
-fn found_objects(
-    alloc: Global,
-    known: &Known,
-    table: &CallTable,
-    entries: &EntryStore,
-) -> Result<IndexMap<u64, u32>, NoMemory> {
-    let mut found = IndexMap::new(alloc);
-    for place in 0..table.places.len() {
-        let Some(call) = table.call(entries, place) else {
-            continue;
-        };
-        if let Some(object) = known.found_by(&call) {
-            if !found.contains_key(&object) {
-                found.insert(object, call.space)?;
-            }
-        }
-    }
-    Ok(found)
 }
 
 /// Puts into the entries and into the table what no line says of a call.
@@ -249,6 +266,28 @@ fn settle(known: &Known, table: &mut CallTable, entries: &mut EntryReader) -> Re
 }
 
 impl ReadLog {
+    /// Reads what the calls say, and puts what no line says into the entries and the table.
+    fn settle(&mut self, known: &mut Known) -> Result<(), NoMemory>
+        ensures whole { self.new.entries.whole ≡ self.old.entries.whole }
+        ensures read { (lines : List LogLine) →
+            HasRead lines self.old.entries → HasRead lines self.new.entries }
+    {
+        known.read(&self.table, &self.entries.entries)?;
+        settle(known, &mut self.table, &mut self.entries)
+    }
+
+    /// The same, for calls of which nothing was read. The objects that were open before the log begins.
+    fn settled(&mut self, alloc: Global) -> Result<IndexMap<u64, u32>, NoMemory>
+        ensures whole { self.new.entries.whole ≡ self.old.entries.whole }
+        ensures read { (lines : List LogLine) →
+            HasRead lines self.old.entries → HasRead lines self.new.entries }
+    {
+        let mut known = Known::new(alloc);
+        self.settle(&mut known)?;
+        let Known { found, .. } = known;
+        Ok(found)
+    }
+
     /// Finds out what no single line says, and puts it into the entries.
     pub fn complete(self, alloc: Global) -> Result<CompleteLog, NoMemory>
         ensures whole { IfOk result (λ done.
@@ -256,12 +295,9 @@ impl ReadLog {
         ensures read { IfOk result (λ done. (lines : List LogLine) →
             HasRead lines self.entries → HasRead lines done.entries.value) }
     {
-        let ReadLog { table, entries } = self;
-        let mut table = table;
-        let mut entries = entries;
-        let known = Known::new(alloc, &table, &entries.entries)?;
-        let found = found_objects(alloc, &known, &table, &entries.entries)?;
-        settle(&known, &mut table, &mut entries)?;
+        let mut read = self;
+        let found = read.settled(alloc)?;
+        let ReadLog { table, entries } = read;
         let Ok(entries) = Rc::new(alloc, entries) else {
             return Err(NoMemory);
         };

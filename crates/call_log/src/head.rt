@@ -2,10 +2,12 @@
 
 ghost use Rattle.std.specs.Prelude.{◌≡◌, ◌+◌, ◌<◌, ◌≤◌, IfNone, IfSome, IsTrue, OnOk};
 ghost use Rattle.call_log.specs.Listing.{BeginsWith, head_word};
+ghost use Rattle.call_log.specs.HeadLines.{line_word};
 
-use crate::wrong::Wrong;
+use crate::wrong::{Flaw, HeadFault, Wrong};
 use memchr::memchr;
 use mig_base::NoMemory;
+use std::fmt;
 use uffd_log::token::{Token, read_tokens};
 
 /// The number of lines of a head.
@@ -13,6 +15,49 @@ pub(crate) const HEAD_LINES: usize = 6;
 
 /// The least size of a page.
 const LEAST_PAGE: u64 = 512;
+
+/// A line of the head.
+#[derive(Clone, Copy)]
+pub(crate) enum HeadLine {
+    UffdLog,
+    Recorder,
+    Kernel,
+    Page,
+    Clock,
+    Command,
+}
+
+impl HeadLine {
+    /// Its first word.
+    fn word(self) -> &'static str
+        ensures { result.now ≡ line_word self }
+    {
+        match self {
+            HeadLine::UffdLog => "uffdlog",
+            HeadLine::Recorder => "recorder",
+            HeadLine::Kernel => "kernel",
+            HeadLine::Page => "page",
+            HeadLine::Clock => "clock",
+            HeadLine::Command => "command",
+        }
+    }
+
+    /// The number of its words after the first; 0 if there may be any.
+    fn count(self) -> usize {
+        match self {
+            HeadLine::Recorder => 2,
+            HeadLine::Kernel => 3,
+            HeadLine::Command => 0,
+            _ => 1,
+        }
+    }
+}
+
+impl fmt::Display for HeadLine {
+    fn fmt<W: fmt::Write>(&self, f: &mut fmt::Formatter<W>) -> fmt::Result {
+        f.write_str(self.word())
+    }
+}
 
 /// What a head says that a reader needs.
 #[derive(Clone, Copy)]
@@ -37,30 +82,20 @@ impl Head {
         }
     }
 
-    /// The first word of the next line, if the head is not over.
-    pub(crate) fn next_word(&self) -> Option<&'static str>
+    /// The next line, if the head is not over.
+    pub(crate) fn next_line(&self) -> Option<HeadLine>
         ensures none { IfNone result (6 ≤ self.now.read) }
-        ensures some { IfSome result (λ word.
-            (self.now.read < 6) × (word.now ≡ head_word self.now.read)) }
+        ensures some { IfSome result (λ line.
+            (self.now.read < 6) × (line_word line ≡ head_word self.now.read)) }
     {
         match self.read {
-            0 => Some("uffdlog"),
-            1 => Some("recorder"),
-            2 => Some("kernel"),
-            3 => Some("page"),
-            4 => Some("clock"),
-            5 => Some("command"),
+            0 => Some(HeadLine::UffdLog),
+            1 => Some(HeadLine::Recorder),
+            2 => Some(HeadLine::Kernel),
+            3 => Some(HeadLine::Page),
+            4 => Some(HeadLine::Clock),
+            5 => Some(HeadLine::Command),
             _ => None,
-        }
-    }
-
-    /// The number of words after the first of the next line; 0 if there may be any.
-    fn next_count(&self) -> usize {
-        match self.read {
-            1 => 2,
-            2 => 3,
-            5 => 0,
-            _ => 1,
         }
     }
 
@@ -74,8 +109,8 @@ impl Head {
         ensures { IsTrue result →
             (self.now.read < 6) × BeginsWith (head_word self.now.read) line.now }
     {
-        match self.next_word() {
-            Some(word) => first_word(line) == word.as_bytes(),
+        match self.next_line() {
+            Some(next) => first_word(line) == next.word().as_bytes(),
             None => false,
         }
     }
@@ -96,27 +131,27 @@ impl Head {
         requires { self.old.read < 6 }
         ensures { OnOk result (self.new.read ≡ self.old.read + 1) }
     {
-        let word = self.next_word().unwrap_or("");
-        let count = self.next_count();
+        let next = self.next_line().unwrap_or(HeadLine::Command);
+        let count = next.count();
         self.read += 1;
         if !read_tokens(tokens, line)? {
-            return Ok(Some(Wrong::Plain("an empty line, or two blanks, or one at an end")));
+            return Ok(Some(Wrong::Plain(Flaw::Blanks)));
         }
         let found = tokens.len().saturating_sub(1);
         if found == 0 || (count > 0 && found != count) {
-            return Ok(Some(Wrong::HeadWords(word)));
+            return Ok(Some(Wrong::Head(HeadFault::Words(next))));
         }
-        Ok(self.take_value(word, line, tokens))
+        Ok(self.take_value(next, line, tokens))
     }
 
     /// The value of a line of the head.
-    fn take_value(&mut self, word: &str, line: &[u8], tokens: &[Token]) -> Option<Wrong>
+    fn take_value(&mut self, next: HeadLine, line: &[u8], tokens: &[Token]) -> Option<Wrong>
         ensures { self.new.read ≡ self.old.read }
     {
-        match word {
-            "recorder" => recorder_fault(tokens),
-            "page" => self.take_page(tokens),
-            "clock" => self.take_clock(line),
+        match next {
+            HeadLine::Recorder => recorder_fault(tokens),
+            HeadLine::Page => self.take_page(tokens),
+            HeadLine::Clock => self.take_clock(line),
             _ => None,
         }
     }
@@ -129,7 +164,7 @@ impl Head {
                 self.page = *size;
                 None
             }
-            _ => Some(Wrong::Plain("a page size is a power of two, from 512")),
+            _ => Some(Wrong::Plain(Flaw::PageSize)),
         }
     }
 
@@ -140,7 +175,7 @@ impl Head {
         if self.one_clock || line == b"clock thread".as_slice() {
             None
         } else {
-            Some(Wrong::Plain("a clock is 'thread' or 'log'"))
+            Some(Wrong::Plain(Flaw::Clock))
         }
     }
 }
@@ -149,7 +184,7 @@ impl Head {
 fn recorder_fault(tokens: &[Token]) -> Option<Wrong> {
     match tokens {
         [_, _, Token::Number(_)] => None,
-        _ => Some(Wrong::Plain("the version of a recorder is a number")),
+        _ => Some(Wrong::Plain(Flaw::Version)),
     }
 }
 

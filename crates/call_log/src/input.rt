@@ -1,15 +1,16 @@
 //! Reading a log line by line.
 
-ghost use Rattle.std.specs.Prelude.{◌≡◌, ◌∷◌, ℕ, List, [], Option, OnOk, IfOk, IfErr, IfSome};
+ghost use Rattle.std.specs.Prelude.{◌≡◌, ◌∷◌, ◌↔◌, ℕ, List, [], Option, IsTrue, OnOk, IfOk, IfErr, IfSome, IsSome};
 ghost use Rattle.std.specs.Io.KnownBytes.{Appends};
 ghost use Rattle.call_log.specs.declared.fault.LogFault.TheVariants.{WriteFault};
 ghost use Rattle.call_log.specs.Listing.{HasNoFeed, ReadsLog};
-ghost use Rattle.call_log.specs.Reading.{At, EndsLine, Finished, Leads, ReadsLines, Writes};
+ghost use Rattle.call_log.specs.Reading.{At, Completes, EndsLine, Finished, IsWhole, Leads, Ran, Runs, Writes};
 
 use crate::complete::ReadLog;
 use crate::fault::LogFault;
 use crate::log_reader::{LONGEST_LINE, LogReader};
 use crate::split::split_line;
+use mig_base::NoMemory;
 use std::alloc::Global;
 use std::io::{Read, Write};
 
@@ -18,22 +19,23 @@ const PIECE: usize = 16_384;
 
 /// The lines of a log that is being read.
 #[derive(Drop)]
-pub(crate) struct LineReader<'a> {
-    pub(crate) lines: LogReader<'a>,
+pub(crate) struct LineReader {
+    pub(crate) lines: LogReader,
     /// The bytes of the line that has no end yet, at most one more than a line may have.
     held: Vec<u8>,
 }
 
-impl<'a> LineReader<'a> {
+impl LineReader {
     /// One that has read nothing.
-    fn new(alloc: Global, name: &'a str) -> LineReader<'a>
-        ensures { (before : Option (List ℕ)) → At name.now [] before result before }
+    fn new(alloc: Global, name: &str) -> Result<LineReader, NoMemory>
+        ensures { IfOk result (λ reader. (before : Option (List ℕ)) →
+            At name.now [] before reader before) }
     {
-        let lines = LogReader::new(alloc, name);
-        LineReader {
+        let lines = LogReader::new(alloc, name)?;
+        Ok(LineReader {
             lines,
             held: Vec::new(alloc),
-        }
+        })
     }
 
     /// Adds bytes to the open line.
@@ -91,33 +93,78 @@ impl<'a> LineReader<'a> {
         self.lines.output.clear();
         Ok(())
     }
+
+    /// Takes the next bytes, and writes the listing of the lines that end in them.
+    fn take_piece<W: Write>(&mut self, piece: &[u8], writer: &mut W) -> Result<(), LogFault>
+        ensures { OnOk result
+            (Leads self.old (W.contents writer.old) piece.now self.new (W.contents writer.new)) }
+    {
+        self.feed(piece)?;
+        self.write(writer)
+    }
+
+    /// Takes the end of the log, and writes the listing of what is wrong there.
+    fn take_end<W: Write>(&mut self, writer: &mut W) -> Result<(), LogFault>
+        ensures { OnOk result
+            (Completes self.old (W.contents writer.old) self.new (W.contents writer.new)) }
+    {
+        self.finish()?;
+        self.write(writer)
+    }
+
+    /// The log that was read, if no line of it is wrong.
+    fn into_log(self) -> Option<ReadLog>
+        ensures found { IsSome result ↔ IsTrue self.lines.is_right }
+        ensures entries { IfSome result (λ log. log.entries ≡ self.lines.entries) }
+    {
+        let LineReader { lines, held: _ } = self;
+        if lines.is_right {
+            Some(lines.into_log())
+        } else {
+            None
+        }
+    }
+}
+
+/// Reads the next piece of a log, and writes the listing of the lines that end in it. False at the end of the log.
+fn read_piece<R: Read, W: Write>(
+    reader: &mut LineReader,
+    input: &mut R,
+    writer: &mut W,
+) -> Result<bool, LogFault>
+    ensures { IfOk result (λ more. (name : List ℕ) (start before : Option (List ℕ)) →
+        Ran name start (R.remaining input.old) reader.old before (W.contents writer.old) →
+        Runs more name start (R.remaining input.new) reader.new before (W.contents writer.new)) }
+{
+    let mut buffer = [0u8; PIECE];
+    match input.read(&mut buffer) {
+        Ok(0) => {
+            reader.take_end(writer)?;
+            Ok(false)
+        }
+        Ok(count) => {
+            reader.take_piece(&buffer[..count], writer)?;
+            Ok(true)
+        }
+        Err(_) => Err(LogFault::ReadFault),
+    }
 }
 
 /// Reads all lines of a log, and writes the listing of those that are wrong.
-fn read_lines<'a, R: Read, W: Write>(
-    alloc: Global,
+fn read_lines<R: Read, W: Write>(
+    reader: &mut LineReader,
     input: &mut R,
     writer: &mut W,
-    name: &'a str,
-) -> Result<LogReader<'a>, LogFault>
-    ensures { IfOk result (λ lines. IfSome (R.remaining input.old) (λ bytes.
-        ReadsLines name.now bytes lines.is_right lines.entries (W.contents writer.old)
-        (W.contents writer.new))) }
+) -> Result<(), LogFault>
+    ensures { OnOk result ((name : List ℕ) →
+        At name [] (W.contents writer.old) reader.old (W.contents writer.old) →
+        IsWhole name (R.remaining input.old) reader.new (W.contents writer.old)
+        (W.contents writer.new)) }
 {
-    let mut reader = LineReader::new(alloc, name);
-    let mut buffer = [0u8; PIECE];
     for _ in 0..u32::MAX {
-        match input.read(&mut buffer) {
-            Ok(0) => {
-                reader.finish()?;
-                reader.write(writer)?;
-                return Ok(reader.lines);
-            }
-            Ok(count) => {
-                reader.feed(&buffer[..count])?;
-                reader.write(writer)?;
-            }
-            Err(_) => return Err(LogFault::ReadFault),
+        let more = read_piece(reader, input, writer)?;
+        if !more {
+            return Ok(());
         }
     }
     Err(LogFault::ReadFault)
@@ -137,11 +184,9 @@ pub fn read_log<R: Read, W: Write>(
     ensures { IfOk result (λ found. IfSome (R.remaining input.old) (λ bytes.
         ReadsLog name.now bytes found (W.contents writer.old) (W.contents writer.new))) }
 {
-    let lines = read_lines(alloc, input, writer, name)?;
-    if !lines.is_right {
-        return Ok(None);
-    }
-    Ok(Some(lines.into_log()))
+    let mut reader = LineReader::new(alloc, name)?;
+    read_lines(&mut reader, input, writer)?;
+    Ok(reader.into_log())
 }
 
 /// Writes all of the bytes. `WriteFault` comes if a write fails or takes no byte; the first of the bytes may be written then.

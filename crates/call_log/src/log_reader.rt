@@ -1,9 +1,8 @@
 //! The lines of a log: its head, the lines of the language below it, and the listing of those that are wrong.
 
-ghost use Rattle.std.specs.Prelude.{◌≡◌, ◌<◌, ◌≤◌, ℕ, List, [], ◌∷◌, OnOk, IfNone, IfSome, IsNone, IsTrue, true, length, codes};
+ghost use Rattle.std.specs.Prelude.{◌≡◌, ◌<◌, ◌≤◌, ℕ, List, [], ◌∷◌, IfOk, OnOk, IfNone, IfSome, IsNone, IsTrue, true, length, codes};
 ghost use Rattle.call_log.specs.Listing.{IsListed, BeginsWith, head_word};
-ghost use Rattle.call_log.specs.Reading.{Adds, AddsAny, Reads, Takes, TakesLine};
-ghost use Rattle.log_entries.specs.Readers.{HasRead};
+ghost use Rattle.call_log.specs.Reading.{Adds, AddsAny, IsNew, Reads, Takes, TakesLine};
 
 use crate::call_table::narrow;
 use crate::complete::ReadLog;
@@ -13,7 +12,7 @@ use crate::pages::PageSize;
 use crate::reader::CallReader;
 use crate::split::first_line;
 use crate::strace::is_of_strace;
-use crate::wrong::Wrong;
+use crate::wrong::{Flaw, HeadFault, Wrong};
 use log_entries::{EntryReader, LogLine};
 use mig_base::NoMemory;
 use std::alloc::Global;
@@ -28,8 +27,8 @@ const FIRST_LINE: &[u8] = b"uffdlog 1";
 
 /// Takes the lines of one log.
 #[derive(Drop)]
-pub(crate) struct LogReader<'a> {
-    name: &'a str,
+pub(crate) struct LogReader {
+    name: String,
     calls: CallReader,
     pub(crate) entries: EntryReader,
     /// The listing of wrong lines that is not written yet.
@@ -46,18 +45,18 @@ pub(crate) struct LogReader<'a> {
 }
 
 /// What is wrong with the bytes of a line, if anything.
-fn form_fault(bytes: &[u8], ended: bool) -> Option<&'static str>
+fn form_fault(bytes: &[u8], ended: bool) -> Option<Flaw>
     ensures short { IfNone result (length bytes.now < 4096) }
     ensures ended { IfNone result (ended ≡ true) }
 {
     if bytes.len() >= LONGEST_LINE {
-        return Some("longer than 4096 bytes");
+        return Some(Flaw::TooLong);
     }
     if !ended {
-        return Some("no line feed: the log was cut here");
+        return Some(Flaw::NoLineFeed);
     }
     if !bytes.iter().all(|byte| matches!(*byte, b' '..=b'~')) {
-        return Some("a byte that is not printable ASCII");
+        return Some(Flaw::NotPrintable);
     }
     None
 }
@@ -87,7 +86,7 @@ fn print_listed(
     text: &mut String,
     name: &str,
     number: u32,
-    wrong: &Wrong,
+    wrong: Wrong,
 ) -> Result<(), NoMemory>
     ensures { OnOk result (IsListed name.now number listed.new.items) }
 {
@@ -102,17 +101,13 @@ fn print_listed(
     Ok(())
 }
 
-impl<'a> LogReader<'a> {
+impl LogReader {
     /// One that has read nothing.
-    pub(crate) fn new(alloc: Global, name: &'a str) -> LogReader<'a>
-        ensures name { result.name.now ≡ name.now }
-        ensures output { result.output.items ≡ [] }
-        ensures right { result.is_right ≡ true }
-        ensures line { result.line ≡ 0 }
-        ensures head { result.head.read ≡ 0 }
-        ensures entries { HasRead [] result.entries }
+    pub(crate) fn new(alloc: Global, name: &str) -> Result<LogReader, NoMemory>
+        ensures { IfOk result (IsNew name.now) }
     {
-        LogReader {
+        let name = String::from_str(alloc, name)?;
+        Ok(LogReader {
             name,
             calls: CallReader::new(alloc),
             entries: EntryReader::new(alloc),
@@ -123,11 +118,11 @@ impl<'a> LogReader<'a> {
             tokens: Vec::new(alloc),
             text: String::new(alloc),
             listed: Vec::new(alloc),
-        }
+        })
     }
 
     /// Lists the line that was read last.
-    fn list(&mut self, wrong: &Wrong) -> Result<(), NoMemory>
+    fn list(&mut self, wrong: Wrong) -> Result<(), NoMemory>
         ensures { OnOk result ((text : List ℕ) ×
             Adds self.old.line self.old (text ∷ []) self.new × (self.new.head ≡ self.old.head)
             × (self.new.entries ≡ self.old.entries)) }
@@ -135,7 +130,7 @@ impl<'a> LogReader<'a> {
         print_listed(
             &mut self.listed,
             &mut self.text,
-            self.name,
+            self.name.as_str(),
             self.line,
             wrong,
         )?;
@@ -149,7 +144,7 @@ impl<'a> LogReader<'a> {
         ensures { OnOk result (AddsAny (IsNone wrong) self.old self.new) }
     {
         match wrong {
-            Some(wrong) => self.list(&wrong),
+            Some(wrong) => self.list(wrong),
             None => Ok(()),
         }
     }
@@ -166,8 +161,8 @@ impl<'a> LogReader<'a> {
         }
         self.line = line;
         match form_fault(bytes, ended) {
-            Some(text) => {
-                self.list(&Wrong::Plain(text))?;
+            Some(flaw) => {
+                self.list(Wrong::Plain(flaw))?;
                 Ok(())
             }
             None => {
@@ -184,10 +179,10 @@ impl<'a> LogReader<'a> {
         if self.head.is_next(bytes) {
             return self.take_head(bytes);
         }
-        let Some(word) = self.head.next_word() else {
+        let Some(line) = self.head.next_line() else {
             return self.take_below(bytes);
         };
-        self.list(&Wrong::Head(word))?;
+        self.list(Wrong::Head(HeadFault::Missing(line)))?;
         self.head.end();
         self.take_below(bytes)
     }
@@ -245,7 +240,7 @@ impl<'a> LogReader<'a> {
 
     /// The log that was read.
     pub(crate) fn into_log(self) -> ReadLog
-        ensures { result.entries ≡ self.entry.entries }
+        ensures { result.entries ≡ self.entries }
     {
         let LogReader { calls, entries, .. } = self;
         ReadLog {
@@ -261,9 +256,9 @@ impl<'a> LogReader<'a> {
         if self.line == 0 {
             return Err(LogFault::Empty);
         }
-        match self.head.next_word() {
-            Some(word) => {
-                self.list(&Wrong::HeadEnds(word))?;
+        match self.head.next_line() {
+            Some(line) => {
+                self.list(Wrong::Head(HeadFault::Ends(line)))?;
                 Ok(())
             }
             None => Ok(()),

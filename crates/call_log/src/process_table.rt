@@ -1,6 +1,6 @@
 //! What a log has said of its processes so far: calls that have not returned, times, and descriptors.
 
-use crate::wrong::Wrong;
+use crate::wrong::CallFault;
 use indexmap::{IndexMap, IndexSet};
 use mig_base::NoMemory;
 use std::alloc::Global;
@@ -66,10 +66,14 @@ impl ProcessTable {
     }
 
     /// Notes the time of a line of a thread, or of the whole log, which is 0. What is wrong with it, if anything.
-    pub(crate) fn note_time(&mut self, whose: u32, time: u64) -> Result<Option<Wrong>, NoMemory> {
+    pub(crate) fn note_time(
+        &mut self,
+        whose: u32,
+        time: u64,
+    ) -> Result<Option<CallFault>, NoMemory> {
         let last = self.times.get(&whose).copied().unwrap_or(0);
         if time < last {
-            return Ok(Some(Wrong::TimeBack { last, time }));
+            return Ok(Some(CallFault::TimeBack { last, time }));
         }
         self.times.insert(whose, time)?;
         Ok(None)
@@ -83,10 +87,10 @@ impl ProcessTable {
         pid: u32,
         number: u64,
         call: OpenCall,
-    ) -> Result<Option<Wrong>, NoMemory> {
+    ) -> Result<Option<CallFault>, NoMemory> {
         let key = Numbered { pid, number };
         if let Some(open) = self.open.get(&key) {
-            return Ok(Some(Wrong::StillOpen {
+            return Ok(Some(CallFault::StillOpen {
                 number,
                 line: open.line,
             }));
@@ -96,7 +100,7 @@ impl ProcessTable {
         let last = self.last.get(&thread).copied();
         if let Some(last) = last {
             if number <= last {
-                return Ok(Some(Wrong::NotAbove { number, last }));
+                return Ok(Some(CallFault::NotAbove { number, last }));
             }
         }
         self.last.insert(thread, number)?;
@@ -104,14 +108,14 @@ impl ProcessTable {
     }
 
     /// An open call of a thread.
-    pub(crate) fn open_call(&self, pid: u32, tid: u32, number: u64) -> Result<OpenCall, Wrong> {
+    pub(crate) fn open_call(&self, pid: u32, tid: u32, number: u64) -> Result<OpenCall, CallFault> {
         match self.open.get(&Numbered { pid, number }) {
             Some(call) if call.tid == tid => Ok(*call),
-            Some(call) => Err(Wrong::OtherThread {
+            Some(call) => Err(CallFault::OtherThread {
                 number,
                 line: call.line,
             }),
-            None => Err(Wrong::NoCall(number)),
+            None => Err(CallFault::NoCall(number)),
         }
     }
 

@@ -5,11 +5,11 @@ ghost use Rattle.std.specs.Prelude.{IfOk, IfNone, IsSome};
 mod answers;
 
 use crate::call_table::{CallTable, narrow};
-use crate::log_call::{Kind, LogCall, word_of};
+use crate::log_call::{Kind, LogCall};
 use crate::pages::PageSize;
 use crate::process_table::{OpenCall, ProcessTable};
-use crate::reader::answers::check_answer;
-use crate::wrong::{Fields, Wrong};
+use crate::reader::answers::{check_answer, check_message, check_range, descriptor_of};
+use crate::wrong::{CallFault, DescriptorFault, Fields, Flaw, Names, NumberFault, Wrong};
 use kernel_rules::Run;
 use mig_base::NoMemory;
 use std::alloc::{AllocError, Global};
@@ -38,6 +38,14 @@ impl From<AllocError> for Fault {
 fn refuse(wrong: Option<Wrong>) -> Result<(), Fault> {
     match wrong {
         Some(wrong) => Err(Fault::Wrong(wrong)),
+        None => Ok(()),
+    }
+}
+
+/// Refuses a line, where something is wrong with its time or its call.
+fn refuse_call(fault: Option<CallFault>) -> Result<(), Fault> {
+    match fault {
+        Some(fault) => Err(Fault::Wrong(Wrong::Call(fault))),
         None => Ok(()),
     }
 }
@@ -110,7 +118,7 @@ impl CallReader {
         let Some(line) = line else {
             // What it would have said may be what later lines lack.
             self.has_lost = true;
-            return Ok(Some(Wrong::Plain("not a line of the language")));
+            return Ok(Some(Wrong::Plain(Flaw::OtherLanguage)));
         };
         match self.take_parsed(line, one_clock) {
             Ok(()) => Ok(None),
@@ -127,7 +135,7 @@ impl CallReader {
         let whose = if one_clock { 0 } else { stamp.tid };
         let late = self.processes.note_time(whose, stamp.time)?;
         self.take_stamped(stamp, line)?;
-        refuse(late)
+        refuse_call(late)
     }
 
     fn take_stamped(&mut self, stamp: Stamp, line: Line) -> Result<(), Fault> {
@@ -188,8 +196,8 @@ impl CallReader {
         let wrong = self.processes.begin(stamp.pid, number, open)?;
         self.table.last_line = self.line;
         self.table.add(self.entry)?;
-        refuse(wrong)?;
-        match crate::reader::answers::descriptor_of(&call) {
+        refuse_call(wrong)?;
+        match descriptor_of(&call) {
             Some(on) => self.use_descriptor(stamp.pid, on),
             None => Ok(()),
         }
@@ -204,21 +212,21 @@ impl CallReader {
         self.processes.bind(pid, on)?;
         let fd = on.fd;
         let object = on.object;
-        self.excuse(match held {
-            Some(held) => Wrong::Held { fd, held, object },
-            None => Wrong::Unknown { fd, object },
-        })
+        self.excuse(Wrong::Descriptor(match held {
+            Some(held) => DescriptorFault::Held { fd, held, object },
+            None => DescriptorFault::Unknown { fd, object },
+        }))
     }
 
     /// The open call of a line: none where it may have been lost.
     fn open_call(&self, stamp: Stamp, number: u64) -> Result<Option<OpenCall>, Fault> {
         match self.processes.open_call(stamp.pid, stamp.tid, number) {
             Ok(open) => Ok(Some(open)),
-            Err(Wrong::NoCall(number)) => {
-                self.excuse(Wrong::NoCall(number))?;
+            Err(CallFault::NoCall(number)) => {
+                self.excuse(Wrong::Call(CallFault::NoCall(number)))?;
                 Ok(None)
             }
-            Err(wrong) => Err(Fault::Wrong(wrong)),
+            Err(fault) => Err(Fault::Wrong(Wrong::Call(fault))),
         }
     }
 
@@ -232,7 +240,7 @@ impl CallReader {
         self.table.last_line = self.line;
         self.table.end(open.place, &ended)?;
         let wrong = check_answer(self.table.size, &ended, answer, open.found);
-        if let Some(Wrong::Count { count, found, .. }) = wrong {
+        if let Some(Wrong::Number(NumberFault::Count { count, found, .. })) = wrong {
             if count > found && self.has_lost {
                 return followed;
             }
@@ -284,7 +292,7 @@ impl CallReader {
         let known = self.processes.is_known(on.object);
         self.take_number(pid, on)?;
         if known {
-            return Err(Fault::Wrong(Wrong::Again(on.object)));
+            return Err(Fault::Wrong(Wrong::Descriptor(DescriptorFault::Again(on.object))));
         }
         Ok(())
     }
@@ -295,7 +303,7 @@ impl CallReader {
         match held {
             Some(held) if !self.processes.is_closing(pid, on.fd) => {
                 self.processes.replace(pid, on)?;
-                self.excuse(Wrong::Unclosed { fd: on.fd, held })
+                self.excuse(Wrong::Descriptor(DescriptorFault::Unclosed { fd: on.fd, held }))
             }
             _ => {
                 self.processes.bind(pid, on)?;
@@ -320,7 +328,7 @@ impl CallReader {
         };
         self.processes.replace(pid, on)?;
         if number != wanted {
-            return Err(Fault::Wrong(Wrong::Asked { wanted, fd }));
+            return Err(Fault::Wrong(Wrong::Descriptor(DescriptorFault::Asked { wanted, fd })));
         }
         Ok(())
     }
@@ -331,41 +339,29 @@ impl CallReader {
         if let Some(open) = self.open_call(stamp, number)? {
             self.processes.note_found(stamp.pid, number, 0);
             if !matches!(open.call, Call::Read { .. }) {
-                let word = word_of(&open.call);
-                return Err(Fault::Wrong(Wrong::NoRead { number, word }));
+                let call = open.call;
+                return Err(Fault::Wrong(Wrong::Call(CallFault::NoRead { number, call })));
             }
         }
         if let Message::Fork { child } = message {
             return self.introduce(stamp.pid, child);
         }
-        refuse(crate::reader::answers::check_message(self.table.size, &message))
+        refuse(check_message(self.table.size, &message))
     }
 
     fn take_run(&mut self, stamp: Stamp, number: u64, run: Run) -> Result<(), Fault> {
         let open = self.open_call(stamp, number)?;
         let fields = Fields {
-            names: "START and LENGTH",
+            names: Names::StartLength,
             line: None,
         };
-        refuse(crate::reader::answers::check_range(self.table.size, run.start, run.len, fields))?;
+        refuse(check_range(self.table.size, run.start, run.len, fields))?;
         let Some(open) = open else {
             return Ok(());
         };
         let end = run.start.saturating_add(run.len);
         self.processes.note_found(stamp.pid, number, end);
-        let Call::Scan { start, len, .. } = open.call else {
-            let word = word_of(&open.call);
-            return Err(Fault::Wrong(Wrong::NoScan { number, word }));
-        };
-        if run.start < start || end > start.saturating_add(len) {
-            return Err(Fault::Wrong(Wrong::OutsideScan(open.line)));
-        }
-        if open.above > run.start {
-            return Err(Fault::Wrong(Wrong::Plain(
-                "pages that are not above those of the line before",
-            )));
-        }
-        Ok(())
+        refuse(check_run(number, open, run.start, end))
     }
 
     // Descriptors
@@ -389,11 +385,31 @@ impl CallReader {
         if is_bound {
             return Ok(());
         }
-        self.excuse(Wrong::Unknown {
+        self.excuse(Wrong::Descriptor(DescriptorFault::Unknown {
             fd: on.fd,
             object: on.object,
-        })
+        }))
     }
+}
+
+/// What is wrong with a run of pages of an open call, if anything.
+fn check_run(number: u64, open: OpenCall, start: u64, end: u64) -> Option<Wrong> {
+    let Call::Scan {
+        start: first,
+        len,
+        ..
+    } = open.call
+    else {
+        let call = open.call;
+        return Some(Wrong::Call(CallFault::NoScan { number, call }));
+    };
+    if start < first || end > first.saturating_add(len) {
+        return Some(Wrong::Call(CallFault::OutsideScan(open.line)));
+    }
+    if open.above > start {
+        return Some(Wrong::Plain(Flaw::NotHigher));
+    }
+    None
 }
 
 /// The stamp of a line, if it has one.

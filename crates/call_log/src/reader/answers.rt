@@ -2,7 +2,7 @@
 
 use crate::log_call::LogCall;
 use crate::pages::PageSize;
-use crate::wrong::{Fields, Wrong};
+use crate::wrong::{Counted, Fields, Flaw, Names, NumberFault, Wrong};
 use uffd_log::{Answer, Call, Descriptor, Message};
 
 /// The bytes of a `struct uffd_msg`.
@@ -72,32 +72,32 @@ fn check_page(size: PageSize, addr: u64, fields: Fields) -> Option<Wrong> {
     if size.is_start(addr) {
         None
     } else {
-        Some(Wrong::NoPage { fields, addr })
+        Some(Wrong::Number(NumberFault::NoPage { fields, addr }))
     }
 }
 
 /// What is wrong with a range, which is to be one of pages.
 pub(crate) fn check_range(size: PageSize, start: u64, len: u64, fields: Fields) -> Option<Wrong> {
     if !size.is_start(start) {
-        return Some(Wrong::NoPage {
+        return Some(Wrong::Number(NumberFault::NoPage {
             fields,
             addr: start,
-        });
+        }));
     }
     if len == 0 || !size.is_start(len) {
-        return Some(Wrong::NoPages { fields, len });
+        return Some(Wrong::Number(NumberFault::NoPages { fields, len }));
     }
     if size.is_range(start, len) {
         None
     } else {
-        Some(Wrong::PastEnd(fields))
+        Some(Wrong::Number(NumberFault::PastEnd(fields)))
     }
 }
 
 /// What is wrong with the range between two addresses.
 fn check_between(size: PageSize, start: u64, end: u64) -> Option<Wrong> {
     let fields = Fields {
-        names: "START and END",
+        names: Names::StartEnd,
         line: None,
     };
     check_range(size, start, end.saturating_sub(start), fields)
@@ -112,14 +112,14 @@ pub(crate) fn check_message(size: PageSize, message: &Message) -> Option<Wrong> 
         ),
         Message::Remap { from, to, len } => {
             let names = Fields {
-                names: "FROM and LENGTH",
+                names: Names::FromLength,
                 line: None,
             };
             if let Some(wrong) = check_range(size, from, len, names) {
                 return Some(wrong);
             }
             let names = Fields {
-                names: "TO and LENGTH",
+                names: Names::ToLength,
                 line: None,
             };
             check_range(size, to, len, names)
@@ -135,7 +135,7 @@ pub(crate) fn check_answer(
     found: u32,
 ) -> Option<Wrong> {
     if !is_answer_of(&call.call, answer) {
-        return Some(Wrong::Plain("an answer of another call's form"));
+        return Some(Wrong::Plain(Flaw::OtherAnswer));
     }
     if !call.is_ok() {
         return None;
@@ -147,10 +147,10 @@ pub(crate) fn check_answer(
             call,
             start,
             len,
-            "START and LENGTH",
+            Names::StartLength,
         ) {
             Some(wrong) => Some(wrong),
-            None => check_count(call, "have lines", found),
+            None => check_count(call, Counted::Runs, found),
         },
         Call::Mmap { .. } => check_returned(size, call),
         Call::Mremap { addr, .. } => match check_named(size, call, addr) {
@@ -158,19 +158,19 @@ pub(crate) fn check_answer(
             None => check_returned(size, call),
         },
         Call::Munmap { addr, .. } | Call::Madvise { addr, .. } => check_named(size, call, addr),
-        Call::Copy { to, len, .. } => check_ioctl(size, call, to, len, "DESTINATION and LENGTH"),
+        Call::Copy { to, len, .. } => check_ioctl(size, call, to, len, Names::DestinationLength),
         Call::Move { to, from, len, .. } => match check_ioctl(
             size,
             call,
             to,
             len,
-            "DESTINATION and LENGTH",
+            Names::DestinationLength,
         ) {
             Some(wrong) => Some(wrong),
-            None => check_ioctl(size, call, from, len, "SOURCE and LENGTH"),
+            None => check_ioctl(size, call, from, len, Names::SourceLength),
         },
         _ => match call.bytes() {
-            Some((start, len)) => check_ioctl(size, call, start, len, "START and LENGTH"),
+            Some((start, len)) => check_ioctl(size, call, start, len, Names::StartLength),
             None => None,
         },
     }
@@ -181,7 +181,7 @@ fn check_ioctl(
     call: &LogCall,
     start: u64,
     len: u64,
-    names: &'static str,
+    names: Names,
 ) -> Option<Wrong> {
     check_range(
         size,
@@ -199,7 +199,7 @@ fn check_named(size: PageSize, call: &LogCall, addr: u64) -> Option<Wrong> {
         size,
         addr,
         Fields {
-            names: "ADDRESS",
+            names: Names::Address,
             line: Some(call.begin),
         },
     )
@@ -212,31 +212,31 @@ fn check_returned(size: PageSize, call: &LogCall) -> Option<Wrong> {
         size,
         addr,
         Fields {
-            names: "the address",
+            names: Names::Returned,
             line: None,
         },
     )
 }
 
 /// The number of lines that belong to a call.
-fn check_count(call: &LogCall, what: &'static str, found: u32) -> Option<Wrong> {
+fn check_count(call: &LogCall, what: Counted, found: u32) -> Option<Wrong> {
     let count = call.value()?;
     let found = u64::from(found);
     if count == found {
         None
     } else {
-        Some(Wrong::Count { count, what, found })
+        Some(Wrong::Number(NumberFault::Count { count, what, found }))
     }
 }
 
 fn check_read(call: &LogCall, room: Option<u64>, found: u32) -> Option<Wrong> {
-    if let Some(wrong) = check_count(call, "messages", found) {
+    if let Some(wrong) = check_count(call, Counted::Messages, found) {
         return Some(wrong);
     }
     let count = call.value()?;
     let room = room.unwrap_or(0);
     if count.saturating_mul(MESSAGE_BYTES) > room {
-        Some(Wrong::Room { count, room })
+        Some(Wrong::Number(NumberFault::Room { count, room }))
     } else {
         None
     }

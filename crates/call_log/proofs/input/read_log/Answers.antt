@@ -1,8 +1,7 @@
-use Rattle.call_log.proofs.Reading.{found_none, found_some}
+use Rattle.call_log.proofs.Reading.{found_log}
 use Rattle.call_log.proofs.input.read_log.Goals as goal
 
-pub returns-then-not-lines : goal.returns-then-not-lines
-returns-then-not-lines g c = found_none _ _ c.in_ok-lines.lines.entries _ _ _ c.if-not-lines.true c.in_ok-lines.ensures
-
 pub returns : goal.returns
-returns g c = found_some _ _ c.in_ok-lines.lines.entries c.into_log.result _ _ _ c.if-not-lines.false c.into_log.ensures c.in_ok-lines.ensures
+returns g c =
+    found_log _ c.read_lines.new.reader c.into_log.result _ _ _ c.into_log.ensures.found c.into_log.ensures.entries
+    (c.in_ok-read_lines.ensures c.args.name.now (c.in_ok-reader.ensures _))

@@ -3,4 +3,4 @@ use Rattle.call_log.proofs.Reading.{at_new}
 use Rattle.call_log.proofs.input.LineReader.new.Goals as goal
 
 pub returns : goal.returns
-returns c = λ before. let n = c.new-lines.ensures in at_new _ _ before n.name n.output n.right n.line n.head n.entries (search rules)
+returns c = λ before. at_new _ _ before c.in_ok-lines.ensures (search rules)

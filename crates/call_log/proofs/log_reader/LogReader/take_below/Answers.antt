@@ -1,4 +1,4 @@
-use Rattle.std.proofs.Common.{ap}
+use Rattle.std.proofs.Common.{ap, string_bytes}
 use Rattle.std.proofs.lemmas.Result.{on_ok_weaker}
 use Rattle.call_log.specs.declared.log_reader.LogReader.{LogReader}
 use Rattle.call_log.proofs.Lines.{takes_below}
@@ -12,7 +12,7 @@ returns c =
     takes_below c.args.self.now _ c.list_any.new.self c.args.bytes.now _ _
     (record {
       line = ap (λ (r : LogReader). r.line) same;
-      name = ap (λ (r : LogReader). r.name.now) same;
+      name = ap (λ (r : LogReader). string_bytes r.name) same;
       output = ap (λ (r : LogReader). r.output.items) same;
       right = ap (λ (r : LogReader). r.is_right) same;
     })
