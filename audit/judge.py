@@ -18,6 +18,8 @@ from kernel_rules import (ASLEEP, COPY_PROTECTS, DONTWAKE, FAULT_PROTECTED, FAUL
 
 # How many calls after a poll are looked at.
 NEAR = 200
+# After the end of each call.
+LAST = 1 << 62
 # The most pages of a range of an object that is judged.
 MOST_PAGES = 1 << 24
 
@@ -128,6 +130,11 @@ class Log:
         return bool(found) and found[1] // self.page > MOST_PAGES
 
 
+def is_refused_for_now(call):
+    """Whether a call was refused with EAGAIN and has changed no page."""
+    return call.word in INSTALLS + ("writeprotect",) and call.answer == "EAGAIN" and call.values.get("BYTES", 0) <= 0
+
+
 class Search:
     """Puts each call's effect somewhere between its begin and its end: as late as that, unless another call's answer needs it earlier."""
 
@@ -139,6 +146,7 @@ class Search:
         self.faults = defaultdict(list)  # for each object and page, the reads that return its missing faults, by their ends
         self.reads = defaultdict(list)  # the reads of each object, by their ends
         self.put = defaultdict(list)  # for each object, the installs that took effect, in order
+        self.took = {}  # for each object, the read with messages that took effect last
         self.gone = sorted((call.end, call.begin, call.space, *call.range()) for call in log.calls
                            if call.word in MAP_CALLS + ("unregister",) and call.answer == "ok" and call.end and call.range())
         self.begins = [call.begin for call in log.calls]
@@ -181,6 +189,8 @@ class Search:
             reason = None
         if reason:
             self.refuse(call, reason)
+        if call.key in self.kernel.calls:  # the last moment for those that its objects refused with EAGAIN because of it
+            self.settle_where(lambda it: is_refused_for_now(it) and it.object in self.kernel.calls[call.key].told)
         self.kernel.returns(call.key)
 
     def step(self, word, *values):
@@ -225,6 +235,8 @@ class Search:
         self.settling.discard(call.key)
         if call.word in INSTALLS and (call.answer == "ok" or call.values.get("BYTES", 0) > 0):
             self.put[call.object].append(call)
+        if call.word == "read" and call.messages:
+            self.took[call.object] = call
 
     def force(self, call):
         """After an impossible call: what it says of pages is taken for true, so that later calls are judged on their own."""
@@ -274,7 +286,7 @@ class Search:
         places = self.places_of(call)
         if call.answer == "ok":  # (a fault which says that such a page is write-protected comes after it)
             self.settle_where(lambda it: it.object == call.object and self.reads_missing_in(it, places))
-        else:
+        elif not is_refused_for_now(call):
             self.read_first(call.object, places)
         pages = self.kernel.pages
         if call.answer == "EEXIST" and places and places[0] in pages and pages[places[0]].presence == MISSING:
@@ -286,11 +298,48 @@ class Search:
                 self.settle_where(lambda it: it.word == "read" and any(kind != "fault" for kind, _ in it.messages))
             for place in places:
                 self.foresee(call, place)
-        elif call.answer == "EAGAIN" and not self.kernel.changing(call.object):
-            self.settle_where(lambda it: it.word in TELLING)
+        elif call.answer == "EAGAIN":
+            self.make_changing(call.object)
         return False
 
     prepare_zeropage = prepare_copy
+
+    def make_changing(self, me):
+        """A map call under way has told the object: that whose event is read next. (One that takes effect too early forbids installs until then.)"""
+        call = None if self.kernel.changing(me) else self.awaited(me)
+        if call:
+            self.settle(call)
+        if not self.kernel.changing(me):
+            self.settle_where(lambda it: it.word in TELLING)
+
+    def awaited(self, me):
+        """The map call under way whose event is the next that is read."""
+        reads = self.reads[me]
+        at = bisect.bisect_left(self.ends(reads), self.line)
+        events = (it for read in reads[at:at + NEAR] if not read.done for it in read.messages if it[0] != "fault")
+        return next(filter(None, (self.next_teller(me, *it) for it in events)), None)
+
+    def next_teller(self, me, kind, values):
+        """Of the map calls under way that may tell an object this the one that ends first."""
+        calls = (it for it in self.open.values() if it.key not in self.settling and it.answer not in (None, "interrupted"))
+        return min((it for it in calls if self.may_tell(it, me, kind, values)), key=lambda it: it.end or LAST, default=None)
+
+    def may_tell(self, call, me, kind, values):
+        """Whether an event may be of a call, by its kind and its pages."""
+        if call.word not in TELLING or call.space != self.space_of(me):
+            return False
+        if kind == "fork" or call.word == "fork":
+            return call.word == kind
+        if kind == "remap":
+            return call.word == "mremap" and call.arguments["ADDRESS"] == values["FROM"]
+        told = self.kernel.places(call.space, values["START"], values["END"] - values["START"])
+        return (call.word == "madvise") == (kind == "remove") and any(self.kernel.places(call.space, *it).meets(told) for it in self.changed_by(call))
+
+    def changed_by(self, call):
+        """The ranges of bytes that a map call changes, from where each begins."""
+        found, to = call.range(), call.values.get("ADDRESS")
+        ranges = ([found] if found else []) + ([(to, call.arguments["NEW"])] if call.word == "mremap" and to is not None else [])
+        return [(start, self.kernel.rounded(length)) for start, length in ranges]
 
     def foresee(self, call, place):
         """A fault of the page that is read after it was put, while it stays: a thread has seen the page missing before."""
@@ -318,8 +367,8 @@ class Search:
                 self.settle(it)
 
     def prepare_writeprotect(self, call):
-        if call.answer == "EAGAIN" and not self.kernel.changing(call.object):
-            self.settle_where(lambda it: it.word in TELLING)
+        if call.answer == "EAGAIN":
+            self.make_changing(call.object)
         elif call.answer == "ok" and call.arguments["MODE"] == PROTECTS:
             self.settle_where(lambda it: self.is_bared_before(it, call, call.range(), call.end))
         elif call.answer == "ok":
@@ -489,7 +538,7 @@ class Search:
         """A page that is present is cleared by a MADV_DONTNEED that is under way, where there is one."""
         page = self.kernel.pages.get(place)
         if page and page.presence == PRESENT:
-            self.settle_where(lambda it: it.word == "madvise")
+            self.settle_where(lambda it: it.word == "madvise" and any(place in self.kernel.places(it.space, *found) for found in self.changed_by(it)))
             for key, call in list(self.kernel.calls.items()):
                 if call.clear and place in call.clear:
                     self.step("clears", key)
@@ -532,8 +581,12 @@ class Search:
         return call.word == "writeprotect" and call.arguments["MODE"] == PROTECTS or call.word in INSTALLS and bool(call.arguments["MODE"] & COPY_PROTECTS)
 
     def announce(self, me, kind, values):
-        if not any(self.kernel.is_next(of, me, kind, values) for of in self.kernel.calls.values()):
-            self.settle_where(lambda it: it.word in TELLING)
+        while not any(self.kernel.is_next(of, me, kind, values) for of in self.kernel.calls.values()):
+            call = self.next_teller(me, kind, values)
+            if not call:
+                self.settle_where(lambda it: it.word in TELLING)
+                break
+            self.settle(call)
         for key, of in list(self.kernel.calls.items()):
             if self.kernel.is_next(of, me, kind, values):
                 if me not in of.queued:
@@ -543,7 +596,7 @@ class Search:
     # poll(2)
 
     def prepare_poll(self, call):
-        """A poll that found a message: the next read returns it, or it went with a wake, before or after the poll ended."""
+        """A poll that found a message: a read has returned it by now or the next one does, or it went with a wake, before or after the poll ended."""
         me = call.object
         if call.answer != "ok" or call.values["EVENTS"] & ~POLLIN:
             return False
@@ -552,6 +605,8 @@ class Search:
             return False
         if self.kernel.has_unread(me):
             return False
+        if self.was_read(call):
+            return True
         read = self.next_read(call)
         if read and read.answer == "ok" and self.show_early(me, read):
             self.kind[call.key] = "must"
@@ -565,6 +620,15 @@ class Search:
         elif read.answer == "ok":
             self.show_early(me, read, True)
         return False
+
+    def was_read(self, call):
+        """Whether another thread's read has returned a message while the poll lasted: the poll took effect before that."""
+        read = self.took.get(call.object)
+        if not read or read.node < self.begun[call.key]:
+            return False
+        self.nodes[read.node][0].append(("effect", call.key))
+        self.kind[call.key] = "must"
+        return True
 
     def next_read(self, call):
         reads = self.reads[call.object]
@@ -605,7 +669,7 @@ class Search:
 
     def vanishing_now(self, call, read):
         """Those who wait at a page are about to be woken, while the poll or the read after it lasts: one of them had queued its fault."""
-        until = read.end if read else 1 << 62
+        until = read.end if read else LAST
         at = bisect.bisect_right(self.begins, call.end)
         for it in [*self.open.values(), *self.log.calls[at:at + NEAR]]:
             if it.begin > until:

@@ -228,6 +228,19 @@ TWO_READERS = """70 70 begin 5 poll 8:5
 70 71 begin 8 copy 8:5 0x10000 0x7000 0x2000 0x0
 70 71 end 8 ok 8192
 """
+# The message that two threads' polls have found is read by one before the other's poll ends.
+READ_BEFORE_ITS_END = """70 71 begin 5 poll 8:5
+70 70 begin 6 read 8:5 32
+70 70 message 6 fault 0x10000 0 0
+70 70 end 6 ok 1
+70 71 end 5 ok 0x1
+70 71 begin 7 read 8:5 32
+70 71 end 7 EAGAIN
+70 70 begin 8 copy 8:5 0x10000 0x7000 0x2000 0x0
+70 70 end 8 ok 8192
+"""
+# The poll begins when the message is read.
+POLLED_AFTER = READ_BEFORE_ITS_END.replace("70 71 begin 5 poll 8:5\n", "").replace("70 71 end 5", "70 71 begin 5 poll 8:5\n70 71 end 5")
 # An object for minor faults beside one that is judged.
 MINOR = """70 70 begin 5 open syscall 0x800
 70 70 end 5 ok 9:6
@@ -323,6 +336,71 @@ GIVEN_BACK = """70 71 begin 5 madvise 0x10000 0x1000 0x4
 70 70 begin 8 copy 8:5 0x11000 0x7000 0x1000 0x0
 70 70 end 8 ok 4096
 """
+# A copy that was refused while a madvise was under way ends after that.
+REFUSED_DURING = """70 70 begin 5 copy 8:5 0x10000 0x7000 0x1000 0x0
+70 70 end 5 ok 4096
+70 71 begin 6 madvise 0x10000 0x1000 0x4
+70 72 begin 7 copy 8:5 0x11000 0x7000 0x1000 0x0
+70 70 begin 8 read 8:5 32
+70 70 message 8 remove 0x10000 0x11000
+70 70 end 8 ok 1
+70 71 end 6 ok
+70 72 end 7 EAGAIN -11
+70 70 begin 9 copy 8:5 0x11000 0x7000 0x1000 0x0
+70 70 end 9 ok 4096
+70 70 begin 10 copy 8:5 0x10000 0x7000 0x1000 0x0
+70 70 end 10 ok 4096
+"""
+# The same of a protection.
+PROTECTION_REFUSED_DURING = REFUSED_DURING.replace("7 copy 8:5 0x11000 0x7000 0x1000 0x0", "7 writeprotect 8:5 0x10000 0x1000 0x1").replace(
+    "EAGAIN -11", "EAGAIN")
+# It begins after the madvise has ended.
+REFUSED_AFTER = REFUSED_DURING.replace("70 72 begin 7 copy 8:5 0x11000 0x7000 0x1000 0x0\n", "").replace(
+    "70 72 end 7", "70 72 begin 7 copy 8:5 0x11000 0x7000 0x1000 0x0\n70 72 end 7")
+# The event of one madvise is read, and a page is put, while another one has begun that takes effect after that.
+EVENT_OF_ANOTHER = """70 70 begin 5 copy 8:5 0x10000 0x7000 0x2000 0x0
+70 70 end 5 ok 8192
+70 71 begin 6 madvise 0x10000 0x1000 0x4
+70 72 begin 7 madvise 0x11000 0x1000 0x4
+70 70 begin 8 read 8:5 32
+70 70 message 8 remove 0x11000 0x12000
+70 70 end 8 ok 1
+70 72 end 7 ok
+70 70 begin 9 copy 8:5 0x11000 0x7000 0x1000 0x0
+70 70 end 9 ok 4096
+70 70 begin 10 read 8:5 32
+70 70 message 10 remove 0x10000 0x11000
+70 70 end 10 ok 1
+70 71 end 6 ok
+70 70 begin 11 copy 8:5 0x10000 0x7000 0x1000 0x0
+70 70 end 11 ok 4096
+"""
+# The same, of a copy that was refused because of the madvise whose event is read first.
+REFUSED_BY_ANOTHER = EVENT_OF_ANOTHER.replace("70 70 begin 8 read", "70 70 begin 7 copy 8:5 0x11000 0x7000 0x1000 0x0\n70 70 end 7 EAGAIN -11\n"
+                                              "70 70 begin 8 read").replace("70 72 begin 7", "70 72 begin 12").replace("70 72 end 7", "70 72 end 12")
+# The same, and the page is put before an event is read.
+PUT_BEFORE_EVENT = REFUSED_BY_ANOTHER.replace("70 70 end 7 EAGAIN -11\n70 70 begin 8 read 8:5 32\n70 70 message 8 remove 0x11000 0x12000\n70 70 end 8 ok 1\n"
+                                              "70 72 end 12 ok\n70 70 begin 9 copy 8:5 0x11000 0x7000 0x1000 0x0\n70 70 end 9 ok 4096\n",
+                                              "70 70 end 7 EAGAIN -11\n70 70 begin 8 copy 8:5 0x11000 0x7000 0x1000 0x0\n70 70 end 8 ok 4096\n"
+                                              "70 70 begin 9 read 8:5 32\n70 70 message 9 remove 0x11000 0x12000\n70 70 end 9 ok 1\n70 72 end 12 ok\n")
+# A page that one madvise has cleared faults, and then one that another madvise has not cleared yet.
+CLEARED_BY_ONE = """70 70 begin 5 copy 8:5 0x10000 0x7000 0x2000 0x2
+70 70 end 5 ok 8192
+70 71 begin 6 madvise 0x10000 0x1000 0x4
+70 72 begin 7 madvise 0x11000 0x1000 0x4
+70 70 begin 8 read 8:5 32
+70 70 message 8 fault 0x10000 0 0
+70 70 end 8 ok 1
+70 70 begin 9 read 8:5 32
+70 70 message 9 fault 0x11000 3 0
+70 70 end 9 ok 1
+70 70 begin 10 writeprotect 8:5 0x11000 0x1000 0x0
+70 70 end 10 ok
+70 71 end 6 ok
+70 72 end 7 ok
+70 70 begin 11 copy 8:5 0x10000 0x7000 0x2000 0x0
+70 70 end 11 ok 8192
+"""
 # The page is put again before the message of its madvise is read, which no kernel allows.
 PUT_AGAIN = """70 70 begin 5 copy 8:5 0x10000 0x7000 0x2000 0x0
 70 70 end 5 ok 8192
@@ -396,12 +474,18 @@ class Search(unittest.TestCase):
         self.assert_clean(text_of(TWO_OBJECTS))
         self.assert_clean(text_of(LONG))
         self.assert_clean(text_of(EVENT_FIRST, "0x8"))
+        self.assert_clean(text_of(REFUSED_DURING, "0x8"))
+        self.assert_clean(text_of(PROTECTION_REFUSED_DURING, "0x9", "0x3"))
+        self.assert_clean(text_of(EVENT_OF_ANOTHER, "0x8"))
+        self.assert_clean(text_of(REFUSED_BY_ANOTHER, "0x8"))
+        self.assert_clean(text_of(CLEARED_BY_ONE, "0x1", "0x3"))
         self.assert_clean(text_of(CHILDREN))
         self.assert_clean(text_of(BEYOND_A_COPY, "0x1", "0x3"))
         self.assert_clean(text_of(DURING_A_COPY, "0x1", "0x3"))
         self.assert_clean(text_of(BARED_BEFORE, "0x1", "0x3"))
         self.assert_clean(text_of(TWO_READERS))
         self.assert_clean(text_of(LET_GO_BEFORE))
+        self.assert_clean(text_of(READ_BEFORE_ITS_END))
 
     def test_page_by_page(self):
         for text in (PAGE_BY_PAGE, ONE_PAGE_ONCE, TWO_PROTECTIONS, TWO_OF_WHICH_ONE_ENDS, PUT_MEANWHILE, BARED_MEANWHILE):
@@ -432,6 +516,7 @@ class Search(unittest.TestCase):
                 (WOKEN_BY_A_COPY, "70 71 end 7 ok\n70 70 end 6 ok 4096\n", "70 70 end 6 ok 4096\n70 71 end 7 EINVAL\n", 3),
                 (TWO_AT_A_PAGE, "begin 8 copy 8:5 0x10000 0x7000 0x1000 0x0", "begin 8 copy 8:5 0x10000 0x7000 0x1000 0x1", 1),
                 (READ_IN_VAIN, "", "", 3),
+                (POLLED_AFTER, "", "", 3),
                 (CHILDREN, "73 73 found 9:6", "73 73 found 8:5", 3)):
             self.assertIn(old, text)
             status, said = self.judged(text_of(text.replace(old, new)))
@@ -441,8 +526,10 @@ class Search(unittest.TestCase):
             self.assertIn(old, text)
             status, said = self.judged(text_of(text.replace(old, new), "0x1", "0x3"))
             self.assertEqual(status, 3, said)
-        status, said = self.judged(text_of(PUT_AGAIN, "0x8"))
-        self.assertEqual(status, 3, said)
+        self.assertNotEqual(PUT_BEFORE_EVENT, REFUSED_BY_ANOTHER)
+        for text in (PUT_AGAIN, REFUSED_AFTER, PUT_BEFORE_EVENT):
+            status, said = self.judged(text_of(text, "0x8"))
+            self.assertEqual(status, 3, said)
 
 
 class Replay(unittest.TestCase):

@@ -1,9 +1,10 @@
 -- What is written of a log, from its parts.
-use Rattle.std.proofs.Common.{◌≡◌, ℕ, ◌+◌, ◌<◌, Bool, true, false, List, [], ◌∷◌, ◌++◌, length, Option, Some, None, refl, sym, ap, subst, ◌∙◌, append_assoc, append-nil, length-append, arith}
+use Rattle.std.proofs.Common.{◌≡◌, ℕ, ◌+◌, ◌<◌, Bool, true, false, List, [], ◌∷◌, ◌++◌, length, Option, Some, None, refl, sym, ap, subst, ◌∙◌, length-append, arith}
 use Rattle.std.specs.Prelude.{IfSome, IsSome}
 use Rattle.std.specs.List.{concat}
 use Rattle.std.specs.Io.KnownBytes.{Appends}
 use Rattle.std.proofs.KnownBytes.{Appends-trans}
+use Rattle.mig_base.proofs.ByteLemmas.{concat-push}
 use Rattle.audit.specs.declared.audit.Report.{Report}
 use Rattle.audit.specs.declared.audit.Verdict.{Verdict}
 use Rattle.audit.specs.declared.audit.Verdict.TheVariants as verdict
@@ -27,16 +28,12 @@ findings_push : (name : List ℕ) (texts : List (List ℕ)) (text : List ℕ) �
 findings_push name [] text are is = (is, tt)
 findings_push name (x ∷ xs) text are is = (are.0, findings_push name xs text are.1 is)
 
-concat_push : (texts : List (List ℕ)) (text : List ℕ) → concat (texts ++ text ∷ []) ≡ concat texts ++ text
-concat_push [] text = append-nil text
-concat_push (x ∷ xs) text = ap (λ (t : List ℕ). x ++ t) (concat_push xs text) ∙ sym (append_assoc x (concat xs) text)
-
 pub prints_more : (name : List ℕ) (n : ℕ) (old new text : List ℕ) → Prints name n old → IsFinding name text → new ≡ old ++ text → Prints name (n + 1) new
 prints_more name n old new text so_far is added = record {
   texts = so_far.texts ++ text ∷ [];
   count = omega (arith, so_far.count, length-append so_far.texts (text ∷ []));
   are = findings_push name so_far.texts text so_far.are is;
-  parts = added ∙ ap (λ (t : List ℕ). t ++ text) so_far.parts ∙ sym (concat_push so_far.texts text);
+  parts = added ∙ ap (λ (t : List ℕ). t ++ text) so_far.parts ∙ sym (concat-push so_far.texts text);
 }
 
 pub prints_all : (name output : List ℕ) (n m : ℕ) → Prints name n output → n ≡ m → Prints name m output

@@ -3,7 +3,7 @@
 use crate::kernel::Kernel;
 use crate::needs::{Wanted, wakers_of};
 use crate::rules::has_next;
-use crate::run::Unseen;
+use crate::run::{Sight, Unseen};
 use crate::search::Search;
 use crate::tasks::{Task, others};
 use crate::threads::{is_unnamed, unnamed};
@@ -52,7 +52,7 @@ pub(crate) enum ThreadTask {
     Touch(Access),
     /// The same, once its page may be missing.
     Queue(Access),
-    /// An event of a map call is queued.
+    /// An event of a map call is queued: of those under way that may tell it the one that ends first takes effect, or the next, or all.
     Announce { object: u64, message: Message },
     /// The same, once the map call took effect.
     Tell { object: u64, message: Message },
@@ -60,12 +60,12 @@ pub(crate) enum ThreadTask {
 
 impl Access {
     pub(crate) fn seen(self) -> Unseen {
-        Unseen::Sees {
+        Unseen::Sees(Sight {
             thread: self.thread,
             object: self.object,
             page: self.page,
             flags: self.flags,
-        }
+        })
     }
 }
 
@@ -78,7 +78,7 @@ fn is_still(held: Fault, now: Fault) -> bool {
 }
 
 /// The map call whose next event is this message, if that is not queued.
-fn teller(kernel: &Kernel, object: u64, message: &Message) -> Option<u32> {
+fn teller(kernel: &Kernel, object: u64, message: Message) -> Option<u32> {
     for calling in &kernel.calls {
         if has_next(kernel, calling, object, message) {
             return if calling.is_queued_for(object) {
@@ -92,7 +92,7 @@ fn teller(kernel: &Kernel, object: u64, message: &Message) -> Option<u32> {
 }
 
 /// Whether a map call tells an object this next.
-fn has_teller(kernel: &Kernel, object: u64, message: &Message) -> bool {
+fn has_teller(kernel: &Kernel, object: u64, message: Message) -> bool {
     for calling in &kernel.calls {
         if has_next(kernel, calling, object, message) {
             return true;
@@ -350,16 +350,19 @@ impl Search {
     }
 
     fn announce(&mut self, object: u64, message: Message) -> Result<(), NoMemory> {
-        self.plan_thread(ThreadTask::Tell { object, message })?;
-        if has_teller(&self.kernel, object, &message) {
-            Ok(())
-        } else {
-            self.plan(others(Wanted::Tellers))
+        if has_teller(&self.kernel, object, message) {
+            return self.plan_thread(ThreadTask::Tell { object, message });
         }
+        if let Some(call) = self.next_teller(object, message) {
+            self.plan_thread(ThreadTask::Announce { object, message })?;
+            return self.plan(Task::Settle(call));
+        }
+        self.plan_thread(ThreadTask::Tell { object, message })?;
+        self.plan(others(Wanted::Tellers))
     }
 
     fn tell(&mut self, object: u64, message: Message) -> Result<(), NoMemory> {
-        if let Some(key) = teller(&self.kernel, object, &message) {
+        if let Some(key) = teller(&self.kernel, object, message) {
             self.step(Unseen::Tells { key, object })?;
         }
         Ok(())

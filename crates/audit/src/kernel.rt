@@ -314,6 +314,26 @@ impl Kernel {
         false
     }
 
+    /// Whether a map call under way has told the object.
+    pub(crate) fn has_told(&self, key: u32, object: u64) -> bool {
+        for calling in &self.calls {
+            if calling.key == key {
+                return calling.tells_object(object);
+            }
+        }
+        false
+    }
+
+    /// Whether a map call is under way which tells objects of itself.
+    pub(crate) fn is_telling(&self, key: u32) -> bool {
+        for calling in &self.calls {
+            if calling.key == key {
+                return true;
+            }
+        }
+        false
+    }
+
     /// Whether an event of such a call is unread: they are EAGAIN.
     pub(crate) fn is_changing(&self, object: u64) -> bool {
         for calling in &self.calls {

@@ -27,6 +27,7 @@ mod search;
 mod space;
 mod summary;
 mod tasks;
+mod tellers;
 mod threads;
 mod unseen;
 mod waits;

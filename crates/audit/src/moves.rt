@@ -3,7 +3,8 @@
 use crate::certificate::Missing;
 use crate::judging::Judged;
 use crate::replay::sorted_late;
-use crate::run::{Late, Run, Unseen, What};
+use crate::run::{Late, Run, Sight, Unseen, What};
+use call_log::call_table::narrow;
 use call_log::log::Log;
 use kernel_rules::Move;
 use log_entries::EntryStore;
@@ -19,10 +20,17 @@ enum Opening {
     Opened,
 }
 
+/// A call, by the number of the line where it begins, and the entry where it ends.
+#[derive(Clone, Copy)]
+struct Lines {
+    begin: u32,
+    ending: Option<u32>,
+}
+
 /// The moves of a run from its next one on.
 #[derive(Drop)]
 pub(crate) struct Moves {
-    log: Log,
+    calls: Vec<Lines>,
     run: Run,
     late: Vec<Late>,
     /// The ending that a call is given which never returned: that of a call that was done.
@@ -45,10 +53,10 @@ impl Moves {
         judged: Judged,
         entries: &EntryStore,
     ) -> Result<Moves, NoMemory> {
-        let late = sorted_late(alloc, &judged.run)?;
-        let Judged { log, run, .. } = judged;
+        let (log, run) = parts_of(judged);
+        let late = sorted_late(alloc, &run)?;
         Ok(Moves {
-            log,
+            calls: lines_of(alloc, &log)?,
             run,
             late,
             done: done_entry(entries),
@@ -75,12 +83,7 @@ impl Moves {
 
     /// Why the checker does not know some step.
     pub(crate) fn missing(&self) -> Missing {
-        let protects = self
-            .run
-            .unseen
-            .iter()
-            .any(|unseen| matches!(*unseen, Unseen::Protects { .. }));
-        if protects {
+        if self.run.has_protected_page_by_page() {
             Missing::PageByPage
         } else {
             Missing::Told
@@ -160,7 +163,7 @@ impl Moves {
 
     /// Whether the next call begins with the line of this number.
     fn is_begin(&self, key: u32) -> bool {
-        match self.log.call(self.begun) {
+        match self.calls.get(self.begun as usize) {
             Some(call) => call.begin == key,
             None => false,
         }
@@ -168,32 +171,32 @@ impl Moves {
 
     /// The move of a step, if the checker knows it.
     fn move_of(&self, what: What) -> Option<Move> {
-        match what {
-            What::Effect(place) => {
-                let call = self.log.call(place)?;
-                let at = match call.ending {
-                    Some(entry) => entry as usize,
-                    None => self.done,
-                };
-                Some(Move::Effect {
-                    key: call.begin,
-                    at,
-                })
-            }
-            What::Unseen(place) => move_unseen(self.run.unseen.get(place as usize).copied()?),
-        }
+        let What::Effect(place) = what else {
+            return move_unseen(self.run.unseen(what)?);
+        };
+        let call = self.calls.get(place as usize)?;
+        let at = match call.ending {
+            Some(entry) => entry as usize,
+            None => self.done,
+        };
+        Some(Move::Effect {
+            key: call.begin,
+            at,
+        })
     }
 }
 
 /// The move of what a log does not show, if the checker knows it.
 fn move_unseen(unseen: Unseen) -> Option<Move> {
     match unseen {
-        Unseen::Sees {
-            thread,
-            object,
-            page,
-            flags,
-        } => Some(Move::Sees {
+        Unseen::Sees(
+            Sight {
+                thread,
+                object,
+                page,
+                flags,
+            },
+        ) => Some(Move::Sees {
             thread,
             object,
             page,
@@ -203,6 +206,26 @@ fn move_unseen(unseen: Unseen) -> Option<Move> {
         Unseen::Leaves { thread } => Some(Move::Leaves { thread }),
         Unseen::Tells { .. } | Unseen::Clears { .. } | Unseen::Protects { .. } => None,
     }
+}
+
+/// The log and its run. The kernel is gone, with its pages.
+fn parts_of(judged: Judged) -> (Log, Run) {
+    let Judged { log, run, .. } = judged;
+    (log, run)
+}
+
+/// Where the calls of a log begin and end.
+fn lines_of(alloc: Global, log: &Log) -> Result<Vec<Lines>, NoMemory> {
+    let mut lines = Vec::with_capacity(alloc, log.count())?;
+    for place in 0..narrow(log.count())? {
+        if let Some(call) = log.call(place) {
+            lines.push(Lines {
+                begin: call.begin,
+                ending: call.ending,
+            })?;
+        }
+    }
+    Ok(lines)
 }
 
 /// An entry where a call ends that did what it was asked to and returned nothing else.

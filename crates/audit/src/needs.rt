@@ -2,13 +2,14 @@
 
 use crate::kernel::{is_guarded, is_missing};
 use crate::rules::protects_several;
-use crate::search::Search;
 use crate::search::index::message_of;
+use crate::search::{Search, has_put};
+use crate::tellers::changes;
 use call_log::log_call::{COPY_PROTECTS, LogCall, PROTECTS, is_event};
 use call_log::pages::Range;
 use kernel_rules::fault::is_protection;
 use kernel_rules::{Fault, Phase};
-use uffd_log::{Call, Message};
+use uffd_log::{Call, Errno, Message};
 
 /// Which open calls are looked for.
 #[derive(Clone, Copy)]
@@ -44,8 +45,13 @@ pub(crate) enum Wanted {
     Events,
     /// Those that events tell of.
     Tellers,
-    /// madvise.
-    Madvise,
+    /// Those that were refused with EAGAIN by an object which this map call has told.
+    RefusedDuring(u32),
+    /// Those that may clear a page.
+    Clears {
+        space: u32,
+        page: u64,
+    },
     /// mremap, which moves pages to this one.
     MovesTo {
         space: u32,
@@ -113,6 +119,12 @@ fn bares(call: &LogCall) -> bool {
         Call::WriteProtect { mode, .. } => mode & PROTECTS == 0 && call.is_ok(),
         _ => call.install_mode().is_some() && call.is_ok(),
     }
+}
+
+/// Whether a call was refused with EAGAIN and has changed no page.
+pub(crate) fn is_refused_for_now(call: &LogCall) -> bool {
+    let changes = call.install_mode().is_some() || matches!(call.call, Call::WriteProtect { .. });
+    changes && matches!(call.errno(), Some(Errno::Eagain)) && !has_put(call)
 }
 
 impl Search {
@@ -192,7 +204,8 @@ impl Search {
             }
             Wanted::Events => self.reads_event(call),
             Wanted::Tellers => call.is_map_call() || matches!(call.call, Call::Fork),
-            Wanted::Madvise => matches!(call.call, Call::Madvise { .. }),
+            Wanted::RefusedDuring(key) => self.is_refused_during(key, call),
+            Wanted::Clears { space, page } => self.may_clear(call, space, page),
             Wanted::MovesTo { space, page } => self.moves_to(call, space, page),
             Wanted::OfObject(object) => call.object() == Some(object),
             Wanted::Protects { object, page } => {
@@ -297,6 +310,24 @@ impl Search {
             }
         }
         false
+    }
+
+    /// Whether a call was refused with EAGAIN by an object which a map call has told.
+    fn is_refused_during(&self, key: u32, call: &LogCall) -> bool {
+        match call.object() {
+            Some(object) => is_refused_for_now(call) && self.kernel.has_told(key, object),
+            None => false,
+        }
+    }
+
+    /// Whether a call is a madvise of this page.
+    fn may_clear(&self, call: &LogCall, space: u32, page: u64) -> bool {
+        let range = Range {
+            first: page,
+            count: 1,
+        };
+        let is_of = matches!(call.call, Call::Madvise { .. }) && call.space == space;
+        is_of && changes(self.log.size, call, range)
     }
 
     /// Whether a call is an mremap that makes a page registered at this place.

@@ -1,4 +1,5 @@
-//! poll(2): a message that waited is returned by the next read, or went with a wake, before or after the poll ended; or nobody reads it.
+//! poll(2): a message that waited was returned by another thread's read, or is by the next one, or went with a wake, before or after the poll ended;
+//! or nobody reads it.
 
 use crate::accesses::{Access, ThreadTask};
 use crate::needs::wakers_of;
@@ -13,8 +14,8 @@ use kernel_rules::{Fault, Phase};
 use mig_base::NoMemory;
 use uffd_log::{Answer, Errno, Message};
 
-/// How many calls after a poll are looked at.
-const NEAR: u32 = 200;
+/// How many calls after a poll are looked at, and reads after a call.
+pub(crate) const NEAR: u32 = 200;
 
 /// UFFD_PAGEFAULT_FLAG_WP.
 const PROTECTED: u64 = 2;
@@ -83,11 +84,28 @@ impl Search {
         if events != POLLIN || self.kernel.has_unread(object) {
             return Ok(());
         }
+        if self.was_read(poll, object)? {
+            self.placed = Some(poll);
+            return Ok(());
+        }
         self.touched = false;
         let read = self.read_after(&call);
         let next = 0;
         self.plan_poll(PollTask::Vanish { poll, read, next })?;
         self.plan_early(object, read, false)
+    }
+
+    /// Another thread's read has returned a message while the poll lasted: the poll took effect before that. Whether there is one.
+    fn was_read(&mut self, poll: u32, object: u64) -> Result<bool, NoMemory> {
+        let (Some(begun), Some(read)) = (self.begun(poll), self.took.get(&object).copied()) else {
+            return Ok(false);
+        };
+        if read < begun {
+            return Ok(false);
+        }
+        self.run.put_effect_before(read, poll)?;
+        self.set_kind(poll, Kind::Must);
+        Ok(true)
     }
 
     /// The first message of a read that succeeds waits already.

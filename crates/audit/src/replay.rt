@@ -94,19 +94,17 @@ impl Replay<'_> {
     }
 
     fn take_step(&mut self, what: What) -> Result<(), Fault> {
-        match what {
-            What::Effect(place) => self.take_effect(place),
-            What::Unseen(place) => {
-                let Some(unseen) = self.run.unseen.get(place as usize).copied() else {
-                    return Err(stop_at(None, "a step is missing"));
-                };
-                self.look_at(unseen)?;
-                if self.kernel.make(self.log, unseen)? {
-                    Ok(())
-                } else {
-                    Err(stop_at(None, "a step that the log does not show is not allowed"))
-                }
-            }
+        if let What::Effect(place) = what {
+            return self.take_effect(place);
+        }
+        let Some(unseen) = self.run.unseen(what) else {
+            return Err(stop_at(None, "a step is missing"));
+        };
+        self.look_at(unseen)?;
+        if self.kernel.make(self.log, unseen)? {
+            Ok(())
+        } else {
+            Err(stop_at(None, "a step that the log does not show is not allowed"))
         }
     }
 
@@ -155,13 +153,8 @@ impl Replay<'_> {
     }
 
     fn judge(&mut self, key: u32, call: &LogCall) -> Result<(), Fault> {
-        let made = Made {
-            key,
-            call,
-            messages: self.log.messages_of(call),
-            runs: self.log.runs_of(call),
-        };
-        match self.kernel.take(made) {
+        let made = Made { key, call: *call };
+        match self.kernel.take(self.log, made) {
             Ok(()) => Ok(()),
             Err(Stop::Refused(reason)) => Err(Fault::Broken(Broken {
                 line: Some(call.begin),

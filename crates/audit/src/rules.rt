@@ -13,18 +13,16 @@ use crate::kernel::Kernel;
 use crate::refusal::Stop;
 pub(crate) use crate::rules::protect::protects_several;
 pub(crate) use crate::rules::reads::has_next;
+use call_log::log::Log;
 use call_log::log_call::LogCall;
-use kernel_rules::{Object, Run};
-use uffd_log::{Call, Message};
+use kernel_rules::Object;
+use uffd_log::Call;
 
-/// A call, with what it read.
+/// A call, with its place in the log.
 #[derive(Clone, Copy)]
-pub(crate) struct Made<'a> {
-    /// Its place in the log.
+pub(crate) struct Made {
     pub(crate) key: u32,
-    pub(crate) call: &'a LogCall,
-    pub(crate) messages: &'a [Message],
-    pub(crate) runs: &'a [Run],
+    pub(crate) call: LogCall,
 }
 
 /// The object of a call, which is open.
@@ -41,10 +39,30 @@ fn refused(reason: &'static str) -> Stop {
 }
 
 impl Kernel {
-    /// A call takes effect with its answer. An error says why no rule allows it; then a part may be done.
-    pub(crate) fn take(&mut self, made: Made<'_>) -> Result<(), Stop> {
+    /// A call of a log takes effect with its answer. An error says why no rule allows it; then a part may be done.
+    pub(crate) fn take(&mut self, log: &Log, made: Made) -> Result<(), Stop> {
         self.now = made.key;
         self.resolved = 0;
+        match made.call.call {
+            Call::Read { on, room } => self.take_read(
+                made,
+                on.object,
+                room,
+                log.messages_of(&made.call),
+            ),
+            Call::Scan { on, start, len } => self.take_scan(
+                made,
+                on.object,
+                start,
+                len,
+                log.runs_of(&made.call),
+            ),
+            _ => self.take_alone(made),
+        }
+    }
+
+    /// The same of one that has read nothing.
+    fn take_alone(&mut self, made: Made) -> Result<(), Stop> {
         let space = made.call.space;
         match made.call.call {
             Call::Mmap { len, .. } => self.take_mmap(made, space, len),
@@ -64,7 +82,7 @@ impl Kernel {
         }
     }
 
-    fn take_on_object(&mut self, made: Made<'_>) -> Result<(), Stop> {
+    fn take_on_object(&mut self, made: Made) -> Result<(), Stop> {
         let Some(name) = made.call.object() else {
             return Ok(());
         };
@@ -96,11 +114,9 @@ impl Kernel {
                 mode,
                 ..
             } => self.take_writeprotect(made, name, object, start, len, mode),
-            Call::Read { room, .. } => self.take_read(made, name, object, room),
             Call::Poll { .. } => self.take_poll(made, name, object),
             Call::NonBlock { set, .. } => self.take_nonblock(made, name, object, set),
             Call::Close { .. } => self.take_close(made, name),
-            Call::Scan { start, len, .. } => self.take_scan(made, object, start, len),
             _ => Ok(()),
         }
     }

@@ -15,6 +15,7 @@ use crate::tasks::{Frame, Task, others};
 use crate::unseen::Unreturned;
 use call_log::log::Log;
 use call_log::log_call::{Kind, LogCall};
+use indexmap::IndexMap;
 use mig_base::NoMemory;
 use std::alloc::Global;
 
@@ -53,6 +54,8 @@ pub(crate) struct Search {
     pub(crate) settling: Vec<u32>,
     pub(crate) index: Index,
     pub(crate) put: Vec<Put>,
+    /// For each object, the step of the read with messages that took effect last.
+    pub(crate) took: IndexMap<u64, u32>,
     /// Of the reads among them: the threads of their messages so far.
     pub(crate) shown: Vec<Shown>,
     /// Whether the thread that touched a page last has queued its fault.
@@ -80,6 +83,7 @@ impl Search {
             settling: Vec::new(alloc),
             index,
             put: Vec::new(alloc),
+            took: IndexMap::new(alloc),
             shown: Vec::new(alloc),
             touched: false,
             placed: None,
@@ -154,7 +158,15 @@ impl Search {
             }
             Ok(()) => {}
         }
-        self.kernel.returned(place);
+        self.end_telling(place)
+    }
+
+    /// A call has returned. Where it is a map call that has told objects, it is the last moment for those which these refused with EAGAIN because of it.
+    fn end_telling(&mut self, place: u32) -> Result<(), NoMemory> {
+        if self.kernel.is_telling(place) {
+            self.carry_out(others(Wanted::RefusedDuring(place)))?;
+            self.kernel.returned(place);
+        }
         Ok(())
     }
 
@@ -201,11 +213,9 @@ impl Search {
     fn judge(&mut self, frame: Frame, call: &LogCall) -> Result<(), NoMemory> {
         let made = Made {
             key: frame.call,
-            call,
-            messages: self.log.messages_of(call),
-            runs: self.log.runs_of(call),
+            call: *call,
         };
-        match self.kernel.take(made) {
+        match self.kernel.take(&self.log, made) {
             Ok(()) => {
                 self.note_kind(frame, call);
                 Ok(())
@@ -274,6 +284,9 @@ impl Search {
         if call.install_mode().is_some() && has_put(call) {
             self.put.push(Put { call: place, step })?;
         }
+        if let (Some(object), false) = (call.object(), self.log.messages_of(call).is_empty()) {
+            self.took.insert(object, step)?;
+        }
         Ok(())
     }
 
@@ -287,7 +300,7 @@ impl Search {
 }
 
 /// Whether a call has put a page.
-fn has_put(call: &LogCall) -> bool {
+pub(crate) fn has_put(call: &LogCall) -> bool {
     match call.answer {
         Some(
             uffd_log::Answer::Failed {

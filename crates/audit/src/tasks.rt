@@ -3,7 +3,7 @@
 //! Python's `audit/judge.py` does the same by functions that call each other.
 
 use crate::accesses::ThreadTask;
-use crate::needs::Wanted;
+use crate::needs::{Wanted, is_refused_for_now};
 use crate::polls::PollTask;
 use crate::run::Unseen;
 use crate::search::Search;
@@ -44,6 +44,8 @@ pub(crate) enum Task {
     ProtectBy { call: u32, page: u64 },
     /// The events of an object are read.
     ReadEvents(u64),
+    /// The map calls under way take effect, unless one has told the object.
+    ChangeByAny(u64),
     /// Threads saw the pages of an install missing whose faults are read after it.
     Foresee(u32),
     Thread(ThreadTask),
@@ -88,6 +90,7 @@ impl Search {
             Task::ProtectBy { call, page } => self.protect_by(call, page),
             Task::Clear { space, page } => self.clear_page(space, page),
             Task::ReadEvents(object) => self.read_events(object),
+            Task::ChangeByAny(object) => self.change_by_any(object),
             Task::Foresee(call) => self.foresee(call),
             Task::Thread(task) => self.turn_thread(task),
             Task::Poll(task) => self.turn_poll(task),
@@ -146,8 +149,11 @@ impl Search {
         self.plan(others(Wanted::FaultsNow { object, range }))
     }
 
-    /// The same of an install: a fault which says that a page that it puts is write-protected comes after it.
+    /// The same of an install: a fault which says that a page that it puts is write-protected comes after it. One that changes no page needs none.
     fn plan_reads_before(&mut self, call: &LogCall) -> Result<(), NoMemory> {
+        if is_refused_for_now(call) {
+            return Ok(());
+        }
         let (Some(object), Some(range), true) = (
             call.object(),
             self.log.pages_of(call),
@@ -190,8 +196,8 @@ impl Search {
         let (Some(object), Some(range)) = (call.object(), self.log.pages_of(call)) else {
             return Ok(());
         };
-        if matches!(call.errno(), Some(Errno::Eagain)) && !self.kernel.may_be_changing(object) {
-            return self.plan(others(Wanted::Tellers));
+        if matches!(call.errno(), Some(Errno::Eagain)) {
+            return self.make_changing(object);
         }
         if !call.is_ok() {
             return Ok(());
@@ -219,9 +225,7 @@ impl Search {
         match call.errno() {
             None => self.prepare_put(place, object, range),
             Some(Errno::Eexist) => self.make_there(object, range.first),
-            Some(Errno::Eagain) if !self.kernel.may_be_changing(object) => self.plan(others(
-                Wanted::Tellers,
-            )),
+            Some(Errno::Eagain) => self.make_changing(object),
             _ => Ok(()),
         }
     }
@@ -257,7 +261,7 @@ impl Search {
                     range: Range { first, count },
                 })?;
                 self.plan(Task::Clear { space, page })?;
-                return self.plan(others(Wanted::Madvise));
+                return self.plan(others(Wanted::Clears { space, page }));
             }
         }
         Ok(())

@@ -1,7 +1,7 @@
 //! What a log does not show: threads that touch a page, map calls that queue an event or clear their pages, and protections that change one page.
 
 use crate::kernel::{Kernel, is_unknown};
-use crate::run::Unseen;
+use crate::run::{Sight, Unseen};
 use call_log::log::Log;
 use call_log::pages::Range;
 use kernel_rules::fault::{find, has_seen, has_twin, is_protection, note_thread, remove, stops};
@@ -12,12 +12,7 @@ impl Kernel {
     /// Makes a step of a run of a log. False where no rule allows it, and nothing has changed then.
     pub(crate) fn make(&mut self, log: &Log, unseen: Unseen) -> Result<bool, NoMemory> {
         match unseen {
-            Unseen::Sees {
-                thread,
-                object,
-                page,
-                flags,
-            } => self.sees(thread, object, page, flags),
+            Unseen::Sees(sight) => self.sees(sight),
             Unseen::Queues { thread } => self.queues(thread),
             Unseen::Leaves { thread } => self.leaves(thread),
             Unseen::Tells { key, object } => Ok(self.tells(key, object)),
@@ -30,13 +25,13 @@ impl Kernel {
     }
 
     /// A thread finds that it has to wait at a page.
-    fn sees(
-        &mut self,
-        thread: u64,
-        object: u64,
-        number: u64,
-        flags: u64,
-    ) -> Result<bool, NoMemory> {
+    fn sees(&mut self, sight: Sight) -> Result<bool, NoMemory> {
+        let Sight {
+            thread,
+            object,
+            page: number,
+            flags,
+        } = sight;
         let Some(space) = self.space_of(object) else {
             return Ok(false);
         };

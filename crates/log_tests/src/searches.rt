@@ -27,7 +27,7 @@ const REMOVES: &[u8] =
     b"1 70 70 started 69 ./monitor\n1 70 70 begin 1 open syscall 0x800\n1 70 70 end 1 ok 8:5\n1 70 70 begin 2 api 8:5 0xaa 0x8\n1 70 70 end 2 ok 0x1ffff 0x8000000000000003\n1 70 70 begin 3 register 8:5 0x10000 0x2000 0x1\n1 70 70 end 3 ok 0x17c\n1 70 70 begin 4 scan 8:5 0x10000 0x2000\n1 70 70 end 4 ok 0\n";
 
 /// What an object is registered for, the calls after it, what is said of the log, and what is written.
-static LOGS: [(&'static [u8], &'static [u8], Verdict, &'static [u8]); 23] = [
+static LOGS: [(&'static [u8], &'static [u8], Verdict, &'static [u8]); 31] = [
     // A madvise of the thread that the copy has woken: it ends before the copy does.
     (
         PLAIN,
@@ -119,6 +119,62 @@ static LOGS: [(&'static [u8], &'static [u8], Verdict, &'static [u8]); 23] = [
         b"1 70 71 begin 5 madvise 0x10000 0x1000 0x4\n1 70 70 begin 6 copy 8:5 0x11000 0x7000 0x1000 0x0\n1 70 70 end 6 EAGAIN -11\n1 70 70 begin 7 read 8:5 32\n1 70 70 message 7 remove 0x10000 0x11000\n1 70 70 end 7 ok 1\n1 70 71 end 5 ok\n1 70 70 begin 8 copy 8:5 0x10000 0x7000 0x1000 0x0\n1 70 70 end 8 ok 4096\n",
         Verdict::Found,
         b"log:17: monitor: copy: EAGAIN, and the page 0x11000 was not tried again [not-tried-again]\nlog:24: monitor: end of the log: 1 registered pages from 0x11000 on are still missing [page-owed]\n8 calls: 7 with the only answer that the rules allow, 1 that an access explains which the log does not show, 0 impossible, 0 not judged\nnot certified: a map call that tells an object is not followed\n",
+    ),
+    // A copy that was refused while a madvise was under way ends after that.
+    (
+        REMOVES,
+        b"1 70 70 begin 5 copy 8:5 0x10000 0x7000 0x1000 0x0\n1 70 70 end 5 ok 4096\n1 70 71 begin 6 madvise 0x10000 0x1000 0x4\n1 70 72 begin 7 copy 8:5 0x11000 0x7000 0x1000 0x0\n1 70 70 begin 8 read 8:5 32\n1 70 70 message 8 remove 0x10000 0x11000\n1 70 70 end 8 ok 1\n1 70 71 end 6 ok\n1 70 72 end 7 EAGAIN -11\n1 70 70 begin 9 copy 8:5 0x11000 0x7000 0x1000 0x0\n1 70 70 end 9 ok 4096\n1 70 70 begin 10 copy 8:5 0x10000 0x7000 0x1000 0x0\n1 70 70 end 10 ok 4096\n",
+        Verdict::Clean,
+        b"10 calls: 9 with the only answer that the rules allow, 1 that an access explains which the log does not show, 0 impossible, 0 not judged\nnot certified: a map call that tells an object is not followed\n",
+    ),
+    // It begins after the madvise has ended.
+    (
+        REMOVES,
+        b"1 70 70 begin 5 copy 8:5 0x10000 0x7000 0x1000 0x0\n1 70 70 end 5 ok 4096\n1 70 71 begin 6 madvise 0x10000 0x1000 0x4\n1 70 70 begin 8 read 8:5 32\n1 70 70 message 8 remove 0x10000 0x11000\n1 70 70 end 8 ok 1\n1 70 71 end 6 ok\n1 70 72 begin 7 copy 8:5 0x11000 0x7000 0x1000 0x0\n1 70 72 end 7 EAGAIN -11\n1 70 70 begin 9 copy 8:5 0x11000 0x7000 0x1000 0x0\n1 70 70 end 9 ok 4096\n1 70 70 begin 10 copy 8:5 0x10000 0x7000 0x1000 0x0\n1 70 70 end 10 ok 4096\n",
+        Verdict::Impossible,
+        b"log:23: kernel: copy: no run of the rules has this answer: no map call is under way that an event tells of [impossible-answer]\n10 calls: 8 with the only answer that the rules allow, 1 that an access explains which the log does not show, 1 impossible, 0 not judged\nnot certified: no run was found\n",
+    ),
+    // The event of one madvise is read, and a page is put, while another one has begun that takes effect after that.
+    (
+        REMOVES,
+        b"1 70 70 begin 5 copy 8:5 0x10000 0x7000 0x2000 0x0\n1 70 70 end 5 ok 8192\n1 70 71 begin 6 madvise 0x10000 0x1000 0x4\n1 70 72 begin 7 madvise 0x11000 0x1000 0x4\n1 70 70 begin 8 read 8:5 32\n1 70 70 message 8 remove 0x11000 0x12000\n1 70 70 end 8 ok 1\n1 70 72 end 7 ok\n1 70 70 begin 9 copy 8:5 0x11000 0x7000 0x1000 0x0\n1 70 70 end 9 ok 4096\n1 70 70 begin 10 read 8:5 32\n1 70 70 message 10 remove 0x10000 0x11000\n1 70 70 end 10 ok 1\n1 70 71 end 6 ok\n1 70 70 begin 11 copy 8:5 0x10000 0x7000 0x1000 0x0\n1 70 70 end 11 ok 4096\n",
+        Verdict::Clean,
+        b"11 calls: 9 with the only answer that the rules allow, 2 that an access explains which the log does not show, 0 impossible, 0 not judged\nnot certified: a map call that tells an object is not followed\n",
+    ),
+    // The same, of a copy that was refused because of the madvise whose event is read first.
+    (
+        REMOVES,
+        b"1 70 70 begin 5 copy 8:5 0x10000 0x7000 0x2000 0x0\n1 70 70 end 5 ok 8192\n1 70 71 begin 6 madvise 0x10000 0x1000 0x4\n1 70 72 begin 12 madvise 0x11000 0x1000 0x4\n1 70 70 begin 7 copy 8:5 0x11000 0x7000 0x1000 0x0\n1 70 70 end 7 EAGAIN -11\n1 70 70 begin 8 read 8:5 32\n1 70 70 message 8 remove 0x11000 0x12000\n1 70 70 end 8 ok 1\n1 70 72 end 12 ok\n1 70 70 begin 9 copy 8:5 0x11000 0x7000 0x1000 0x0\n1 70 70 end 9 ok 4096\n1 70 70 begin 10 read 8:5 32\n1 70 70 message 10 remove 0x10000 0x11000\n1 70 70 end 10 ok 1\n1 70 71 end 6 ok\n1 70 70 begin 11 copy 8:5 0x10000 0x7000 0x1000 0x0\n1 70 70 end 11 ok 4096\n",
+        Verdict::Clean,
+        b"12 calls: 10 with the only answer that the rules allow, 2 that an access explains which the log does not show, 0 impossible, 0 not judged\nnot certified: a map call that tells an object is not followed\n",
+    ),
+    // The same, and the page is put before an event is read.
+    (
+        REMOVES,
+        b"1 70 70 begin 5 copy 8:5 0x10000 0x7000 0x2000 0x0\n1 70 70 end 5 ok 8192\n1 70 71 begin 6 madvise 0x10000 0x1000 0x4\n1 70 72 begin 12 madvise 0x11000 0x1000 0x4\n1 70 70 begin 7 copy 8:5 0x11000 0x7000 0x1000 0x0\n1 70 70 end 7 EAGAIN -11\n1 70 70 begin 8 copy 8:5 0x11000 0x7000 0x1000 0x0\n1 70 70 end 8 ok 4096\n1 70 70 begin 9 read 8:5 32\n1 70 70 message 9 remove 0x11000 0x12000\n1 70 70 end 9 ok 1\n1 70 72 end 12 ok\n1 70 70 begin 10 read 8:5 32\n1 70 70 message 10 remove 0x10000 0x11000\n1 70 70 end 10 ok 1\n1 70 71 end 6 ok\n1 70 70 begin 11 copy 8:5 0x10000 0x7000 0x1000 0x0\n1 70 70 end 11 ok 4096\n",
+        Verdict::Impossible,
+        b"log:22: kernel: copy: no run of the rules has this answer: the space is changing [impossible-answer]\n12 calls: 9 with the only answer that the rules allow, 2 that an access explains which the log does not show, 1 impossible, 0 not judged\nnot certified: no run was found\n",
+    ),
+    // A page that one madvise has cleared faults, and then one that another madvise has not cleared yet.
+    (
+        PROTECTS,
+        b"1 70 70 begin 5 copy 8:5 0x10000 0x7000 0x2000 0x2\n1 70 70 end 5 ok 8192\n1 70 71 begin 6 madvise 0x10000 0x1000 0x4\n1 70 72 begin 7 madvise 0x11000 0x1000 0x4\n1 70 70 begin 8 read 8:5 32\n1 70 70 message 8 fault 0x10000 0 0\n1 70 70 end 8 ok 1\n1 70 70 begin 9 read 8:5 32\n1 70 70 message 9 fault 0x11000 3 0\n1 70 70 end 9 ok 1\n1 70 70 begin 10 writeprotect 8:5 0x11000 0x1000 0x0\n1 70 70 end 10 ok\n1 70 71 end 6 ok\n1 70 72 end 7 ok\n1 70 70 begin 11 copy 8:5 0x10000 0x7000 0x2000 0x0\n1 70 70 end 11 ok 8192\n",
+        Verdict::Certified,
+        b"11 calls: 9 with the only answer that the rules allow, 2 that an access explains which the log does not show, 0 impossible, 0 not judged\ncertified: a kernel of the rules may have answered so; pages owed 0, put twice 0\npage faults that waited until a call woke their thread: 2, the longest 0.0 us, read at line 20, woken at line 31\n",
+    ),
+    // The message that two threads' polls have found is read by one before the other's poll ends.
+    (
+        PLAIN,
+        b"1 70 71 begin 5 poll 8:5\n1 70 70 begin 6 read 8:5 32\n1 70 70 message 6 fault 0x10000 0 0\n1 70 70 end 6 ok 1\n1 70 71 end 5 ok 0x1\n1 70 71 begin 7 read 8:5 32\n1 70 71 end 7 EAGAIN\n1 70 70 begin 8 copy 8:5 0x10000 0x7000 0x2000 0x0\n1 70 70 end 8 ok 8192\n",
+        Verdict::Certified,
+        b"8 calls: 7 with the only answer that the rules allow, 1 that an access explains which the log does not show, 0 impossible, 0 not judged\ncertified: a kernel of the rules may have answered so; pages owed 0, put twice 0\npage faults that waited until a call woke their thread: 1, the longest 0.0 us, read at line 17, woken at line 24\n",
+    ),
+    // The poll begins when the message is read.
+    (
+        PLAIN,
+        b"1 70 70 begin 6 read 8:5 32\n1 70 70 message 6 fault 0x10000 0 0\n1 70 70 end 6 ok 1\n1 70 71 begin 5 poll 8:5\n1 70 71 end 5 ok 0x1\n1 70 71 begin 7 read 8:5 32\n1 70 71 end 7 EAGAIN\n1 70 70 begin 8 copy 8:5 0x10000 0x7000 0x2000 0x0\n1 70 70 end 8 ok 8192\n",
+        Verdict::Impossible,
+        b"log:19: kernel: poll: no run of the rules has this answer: no message waits [impossible-answer]\n8 calls: 6 with the only answer that the rules allow, 1 that an access explains which the log does not show, 1 impossible, 0 not judged\nnot certified: no run was found\npage faults that waited until a call woke their thread: 1, the longest 0.0 us, read at line 16, woken at line 24\n",
     ),
     // A page is put again before the message of its madvise is read, which no kernel allows.
     (

@@ -36,7 +36,7 @@ impl Kernel {
     /// A call to put `len` bytes at `start`; `most` is the greatest word of modes.
     pub(super) fn take_install(
         &mut self,
-        made: Made<'_>,
+        made: Made,
         name: u64,
         object: Object,
         start: u64,

@@ -57,7 +57,7 @@ impl Move {
 }
 
 impl Kernel {
-    pub(super) fn take_mmap(&mut self, made: Made<'_>, space: u32, len: u64) -> Result<(), Stop> {
+    pub(super) fn take_mmap(&mut self, made: Made, space: u32, len: u64) -> Result<(), Stop> {
         if let Some(addr) = made.call.value() {
             self.unmap(made.key, space, self.size.rounded(addr, len))?;
         }
@@ -66,7 +66,7 @@ impl Kernel {
 
     pub(super) fn take_munmap(
         &mut self,
-        made: Made<'_>,
+        made: Made,
         space: u32,
         addr: u64,
         len: u64,
@@ -120,7 +120,7 @@ impl Kernel {
 
     pub(super) fn take_mremap(
         &mut self,
-        made: Made<'_>,
+        made: Made,
         space: u32,
         addr: u64,
         old_len: u64,
@@ -144,7 +144,7 @@ impl Kernel {
     }
 
     /// fork(2) copies the address space. Whoever asked for UFFD_FEATURE_EVENT_FORK gets a message with the child's object.
-    pub(super) fn take_fork(&mut self, made: Made<'_>, space: u32) -> Result<(), Stop> {
+    pub(super) fn take_fork(&mut self, made: Made, space: u32) -> Result<(), Stop> {
         if !made.call.is_ok() {
             return Ok(());
         }
@@ -249,7 +249,7 @@ impl Kernel {
 
     pub(super) fn take_madvise(
         &mut self,
-        made: Made<'_>,
+        made: Made,
         space: u32,
         addr: u64,
         len: u64,

@@ -2,7 +2,7 @@
 
 use crate::kernel::{ALL, Kernel};
 use crate::refusal::{Stop, need};
-use crate::rules::{Made, refused};
+use crate::rules::{Made, open_object, refused};
 use call_log::pages::Range;
 use kernel_rules::{Change, Difference, Object, Presence, Run};
 use mig_base::NoMemory;
@@ -31,7 +31,7 @@ fn taken_features(features: u64) -> u64 {
 }
 
 impl Kernel {
-    pub(super) fn take_open(&mut self, made: Made<'_>, flags: u64) -> Result<(), Stop> {
+    pub(super) fn take_open(&mut self, made: Made, flags: u64) -> Result<(), Stop> {
         let Some(Answer::Opened(on)) = made.call.answer else {
             return Ok(());
         };
@@ -53,7 +53,7 @@ impl Kernel {
 
     pub(super) fn take_api(
         &mut self,
-        made: Made<'_>,
+        made: Made,
         name: u64,
         object: Object,
         api: u64,
@@ -81,7 +81,7 @@ impl Kernel {
 
     pub(super) fn take_register(
         &mut self,
-        made: Made<'_>,
+        made: Made,
         name: u64,
         object: Object,
         start: u64,
@@ -129,7 +129,7 @@ impl Kernel {
 
     pub(super) fn take_unregister(
         &mut self,
-        made: Made<'_>,
+        made: Made,
         name: u64,
         object: Object,
         start: u64,
@@ -148,7 +148,7 @@ impl Kernel {
 
     pub(super) fn take_wake(
         &mut self,
-        made: Made<'_>,
+        made: Made,
         name: u64,
         object: Object,
         start: u64,
@@ -169,7 +169,7 @@ impl Kernel {
 
     pub(super) fn take_nonblock(
         &mut self,
-        made: Made<'_>,
+        made: Made,
         name: u64,
         object: Object,
         set: bool,
@@ -187,7 +187,7 @@ impl Kernel {
     }
 
     /// The last descriptor of an object is closed: its registrations end, and its sleepers wake.
-    pub(super) fn take_close(&mut self, made: Made<'_>, name: u64) -> Result<(), Stop> {
+    pub(super) fn take_close(&mut self, made: Made, name: u64) -> Result<(), Stop> {
         if !made.call.last {
             return Ok(());
         }
@@ -222,11 +222,13 @@ impl Kernel {
     /// What a recorder found: it settles what is not known. A reading is not of one moment, and is compared with nothing.
     pub(super) fn take_scan(
         &mut self,
-        made: Made<'_>,
-        object: Object,
+        made: Made,
+        name: u64,
         start: u64,
         len: u64,
+        runs: &[Run],
     ) -> Result<(), Stop> {
+        let object = open_object(self, name)?;
         let Ok(space) = u32::try_from(object.space) else {
             return Ok(());
         };
@@ -235,7 +237,7 @@ impl Kernel {
         }
         let whole = self.size.range(start, len);
         let mut next = whole.first;
-        for run in made.runs {
+        for run in runs {
             let range = self.size.range(run.start, run.len);
             let gap = Range {
                 first: next,

@@ -40,7 +40,7 @@ fn protects_missing(object: Object) -> bool {
 impl Kernel {
     pub(super) fn take_writeprotect(
         &mut self,
-        made: Made<'_>,
+        made: Made,
         name: u64,
         object: Object,
         start: u64,

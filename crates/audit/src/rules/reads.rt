@@ -2,7 +2,7 @@
 
 use crate::kernel::{Calling, Kernel, NO_PAGES, Told};
 use crate::refusal::{Stop, need};
-use crate::rules::{Made, refused};
+use crate::rules::{Made, open_object, refused};
 use call_log::log_call::{POLLIN, is_event};
 use call_log::pages::Range;
 use kernel_rules::fault::{find_unread, remove};
@@ -22,20 +22,17 @@ const MESSAGE_BYTES: u64 = 32;
 impl Kernel {
     pub(super) fn take_read(
         &mut self,
-        made: Made<'_>,
+        made: Made,
         name: u64,
-        object: Object,
         room: Option<u64>,
+        messages: &[Message],
     ) -> Result<(), Stop> {
+        let object = open_object(self, name)?;
         let is_enabled = object.features.is_some();
         match made.call.errno() {
             None => {
                 need(is_enabled, "no handshake")?;
-                for (at, message) in made.messages.iter().enumerate() {
-                    let rest = made.messages.get(at..).unwrap_or(&[]);
-                    self.take_message(made.key, name, object, message, count_faults(rest))?;
-                }
-                Ok(())
+                self.take_messages(made.key, name, object, messages)
             }
             Some(Errno::Eagain) => {
                 need(
@@ -55,20 +52,38 @@ impl Kernel {
         }
     }
 
+    /// The messages of a read are read.
+    fn take_messages(
+        &mut self,
+        key: u32,
+        name: u64,
+        object: Object,
+        messages: &[Message],
+    ) -> Result<(), Stop> {
+        let mut left = count_faults(messages);
+        for message in messages {
+            self.take_message(key, name, object, *message, left)?;
+            if !is_event(message) {
+                left = left.saturating_sub(1);
+            }
+        }
+        Ok(())
+    }
+
     /// A message is read; `left` of it and those after it are faults, which may have been queued once an event before them was read.
     fn take_message(
         &mut self,
         key: u32,
         name: u64,
         object: Object,
-        message: &Message,
+        message: Message,
         left: usize,
     ) -> Result<(), Stop> {
         if let Message::Fault {
             addr,
             flags,
             thread,
-        } = *message
+        } = message
         {
             return self.take_fault(key, name, object, addr, flags, thread);
         }
@@ -128,7 +143,7 @@ impl Kernel {
     }
 
     /// An event of a map call is read, which is the next that it tells an object.
-    fn read_event(&mut self, place: usize, name: u64, message: &Message) -> Result<(), NoMemory> {
+    fn read_event(&mut self, place: usize, name: u64, message: Message) -> Result<(), NoMemory> {
         let rest = self.rest_of_removes(place, name, message)?;
         let Some(calling) = self.calls.get_mut(place) else {
             return Ok(());
@@ -151,9 +166,9 @@ impl Kernel {
         &mut self,
         place: usize,
         name: u64,
-        message: &Message,
+        message: Message,
     ) -> Result<Range, NoMemory> {
-        let (Some(calling), Message::Remove { start, end }) = (self.calls.get(place), *message)
+        let (Some(calling), Message::Remove { start, end }) = (self.calls.get(place), message)
         else {
             return Ok(NO_PAGES);
         };
@@ -173,12 +188,7 @@ impl Kernel {
         Ok(if is_left { rest } else { NO_PAGES })
     }
 
-    pub(super) fn take_poll(
-        &mut self,
-        made: Made<'_>,
-        name: u64,
-        object: Object,
-    ) -> Result<(), Stop> {
+    pub(super) fn take_poll(&mut self, made: Made, name: u64, object: Object) -> Result<(), Stop> {
         let Some(events) = made.call.value() else {
             return Ok(());
         };
@@ -218,14 +228,14 @@ fn told_of(calling: &Calling, object: u64) -> Option<&Told> {
 }
 
 /// Whether the next event that a map call tells an object is this message.
-pub(crate) fn has_next(kernel: &Kernel, calling: &Calling, object: u64, message: &Message) -> bool {
+pub(crate) fn has_next(kernel: &Kernel, calling: &Calling, object: u64, message: Message) -> bool {
     let Some(told) = told_of(calling, object) else {
         return false;
     };
     if let Some(event) = told.events.first() {
-        return is_same_event(event, message);
+        return is_same_event(*event, message);
     }
-    match *message {
+    match message {
         Message::Remove { start, end } => {
             let first = kernel.size.number(start);
             let range = Range {
@@ -239,10 +249,10 @@ pub(crate) fn has_next(kernel: &Kernel, calling: &Calling, object: u64, message:
 }
 
 /// Whether two messages are the same event. The child of a fork is known to its reader alone.
-fn is_same_event(event: &Message, message: &Message) -> bool {
-    match *event {
-        Message::Fork { .. } => matches!(*message, Message::Fork { .. }),
-        _ => *event == *message,
+fn is_same_event(event: Message, message: Message) -> bool {
+    match event {
+        Message::Fork { .. } => matches!(message, Message::Fork { .. }),
+        _ => event == message,
     }
 }
 

@@ -1,0 +1,127 @@
+//! Which map call under way an event is of, and which one an object has refused calls for.
+
+use crate::needs::Wanted;
+use crate::polls::NEAR;
+use crate::search::Search;
+use crate::tasks::{Task, others};
+use call_log::log_call::LogCall;
+use call_log::pages::{PageSize, Range};
+use mig_base::NoMemory;
+use uffd_log::{Call, Message};
+
+/// Whether an address is that of the pages that a call moves.
+fn moves_from(call: &LogCall, from: u64) -> bool {
+    match call.call {
+        Call::Mremap { addr, .. } => addr == from,
+        _ => false,
+    }
+}
+
+/// Whether a map call changes a page of a range.
+pub(crate) fn changes(size: PageSize, call: &LogCall, range: Range) -> bool {
+    if let Some((start, len)) = call.bytes() {
+        if size.rounded(start, len).common(range).count > 0 {
+            return true;
+        }
+    }
+    match (call.call, call.value()) {
+        (Call::Mremap { new_len, .. }, Some(target)) => size
+            .rounded(target, new_len)
+            .common(range)
+            .count
+            > 0,
+        _ => false,
+    }
+}
+
+/// The line where a call ends; one that never returned ends after all others.
+fn end_of(call: &LogCall) -> u32 {
+    if call.end == 0 { u32::MAX } else { call.end }
+}
+
+impl Search {
+    /// A map call under way has told an object: that whose event is read next, or else any. (One that takes effect too early forbids installs until its
+    /// event is read.)
+    pub(crate) fn make_changing(&mut self, object: u64) -> Result<(), NoMemory> {
+        if self.kernel.may_be_changing(object) {
+            return Ok(());
+        }
+        self.plan(Task::ChangeByAny(object))?;
+        match self.awaited(object) {
+            Some(call) => self.plan(Task::Settle(call)),
+            None => Ok(()),
+        }
+    }
+
+    /// The map calls under way take effect, unless one has told the object.
+    pub(crate) fn change_by_any(&mut self, object: u64) -> Result<(), NoMemory> {
+        if self.kernel.may_be_changing(object) {
+            Ok(())
+        } else {
+            self.plan(others(Wanted::Tellers))
+        }
+    }
+
+    /// The map call under way whose event is the next that is read.
+    fn awaited(&self, object: u64) -> Option<u32> {
+        let first = self.index.first_read(object, self.line);
+        for place in first..first.saturating_add(NEAR as usize) {
+            let read = self.index.reads.get(place)?;
+            if read.object != object {
+                return None;
+            }
+            let call = self.log.call(read.call)?;
+            if call.done {
+                continue;
+            }
+            for message in self.log.messages_of(&call) {
+                if let Some(teller) = self.next_teller(object, *message) {
+                    return Some(teller);
+                }
+            }
+        }
+        None
+    }
+
+    /// Of the map calls under way that may tell an object this the one that ends first.
+    pub(crate) fn next_teller(&self, object: u64, message: Message) -> Option<u32> {
+        let mut first = None;
+        let mut until = u32::MAX;
+        for open in &self.open {
+            if self.settling.contains(&open.call) {
+                continue;
+            }
+            if let Some(call) = self.log.call(open.call) {
+                let is_before = first.is_none() || end_of(&call) < until;
+                if is_before && self.may_tell(&call, object, message) {
+                    first = Some(open.call);
+                    until = end_of(&call);
+                }
+            }
+        }
+        first
+    }
+
+    /// Whether an event may be of a call, by its kind and its pages.
+    fn may_tell(&self, call: &LogCall, object: u64, message: Message) -> bool {
+        if self.kernel.space_of(object) != Some(call.space) {
+            return false;
+        }
+        let is_madvise = matches!(call.call, Call::Madvise { .. });
+        match message {
+            Message::Fault { .. } => false,
+            Message::Fork { .. } => matches!(call.call, Call::Fork),
+            Message::Remap { from, .. } => moves_from(call, from),
+            Message::Remove { start, end } => is_madvise && self.changes_within(call, start, end),
+            Message::Unmap { start, end } => call.is_map_call()
+                && !is_madvise
+                && self.changes_within(call, start, end),
+        }
+    }
+
+    /// Whether a map call changes a page between two addresses.
+    fn changes_within(&self, call: &LogCall, start: u64, end: u64) -> bool {
+        let size = self.log.size;
+        changes(size, call, size.range(start, end.saturating_sub(start)))
+    }
+}
