@@ -23,9 +23,9 @@ def product():
     return list(lines_of((page.TOP / "crates.txt").read_text().partition("\n# tests")[0]))
 
 
-def below(name):
-    """A crate and all crates of the repository that it stands on, lowest first."""
-    known, found = crates(), {name}
+def below(*names):
+    """These crates and all crates of the repository that they stand on, lowest first."""
+    known, found = crates(), set(names)
     for it in reversed(known):
         if it in found:
             found |= set(known[it]) & set(known)
