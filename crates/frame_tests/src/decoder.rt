@@ -4,5 +4,5 @@
 mod faults;
 mod frames;
 mod heads;
-mod reading;
+pub mod reading;
 mod vectors;

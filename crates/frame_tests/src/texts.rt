@@ -1,6 +1,6 @@
 //! Frames and their texts.
 
-use crate::parts::{Areas, NONE, Ranges, areas, set};
+use crate::parts::{Areas, NONE, Ranges, append, fill, package, same_bytes, same_number, set};
 use mig_base::phase::Received;
 use mig_base::{Command, NoMemory, PAGE_BYTES, PageBytes, PageNo, Prot};
 use page_stream::{
@@ -8,7 +8,6 @@ use page_stream::{
 };
 use std::alloc::Global;
 use std::process::Abort;
-use std::test::Fail;
 
 /// A frame to be made.
 #[derive(Clone, Copy)]
@@ -49,30 +48,44 @@ fn write(rt: &impl Abort, frame: &Frame, epoch: u32, bytes: &mut Vec<u8>) -> Res
     encode_into(frame, epoch, bytes)
 }
 
-/// Looks at what is written of a frame after a byte, and at the text alone.
-fn look(
-    rt: &impl Abort,
-    alloc: Global,
-    frame: &Frame,
-    epoch: u32,
-    wanted: &[u8],
-) -> Result<(), Fail> {
-    let mut bytes = Vec::from_slice(alloc, &[0xee]).or_else(|_| Vec::from_slice(alloc, &[0xee]))?;
-    if write(rt, frame, epoch, &mut bytes).is_err() {
-        assert_eq!(rt; bytes.as_slice(), [0xee].as_slice());
-        write(rt, frame, epoch, &mut bytes)?;
+/// Stops unless bytes are one of 0xee and those that are wanted.
+fn is_behind(rt: &impl Abort, bytes: &[u8], wanted: &[u8]) {
+    if let [first, text @ ..] = bytes {
+        assert!(rt; *first == 0xee);
+        same_bytes(rt, text, wanted);
+    } else {
+        assert!(rt; false);
     }
-    assert_eq!(rt; bytes.get(0), Some(&0xee));
-    assert_eq!(rt; bytes.get(1..), Some(wanted));
-    assert!(rt; frame.is_well_formed());
-    let text = encode(alloc, frame, epoch).or_else(|_| encode(alloc, frame, epoch))?;
-    assert_eq!(rt; text.as_slice(), wanted);
-    Ok(())
 }
 
-type Samples<const N: usize> = [(Sample, u32, &'static [u8]); N];
+/// Looks at what is written of a frame after a byte.
+fn look_behind(rt: &impl Abort, alloc: Global, frame: &Frame, epoch: u32, wanted: &[u8]) {
+    let mut bytes = Vec::new(alloc);
+    append(rt, &mut bytes, &[0xee]);
+    if write(rt, frame, epoch, &mut bytes).is_err() {
+        is_behind(rt, &bytes, &[]);
+        write(rt, frame, epoch, &mut bytes).expect(rt, "a second time");
+    }
+    is_behind(rt, &bytes, wanted);
+}
 
-const TEXTS: Samples<16> = [
+/// The text of a frame, once more where memory was refused.
+fn text(rt: &impl Abort, alloc: Global, frame: &Frame, epoch: u32) -> Vec<u8> {
+    assert!(rt; frame.is_well_formed());
+    match encode(alloc, frame, epoch) {
+        Ok(text) => text,
+        Err(_) => encode(alloc, frame, epoch).expect(rt, "a second time"),
+    }
+}
+
+/// Looks at what is written of a frame after a byte, and at the text alone.
+fn look(rt: &impl Abort, alloc: Global, frame: &Frame, epoch: u32, wanted: &[u8]) {
+    look_behind(rt, alloc, frame, epoch, wanted);
+    let text = text(rt, alloc, frame, epoch);
+    same_bytes(rt, &text, wanted);
+}
+
+static TEXTS: [(Sample, u32, &[u8]); 16] = [
     (
         Advise,
         1,
@@ -84,7 +97,7 @@ const TEXTS: Samples<16> = [
         b"\x02\x03\x00\x00\x00\x00\x00\x01\x00\x00\x00\x04\x00\x00\x00\x10",
     ),
     (
-        Discard([(0x11, 1), (0, 0)]),
+        Discard(((0x11, 1), (0, 0))),
         1,
         b"\x02\x04\x00\x00\x00\x00\x00\x01\x00\x00\x00\x0c\x00\x00\x00\x01\x00\x00\x00\x11\x00\x00\x00\x01",
     ),
@@ -125,17 +138,17 @@ const TEXTS: Samples<16> = [
         b"\x02\x04\x00\x00\x00\x00\x00\x01\x00\x00\x00\x04\x00\x00\x00\x00",
     ),
     (
-        Discard([(0x10, 1), (0xf_fffe, 2)]),
+        Discard(((0x10, 1), (0xf_fffe, 2))),
         1,
         b"\x02\x04\x00\x00\x00\x00\x00\x01\x00\x00\x00\x14\x00\x00\x00\x02\x00\x00\x00\x10\x00\x00\x00\x01\x00\x0f\xff\xfe\x00\x00\x00\x02",
     ),
     (
-        Discard([(0x10, 2), (0x12, 1)]),
+        Discard(((0x10, 2), (0x12, 1))),
         1,
         b"\x02\x04\x00\x00\x00\x00\x00\x01\x00\x00\x00\x0c\x00\x00\x00\x01\x00\x00\x00\x10\x00\x00\x00\x03",
     ),
     (
-        Discard([(0x3ff, 0x102), (0x502, 1)]),
+        Discard(((0x3ff, 0x102), (0x502, 1))),
         1,
         b"\x02\x04\x00\x00\x00\x00\x00\x01\x00\x00\x00\x14\x00\x00\x00\x02\x00\x00\x03\xff\x00\x00\x01\x02\x00\x00\x05\x02\x00\x00\x00\x01",
     ),
@@ -145,19 +158,31 @@ const TEXTS: Samples<16> = [
         b"\x02\x82\x00\x00\x00\x00\x00\x02\x00\x00\x00\x05\x00\x00\x00\x00\x00",
     ),
     (
-        Recv(Received::Ended, [(0x20, 3), (0, 0)]),
+        Recv(Received::Ended, ((0x20, 3), (0, 0))),
         2,
         b"\x02\x82\x00\x00\x00\x00\x00\x02\x00\x00\x00\x0d\x02\x00\x00\x00\x01\x00\x00\x00\x20\x00\x00\x00\x03",
     ),
 ];
 
-#[test]
-fn small_frames(rt: HostRuntime) -> Result<(), Fail> {
-    for (sample, epoch, wanted) in TEXTS {
-        let frame = made(&rt, rt.alloc(), sample).or_else(|_| made(&rt, rt.alloc(), sample))?;
-        look(&rt, rt.alloc(), &frame, epoch, wanted)?;
+/// A frame, made again where memory was refused.
+fn made_again(rt: &impl Abort, alloc: Global, sample: Sample) -> Frame {
+    match made(rt, alloc, sample) {
+        Ok(frame) => frame,
+        Err(_) => made(rt, alloc, sample).expect(rt, "a second time"),
     }
-    Ok(())
+}
+
+/// Looks at the text of a row.
+fn one_text(rt: &impl Abort, alloc: Global, sample: Sample, epoch: u32, wanted: &[u8]) {
+    let frame = made_again(rt, alloc, sample);
+    look(rt, alloc, &frame, epoch, wanted);
+}
+
+#[test]
+fn small_frames(rt: HostRuntime) {
+    for (sample, epoch, wanted) in &TEXTS {
+        one_text(&rt, rt.alloc(), *sample, *epoch, *wanted);
+    }
 }
 
 const NO_ACCESS: Prot = Prot::NoAccess;
@@ -178,55 +203,71 @@ const STORE: Command = Command::Store {
 };
 
 /// What is mapped and owed, and what two processors wait for.
-type Parts = (Areas, Ranges, [Option<Command>; 2]);
+type Parts = (Areas, Ranges, (Option<Command>, Option<Command>));
 
-const PACKAGES: [(Parts, &[u8]); 4] = [
+static PACKAGES: [(Parts, &[u8]); 4] = [
     (
         (
-            [(0x10, 2, WRITE), (0, 0, READ)],
-            [(0x11, 1), (0, 0)],
-            [None, Some(LOAD)],
+            ((0x10, 2, WRITE), (0, 0, READ)),
+            ((0x11, 1), (0, 0)),
+            (None, Some(LOAD)),
         ),
         b"\x02\x05\x00\x00\x00\x00\x00\x01\x00\x00\x00\x25\x00\x00\x00\x01\x00\x00\x00\x10\x00\x00\x00\x02\x02\x00\x00\x00\x01\x00\x00\x00\x11\x00\x00\x00\x01\x02\x00\x01\x00\x00\x00\x00\x00\x01\x10\x00\x08",
     ),
     (
-        ([(0x10, 1, READ), (0x11, 3, NO_ACCESS)], NONE, [None, None]),
+        (((0x10, 1, READ), (0x11, 3, NO_ACCESS)), NONE, (None, None)),
         b"\x02\x05\x00\x00\x00\x00\x00\x01\x00\x00\x00\x1d\x00\x00\x00\x02\x00\x00\x00\x10\x00\x00\x00\x01\x01\x00\x00\x00\x11\x00\x00\x00\x03\x00\x00\x00\x00\x00\x02\x00\x00",
     ),
     (
         (
-            [(0x10, 1, READ), (0x11, 3, READ)],
+            ((0x10, 1, READ), (0x11, 3, READ)),
             NONE,
-            [Some(STORE), None],
+            (Some(STORE), None),
         ),
         b"\x02\x05\x00\x00\x00\x00\x00\x01\x00\x00\x00\x25\x00\x00\x00\x01\x00\x00\x00\x10\x00\x00\x00\x04\x01\x00\x00\x00\x00\x02\x02\x00\x00\x00\x00\xab\xcd\xef\x04\x04\x00\x00\x00\x00\x89\xab\xcd\xef\x00",
     ),
     (
         (
-            [(0x10, 5, READ), (0x12, 1, WRITE)],
-            [(0x10, 1), (0x12, 1)],
-            [None, None],
+            ((0x10, 5, READ), (0x12, 1, WRITE)),
+            ((0x10, 1), (0x12, 1)),
+            (None, None),
         ),
         b"\x02\x05\x00\x00\x00\x00\x00\x01\x00\x00\x00\x36\x00\x00\x00\x03\x00\x00\x00\x10\x00\x00\x00\x02\x01\x00\x00\x00\x12\x00\x00\x00\x01\x02\x00\x00\x00\x13\x00\x00\x00\x02\x01\x00\x00\x00\x02\x00\x00\x00\x10\x00\x00\x00\x01\x00\x00\x00\x12\x00\x00\x00\x01\x02\x00\x00",
     ),
 ];
 
-fn package(rt: &impl Abort, alloc: Global, parts: Parts) -> Result<Frame, NoMemory> {
-    let (mapped, owed, commands) = parts;
-    Ok(Frame::Package {
-        areas: areas(rt, alloc, mapped)?,
-        owed: set(rt, alloc, owed)?,
-        commands: Waiting::new(Vec::from_slice(alloc, &commands)?),
-    })
+fn package_of(rt: &impl Abort, alloc: Global, parts: Parts) -> Result<Frame, NoMemory> {
+    let (mapped, owed, (first, second)) = parts;
+    let commands = Waiting::new(Vec::from_slice(alloc, &[first, second])?);
+    package(rt, alloc, mapped, owed, commands)
+}
+
+/// A Package, made again where memory was refused.
+fn package_again(rt: &impl Abort, alloc: Global, parts: Parts) -> Frame {
+    match package_of(rt, alloc, parts) {
+        Ok(frame) => frame,
+        Err(_) => package_of(rt, alloc, parts).expect(rt, "a second time"),
+    }
+}
+
+/// Looks at the text of a Package.
+fn one_package(rt: &impl Abort, alloc: Global, parts: Parts, wanted: &[u8]) {
+    let frame = package_again(rt, alloc, parts);
+    look(rt, alloc, &frame, 1, wanted);
 }
 
 #[test]
-fn packages(rt: HostRuntime) -> Result<(), Fail> {
-    for (parts, wanted) in PACKAGES {
-        let frame = package(&rt, rt.alloc(), parts).or_else(|_| package(&rt, rt.alloc(), parts))?;
-        look(&rt, rt.alloc(), &frame, 1, wanted)?;
+fn packages(rt: HostRuntime) {
+    for (parts, wanted) in &PACKAGES {
+        one_package(&rt, rt.alloc(), *parts, *wanted);
     }
-    Ok(())
+}
+
+fn page(alloc: Global) -> Result<Frame, NoMemory> {
+    Ok(Frame::Page {
+        page: 0x10,
+        bytes: PageBytes::copy_of(alloc, &[7; PAGE_BYTES])?,
+    })
 }
 
 /// Two neighbouring pages, of one byte each.
@@ -240,94 +281,110 @@ fn run(alloc: Global) -> Result<Frame, NoMemory> {
     })
 }
 
-fn page(alloc: Global) -> Result<Frame, NoMemory> {
-    Ok(Frame::Page {
-        page: 0x10,
-        bytes: PageBytes::copy_of(alloc, &[7; PAGE_BYTES])?,
-    })
-}
-
-/// The front of a text, and pages of the bytes 7 and 9.
-fn text_of_pages(alloc: Global, front: &[u8], more: bool) -> Result<Vec<u8>, NoMemory> {
-    let mut text = Vec::from_slice(alloc, front)?;
-    text.extend_from_slice(&[7; PAGE_BYTES])?;
-    if more {
-        text.extend_from_slice(&[9; PAGE_BYTES])?;
+/// The page, made again where memory was refused.
+fn page_again(rt: &impl Abort, alloc: Global) -> Frame {
+    match page(alloc) {
+        Ok(frame) => frame,
+        Err(_) => page(alloc).expect(rt, "a second time"),
     }
-    Ok(text)
 }
 
-const PAGE_FRONT: &[u8] = b"\x02\x02\x00\x00\x00\x00\x00\x01\x00\x00\x10\x04\x00\x00\x00\x10";
+/// The two pages, made again where memory was refused.
+fn run_again(rt: &impl Abort, alloc: Global) -> Frame {
+    match run(alloc) {
+        Ok(frame) => frame,
+        Err(_) => run(alloc).expect(rt, "a second time"),
+    }
+}
 
-const RUN_FRONT: &[u8] =
+/// The front of a text, and as many bytes of 7 and then of 9.
+fn text_of_pages(
+    rt: &impl Abort,
+    alloc: Global,
+    front: &[u8],
+    sevens: usize,
+    nines: usize,
+) -> Vec<u8> {
+    let mut text = Vec::new(alloc);
+    append(rt, &mut text, front);
+    fill(rt, &mut text, 7, sevens);
+    fill(rt, &mut text, 9, nines);
+    text
+}
+
+static PAGE_FRONT: &[u8] = b"\x02\x02\x00\x00\x00\x00\x00\x01\x00\x00\x10\x04\x00\x00\x00\x10";
+
+static RUN_FRONT: &[u8] =
     b"\x02\x08\x00\x00\x00\x00\x00\x01\x00\x00\x20\x08\x00\x00\x00\x10\x00\x00\x00\x02";
 
 #[test]
-fn pages(rt: HostRuntime) -> Result<(), Fail> {
-    let one = page(rt.alloc()).or_else(|_| page(rt.alloc()))?;
-    let two = run(rt.alloc()).or_else(|_| run(rt.alloc()))?;
-    let wanted = text_of_pages(rt.alloc(), PAGE_FRONT, false).or_else(|_| text_of_pages(
-        rt.alloc(),
-        PAGE_FRONT,
-        false,
-    ))?;
-    look(&rt, rt.alloc(), &one, 1, &wanted)?;
-    let wanted = text_of_pages(rt.alloc(), RUN_FRONT, true).or_else(|_| text_of_pages(
-        rt.alloc(),
-        RUN_FRONT,
-        true,
-    ))?;
-    look(&rt, rt.alloc(), &two, 1, &wanted)
+fn a_page(rt: HostRuntime) {
+    let frame = page_again(&rt, rt.alloc());
+    let wanted = text_of_pages(&rt, rt.alloc(), PAGE_FRONT, PAGE_BYTES, 0);
+    look(&rt, rt.alloc(), &frame, 1, &wanted);
+}
+
+#[test]
+fn a_run_of_pages(rt: HostRuntime) {
+    let frame = run_again(&rt, rt.alloc());
+    let wanted = text_of_pages(&rt, rt.alloc(), RUN_FRONT, PAGE_BYTES, PAGE_BYTES);
+    look(&rt, rt.alloc(), &frame, 1, &wanted);
+}
+
+/// Writes a page after a byte from where its bytes stand.
+fn page_behind(rt: &impl Abort, page: &[u8; PAGE_BYTES], bytes: &mut Vec<u8>) {
+    append(rt, bytes, &[0xee]);
+    if encode_page_into(0x10, page, 1, bytes).is_err() {
+        is_behind(rt, bytes, &[]);
+        encode_page_into(0x10, page, 1, bytes).expect(rt, "a second time");
+    }
 }
 
 /// A page that is written from where its bytes stand is written as its frame is.
 #[test]
-fn a_page_from_its_place(rt: HostRuntime) -> Result<(), Fail> {
-    let page = [7; PAGE_BYTES];
-    let wanted = text_of_pages(rt.alloc(), PAGE_FRONT, false).or_else(|_| text_of_pages(
-        rt.alloc(),
-        PAGE_FRONT,
-        false,
-    ))?;
-    let mut bytes = Vec::from_slice(rt.alloc(), &[0xee]).or_else(|_| Vec::from_slice(
-        rt.alloc(),
-        &[0xee],
-    ))?;
-    if encode_page_into(0x10, &page, 1, &mut bytes).is_err() {
-        assert_eq!(&rt; bytes.as_slice(), [0xee].as_slice());
-        encode_page_into(0x10, &page, 1, &mut bytes)?;
-    }
-    assert_eq!(&rt; bytes.get(0), Some(&0xee));
-    assert_eq!(&rt; bytes.get(1..), Some(wanted.as_slice()));
-    Ok(())
+fn a_page_from_its_place(rt: HostRuntime) {
+    let mut bytes = Vec::new(rt.alloc());
+    page_behind(&rt, &[7; PAGE_BYTES], &mut bytes);
+    let wanted = text_of_pages(&rt, rt.alloc(), PAGE_FRONT, PAGE_BYTES, 0);
+    is_behind(&rt, &bytes, &wanted);
 }
 
 /// The text in front of the bytes of pages, of which each number has bytes of its own.
 #[test]
 fn heads_of_pages(rt: HostRuntime) {
-    assert_eq!(&rt; page_head(1, 0x10).as_slice(), PAGE_FRONT);
-    assert_eq!(&rt; run_head(1, 0x10, 2).as_slice(), RUN_FRONT);
-    assert_eq!(&rt;
-        page_head(0x0102_0304, 0x000f_fffe).as_slice(),
-        b"\x02\x02\x00\x00\x01\x02\x03\x04\x00\x00\x10\x04\x00\x0f\xff\xfe".as_slice()
+    same_bytes(&rt, &page_head(1, 0x10), PAGE_FRONT);
+    same_bytes(&rt, &run_head(1, 0x10, 2), RUN_FRONT);
+    same_bytes(
+        &rt,
+        &page_head(0x0102_0304, 0x000f_fffe),
+        b"\x02\x02\x00\x00\x01\x02\x03\x04\x00\x00\x10\x04\x00\x0f\xff\xfe",
     );
-    assert_eq!(&rt;
-        run_head(0xffff_ffff, 0x000f_ffc0, 64).as_slice(),
-        b"\x02\x08\x00\x00\xff\xff\xff\xff\x00\x04\x00\x08\x00\x0f\xff\xc0\x00\x00\x00\x40".as_slice()
+    same_bytes(
+        &rt,
+        &run_head(0xffff_ffff, 0x000f_ffc0, 64),
+        b"\x02\x08\x00\x00\xff\xff\xff\xff\x00\x04\x00\x08\x00\x0f\xff\xc0\x00\x00\x00\x40",
     );
+}
+
+/// A vector with room for bytes, once more where memory was refused.
+fn room(rt: &impl Abort, alloc: Global, count: usize) -> Vec<u8> {
+    match Vec::with_capacity(alloc, count) {
+        Ok(bytes) => bytes,
+        Err(_) => Vec::with_capacity(alloc, count).expect(rt, "a second time"),
+    }
+}
+
+/// Writes a frame, for which no memory is taken.
+fn write_in_room(rt: &impl Abort, frame: &Frame, bytes: &mut Vec<u8>, len: usize) {
+    assert!(rt; write(rt, frame, 1, bytes).is_ok());
+    same_number(rt, bytes.len(), len);
+    same_number(rt, bytes.capacity(), 28);
 }
 
 /// Where there is room no memory is taken.
 #[test]
-fn in_the_room_that_is_there(rt: HostRuntime) -> Result<(), Fail> {
-    let mut bytes = Vec::with_capacity(rt.alloc(), 28).or_else(|_| Vec::with_capacity(
-        rt.alloc(),
-        28,
-    ))?;
-    for (frame, len) in [(Frame::Advise, 12), (Frame::End { urgent: 0 }, 28)] {
-        write(&rt, &frame, 1, &mut bytes)?;
-        assert_eq!(&rt; bytes.len(), len);
-        assert_eq!(&rt; bytes.capacity(), 28);
-    }
-    Ok(())
+fn in_the_room_that_is_there(rt: HostRuntime) {
+    let mut bytes = room(&rt, rt.alloc(), 28);
+    write_in_room(&rt, &Frame::Advise, &mut bytes, 12);
+    write_in_room(&rt, &Frame::End { urgent: 0 }, &mut bytes, 28);
 }

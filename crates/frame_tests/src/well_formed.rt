@@ -1,13 +1,12 @@
 //! `Frame`: which are well formed, and how long their texts are.
 
-use crate::parts::{Areas, NONE, Ranges, areas, set};
+use crate::parts::{Areas, NONE, Ranges, holds, package, set};
 use area_map::AreaMap;
 use mig_base::phase::Received;
 use mig_base::{Addr, Command, NoMemory, PageBytes, PageNo, PageSet, Prot};
 use page_stream::{Frame, Pages, Waiting};
 use std::alloc::Global;
 use std::process::Abort;
-use std::test::Fail;
 
 /// A frame to be made. Pages have bytes of zeros.
 #[derive(Clone, Copy)]
@@ -38,29 +37,56 @@ use Sample::{
     Zero,
 };
 
-fn page(alloc: Global) -> Result<PageBytes, NoMemory> {
-    PageBytes::zeros(alloc)
+fn page(alloc: Global, page: PageNo) -> Result<Frame, NoMemory> {
+    let bytes = PageBytes::zeros(alloc)?;
+    Ok(Frame::Page { page, bytes })
 }
 
 fn pages(alloc: Global, count: usize) -> Result<Pages, NoMemory> {
     let mut pages = Vec::new(alloc);
     for _ in 0..count {
-        pages.push(page(alloc)?)?;
+        pages.push(PageBytes::zeros(alloc)?)?;
     }
     Ok(Pages::new(pages))
 }
 
-/// `count` processors without a command.
-fn idle(alloc: Global, count: usize) -> Result<Waiting, NoMemory> {
-    Ok(Waiting::new(vec![in alloc; None; count]?))
+fn run(alloc: Global, first: PageNo, count: usize) -> Result<Frame, NoMemory> {
+    let pages = pages(alloc, count)?;
+    Ok(Frame::Run { first, pages })
+}
+
+fn discard(rt: &impl Abort, alloc: Global, ranges: Ranges) -> Result<Frame, NoMemory> {
+    let pages = set(rt, alloc, ranges)?;
+    Ok(Frame::Discard { pages })
+}
+
+fn recv(rt: &impl Abort, alloc: Global, ranges: Ranges) -> Result<Frame, NoMemory> {
+    let owed = set(rt, alloc, ranges)?;
+    Ok(Frame::Recv {
+        state: Received::Running,
+        owed,
+    })
+}
+
+/// A Package of `count` processors without a command.
+fn idle(
+    rt: &impl Abort,
+    alloc: Global,
+    mapped: Areas,
+    owed: Ranges,
+    count: usize,
+) -> Result<Frame, NoMemory> {
+    let commands = Waiting::new(vec![in alloc; None; count]?);
+    package(rt, alloc, mapped, owed, commands)
 }
 
 /// A Package with nothing mapped and one processor, which waits for the command.
 fn waits_for(alloc: Global, command: Command) -> Result<Frame, NoMemory> {
+    let commands = vec![in alloc; Some(command); 1]?;
     Ok(Frame::Package {
         areas: AreaMap::new(alloc),
         owed: PageSet::new(alloc),
-        commands: Waiting::new(vec![in alloc; Some(command); 1]?),
+        commands: Waiting::new(commands),
     })
 }
 
@@ -75,35 +101,20 @@ fn command(sample: Sample) -> Command {
 }
 
 fn made(rt: &impl Abort, alloc: Global, sample: Sample) -> Result<Frame, NoMemory> {
-    Ok(match sample {
-        Advise => Frame::Advise,
-        Page(number) => Frame::Page {
-            page: number,
-            bytes: page(alloc)?,
-        },
-        Zero(page) => Frame::Zero { page },
-        Run(first, count) => Frame::Run {
-            first,
-            pages: pages(alloc, count)?,
-        },
-        Discard(ranges) => Frame::Discard {
-            pages: set(rt, alloc, ranges)?,
-        },
-        Package(mapped, owed, processors) => Frame::Package {
-            areas: areas(rt, alloc, mapped)?,
-            owed: set(rt, alloc, owed)?,
-            commands: idle(alloc, processors)?,
-        },
-        Load(..) | Store(..) | MapCall => waits_for(alloc, command(sample))?,
-        End(urgent) => Frame::End { urgent },
-        Resume => Frame::Resume,
-        Request(page) => Frame::Request { page },
-        Recv(ranges) => Frame::Recv {
-            state: Received::Running,
-            owed: set(rt, alloc, ranges)?,
-        },
-        Done => Frame::Done,
-    })
+    match sample {
+        Advise => Ok(Frame::Advise),
+        Page(number) => page(alloc, number),
+        Zero(page) => Ok(Frame::Zero { page }),
+        Run(first, count) => run(alloc, first, count),
+        Discard(ranges) => discard(rt, alloc, ranges),
+        Package(mapped, owed, processors) => idle(rt, alloc, mapped, owed, processors),
+        Load(..) | Store(..) | MapCall => waits_for(alloc, command(sample)),
+        End(urgent) => Ok(Frame::End { urgent }),
+        Resume => Ok(Frame::Resume),
+        Request(page) => Ok(Frame::Request { page }),
+        Recv(ranges) => recv(rt, alloc, ranges),
+        Done => Ok(Frame::Done),
+    }
 }
 
 /// How long the text of a frame is, if the frame is well formed.
@@ -117,19 +128,25 @@ fn length(frame: &Frame) -> Option<u64> {
 
 /// How long the text of a sample is.
 fn sample_length(rt: &impl Abort, alloc: Global, sample: Sample) -> Result<Option<u64>, NoMemory> {
-    let frame = made(rt, alloc, sample)?;
-    Ok(length(&frame))
+    match made(rt, alloc, sample) {
+        Ok(frame) => Ok(length(&frame)),
+        Err(NoMemory) => Err(NoMemory),
+    }
 }
 
-fn play(rt: &impl Abort, alloc: Global, samples: &[(Sample, Option<u64>)]) -> Result<(), Fail> {
-    for (i, (sample, wanted)) in samples.iter().enumerate() {
-        let length = match sample_length(rt, alloc, *sample) {
-            Ok(length) => length,
-            Err(NoMemory) => sample_length(rt, alloc, *sample)?,
-        };
-        assert!(rt; length == *wanted, "sample {i}");
+/// The same, looked at again where memory was refused.
+fn length_again(rt: &impl Abort, alloc: Global, sample: Sample) -> Option<u64> {
+    match sample_length(rt, alloc, sample) {
+        Ok(length) => length,
+        Err(NoMemory) => sample_length(rt, alloc, sample).expect(rt, "a second time"),
     }
-    Ok(())
+}
+
+fn play(rt: &impl Abort, alloc: Global, samples: &[(Sample, Option<u64>)]) {
+    for (i, (sample, wanted)) in samples.iter().enumerate() {
+        let length = length_again(rt, alloc, *sample);
+        holds(rt, length == *wanted, "sample", i);
+    }
 }
 
 type Samples<const N: usize> = [(Sample, Option<u64>); N];
@@ -163,88 +180,88 @@ const PAGES: Samples<21> = [
 ];
 
 #[test]
-fn pages_and_runs(rt: HostRuntime) -> Result<(), Fail> {
-    play(&rt, rt.alloc(), &PAGES)
+fn pages_and_runs(rt: HostRuntime) {
+    play(&rt, rt.alloc(), &PAGES);
 }
 
 /// A set is counted by its runs. A Discard may have any pages, a Recv 262,144 at most.
 const SETS: Samples<14> = [
     (Discard(NONE), Some(16)),
-    (Discard([(0x10, 1), (0, 0)]), Some(24)),
-    (Discard([(0x10, 2), (0x13, 1)]), Some(32)),
-    (Discard([(0x10, 2), (0x12, 1)]), Some(24)),
-    (Discard([(0x3ff, 2), (LAST, 1)]), Some(32)),
-    (Discard([(0x10, 0xf_fff0), (0, 0)]), Some(24)),
-    (Discard([(0xf, 2), (0, 0)]), None),
-    (Discard([(0, 1), (0x10, 1)]), None),
+    (Discard(((0x10, 1), (0, 0))), Some(24)),
+    (Discard(((0x10, 2), (0x13, 1))), Some(32)),
+    (Discard(((0x10, 2), (0x12, 1))), Some(24)),
+    (Discard(((0x3ff, 2), (LAST, 1))), Some(32)),
+    (Discard(((0x10, 0xf_fff0), (0, 0))), Some(24)),
+    (Discard(((0xf, 2), (0, 0))), None),
+    (Discard(((0, 1), (0x10, 1))), None),
     (Recv(NONE), Some(17)),
-    (Recv([(0x10, 2), (0x13, 1)]), Some(33)),
-    (Recv([(0x10, 262_144), (0, 0)]), Some(25)),
-    (Recv([(0x10, 262_145), (0, 0)]), None),
-    (Recv([(0x10, 262_144), (LAST, 1)]), None),
-    (Recv([(0xf, 1), (0, 0)]), None),
+    (Recv(((0x10, 2), (0x13, 1))), Some(33)),
+    (Recv(((0x10, 262_144), (0, 0))), Some(25)),
+    (Recv(((0x10, 262_145), (0, 0))), None),
+    (Recv(((0x10, 262_144), (LAST, 1))), None),
+    (Recv(((0xf, 1), (0, 0))), None),
 ];
 
 #[test]
-fn sets_of_pages(rt: HostRuntime) -> Result<(), Fail> {
-    play(&rt, rt.alloc(), &SETS)
+fn sets_of_pages(rt: HostRuntime) {
+    play(&rt, rt.alloc(), &SETS);
 }
 
 const READ: Prot = Prot::Read;
 
 const WRITE: Prot = Prot::ReadWrite;
 
-const UNMAPPED: Areas = [(0, 0, READ), (0, 0, READ)];
+const UNMAPPED: Areas = ((0, 0, READ), (0, 0, READ));
 
 /// Areas are counted as those of a map: touching ones of one protection are one. Each processor has a place in it.
 const PACKAGES: Samples<18> = [
     (Package(UNMAPPED, NONE, 1), Some(22)),
     (
-        Package([(0x10, 2, WRITE), (0, 0, READ)], [(0x11, 1), (0, 0)], 2),
+        Package(((0x10, 2, WRITE), (0, 0, READ)), ((0x11, 1), (0, 0)), 2),
         Some(40),
     ),
     (
-        Package([(0x10, 1, READ), (0x11, 1, READ)], NONE, 1),
+        Package(((0x10, 1, READ), (0x11, 1, READ)), NONE, 1),
         Some(31),
     ),
     (
-        Package([(0x10, 1, READ), (0x11, 1, WRITE)], NONE, 1),
+        Package(((0x10, 1, READ), (0x11, 1, WRITE)), NONE, 1),
         Some(40),
     ),
     (
-        Package([(0x10, 1, READ), (0x12, 1, READ)], NONE, 1),
+        Package(((0x10, 1, READ), (0x12, 1, READ)), NONE, 1),
         Some(40),
     ),
     (
-        Package([(0x10, 9, READ), (0x12, 1, READ)], NONE, 1),
+        Package(((0x10, 9, READ), (0x12, 1, READ)), NONE, 1),
         Some(31),
     ),
     (
-        Package([(0x10, 1, READ), (LAST, 1, Prot::NoAccess)], NONE, 1),
+        Package(((0x10, 1, READ), (LAST, 1, Prot::NoAccess)), NONE, 1),
         Some(40),
     ),
     (
-        Package([(0x10, 262_144, READ), (0, 0, READ)], NONE, 1),
+        Package(((0x10, 262_144, READ), (0, 0, READ)), NONE, 1),
         Some(31),
     ),
     (
-        Package([(0x10, 262_144, READ), (LAST, 1, READ)], NONE, 1),
+        Package(((0x10, 262_144, READ), (LAST, 1, READ)), NONE, 1),
         None,
     ),
-    (Package([(0xf, 1, READ), (0, 0, READ)], NONE, 1), None),
-    (Package([(0, 1, READ), (0x10, 1, READ)], NONE, 1), None),
-    (Package(UNMAPPED, [(0x10, 2), (0x13, 1)], 1), Some(38)),
-    (Package(UNMAPPED, [(0x10, 262_144), (0, 0)], 1), Some(30)),
-    (Package(UNMAPPED, [(0x10, 262_144), (LAST, 1)], 1), None),
-    (Package(UNMAPPED, [(0xf, 1), (0, 0)], 1), None),
+    (Package(((0xf, 1, READ), (0, 0, READ)), NONE, 1), None),
+    (Package(((0, 1, READ), (0x10, 1, READ)), NONE, 1), None),
+    (Package(UNMAPPED, ((0x10, 2), (0x13, 1)), 1), Some(38)),
+    (Package(UNMAPPED, ((0x10, 262_144), (0, 0)), 1), Some(30)),
+    (Package(UNMAPPED, ((0x10, 262_144), (LAST, 1)), 1), None),
+    (Package(UNMAPPED, ((0xf, 1), (0, 0)), 1), None),
     (Package(UNMAPPED, NONE, 16), Some(37)),
     (Package(UNMAPPED, NONE, 17), None),
     (Package(UNMAPPED, NONE, 0), None),
 ];
 
 #[test]
-fn packages(rt: HostRuntime) -> Result<(), Fail> {
-    play(&rt, rt.alloc(), &PACKAGES)
+fn packages(rt: HostRuntime) {
+    play(&rt, rt.alloc(), &PACKAGES);
 }
 
 /// A load or store of any address may wait, where the address is a multiple of the width and the value fits it.
@@ -266,6 +283,6 @@ const COMMANDS: Samples<14> = [
 ];
 
 #[test]
-fn waiting_commands(rt: HostRuntime) -> Result<(), Fail> {
-    play(&rt, rt.alloc(), &COMMANDS)
+fn waiting_commands(rt: HostRuntime) {
+    play(&rt, rt.alloc(), &COMMANDS);
 }

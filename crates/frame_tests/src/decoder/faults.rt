@@ -1,11 +1,11 @@
 //! Faults: each where it first stands, and again until the decoder is reset.
 
-use super::reading::{fed, play, text_again};
+use super::reading::{completes, feed, text, waits};
+use crate::parts::same_number;
 use frame_decoder::{Decoder, StreamFault};
-use mig_base::{NoMemory, PAGE_BYTES};
+use mig_base::PAGE_BYTES;
 use std::alloc::Global;
 use std::process::Abort;
-use std::test::Fail;
 
 const TAG: StreamFault = StreamFault::BadTag;
 
@@ -84,91 +84,91 @@ static ADVISE_ONE: &[u8] = b"\x01\x01\x00\x00\x00\x00\x00\x01\x00\x00\x00\x00";
 static ADVISE_TWO: &[u8] = b"\x02\x01\x00\x00\x00\x00\x00\x01\x00\x00\x00\x00";
 
 /// Stops unless the piece is answered by the fault.
-fn fails(rt: &impl Abort, decoder: &mut Decoder, piece: &[u8], wanted: StreamFault) {
-    match fed(decoder, piece) {
-        Ok(_) => assert!(rt; false),
-        Err(fault) => assert!(rt; fault == wanted),
-    }
+fn fails(rt: &impl Abort, alloc: Global, decoder: &mut Decoder, piece: &[u8], wanted: StreamFault) {
+    let mut texts = Vec::new(alloc);
+    assert!(rt; feed(rt, decoder, piece, &mut texts) == Err(wanted));
 }
 
-fn copied(decoder: &Decoder) -> Result<Decoder, NoMemory> {
+/// A copy of a decoder, at the second try where memory is refused.
+fn copied(rt: &impl Abort, decoder: &Decoder) -> Decoder {
     match decoder.copy() {
-        Ok(copy) => Ok(copy),
-        Err(_) => decoder.copy(),
+        Ok(copy) => copy,
+        Err(_) => decoder.copy().expect(rt, "a second time"),
     }
 }
 
-/// The fault is not answered before the last byte, and then again, also by a copy, until the decoder is reset.
-fn one_fault(
+/// Stops unless the piece is answered by the fault, if it is fed to a copy.
+fn copy_fails(
     rt: &impl Abort,
     alloc: Global,
-    bytes: &[u8],
+    decoder: &Decoder,
+    piece: &[u8],
     wanted: StreamFault,
-) -> Result<(), Fail> {
+) {
+    let mut copy = copied(rt, decoder);
+    fails(rt, alloc, &mut copy, piece, wanted);
+}
+
+/// The fault is answered again, also by a copy, until the decoder is reset.
+fn stays(rt: &impl Abort, alloc: Global, decoder: &mut Decoder, wanted: StreamFault) {
+    same_number(rt, decoder.missing(), 0);
+    fails(rt, alloc, decoder, &[], wanted);
+    copy_fails(rt, alloc, decoder, ADVISE_ONE, wanted);
+    decoder.reset();
+    completes(rt, alloc, decoder, ADVISE_ONE, ADVISE_ONE);
+}
+
+/// The fault is not answered before the last byte, and then again.
+fn one_fault(rt: &impl Abort, alloc: Global, bytes: &[u8], wanted: StreamFault) {
     let mut decoder = Decoder::new(alloc);
     if let [front @ .., last] = bytes {
-        let none = play(rt, alloc, &mut decoder, front, bytes)?;
-        assert_eq!(rt; none.len(), bytes.len());
-        assert_eq!(rt; decoder.missing(), 1);
-        fails(rt, &mut decoder, &[*last], wanted);
+        waits(rt, alloc, &mut decoder, front);
+        same_number(rt, decoder.missing(), 1);
+        fails(rt, alloc, &mut decoder, &[*last], wanted);
     }
-    assert_eq!(rt; decoder.missing(), 0);
-    fails(rt, &mut decoder, &[], wanted);
-    let mut copy = copied(&decoder)?;
-    fails(rt, &mut copy, ADVISE_ONE, wanted);
-    decoder.reset();
-    let rest = play(rt, alloc, &mut decoder, ADVISE_ONE, ADVISE_ONE)?;
-    assert!(rt; rest.is_empty());
-    Ok(())
+    stays(rt, alloc, &mut decoder, wanted);
 }
 
 #[test]
-fn faults_stand_where_they_are(rt: HostRuntime) -> Result<(), Fail> {
+fn faults_stand_where_they_are(rt: HostRuntime) {
     for (bytes, fault) in &FAULTS {
-        one_fault(&rt, rt.alloc(), *bytes, *fault)?;
+        one_fault(&rt, rt.alloc(), *bytes, *fault);
     }
-    Ok(())
 }
 
 /// A run whose count is more than its bytes.
 #[test]
-fn a_run_is_as_long_as_it_says(rt: HostRuntime) -> Result<(), Fail> {
+fn a_run_is_as_long_as_it_says(rt: HostRuntime) {
     let front = b"\x08\x00\x00\x00\x00\x00\x01\x00\x00\x10\x08\x00\x00\x00\x10\x00\x00\x00\x02";
-    let bytes = text_again(rt.alloc(), 2, front, PAGE_BYTES, 0)?;
-    one_fault(&rt, rt.alloc(), &bytes, FIELD)
+    let bytes = text(&rt, rt.alloc(), 2, front, PAGE_BYTES, 0);
+    one_fault(&rt, rt.alloc(), &bytes, FIELD);
 }
+
+/// An Advise, the header of a frame with a tag that is not known, and a byte more.
+static ADVISE_AND_FAULT: &[u8] =
+    b"\x02\x01\x00\x00\x00\x00\x00\x01\x00\x00\x00\x00\x02\x09\x00\x00\x00\x00\x00\x01\x00\x00\x00\x00\x02";
 
 /// The frames before a fault are answered first.
 #[test]
-fn frames_before_a_fault(rt: HostRuntime) -> Result<(), Fail> {
-    let stream = text_again(
-        rt.alloc(),
-        2,
-        b"\x01\x00\x00\x00\x00\x00\x01\x00\x00\x00\x00\x02\x09\x00\x00\x00\x00\x00\x01\x00\x00\x00\x00\x02",
-        0,
-        0,
-    )?;
+fn frames_before_a_fault(rt: HostRuntime) {
     let mut decoder = Decoder::new(rt.alloc());
-    let rest = play(&rt, rt.alloc(), &mut decoder, &stream, &stream)?;
-    assert_eq!(&rt; rest.len(), 13);
-    fails(&rt, &mut decoder, &[], TAG);
-    fails(&rt, &mut decoder, ADVISE_TWO, TAG);
-    Ok(())
+    completes(&rt, rt.alloc(), &mut decoder, ADVISE_AND_FAULT, ADVISE_TWO);
+    fails(&rt, rt.alloc(), &mut decoder, &[], TAG);
+    fails(&rt, rt.alloc(), &mut decoder, ADVISE_TWO, TAG);
 }
 
 /// The first frame fixes the version, also of a copy, until the decoder is reset.
+fn fixes(rt: &impl Abort, alloc: Global, first: &[u8], other: &[u8]) {
+    let mut decoder = Decoder::new(alloc);
+    completes(rt, alloc, &mut decoder, first, first);
+    copy_fails(rt, alloc, &decoder, other, TAG);
+    fails(rt, alloc, &mut decoder, other, TAG);
+    decoder.reset();
+    completes(rt, alloc, &mut decoder, other, other);
+}
+
 #[test]
-fn one_version(rt: HostRuntime) -> Result<(), Fail> {
-    for (first, other) in [(ADVISE_ONE, ADVISE_TWO), (ADVISE_TWO, ADVISE_ONE)] {
-        let mut decoder = Decoder::new(rt.alloc());
-        let rest = play(&rt, rt.alloc(), &mut decoder, first, first)?;
-        assert!(&rt; rest.is_empty());
-        let mut copy = copied(&decoder)?;
-        fails(&rt, &mut copy, other, TAG);
-        fails(&rt, &mut decoder, other, TAG);
-        decoder.reset();
-        let rest = play(&rt, rt.alloc(), &mut decoder, other, other)?;
-        assert!(&rt; rest.is_empty());
-    }
-    Ok(())
+fn one_version(rt: HostRuntime) {
+    fixes(&rt, rt.alloc(), ADVISE_ONE, ADVISE_TWO);
+    fixes(&rt, rt.alloc(), ADVISE_TWO, ADVISE_ONE);
 }

@@ -1,123 +1,127 @@
 //! Frames, prefixes, changes and cuts.
 
 use super::faults::FAULTS;
-use super::reading::{fed, look, play, text_again};
+use super::reading::{completes, feed, is_front, is_whole, read_again, text, texts, waits, write};
 use super::vectors::{BOTH, PAGE, RUN};
-use frame_decoder::{Decoder, front_len, read_text};
+use crate::parts::{append, same_bytes, same_number};
+use frame_decoder::{Decoder, front_len};
 use mig_base::{NoMemory, PAGE_BYTES};
-use page_stream::Frame;
 use std::alloc::Global;
 use std::process::Abort;
-use std::test::Fail;
 
-/// Feeds a text byte by byte: nothing is answered before the last, and until then bytes are missing.
-fn by_bytes(rt: &impl Abort, alloc: Global, bytes: &[u8]) -> Result<(), Fail> {
+/// The text of the frame that is read from all these bytes: none where they are not one text.
+fn read(rt: &impl Abort, alloc: Global, bytes: &[u8]) -> Vec<u8> {
+    let mut text = Vec::new(alloc);
+    match read_again(alloc, bytes) {
+        Ok(Some((epoch, frame))) => assert!(rt; write(rt, &frame, epoch, &mut text).is_ok()),
+        Ok(None) => {}
+        Err(NoMemory) => assert!(rt; false),
+    }
+    text
+}
+
+/// Stops if these bytes are read as a text.
+fn is_no_text(rt: &impl Abort, alloc: Global, bytes: &[u8]) {
+    let text = read(rt, alloc, bytes);
+    assert!(rt; text.is_empty());
+}
+
+/// Reads a text whole.
+fn alone(rt: &impl Abort, alloc: Global, bytes: &[u8]) {
+    same_number(rt, front_len(bytes), bytes.len());
+    let text = read(rt, alloc, bytes);
+    is_whole(rt, &text, bytes);
+}
+
+/// Feeds the front of a text byte by byte: nothing is answered, and bytes are missing.
+fn drips(rt: &impl Abort, alloc: Global, decoder: &mut Decoder, front: &[u8]) {
+    for byte in front {
+        waits(rt, alloc, decoder, &[*byte]);
+        assert!(rt; decoder.missing() != 0);
+    }
+}
+
+/// Feeds a text byte by byte: it is answered with the last.
+fn by_bytes(rt: &impl Abort, alloc: Global, bytes: &[u8], front: &[u8], last: u8) {
     let mut decoder = Decoder::new(alloc);
-    if let [front @ .., last] = bytes {
-        for byte in front {
-            let rest = play(rt, alloc, &mut decoder, &[*byte], bytes)?;
-            assert_eq!(rt; rest.len(), bytes.len());
-            assert!(rt; decoder.missing() != 0);
-        }
-        let rest = play(rt, alloc, &mut decoder, &[*last], bytes)?;
-        assert!(rt; rest.is_empty());
-    }
-    assert_eq!(rt; decoder.missing(), 12);
-    Ok(())
+    drips(rt, alloc, &mut decoder, front);
+    completes(rt, alloc, &mut decoder, &[last], bytes);
+    same_number(rt, decoder.missing(), 12);
 }
 
-/// Reads the bytes of one text, and once more where memory was refused.
-fn read(alloc: Global, bytes: &[u8]) -> Result<Option<(u32, Frame)>, NoMemory> {
-    match read_text(alloc, bytes) {
-        Ok(read) => Ok(read),
-        Err(_) => read_text(alloc, bytes),
-    }
-}
-
-/// Reads a text whole, and not with one byte too few.
-fn alone(rt: &impl Abort, alloc: Global, bytes: &[u8]) -> Result<(), Fail> {
-    let Some(sent) = read(alloc, bytes)? else {
-        assert!(rt; false);
-        return Ok(());
-    };
-    assert_eq!(rt; front_len(bytes), bytes.len());
-    let rest = look(rt, alloc, &[sent], bytes)?;
-    assert!(rt; rest.is_empty());
-    if let [front @ .., _] = bytes {
-        assert!(rt; read(alloc, front)?.is_none());
-    }
-    Ok(())
-}
-
-/// Feeds a text whole, with one byte too few, and byte by byte.
-fn one_text(rt: &impl Abort, alloc: Global, bytes: &[u8]) -> Result<(), Fail> {
+/// Feeds a text whole, and with one byte too few.
+fn by_pieces(rt: &impl Abort, alloc: Global, bytes: &[u8], front: &[u8], last: u8) {
     let mut decoder = Decoder::new(alloc);
-    let rest = play(rt, alloc, &mut decoder, bytes, bytes)?;
-    assert!(rt; rest.is_empty());
+    completes(rt, alloc, &mut decoder, bytes, bytes);
+    waits(rt, alloc, &mut decoder, front);
+    same_number(rt, decoder.missing(), 1);
+    completes(rt, alloc, &mut decoder, &[last], bytes);
+}
+
+/// Feeds a text, and reads it alone, also with one byte too few.
+fn one_text(rt: &impl Abort, alloc: Global, bytes: &[u8]) {
     if let [front @ .., last] = bytes {
-        let none = play(rt, alloc, &mut decoder, front, bytes)?;
-        assert_eq!(rt; none.len(), bytes.len());
-        assert_eq!(rt; decoder.missing(), 1);
-        let rest = play(rt, alloc, &mut decoder, &[*last], bytes)?;
-        assert!(rt; rest.is_empty());
+        by_pieces(rt, alloc, bytes, front, *last);
+        by_bytes(rt, alloc, bytes, front, *last);
+        is_no_text(rt, alloc, front);
     }
-    by_bytes(rt, alloc, bytes)?;
-    alone(rt, alloc, bytes)
+    alone(rt, alloc, bytes);
+}
+
+/// Reads a text in a version, with as many bytes of 7 behind it.
+fn one_of(rt: &impl Abort, alloc: Global, version: u8, front: &[u8], sevens: usize) {
+    let bytes = text(rt, alloc, version, front, sevens, 0);
+    one_text(rt, alloc, &bytes);
 }
 
 #[test]
-fn texts_are_read(rt: HostRuntime) -> Result<(), Fail> {
+fn texts_are_read(rt: HostRuntime) {
     for vector in &BOTH {
-        for version in [1, 2] {
-            let bytes = text_again(rt.alloc(), version, *vector, 0, 0)?;
-            one_text(&rt, rt.alloc(), &bytes)?;
-        }
+        one_of(&rt, rt.alloc(), 1, *vector, 0);
+        one_of(&rt, rt.alloc(), 2, *vector, 0);
     }
-    Ok(())
 }
 
 #[test]
-fn pages_are_read(rt: HostRuntime) -> Result<(), Fail> {
-    for version in [1, 2] {
-        let bytes = text_again(rt.alloc(), version, PAGE, PAGE_BYTES, 0)?;
-        one_text(&rt, rt.alloc(), &bytes)?;
-    }
-    let bytes = text_again(rt.alloc(), 2, RUN, PAGE_BYTES, PAGE_BYTES)?;
-    one_text(&rt, rt.alloc(), &bytes)
+fn pages_are_read(rt: HostRuntime) {
+    one_of(&rt, rt.alloc(), 1, PAGE, PAGE_BYTES);
+    one_of(&rt, rt.alloc(), 2, PAGE, PAGE_BYTES);
+    let bytes = text(&rt, rt.alloc(), 2, RUN, PAGE_BYTES, PAGE_BYTES);
+    one_text(&rt, rt.alloc(), &bytes);
 }
 
-/// Feeds the bytes of a text with one of them changed: what is answered is written as the bytes that it took up. After the front stand as
-/// many bytes of 7 and then of 9.
-fn changes(
-    rt: &impl Abort,
-    alloc: Global,
-    version: u8,
-    (front, sevens, nines): (&[u8], usize, usize),
-    at: usize,
-) -> Result<(), Fail> {
-    let mut bytes = text_again(alloc, version, front, sevens, nines)?;
+/// Feeds bytes: what is answered is written as the bytes that it took up.
+fn is_written(rt: &impl Abort, alloc: Global, decoder: &mut Decoder, bytes: &[u8]) {
+    let texts = texts(rt, alloc, decoder, bytes);
+    is_front(rt, &texts, bytes);
+}
+
+/// Feeds bytes with one of them changed to each value.
+fn changes(rt: &impl Abort, alloc: Global, bytes: &mut [u8], at: usize) {
     let mut decoder = Decoder::new(alloc);
     for value in 0..=255 {
         if let Some(byte) = bytes.get_mut(at) {
             *byte = value;
         }
-        play(rt, alloc, &mut decoder, &bytes, &bytes)?;
+        is_written(rt, alloc, &mut decoder, bytes);
         decoder.reset();
     }
-    Ok(())
+}
+
+/// Changes each byte of a text in a version.
+fn each_byte(rt: &impl Abort, alloc: Global, version: u8, front: &[u8]) {
+    for at in 0..=front.len() {
+        let mut bytes = text(rt, alloc, version, front, 0, 0);
+        changes(rt, alloc, &mut bytes, at);
+    }
 }
 
 #[test]
-fn changed_texts_are_read_as_they_are_written(rt: HostRuntime) -> Result<(), Fail> {
+fn changed_texts_are_read_as_they_are_written(rt: HostRuntime) {
     for vector in &BOTH {
-        for at in 0..58 {
-            if at <= vector.len() {
-                changes(&rt, rt.alloc(), 1, (*vector, 0, 0), at)?;
-                changes(&rt, rt.alloc(), 2, (*vector, 0, 0), at)?;
-            }
-        }
+        each_byte(&rt, rt.alloc(), 1, *vector);
+        each_byte(&rt, rt.alloc(), 2, *vector);
     }
-    Ok(())
 }
 
 /// Each byte in front of the pages, and the first and the last of each page.
@@ -130,85 +134,83 @@ const OF_A_RUN: [usize; 24] = [
     0, 1, 2, 3, 4, 5, 6, 7, 8, 9, 10, 11, 12, 13, 14, 15, 16, 17, 18, 19, 20, 4115, 4116, 8211,
 ];
 
-#[test]
-fn changed_pages_are_read_as_they_are_written(rt: HostRuntime) -> Result<(), Fail> {
-    for version in [1, 2] {
-        for at in OF_A_PAGE {
-            changes(&rt, rt.alloc(), version, (PAGE, PAGE_BYTES, 0), at)?;
-        }
-        for at in OF_A_RUN {
-            changes(&rt, rt.alloc(), version, (RUN, PAGE_BYTES, PAGE_BYTES), at)?;
-        }
-    }
-    Ok(())
-}
-
-/// Feeds a stream in two pieces.
-fn one_cut(
+/// Changes the bytes at these places of a text of pages in a version.
+fn at_places(
     rt: &impl Abort,
     alloc: Global,
-    stream: &[u8],
-    at: usize,
-    left: usize,
-) -> Result<(), Fail> {
-    if let (Some(front), Some(back)) = (stream.get(..at), stream.get(at..)) {
-        let mut decoder = Decoder::new(alloc);
-        let rest = play(rt, alloc, &mut decoder, front, stream)?;
-        let rest = play(rt, alloc, &mut decoder, back, rest)?;
-        assert_eq!(rt; rest.len(), left);
+    version: u8,
+    (front, nines): (&[u8], usize),
+    places: &[usize],
+) {
+    for at in places {
+        let mut bytes = text(rt, alloc, version, front, PAGE_BYTES, nines);
+        changes(rt, alloc, &mut bytes, *at);
     }
-    Ok(())
-}
-
-/// All texts one after the other, and the first bytes of one more.
-fn joined(alloc: Global) -> Result<Vec<u8>, NoMemory> {
-    let mut stream = Vec::new(alloc);
-    for vector in &BOTH {
-        let bytes = text_again(alloc, 2, *vector, 0, 0)?;
-        stream.extend_from_slice(&bytes)?;
-    }
-    stream.extend_from_slice(b"\x02\x03\x00\x00\x00")?;
-    Ok(stream)
 }
 
 #[test]
-fn cuts_agree(rt: HostRuntime) -> Result<(), Fail> {
-    let stream = match joined(rt.alloc()) {
-        Ok(stream) => stream,
-        Err(_) => joined(rt.alloc())?,
-    };
-    for at in 0..400 {
-        one_cut(&rt, rt.alloc(), &stream, at, 5)?;
+fn changed_pages_are_read_as_they_are_written(rt: HostRuntime) {
+    at_places(&rt, rt.alloc(), 1, (PAGE, 0), &OF_A_PAGE);
+    at_places(&rt, rt.alloc(), 2, (PAGE, 0), &OF_A_PAGE);
+    at_places(&rt, rt.alloc(), 1, (RUN, PAGE_BYTES), &OF_A_RUN);
+    at_places(&rt, rt.alloc(), 2, (RUN, PAGE_BYTES), &OF_A_RUN);
+}
+
+/// The first bytes of a text.
+const PART: &[u8] = b"\x02\x03\x00\x00\x00";
+
+/// All texts one after the other.
+fn joined(rt: &impl Abort, alloc: Global) -> Vec<u8> {
+    let mut stream = Vec::new(alloc);
+    for vector in &BOTH {
+        append(rt, &mut stream, b"\x02");
+        append(rt, &mut stream, *vector);
     }
-    Ok(())
+    stream
+}
+
+/// Feeds these texts and the first bytes of one more, in two pieces.
+fn one_cut(rt: &impl Abort, alloc: Global, stream: &[u8], at: usize, wanted: &[u8]) {
+    if let Some((front, back)) = stream.split_at_checked(at) {
+        let mut decoder = Decoder::new(alloc);
+        let mut texts = Vec::new(alloc);
+        assert!(rt; feed(rt, &mut decoder, front, &mut texts).is_ok());
+        assert!(rt; feed(rt, &mut decoder, back, &mut texts).is_ok());
+        same_bytes(rt, &texts, wanted);
+    }
+}
+
+#[test]
+fn cuts_agree(rt: HostRuntime) {
+    let wanted = joined(&rt, rt.alloc());
+    let mut stream = joined(&rt, rt.alloc());
+    append(&rt, &mut stream, PART);
+    for at in 0..400 {
+        one_cut(&rt, rt.alloc(), &stream, at, &wanted);
+    }
 }
 
 /// More than one text is not the text of a frame, and none is where a fault stands.
 #[test]
-fn bytes_that_are_no_text(rt: HostRuntime) -> Result<(), Fail> {
-    let stream = match joined(rt.alloc()) {
-        Ok(stream) => stream,
-        Err(_) => joined(rt.alloc())?,
-    };
-    assert!(&rt; read(rt.alloc(), &stream)?.is_none());
+fn bytes_that_are_no_text(rt: HostRuntime) {
+    let mut stream = joined(&rt, rt.alloc());
+    append(&rt, &mut stream, PART);
+    is_no_text(&rt, rt.alloc(), &stream);
     for (bytes, _) in &FAULTS {
-        assert!(&rt; read(rt.alloc(), *bytes)?.is_none());
+        is_no_text(&rt, rt.alloc(), *bytes);
     }
-    Ok(())
 }
 
 /// Frames of one piece are answered together.
 #[test]
-fn frames_of_one_piece(rt: HostRuntime) -> Result<(), Fail> {
-    let stream = match joined(rt.alloc()) {
-        Ok(stream) => stream,
-        Err(_) => joined(rt.alloc())?,
-    };
+fn frames_of_one_piece(rt: HostRuntime) {
+    let wanted = joined(&rt, rt.alloc());
+    let mut stream = joined(&rt, rt.alloc());
+    append(&rt, &mut stream, PART);
     let mut decoder = Decoder::new(rt.alloc());
-    let frames = fed(&mut decoder, &stream)?;
-    assert_eq!(&rt; frames.len(), BOTH.len());
-    let rest = look(&rt, rt.alloc(), &frames, &stream)?;
-    assert_eq!(&rt; rest.len(), 5);
-    assert_eq!(&rt; decoder.missing(), 7);
-    Ok(())
+    let mut texts = Vec::new(rt.alloc());
+    let answer = feed(&rt, &mut decoder, &stream, &mut texts);
+    assert!(&rt; answer == Ok(BOTH.len()));
+    same_bytes(&rt, &texts, &wanted);
+    same_number(&rt, decoder.missing(), 7);
 }

@@ -1,124 +1,97 @@
 //! The bytes of a wire, piece by piece.
 
-use super::kinds::{TEXTS, text};
-use frame_decoder::{Decoder, StreamFault, read_text};
-use mig_base::NoMemory;
-use page_stream::{Frame, encode};
+use super::kinds::{TEXTS, send_text, text};
+use crate::decoder::reading::feed;
+use crate::parts::{append, fill, same_bytes, same_number};
+use frame_decoder::Decoder;
 use std::alloc::Global;
 use std::process::Abort;
-use std::test::Fail;
 use wires::Wire;
 
 /// The frames that one chunk has room for at the least, however long they are: where any byte was written, the next chunk is begun.
 const CHUNK_FRAMES: usize = 4;
 
-/// Sends the frame of a text, which is the first of its chunk.
-fn send(rt: &impl Abort, alloc: Global, wire: &mut Wire, bytes: &[u8]) -> Result<(), NoMemory> {
-    let read = read_text(alloc, bytes).or_else(|_| read_text(alloc, bytes))?;
+/// Sends the frame of a row, which is the first of its chunk.
+fn send_apart(rt: &impl Abort, alloc: Global, wire: &mut Wire, front: &[u8], sevens: usize) {
     if wire.reserve(CHUNK_FRAMES).is_err() {
-        wire.reserve(CHUNK_FRAMES)?;
+        wire.reserve(CHUNK_FRAMES).expect(rt, "a second time");
     }
-    if let Some((epoch, frame)) = read {
-        assert!(rt; frame.is_well_formed());
-        wire.push(epoch, frame);
-    }
-    Ok(())
+    let bytes = text(rt, alloc, front, sevens);
+    send_text(rt, alloc, wire, &bytes, None);
 }
 
-/// Puts some bytes after others, once more where memory was refused.
-fn append(all: &mut Vec<u8>, bytes: &[u8]) -> Result<(), NoMemory> {
-    if all.extend_from_slice(bytes).is_err() {
-        all.extend_from_slice(bytes)?;
+fn send_all(rt: &impl Abort, alloc: Global, wire: &mut Wire) {
+    for (front, sevens) in &TEXTS {
+        send_apart(rt, alloc, wire, *front, *sevens);
     }
-    Ok(())
 }
 
 /// The bytes of a wire.
-fn joined(alloc: Global, wire: &Wire) -> Result<Vec<u8>, NoMemory> {
+fn joined(rt: &impl Abort, alloc: Global, wire: &Wire) -> Vec<u8> {
     let mut all = Vec::new(alloc);
     for index in 0..wire.pieces() {
-        append(&mut all, wire.piece(index))?;
+        append(rt, &mut all, wire.piece(index));
     }
-    Ok(all)
+    all
 }
 
 /// The texts of the frames from one on, joined.
-fn texts_from(alloc: Global, first: usize) -> Result<Vec<u8>, NoMemory> {
+fn texts_from(rt: &impl Abort, alloc: Global, first: usize) -> Vec<u8> {
     let mut all = Vec::new(alloc);
     for (front, sevens) in TEXTS.iter().skip(first) {
-        let bytes = text(alloc, *front, *sevens).or_else(|_| text(alloc, *front, *sevens))?;
-        append(&mut all, &bytes)?;
+        append(rt, &mut all, *front);
+        fill(rt, &mut all, 7, *sevens);
     }
-    Ok(all)
+    all
 }
 
-/// Writes frames that were read.
-fn write(
-    rt: &impl Abort,
-    alloc: Global,
-    frames: &[(u32, Frame)],
-    all: &mut Vec<u8>,
-) -> Result<(), NoMemory> {
-    for (epoch, frame) in frames {
-        assert!(rt; frame.is_well_formed());
-        let bytes = encode(alloc, frame, *epoch).or_else(|_| encode(alloc, frame, *epoch))?;
-        append(all, &bytes)?;
-    }
-    Ok(())
-}
-
-/// What a decoder reads of the pieces of a wire, written again.
-fn read_again(rt: &impl Abort, alloc: Global, wire: &Wire) -> Result<Vec<u8>, NoMemory> {
-    let mut decoder = Decoder::new(alloc);
-    let mut all = Vec::new(alloc);
+/// Feeds the pieces of a wire to a decoder, and writes the frames that it answers.
+fn feed_pieces(rt: &impl Abort, wire: &Wire, decoder: &mut Decoder, texts: &mut Vec<u8>) {
     for index in 0..wire.pieces() {
-        let piece = wire.piece(index);
-        let answer = match decoder.feed(piece) {
-            Err(StreamFault::NoMemory) => decoder.feed(piece),
-            answer => answer,
-        };
-        match answer {
-            Ok(frames) => write(rt, alloc, &frames, &mut all)?,
-            Err(_) => assert!(rt; false),
-        }
+        assert!(rt; feed(rt, decoder, wire.piece(index), texts).is_ok());
     }
-    assert_eq!(rt; decoder.missing(), 12);
-    Ok(all)
+}
+
+/// Stops unless a decoder reads the frames of these texts from the pieces of a wire.
+fn is_read(rt: &impl Abort, alloc: Global, wire: &Wire, wanted: &[u8]) {
+    let mut decoder = Decoder::new(alloc);
+    let mut texts = Vec::new(alloc);
+    feed_pieces(rt, wire, &mut decoder, &mut texts);
+    same_number(rt, decoder.missing(), 12);
+    same_bytes(rt, &texts, wanted);
 }
 
 /// Stops unless the wire has the texts of the frames from one on, in pieces that a decoder reads.
-fn look(rt: &impl Abort, alloc: Global, wire: &Wire, first: usize) -> Result<(), Fail> {
-    let wanted = texts_from(alloc, first)?;
-    let bytes = joined(alloc, wire)?;
-    assert_eq!(rt; bytes.as_slice(), wanted.as_slice());
-    let again = read_again(rt, alloc, wire)?;
-    assert_eq!(rt; again.as_slice(), wanted.as_slice());
-    Ok(())
+fn look(rt: &impl Abort, alloc: Global, wire: &Wire, first: usize) {
+    let wanted = texts_from(rt, alloc, first);
+    let bytes = joined(rt, alloc, wire);
+    same_bytes(rt, &bytes, &wanted);
+    is_read(rt, alloc, wire, &wanted);
+}
+
+/// Some bytes come, which complete no frame.
+fn arrive(rt: &impl Abort, wire: &mut Wire) {
+    match wire.arrive(5) {
+        Ok(None) => {}
+        _ => assert!(rt; false),
+    }
 }
 
 /// One of each kind is in flight, each in a chunk of its own. The bytes of the wire are their texts, until they are taken off or lost.
 #[test]
-fn the_bytes_of_a_wire(rt: HostRuntime) -> Result<(), Fail> {
+fn the_bytes_of_a_wire(rt: HostRuntime) {
     let mut wire = Wire::new(rt.alloc());
-    for (front, sevens) in &TEXTS {
-        let bytes = text(rt.alloc(), *front, *sevens).or_else(|_| text(
-            rt.alloc(),
-            *front,
-            *sevens,
-        ))?;
-        send(&rt, rt.alloc(), &mut wire, &bytes)?;
-    }
+    send_all(&rt, rt.alloc(), &mut wire);
     assert!(&rt; wire.pieces() > TEXTS.len());
-    look(&rt, rt.alloc(), &wire, 0)?;
-    assert!(&rt; wire.arrive(5)?.is_none());
-    assert_eq!(&rt; wire.held(), 5);
-    look(&rt, rt.alloc(), &wire, 0)?;
+    look(&rt, rt.alloc(), &wire, 0);
+    arrive(&rt, &mut wire);
+    assert!(&rt; wire.held() == 5);
+    look(&rt, rt.alloc(), &wire, 0);
     wire.drop_first();
-    assert_eq!(&rt; wire.held(), 0);
-    look(&rt, rt.alloc(), &wire, 1)?;
+    assert!(&rt; wire.held() == 0);
+    look(&rt, rt.alloc(), &wire, 1);
     wire.drop_first();
-    look(&rt, rt.alloc(), &wire, 2)?;
+    look(&rt, rt.alloc(), &wire, 2);
     wire.clear();
-    look(&rt, rt.alloc(), &wire, TEXTS.len())?;
-    Ok(())
+    look(&rt, rt.alloc(), &wire, TEXTS.len());
 }

@@ -1,11 +1,11 @@
 //! Each kind of frame, byte by byte.
 
-use frame_decoder::read_text;
+use crate::decoder::reading::{read_again, write};
+use crate::parts::{append, fill, same_bytes};
 use mig_base::{NoMemory, PAGE_BYTES};
-use page_stream::{Frame, encode};
+use page_stream::Frame;
 use std::alloc::Global;
 use std::process::Abort;
-use std::test::Fail;
 use wires::{Sent, Wire};
 
 /// Texts of frames, and how many bytes of 7 are after each.
@@ -47,22 +47,35 @@ pub(crate) static TEXTS: [(&[u8], usize); 11] = [
     (b"\x02\x83\x00\x00\x00\x00\x00\x01\x00\x00\x00\x00", 0),
 ];
 
-pub(crate) fn text(alloc: Global, front: &[u8], sevens: usize) -> Result<Vec<u8>, NoMemory> {
-    let mut bytes = Vec::from_slice(alloc, front)?;
-    for _ in 0..sevens {
-        bytes.push(7)?;
-    }
-    Ok(bytes)
+/// The text of a row.
+pub(crate) fn text(rt: &impl Abort, alloc: Global, front: &[u8], sevens: usize) -> Vec<u8> {
+    let mut bytes = Vec::new(alloc);
+    append(rt, &mut bytes, front);
+    fill(rt, &mut bytes, 7, sevens);
+    bytes
 }
 
-/// Sends a frame, for which room is made.
-fn send(rt: &impl Abort, wire: &mut Wire, epoch: u32, frame: Frame) -> Result<(), NoMemory> {
+/// Makes room for a frame, and sends it.
+fn send(rt: &impl Abort, wire: &mut Wire, epoch: u32, frame: Frame) {
     assert!(rt; frame.is_well_formed());
     if wire.reserve(1).is_err() {
-        wire.reserve(1)?;
+        wire.reserve(1).expect(rt, "a second time");
     }
     wire.push(epoch, frame);
-    Ok(())
+}
+
+/// Sends the frame that some bytes spell, in its epoch or in another.
+pub(crate) fn send_text(
+    rt: &impl Abort,
+    alloc: Global,
+    wire: &mut Wire,
+    bytes: &[u8],
+    epoch: Option<u32>,
+) {
+    match read_again(alloc, bytes) {
+        Ok(Some((own, frame))) => send(rt, wire, epoch.unwrap_or(own), frame),
+        _ => assert!(rt; false),
+    }
 }
 
 /// `n` bytes come, and once more if memory was refused.
@@ -73,119 +86,128 @@ fn arrive(wire: &mut Wire, n: u64) -> Result<Option<Sent>, NoMemory> {
     }
 }
 
-fn written(rt: &impl Abort, alloc: Global, sent: &Sent) -> Result<Vec<u8>, NoMemory> {
-    assert!(rt; sent.frame.is_well_formed());
-    encode(alloc, &sent.frame, sent.epoch).or_else(|_| encode(alloc, &sent.frame, sent.epoch))
+/// Whether a frame is complete once another byte has come. Its text is written.
+fn came(rt: &impl Abort, wire: &mut Wire, text: &mut Vec<u8>) -> bool {
+    match arrive(wire, 1) {
+        Ok(Some(sent)) => {
+            assert!(rt; write(rt, &sent.frame, sent.epoch, text).is_ok());
+            true
+        }
+        Ok(None) => false,
+        Err(NoMemory) => {
+            assert!(rt; false);
+            false
+        }
+    }
 }
 
-/// Stops unless a frame came whose text these bytes are.
-fn look(rt: &impl Abort, alloc: Global, arrived: Option<Sent>, bytes: &[u8]) -> Result<(), Fail> {
-    let Some(sent) = arrived else {
-        assert!(rt; false);
-        return Ok(());
-    };
-    let text = written(rt, alloc, &sent)?;
-    assert_eq!(rt; text.as_slice(), bytes);
-    Ok(())
+/// The epoch of the first frame, if one is in flight, all of whose bytes come.
+fn first_epoch(wire: &mut Wire) -> Option<u32> {
+    match arrive(wire, u64::MAX) {
+        Ok(Some(sent)) => Some(sent.epoch),
+        _ => None,
+    }
 }
 
-/// Each byte but the last leaves the frame waiting, and with the last it has come, as often as that comes.
-fn by_bytes(rt: &impl Abort, alloc: Global, wire: &mut Wire, bytes: &[u8]) -> Result<(), Fail> {
+/// Each of these bytes but the last leaves the frame waiting.
+fn waits(rt: &impl Abort, wire: &mut Wire, bytes: &[u8], text: &mut Vec<u8>) {
     for _ in 1..bytes.len() {
-        assert!(rt; arrive(wire, 1)?.is_none());
+        assert!(rt; !came(rt, wire, text));
     }
-    for _ in 0..2 {
-        let arrived = arrive(wire, 1)?;
-        look(rt, alloc, arrived, bytes)?;
-    }
+}
+
+/// With one byte more the frame has come whose text these bytes are.
+fn comes(rt: &impl Abort, alloc: Global, wire: &mut Wire, bytes: &[u8]) {
+    let mut text = Vec::new(alloc);
+    assert!(rt; came(rt, wire, &mut text));
+    same_bytes(rt, &text, bytes);
+}
+
+/// A frame comes byte by byte, and its last byte twice.
+fn by_bytes(rt: &impl Abort, alloc: Global, wire: &mut Wire, bytes: &[u8]) {
+    waits(rt, wire, bytes, &mut Vec::new(alloc));
+    comes(rt, alloc, wire, bytes);
+    comes(rt, alloc, wire, bytes);
     wire.drop_first();
-    Ok(())
+}
+
+/// The frame of a row is sent and comes.
+fn one_kind(rt: &impl Abort, alloc: Global, wire: &mut Wire, front: &[u8], sevens: usize) {
+    let bytes = text(rt, alloc, front, sevens);
+    send_text(rt, alloc, wire, &bytes, None);
+    by_bytes(rt, alloc, wire, &bytes);
+    assert!(rt; wire.is_empty());
 }
 
 #[test]
-fn each_kind_of_frame(rt: HostRuntime) -> Result<(), Fail> {
+fn each_kind_of_frame(rt: HostRuntime) {
     let mut wire = Wire::new(rt.alloc());
     for (front, sevens) in &TEXTS {
-        let bytes = text(rt.alloc(), *front, *sevens).or_else(|_| text(
-            rt.alloc(),
-            *front,
-            *sevens,
-        ))?;
-        let read = read_text(rt.alloc(), &bytes).or_else(|_| read_text(rt.alloc(), &bytes))?;
-        if let Some((epoch, frame)) = read {
-            send(&rt, &mut wire, epoch, frame)?;
-        }
-        by_bytes(&rt, rt.alloc(), &mut wire, &bytes)?;
-        assert!(&rt; wire.is_empty());
+        one_kind(&rt, rt.alloc(), &mut wire, *front, *sevens);
     }
-    Ok(())
+}
+
+/// The first frame is taken off, if it was sent in that epoch.
+fn take(rt: &impl Abort, wire: &mut Wire, epoch: u32) {
+    assert!(rt; !wire.is_empty());
+    assert!(rt; first_epoch(wire) == Some(epoch));
+    wire.drop_first();
+}
+
+/// Makes room for a page, and sends it from where its bytes stand.
+fn send_page(rt: &impl Abort, wire: &mut Wire, page: &[u8; PAGE_BYTES]) {
+    if wire.reserve(1).is_err() {
+        wire.reserve(1).expect(rt, "a second time");
+    }
+    wire.push_page(1, 0x10, page);
 }
 
 /// A page that is sent from where its bytes stand comes as any other.
 #[test]
-fn a_page_from_its_place(rt: HostRuntime) -> Result<(), Fail> {
+fn a_page_from_its_place(rt: HostRuntime) {
     let mut wire = Wire::new(rt.alloc());
-    let page = [7; PAGE_BYTES];
+    send_page(&rt, &mut wire, &[7; PAGE_BYTES]);
+    send(&rt, &mut wire, 1, Frame::End { urgent: 0 });
     let (front, sevens) = TEXTS[1];
-    let bytes = text(rt.alloc(), front, sevens).or_else(|_| text(rt.alloc(), front, sevens))?;
-    if wire.reserve(1).is_err() {
-        wire.reserve(1)?;
-    }
-    wire.push_page(1, 0x10, &page);
-    send(&rt, &mut wire, 1, Frame::End { urgent: 0 })?;
-    by_bytes(&rt, rt.alloc(), &mut wire, &bytes)?;
-    take(&rt, &mut wire, 1)?;
+    let bytes = text(&rt, rt.alloc(), front, sevens);
+    by_bytes(&rt, rt.alloc(), &mut wire, &bytes);
+    take(&rt, &mut wire, 1);
     assert!(&rt; wire.is_empty());
-    Ok(())
 }
 
 /// The front of a run of 64 pages.
 static LONG_RUN: &[u8] =
     b"\x02\x08\x00\x00\x00\x00\x00\x01\x00\x04\x00\x08\x00\x00\x00\x10\x00\x00\x00\x40";
 
-/// Sends the frame of these bytes in an epoch.
-fn send_text(
-    rt: &impl Abort,
-    alloc: Global,
-    wire: &mut Wire,
-    epoch: u32,
-    bytes: &[u8],
-) -> Result<(), NoMemory> {
-    let read = read_text(alloc, bytes).or_else(|_| read_text(alloc, bytes))?;
-    if let Some((_, frame)) = read {
-        send(rt, wire, epoch, frame)?;
+/// Sends 120 frames, one in each epoch from 0 on.
+fn send_many(rt: &impl Abort, alloc: Global, wire: &mut Wire, bytes: &[u8]) {
+    for epoch in 0..120 {
+        send_text(rt, alloc, wire, bytes, Some(epoch));
     }
-    Ok(())
 }
 
-/// The first frame is taken off, if it was sent in that epoch.
-fn take(rt: &impl Abort, wire: &mut Wire, epoch: u32) -> Result<(), NoMemory> {
-    assert!(rt; !wire.is_empty());
-    let arrived = arrive(wire, u64::MAX)?;
-    assert_eq!(rt; arrived.map(|sent| sent.epoch), Some(epoch));
-    wire.drop_first();
-    Ok(())
+/// Takes them off, and sends another 120.
+fn turn_many(rt: &impl Abort, alloc: Global, wire: &mut Wire, bytes: &[u8]) {
+    for epoch in 0..120 {
+        take(rt, wire, epoch);
+        send_text(rt, alloc, wire, bytes, Some(120 + epoch));
+    }
+}
+
+/// Takes those off.
+fn take_many(rt: &impl Abort, wire: &mut Wire) {
+    for epoch in 120..240 {
+        take(rt, wire, epoch);
+    }
 }
 
 /// 30 MB are in flight, more than a wire holds in one piece; frames come in the order in which they were sent, while others are sent.
 #[test]
-fn many_frames_in_flight(rt: HostRuntime) -> Result<(), Fail> {
+fn many_frames_in_flight(rt: HostRuntime) {
     let mut wire = Wire::new(rt.alloc());
-    let bytes = text(rt.alloc(), LONG_RUN, 64 * PAGE_BYTES).or_else(|_| text(
-        rt.alloc(),
-        LONG_RUN,
-        64 * PAGE_BYTES,
-    ))?;
-    for epoch in 0..120 {
-        send_text(&rt, rt.alloc(), &mut wire, epoch, &bytes)?;
-    }
-    for epoch in 0..120 {
-        take(&rt, &mut wire, epoch)?;
-        send_text(&rt, rt.alloc(), &mut wire, 120 + epoch, &bytes)?;
-    }
-    for epoch in 120..240 {
-        take(&rt, &mut wire, epoch)?;
-    }
+    let bytes = text(&rt, rt.alloc(), LONG_RUN, 64 * PAGE_BYTES);
+    send_many(&rt, rt.alloc(), &mut wire, &bytes);
+    turn_many(&rt, rt.alloc(), &mut wire, &bytes);
+    take_many(&rt, &mut wire);
     assert!(&rt; wire.is_empty());
-    Ok(())
 }
