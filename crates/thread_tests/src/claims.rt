@@ -1,6 +1,6 @@
 //! `Claims`, by one seat, by two seats, and by two threads. `close` is called again with the claims and the seat that it handed back.
 
-mod again;
+pub mod again;
 mod claiming;
-mod rows;
+pub mod rows;
 mod two_threads;

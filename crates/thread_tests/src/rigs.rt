@@ -4,10 +4,9 @@
 mod claims;
 mod gates;
 mod memory;
+mod outcomes;
 mod processors;
-mod scenes;
 mod seats;
-mod setup;
+pub mod setup;
 mod steps;
 mod turns;
-mod workers;

@@ -1,12 +1,13 @@
 //! A guest with two processors, in threads of their own.
 
+use crate::rigs::setup::{close, listed, rig_after, two_seats};
 use mig_base::{Command, Place, Prot, Reply};
 use rig::{CpuSeat, Rig};
+use std::alloc::Global;
 use std::sync::Wait;
 use std::test::Fail;
 use std::thread;
 use std::thread::Threads;
-use world::World;
 
 // docs/THREADS.md has what follows
 /// A page of its own: what a processor stores there it loads again.
@@ -47,19 +48,27 @@ fn run_both<R: Threads + Wait + Sync>(
 }
 // docs/THREADS.md ends here
 
+/// The seats of both, and whether each loaded what it stored.
+fn run_seats<R: Threads + Wait + Sync>(
+    rt: &R,
+    alloc: Global,
+    rig: &mut Rig,
+) -> Option<(Vec<CpuSeat>, bool)> {
+    let (first, second) = two_seats(rig)?;
+    let ((first, one), (second, other)) = run_both(rt, rig, first, second)?;
+    let seats = listed(alloc, first, second)?;
+    Some((seats, one == Some(Reply::Value(7)) && other == one))
+}
+
+fn is_run<R: Threads + Wait + Sync>(rt: &R, alloc: Global) -> Option<bool> {
+    let mut rig = rig_after(alloc, 2, &[])?;
+    let (seats, held) = run_seats(rt, alloc, &mut rig)?;
+    let closed = close(rig, seats, None);
+    Some(held && closed.is_whole(6))
+}
+
 #[test]
 fn a_guest_of_two_processors(rt: HostRuntime) -> Result<(), Fail> {
-    let world = World::new(rt.alloc(), 2).ok().ok_or("no world")?;
-    let mut rig = Rig::new(rt.alloc(), world).ok().ok_or("no rig")?;
-    let first = rig.seat(0).ok().ok_or("no seat")?;
-    let second = rig.seat(1).ok().ok_or("no seat")?;
-    let (first, second) = run_both(&rt, &rig, first, second).ok_or("no thread")?;
-    let (first, one) = first;
-    let (second, other) = second;
-    assert!(rt; one == Some(Reply::Value(7)) && other == Some(Reply::Value(7)));
-    let Ok(world) = rig.close(vec![in rt.alloc(); first, second]?, None) else {
-        return Err(Fail::from("not closed"));
-    };
-    assert_eq!(rt; world.transcript().len(), 6);
+    assert!(rt; is_run(&rt, rt.alloc()) == Some(true));
     Ok(())
 }

@@ -16,11 +16,19 @@ fn made(alloc: Global, world: World) -> Option<Rig> {
     }
 }
 
+/// Whether the rig keeps the two entries.
+fn is_whole(alloc: Global) -> bool {
+    let Some(world) = world_after(alloc, 2, &[issue(MAP), issue(STORE)]) else {
+        return false;
+    };
+    match made(alloc, world) {
+        Some(rig) => close(rig, Vec::new(alloc), None).is_whole(2),
+        None => false,
+    }
+}
+
 #[test]
 fn a_rig_without_memory_hands_the_world_back(rt: HostRuntime) -> Result<(), Fail> {
-    let world = world_after(rt.alloc(), 2, &[issue(MAP), issue(STORE)]).ok_or("no world")?;
-    let rig = made(rt.alloc(), world).ok_or("not made")?;
-    let closed = close(rig, Vec::new(rt.alloc()), None);
-    assert!(rt; closed.fault.is_none() && closed.entries == 2);
+    assert!(rt; is_whole(rt.alloc()));
     Ok(())
 }

@@ -2,7 +2,7 @@
 //! done once more.
 
 use super::gates::{LOAD, LateReader, MAP, STORE, STORED, StoreFirst, issue, store};
-use super::setup::{Closed, call, close, close_one, listed, rig_after, two_seats};
+use super::setup::{call, close, close_one, listed, rig_after, two_seats};
 use mig_base::schedule::{Step, Ticket};
 use mig_base::{Command, Reply};
 use rig::{CpuSeat, Rig};
@@ -26,33 +26,38 @@ fn one_call<R: Wait>(
     (seat, answer == Ok(reply))
 }
 
-/// The two seats after a load that waits for its page, which waits for a store.
+/// A load that waits for its page, which waits for a store, side by side with this store.
 fn loaded_and_stored<R: Threads + Wait + Sync, C: Clock + Sync>(
     rt: &R,
     gate: &StoreFirst<C>,
     rig: &Rig,
     loads: CpuSeat,
     stores: CpuSeat,
-) -> Option<(CpuSeat, CpuSeat)> {
+) -> Option<((CpuSeat, bool), (CpuSeat, bool))> {
     thread::scope(thread::scope_env(), rt, |scope| {
-        let worker = scope.spawn(move || rig.dest_worker(rt, gate)).ok()?;
         let loader = scope
             .spawn(move || one_call(rt, rig, loads, LOAD, Reply::Value(7)))
-            .ok();
-        let (stores, was_stored) = one_call(rt, rig, stores, STORE, Reply::Done);
+            .ok()?;
+        let stored = one_call(rt, rig, stores, STORE, Reply::Done);
         gate.stored.store(true, Ordering::SeqCst);
-        let loaded = match loader {
-            Some(loader) => Some(loader.join(rt)),
-            None => None,
-        };
+        Some((loader.join(rt), stored))
+    })
+}
+
+/// The same beside the worker of the destination.
+fn installed<R: Threads + Wait + Sync, C: Clock + Sync>(
+    rt: &R,
+    gate: &StoreFirst<C>,
+    rig: &Rig,
+    loads: CpuSeat,
+    stores: CpuSeat,
+) -> Option<((CpuSeat, bool), (CpuSeat, bool))> {
+    thread::scope(thread::scope_env(), rt, |scope| {
+        let worker = scope.spawn(move || rig.dest_worker(rt, gate)).ok()?;
+        let done = loaded_and_stored(rt, gate, rig, loads, stores);
         gate.done.store(true, Ordering::SeqCst);
         worker.join(rt);
-        let (loads, was_loaded) = loaded?;
-        if was_loaded && was_stored {
-            Some((loads, stores))
-        } else {
-            None
-        }
+        done
     })
 }
 
@@ -77,40 +82,51 @@ fn pushed_rig(alloc: Global) -> Option<Rig> {
     rig_after(alloc, 2, &steps)
 }
 
-/// The seats of both processors, after the load and the store.
-fn both_seats<R: Threads + Wait + Sync, C: Clock + Sync>(
-    rt: &R,
+/// Two seats in a list, and whether both held.
+fn both(
     alloc: Global,
-    gate: &StoreFirst<C>,
-    rig: &mut Rig,
-) -> Option<Vec<CpuSeat>> {
-    let (loads, stores) = two_seats(rig)?;
-    let (loads, stores) = loaded_and_stored(rt, gate, rig, loads, stores)?;
-    listed(alloc, loads, stores)
+    first: (CpuSeat, bool),
+    second: (CpuSeat, bool),
+) -> Option<(Vec<CpuSeat>, bool)> {
+    let (first, first_held) = first;
+    let (second, second_held) = second;
+    let seats = listed(alloc, first, second)?;
+    Some((seats, first_held && second_held))
 }
 
-/// Whether the gate let the store be first, and what the rig was closed with.
-fn load_behind_store<R: Threads + Wait + Sync, C: Clock + Sync + Drop>(
+/// The seats of both processors after the load and the store, and whether both were answered as they should, the store first.
+fn load_and_store<R: Threads + Wait + Sync, C: Clock + Sync + Drop>(
     rt: &R,
     alloc: Global,
     clock: C,
-) -> Option<(bool, Closed)> {
+    rig: &mut Rig,
+) -> Option<(Vec<CpuSeat>, bool)> {
     let gate = StoreFirst::new(clock);
+    let (loads, stores) = two_seats(rig)?;
+    let (loaded, stored) = installed(rt, &gate, rig, loads, stores)?;
+    let (seats, held) = both(alloc, loaded, stored)?;
+    Some((seats, held && !gate.gave_up.load(Ordering::SeqCst)))
+}
+
+/// Whether all is as wanted. None where a thread or memory was refused.
+fn is_load_behind_store<R: Threads + Wait + Sync, C: Clock + Sync + Drop>(
+    rt: &R,
+    alloc: Global,
+    clock: C,
+) -> Option<bool> {
     let mut rig = pushed_rig(alloc)?;
-    let seats = both_seats(rt, alloc, &gate, &mut rig)?;
-    let gave_up = gate.gave_up.load(Ordering::SeqCst);
-    Some((!gave_up, close(rig, seats, None)))
+    let (seats, held) = load_and_store(rt, alloc, clock, &mut rig)?;
+    let closed = close(rig, seats, None);
+    Some(held && closed.is_whole(5) && closed.last_cpu == Some(0))
 }
 
 #[test]
 fn install_waits_for_another_store(rt: HostRuntime) -> Result<(), Fail> {
-    let told = match load_behind_store(&rt, rt.alloc(), rt) {
-        None => load_behind_store(&rt, rt.alloc(), rt),
-        told => told,
+    let held = match is_load_behind_store(&rt, rt.alloc(), rt) {
+        None => is_load_behind_store(&rt, rt.alloc(), rt),
+        held => held,
     };
-    let (was_first, closed) = told.ok_or("not loaded after the store")?;
-    assert!(rt; was_first && closed.fault.is_none());
-    assert!(rt; closed.entries == 5 && closed.last_cpu == Some(0));
+    assert!(rt; held == Some(true));
     Ok(())
 }
 
@@ -135,35 +151,42 @@ fn stored_and_loaded<R: Threads + Wait + Sync>(
     rig: &mut Rig,
 ) -> Option<(Vec<CpuSeat>, bool)> {
     let (stores, loads) = two_seats(rig)?;
-    let (stores, was_stored) = stored_elsewhere(rt, rig, stores)?;
-    let (loads, was_loaded) = one_call(rt, rig, loads, STORED, Reply::Value(9));
-    match listed(alloc, stores, loads) {
-        Some(seats) => Some((seats, was_stored && was_loaded)),
-        None => None,
-    }
+    let stored = stored_elsewhere(rt, rig, stores)?;
+    let loaded = one_call(rt, rig, loads, STORED, Reply::Value(9));
+    both(alloc, stored, loaded)
 }
 
-/// The same, and what the rig was closed with.
-fn load_behind_join<R: Threads + Wait + Sync>(rt: &R, alloc: Global) -> Option<(bool, Closed)> {
+/// Whether all is as wanted, in the same way.
+fn is_load_behind_join<R: Threads + Wait + Sync>(rt: &R, alloc: Global) -> Option<bool> {
     let mut rig = rig_after(alloc, 2, &[issue(MAP)])?;
-    let (seats, was_read) = stored_and_loaded(rt, alloc, &mut rig)?;
-    Some((was_read, close(rig, seats, None)))
+    let (seats, held) = stored_and_loaded(rt, alloc, &mut rig)?;
+    let closed = close(rig, seats, None);
+    Some(held && closed.is_whole(3) && closed.last_cpu == Some(1))
 }
 
 #[test]
 fn a_store_is_read_after_a_join(rt: HostRuntime) -> Result<(), Fail> {
-    let told = match load_behind_join(&rt, rt.alloc()) {
-        None => load_behind_join(&rt, rt.alloc()),
-        told => told,
+    let held = match is_load_behind_join(&rt, rt.alloc()) {
+        None => is_load_behind_join(&rt, rt.alloc()),
+        held => held,
     };
-    let (was_read, closed) = told.ok_or("no thread")?;
-    assert!(rt; was_read && closed.fault.is_none());
-    assert!(rt; closed.entries == 3 && closed.last_cpu == Some(1));
+    assert!(rt; held == Some(true));
     Ok(())
 }
 
-/// A map call whose message the worker reads late, and then a load.
-fn unmapped_and_loaded<R: Threads + Wait + Sync, C: Clock + Sync>(
+/// A map call, and then a load.
+fn unmap_and_load<R: Wait>(rt: &R, rig: &Rig, seat: CpuSeat) -> (CpuSeat, bool) {
+    let unmap = Command::Munmap {
+        addr: 0x11000,
+        len: 4096,
+    };
+    let (seat, was_unmapped) = one_call(rt, rig, seat, unmap, Reply::Done);
+    let (seat, was_loaded) = one_call(rt, rig, seat, STORED, Reply::Value(9));
+    (seat, was_unmapped && was_loaded)
+}
+
+/// The same beside a worker that reads the message of the map call late.
+fn read_late<R: Threads + Wait + Sync, C: Clock + Sync>(
     rt: &R,
     gate: &LateReader<C>,
     rig: &Rig,
@@ -171,46 +194,47 @@ fn unmapped_and_loaded<R: Threads + Wait + Sync, C: Clock + Sync>(
 ) -> Option<(CpuSeat, bool)> {
     thread::scope(thread::scope_env(), rt, |scope| {
         let worker = scope.spawn(move || rig.source_worker(rt, gate)).ok()?;
-        let unmap = Command::Munmap {
-            addr: 0x11000,
-            len: 4096,
-        };
-        let (seat, was_unmapped) = one_call(rt, rig, seat, unmap, Reply::Done);
-        let (seat, was_loaded) = one_call(rt, rig, seat, STORED, Reply::Value(9));
+        let answered = unmap_and_load(rt, rig, seat);
         gate.done.store(true, Ordering::SeqCst);
         worker.join(rt);
-        Some((seat, was_unmapped && was_loaded))
+        Some(answered)
     })
 }
 
-/// The same in a rig whose migration has begun, and what the rig was closed with.
-fn load_after_unmap<R: Threads + Wait + Sync, C: Clock + Sync + Drop>(
+/// The same in a rig with one seat.
+fn late_load<R: Threads + Wait + Sync, C: Clock + Sync + Drop>(
     rt: &R,
-    alloc: Global,
     clock: C,
-) -> Option<(bool, Closed)> {
+    rig: &mut Rig,
+) -> Option<(CpuSeat, bool)> {
     let gate = LateReader {
         clock,
         rested: AtomicBool::new(false),
         done: AtomicBool::new(false),
     };
-    let mut rig = rig_after(alloc, 1, &[issue(MAP), store(0x10000, 9), Step::Start])?;
     let seat = rig.seat(0).ok()?;
-    let (seat, answered) = unmapped_and_loaded(rt, &gate, &rig, seat)?;
-    match close_one(alloc, rig, seat) {
-        Some(closed) => Some((answered, closed)),
-        None => None,
-    }
+    read_late(rt, &gate, rig, seat)
+}
+
+/// Whether all is as wanted in a rig whose migration has begun, in the same way.
+fn is_load_after_unmap<R: Threads + Wait + Sync, C: Clock + Sync + Drop>(
+    rt: &R,
+    alloc: Global,
+    clock: C,
+) -> Option<bool> {
+    let mut rig = rig_after(alloc, 1, &[issue(MAP), store(0x10000, 9), Step::Start])?;
+    let (seat, held) = late_load(rt, clock, &mut rig)?;
+    let closed = close_one(alloc, rig, seat)?;
+    Some(held && closed.is_whole(4))
 }
 
 /// A map call returns once its messages are read: the next call finds the processor idle.
 #[test]
 fn a_map_call_waits_until_its_messages_are_read(rt: HostRuntime) -> Result<(), Fail> {
-    let told = match load_after_unmap(&rt, rt.alloc(), rt) {
-        None => load_after_unmap(&rt, rt.alloc(), rt),
-        told => told,
+    let held = match is_load_after_unmap(&rt, rt.alloc(), rt) {
+        None => is_load_after_unmap(&rt, rt.alloc(), rt),
+        held => held,
     };
-    let (answered, closed) = told.ok_or("no thread")?;
-    assert!(rt; answered && closed.fault.is_none() && closed.entries == 4);
+    assert!(rt; held == Some(true));
     Ok(())
 }

@@ -3,9 +3,12 @@ ghost use Rattle.std.specs.Prelude.{IfSome};
 ghost use Rattle.pusher.specs.Seats.{IsSeatOf};
 
 use super::gates::{MAP, issue, store};
+use engine::progress;
+use grammar::{Progress, print_progress};
+use mig_base::effect::Effect;
 use mig_base::refusal::Refusal;
 use mig_base::schedule::Step;
-use mig_base::{Command, Reply};
+use mig_base::{Command, NoMemory, Reply};
 use pusher::{ClaimSeat, Claims};
 use rig::{CloseFault, CpuSeat, Rig};
 use std::alloc::Global;
@@ -14,7 +17,11 @@ use world::World;
 
 /// A rig of a new world of `cpus` processors in which the steps were made.
 pub fn rig_after(alloc: Global, cpus: u8, steps: &[Step]) -> Option<Rig> {
-    let world = world_after(alloc, cpus, steps)?;
+    rig_of(alloc, world_after(alloc, cpus, steps)?)
+}
+
+/// A rig of a world.
+pub fn rig_of(alloc: Global, world: World) -> Option<Rig> {
     match Rig::new(alloc, world) {
         Ok(rig) => Some(rig),
         Err(world) => Rig::new(alloc, world).ok(),
@@ -24,21 +31,10 @@ pub fn rig_after(alloc: Global, cpus: u8, steps: &[Step]) -> Option<Rig> {
 /// A new world of `cpus` processors in which the steps were made.
 pub fn world_after(alloc: Global, cpus: u8, steps: &[Step]) -> Option<World> {
     let mut world = new_world(alloc, cpus)?;
-    if !make_all(&mut world, steps) {
-        return None;
-    }
-    Some(world)
-}
-
-/// A rig of a world whose migration before had this epoch.
-pub fn rig_in_epoch(alloc: Global, epoch: u32) -> Option<Rig> {
-    let world = match World::with_counts(alloc, 1, epoch, 0) {
-        Ok(world) => world,
-        Err(_) => World::with_counts(alloc, 1, epoch, 0).ok()?,
-    };
-    match Rig::new(alloc, world) {
-        Ok(rig) => Some(rig),
-        Err(world) => Rig::new(alloc, world).ok(),
+    if make_all(&mut world, steps) {
+        Some(world)
+    } else {
+        None
     }
 }
 
@@ -95,6 +91,32 @@ pub fn call<R: Wait>(
     }
 }
 
+/// Makes a step of the rig, once more where memory was refused.
+pub fn made<R: Wait>(rt: &R, rig: &Rig, step: Step) -> Result<Effect, Refusal> {
+    match made_once(rt, rig, step) {
+        Err(Refusal::NoMemory) => made_once(rt, rig, step),
+        outcome => outcome,
+    }
+}
+
+/// A Start, a Switch, a Break, and else a Resume.
+fn made_once<R: Wait>(rt: &R, rig: &Rig, step: Step) -> Result<Effect, Refusal> {
+    match step {
+        Step::Start => rig.start(rt),
+        Step::Switch => rig.switch(rt),
+        Step::Break => rig.cut(rt),
+        _ => rig.resume(rt),
+    }
+}
+
+/// The reply to the command that a seat's processor has, asked for once more where memory was refused.
+pub fn finished<R: Wait>(rt: &R, rig: &Rig, seat: &mut CpuSeat) -> Result<Reply, Refusal> {
+    match rig.finish(rt, seat) {
+        Err(Refusal::NoMemory) => rig.finish(rt, seat),
+        answer => answer,
+    }
+}
+
 /// Claims over the pages that remain.
 pub fn claims<R: Wait>(rt: &R, rig: &Rig) -> Option<(Claims, ClaimSeat)>
     ensures { IfSome result (λ r. IsSeatOf r.0 r.1) }
@@ -102,18 +124,6 @@ pub fn claims<R: Wait>(rt: &R, rig: &Rig) -> Option<(Claims, ClaimSeat)>
     match rig.claims(rt) {
         Ok(made) => Some(made),
         Err(_) => rig.claims(rt).ok(),
-    }
-}
-
-/// A seat for one more thread.
-pub fn split(alloc: Global, claims: &Claims, seat: &mut ClaimSeat) -> Option<ClaimSeat>
-    requires { IsSeatOf claims.now seat.old }
-    ensures seat { IsSeatOf claims.now seat.new }
-    ensures new { IfSome result (λ s. IsSeatOf claims.now s) }
-{
-    match claims.split(alloc, seat) {
-        Ok(other) => Some(other),
-        Err(_) => claims.split(alloc, seat).ok(),
     }
 }
 
@@ -148,8 +158,7 @@ pub struct Closed {
     pub fault: Option<CloseFault>,
     pub entries: usize,
     pub last_cpu: Option<u8>,
-    pub rounds: u32,
-    pub sent: u64,
+    pub progress: Progress,
     pub remaining: u32,
     /// The bytes in flight on the wire to the destination, and on the urgent one.
     pub forward: u64,
@@ -163,14 +172,35 @@ impl Closed {
         Closed {
             fault,
             entries: world.transcript().len(),
-            last_cpu: world.transcript().last().map(|entry| entry.cpu),
-            rounds: world.counts().rounds,
-            sent: world.counts().sent,
+            last_cpu: last_cpu(world),
+            progress: progress(world),
             remaining: world.remaining().len(),
             forward: world.forward_bytes(),
             urgent: world.urgent_bytes(),
             asked: world.asked(),
         }
+    }
+
+    /// Whether there is no fault, and the transcript has this many entries.
+    pub fn is_whole(&self, entries: usize) -> bool {
+        self.fault.is_none() && self.entries == entries
+    }
+
+    /// Whether there is no fault, and this is the line of the world's report.
+    pub fn is_reported(&self, alloc: Global, wanted: &str) -> bool {
+        let mut line = String::new(alloc);
+        if let Err(NoMemory) = print_progress(&mut line, self.progress) {
+            let _ = print_progress(&mut line, self.progress);
+        }
+        self.fault.is_none() && line.as_str() == wanted
+    }
+}
+
+/// The processor of the last entry.
+fn last_cpu(world: &World) -> Option<u8> {
+    match world.transcript().last() {
+        Some(entry) => Some(entry.cpu),
+        None => None,
     }
 }
 

@@ -1,66 +1,98 @@
-//! The steps that no worker makes. One that is refused for memory is made again.
+//! The steps that no worker makes.
 
 use super::gates::{MAP, StopAt, issue, store};
-use super::setup::{close, rig_after, rig_in_epoch};
+use super::outcomes::Row;
+use super::setup::{close, made, rig_after, rig_of};
 use mig_base::WorldPhase;
 use mig_base::effect::Effect;
 use mig_base::refusal::Refusal;
+use mig_base::schedule::Step;
 use rig::Rig;
+use std::alloc::Global;
 use std::sync::Wait;
 use std::test::Fail;
+use world::World;
 
-/// The outcome of a Switch, made once more where memory was refused.
-fn switched<R: Wait>(rt: &R, rig: &Rig) -> Result<Effect, Refusal> {
-    match rig.switch(rt) {
-        Err(Refusal::NoMemory) => rig.switch(rt),
-        outcome => outcome,
-    }
-}
+static SWITCHED: [Row; 3] = [
+    (Step::Switch, Err(Refusal::Phase)),
+    (Step::Start, Ok(Effect::Started { epoch: 1 })),
+    (
+        Step::Switch,
+        Ok(Effect::Switched {
+            discard: 0,
+            owed: 1,
+        }),
+    ),
+];
 
-/// The outcome of a Start, in the same way.
-fn started<R: Wait>(rt: &R, rig: &Rig) -> Result<Effect, Refusal> {
-    match rig.start(rt) {
-        Err(Refusal::NoMemory) => rig.start(rt),
-        outcome => outcome,
-    }
-}
+static CUT: [Row; 2] = [
+    (Step::Break, Ok(Effect::Broken)),
+    (Step::Resume, Err(Refusal::Phase)),
+];
 
-/// The outcome of a Resume, in the same way.
-fn resumed<R: Wait>(rt: &R, rig: &Rig) -> Result<Effect, Refusal> {
-    match rig.resume(rt) {
-        Err(Refusal::NoMemory) => rig.resume(rt),
-        outcome => outcome,
+static RESUMED: [Row; 1] = [(Step::Resume, Ok(Effect::Resumed { epoch: 2 }))];
+
+static STARTED_AGAIN: [Row; 1] = [(Step::Start, Ok(Effect::Started { epoch: 7 }))];
+
+/// Whether each step has its outcome.
+fn play<R: Wait>(rt: &R, rig: &Rig, rows: &[Row]) -> bool {
+    for (step, wanted) in rows {
+        if made(rt, rig, *step) != *wanted {
+            return false;
+        }
     }
+    true
 }
 
 /// Start, Switch, Break and Resume are accepted in turn, the last once both sides have noticed the break.
+fn is_resumed<R: Wait>(rt: &R, rig: &Rig) -> bool {
+    let is_switched = play(rt, rig, &SWITCHED) && rig.phase(rt) == WorldPhase::Switching;
+    if !is_switched || !play(rt, rig, &CUT) {
+        return false;
+    }
+    rig.source_worker(rt, &StopAt(7));
+    rig.dest_worker(rt, &StopAt(6));
+    play(rt, rig, &RESUMED)
+}
+
+fn is_closed_resumed<R: Wait>(rt: &R, alloc: Global) -> bool {
+    match rig_after(alloc, 1, &[issue(MAP), store(0x10000, 9)]) {
+        Some(rig) => {
+            let held = is_resumed(rt, &rig);
+            let closed = close(rig, Vec::new(alloc), None);
+            held && closed.is_whole(2)
+        }
+        None => false,
+    }
+}
+
 #[test]
 fn a_migration_is_switched_cut_and_resumed(rt: HostRuntime) -> Result<(), Fail> {
-    let rig = rig_after(rt.alloc(), 1, &[issue(MAP), store(0x10000, 9)]).ok_or("no rig")?;
-    assert!(rt; switched(&rt, &rig) == Err(Refusal::Phase));
-    assert!(rt; started(&rt, &rig) == Ok(Effect::Started { epoch: 1 }));
-    assert!(rt;
-        switched(&rt, &rig)
-            == Ok(Effect::Switched {
-                discard: 0,
-                owed: 1
-            })
-    );
-    assert!(rt; rig.phase(&rt) == WorldPhase::Switching);
-    assert!(rt; rig.cut(&rt) == Ok(Effect::Broken));
-    assert!(rt; resumed(&rt, &rig) == Err(Refusal::Phase));
-    rig.source_worker(&rt, &StopAt(7));
-    rig.dest_worker(&rt, &StopAt(6));
-    assert!(rt; resumed(&rt, &rig) == Ok(Effect::Resumed { epoch: 2 }));
-    let closed = close(rig, Vec::new(rt.alloc()), None);
-    assert!(rt; closed.fault.is_none() && closed.entries == 2);
+    assert!(rt; is_closed_resumed(&rt, rt.alloc()));
     Ok(())
 }
 
+/// A world whose migration before had epoch 6.
+fn world_in_epoch(alloc: Global) -> Option<World> {
+    match World::with_counts(alloc, 1, 6, 0) {
+        Ok(world) => Some(world),
+        Err(_) => World::with_counts(alloc, 1, 6, 0).ok(),
+    }
+}
+
 /// A Start begins the epoch after that of the migration before.
+fn is_started_again<R: Wait>(rt: &R, alloc: Global) -> bool {
+    let Some(world) = world_in_epoch(alloc) else {
+        return false;
+    };
+    match rig_of(alloc, world) {
+        Some(rig) => play(rt, &rig, &STARTED_AGAIN),
+        None => false,
+    }
+}
+
 #[test]
 fn a_start_is_that_of_this_world(rt: HostRuntime) -> Result<(), Fail> {
-    let rig = rig_in_epoch(rt.alloc(), 6).ok_or("no rig")?;
-    assert!(rt; started(&rt, &rig) == Ok(Effect::Started { epoch: 7 }));
+    assert!(rt; is_started_again(&rt, rt.alloc()));
     Ok(())
 }

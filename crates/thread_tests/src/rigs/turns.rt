@@ -1,9 +1,12 @@
 //! The loops of the workers over a world in memory that keeps the kinds of step that they ask for.
-ghost use Rattle.std.specs.Prelude.{◌≡◌, IfSome};
+ghost use Rattle.std.specs.Prelude.{◌≡◌, IfSome, IfOk};
 ghost use Rattle.pusher.specs.Seats.{IsSeatOf};
 
+use super::claims::held;
 use super::gates::{LOAD, MAP, issue, store};
 use super::setup::{asked_steps, world_after};
+use crate::claims::rows::ascending;
+use mig_base::NoMemory;
 use mig_base::effect::Effect;
 use mig_base::refusal::Refusal;
 use mig_base::schedule::Step;
@@ -85,12 +88,55 @@ impl Turns for Listed {
     }
 }
 
-#[test]
-fn the_worker_of_the_source_makes_its_steps_in_turn(rt: HostRuntime) -> Result<(), Fail> {
-    let steps = [issue(MAP), store(0x10000, 9), Step::Start];
-    let world = world_after(rt.alloc(), 1, &steps).ok_or("no world")?;
-    let mut turns = Listed::new(Worker::Source, world);
-    source_turns(&mut turns);
+/// A world in which a migration has begun, for the workers of the two sides. For the workers that send owed pages, one whose destination
+/// runs and is owed two pages, of which a load has asked for the second.
+fn world_for(alloc: Global, who: Worker) -> Option<World> {
+    match who {
+        Worker::Source | Worker::Dest => {
+            world_after(alloc, 1, &[issue(MAP), store(0x10000, 9), Step::Start])
+        }
+        Worker::Serve | Worker::Push => world_after(alloc, 1, &asked_steps(LOAD)),
+    }
+}
+
+/// Claims of both pages in the first epoch, made once more where memory was refused.
+fn both_claims(alloc: Global) -> Option<(Claims, ClaimSeat)>
+    ensures { IfSome result (λ r. IsSeatOf r.0 r.1) }
+{
+    match claims_once(alloc) {
+        Ok(made) => Some(made),
+        Err(NoMemory) => claims_once(alloc).ok(),
+    }
+}
+
+fn claims_once(alloc: Global) -> Result<(Claims, ClaimSeat), NoMemory>
+    ensures { IfOk result (λ r. IsSeatOf r.0 r.1) }
+{
+    let pages = ascending(alloc, 16, 2)?;
+    Claims::new(alloc, 1, pages)
+}
+
+/// Whether a worker makes its steps in turn.
+fn play(alloc: Global, who: Worker) -> bool {
+    let Some(world) = world_for(alloc, who) else {
+        return false;
+    };
+    let mut turns = Listed::new(who, world);
+    match who {
+        Worker::Source => {
+            source_turns(&mut turns);
+            is_source(&turns)
+        }
+        Worker::Dest => {
+            dest_turns(&mut turns);
+            is_dest(&turns)
+        }
+        Worker::Serve => serves(alloc, &mut turns),
+        Worker::Push => pushes(alloc, &mut turns),
+    }
+}
+
+fn is_source(turns: &Listed) -> bool {
     let wanted = [
         StepKind::Round,
         StepKind::Send,
@@ -103,17 +149,10 @@ fn the_worker_of_the_source_makes_its_steps_in_turn(rt: HostRuntime) -> Result<(
         StepKind::Send,
         StepKind::SourceRead,
     ];
-    assert!(rt; turns.kinds.as_slice() == wanted.as_slice());
-    assert!(rt; turns.world.counts().sent > 0);
-    Ok(())
+    turns.kinds == wanted && turns.world.counts().sent > 0
 }
 
-#[test]
-fn the_worker_of_the_destination_makes_its_steps_in_turn(rt: HostRuntime) -> Result<(), Fail> {
-    let steps = [issue(MAP), store(0x10000, 9), Step::Start];
-    let world = world_after(rt.alloc(), 1, &steps).ok_or("no world")?;
-    let mut turns = Listed::new(Worker::Dest, world);
-    dest_turns(&mut turns);
+fn is_dest(turns: &Listed) -> bool {
     let wanted = [
         StepKind::Deliver,
         StepKind::DeliverUrgent,
@@ -126,49 +165,46 @@ fn the_worker_of_the_destination_makes_its_steps_in_turn(rt: HostRuntime) -> Res
         StepKind::DestRead,
         StepKind::DestAct,
     ];
-    assert!(rt; turns.kinds.as_slice() == wanted.as_slice());
-    assert!(rt; turns.world.forward_bytes() == 0);
-    Ok(())
+    turns.kinds == wanted && turns.world.forward_bytes() == 0
 }
 
-/// A world whose destination runs and is owed two pages. A load has asked for the second.
-fn asked_world(alloc: Global) -> Option<World> {
-    let steps = asked_steps(LOAD);
-    world_after(alloc, 1, &steps)
-}
-
-/// Claims of both pages in the first epoch, made once more where memory was refused.
-fn both_claims(alloc: Global) -> Option<(Claims, ClaimSeat)>
-    ensures { IfSome result (λ r. IsSeatOf r.0 r.1) }
+fn serves(alloc: Global, turns: &mut Listed) -> bool
+    requires who { turns.old.who ≡ Worker.Serve }
+    requires turn { turns.old.turn ≡ 0 }
+    requires leave { turns.old.leave ≡ Leave.Nothing }
 {
-    match Claims::new(alloc, 1, vec![in alloc; 16, 17].ok()?) {
-        Ok(made) => Some(made),
-        Err(_) => Claims::new(alloc, 1, vec![in alloc; 16, 17].ok()?).ok(),
-    }
-}
-
-#[test]
-fn the_worker_that_serves_pushes_what_was_asked_for(rt: HostRuntime) -> Result<(), Fail> {
-    let world = asked_world(rt.alloc()).ok_or("no world")?;
-    let (claims, seat) = both_claims(rt.alloc()).ok_or("no claims")?;
-    let mut turns = Listed::new(Worker::Serve, world);
-    let seat = serve_turns(&mut turns, &claims, seat);
-    assert!(rt; claims.len() == 2 && !claims.holds(&seat, 0) && claims.holds(&seat, 1));
+    let Some((claims, seat)) = both_claims(alloc) else {
+        return false;
+    };
+    let seat = serve_turns(turns, &claims, seat);
     let first = [StepKind::Serve, StepKind::PushUrgent, StepKind::Serve];
-    assert!(rt; turns.kinds.starts_with(&first));
-    assert!(rt; turns.world.urgent_bytes() > 0 && turns.world.forward_bytes() == 0);
-    Ok(())
+    held(&claims, &seat) == Some((false, true))
+        && turns.kinds.starts_with(&first)
+        && turns.world.urgent_bytes() > 0
+        && turns.world.forward_bytes() == 0
+}
+
+fn pushes(alloc: Global, turns: &mut Listed) -> bool
+    requires who { turns.old.who ≡ Worker.Push }
+    requires turn { turns.old.turn ≡ 0 }
+    requires leave { turns.old.leave ≡ Leave.Nothing }
+{
+    let Some((claims, seat)) = both_claims(alloc) else {
+        return false;
+    };
+    let seat = push_turns(turns, &claims, seat);
+    held(&claims, &seat) == Some((true, true))
+        && turns.kinds == [StepKind::Push; MOST]
+        && turns.world.urgent_bytes() == 0
+        && turns.world.forward_bytes() > 0
+        && turns.world.counts().sent == 2
 }
 
 #[test]
-fn the_worker_that_pushes_sends_on_the_other_wire(rt: HostRuntime) -> Result<(), Fail> {
-    let world = asked_world(rt.alloc()).ok_or("no world")?;
-    let (claims, seat) = both_claims(rt.alloc()).ok_or("no claims")?;
-    let mut turns = Listed::new(Worker::Push, world);
-    let seat = push_turns(&mut turns, &claims, seat);
-    assert!(rt; claims.len() == 2 && claims.holds(&seat, 0) && claims.holds(&seat, 1));
-    assert!(rt; turns.kinds.as_slice() == [StepKind::Push; MOST].as_slice());
-    assert!(rt; turns.world.urgent_bytes() == 0 && turns.world.forward_bytes() > 0);
-    assert_eq!(rt; turns.world.counts().sent, 2);
+fn each_worker_makes_its_steps_in_turn(rt: HostRuntime) -> Result<(), Fail> {
+    assert!(rt; play(rt.alloc(), Worker::Source));
+    assert!(rt; play(rt.alloc(), Worker::Dest));
+    assert!(rt; play(rt.alloc(), Worker::Serve));
+    assert!(rt; play(rt.alloc(), Worker::Push));
     Ok(())
 }
