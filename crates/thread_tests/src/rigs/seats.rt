@@ -195,6 +195,27 @@ fn each_scene(rt: HostRuntime) -> Result<(), Fail> {
     }
 }
 
+/// Whether the worker of the source makes a round and sends its page in two turns of a rig with no seats.
+fn is_sent<R: Wait>(rt: &R, alloc: Global) -> bool {
+    match rig_with(alloc, &STARTED, &[], &[]) {
+        Some(rig) => {
+            rig.source_worker(rt, &StopAt(2));
+            let closed = close(rig, Vec::new(alloc), None);
+            closed.is_reported(
+                alloc,
+                "progress phase precopy rounds 1 sent 1 left 0 installed 0 dropped 0 faults 0\n",
+            )
+        }
+        None => false,
+    }
+}
+
+#[test]
+fn two_turns_of_the_source(rt: HostRuntime) -> Result<(), Fail> {
+    assert!(rt; is_sent(&rt, rt.alloc()));
+    Ok(())
+}
+
 /// A seat of a processor of a rig of three, with the answer to a command.
 fn seat_elsewhere<R: Wait>(rt: &R, alloc: Global, cpu: u8, command: Command) -> Option<CpuSeat> {
     let mut rig = rig_after(alloc, 3, &[])?;
