@@ -58,22 +58,54 @@ impl<'a> Unread<'a> {
     }
 
     /// Reads a page of those from 0x10 on.
-    fn next_page(&mut self) -> io::Result<PageNo> {
-        match self.next_byte() {
-            Some(place) => Ok(0x10 + PageNo::from(place)),
-            None => Err(wrong_input()),
-        }
+    fn next_page(&mut self) -> Option<PageNo> {
+        let place = self.next_byte()?;
+        Some(0x10 + PageNo::from(place))
     }
 
     /// Reads a frame, with its epoch.
-    fn next_frame(&mut self, alloc: Global) -> io::Result<(u32, Frame)> {
-        let Some((text, rest)) = self.bytes.split_at_checked(front_len(self.bytes)) else {
-            return Err(wrong_input());
-        };
+    fn next_frame(&mut self, alloc: Global) -> Option<(u32, Frame)> {
+        let (text, rest) = self.bytes.split_at_checked(front_len(self.bytes))?;
         self.bytes = rest;
         match read_text(alloc, text) {
-            Ok(Some(sent)) => Ok(sent),
-            _ => Err(wrong_input()),
+            Ok(sent) => sent,
+            Err(_) => None,
+        }
+    }
+
+    /// Reads the frame of a call that a letter stands for.
+    fn frame_call(&mut self, alloc: Global, letter: u8) -> Option<Call> {
+        let (epoch, frame) = self.next_frame(alloc)?;
+        Some(match letter {
+            b't' => Call::Take(epoch, frame),
+            b'u' => Call::TakeUrgent(epoch, frame),
+            _ => Call::Back(epoch, frame),
+        })
+    }
+
+    /// The call of the source that a letter stands for.
+    fn source_call(&mut self, letter: u8) -> Option<SourceCall> {
+        match letter {
+            b's' => Some(SourceCall::Start),
+            b'w' => Some(SourceCall::Switch),
+            b'e' => Some(SourceCall::End),
+            b'r' => Some(SourceCall::Serve),
+            b'v' => Some(SourceCall::Push(self.next_page()?)),
+            b'x' => Some(SourceCall::PushUrgent(self.next_page()?)),
+            b'n' => Some(SourceCall::Notice),
+            b'k' => Some(SourceCall::NextEpoch),
+            _ => None,
+        }
+    }
+
+    /// The call that a letter stands for: none where the bytes spell no call, or memory runs out.
+    fn call(&mut self, alloc: Global, letter: u8) -> Option<Call> {
+        match letter {
+            b't' | b'u' | b'b' => self.frame_call(alloc, letter),
+            b'i' => Some(Call::Install),
+            b'p' => Some(Call::Pause),
+            b'm' => Some(Call::Memory),
+            letter => Some(Call::Source(self.source_call(letter)?)),
         }
     }
 
@@ -82,39 +114,9 @@ impl<'a> Unread<'a> {
         let Some(letter) = self.next_byte() else {
             return Ok(None);
         };
-        let call = match letter {
-            b't' => {
-                let (epoch, frame) = self.next_frame(alloc)?;
-                Call::Take(epoch, frame)
-            }
-            b'u' => {
-                let (epoch, frame) = self.next_frame(alloc)?;
-                Call::TakeUrgent(epoch, frame)
-            }
-            b'b' => {
-                let (epoch, frame) = self.next_frame(alloc)?;
-                Call::Back(epoch, frame)
-            }
-            b'i' => Call::Install,
-            b'p' => Call::Pause,
-            b'm' => Call::Memory,
-            letter => Call::Source(self.source_call(letter)?),
-        };
-        Ok(Some(call))
-    }
-
-    /// The call of the source that a letter stands for.
-    fn source_call(&mut self, letter: u8) -> io::Result<SourceCall> {
-        Ok(match letter {
-            b's' => SourceCall::Start,
-            b'w' => SourceCall::Switch,
-            b'e' => SourceCall::End,
-            b'r' => SourceCall::Serve,
-            b'v' => SourceCall::Push(self.next_page()?),
-            b'x' => SourceCall::PushUrgent(self.next_page()?),
-            b'n' => SourceCall::Notice,
-            b'k' => SourceCall::NextEpoch,
-            _ => return Err(wrong_input()),
-        })
+        match self.call(alloc, letter) {
+            Some(call) => Ok(Some(call)),
+            None => Err(wrong_input()),
+        }
     }
 }

@@ -94,16 +94,33 @@ fn waiting(alloc: Global, count: usize, command: Option<Command>) -> Result<Wait
     Ok(Waiting::new(commands))
 }
 
+fn page(alloc: Global, page: PageNo, byte: u8) -> Result<Frame, NoMemory> {
+    let bytes = page_of(alloc, byte)?;
+    Ok(Frame::Page { page, bytes })
+}
+
+fn run(alloc: Global, first: PageNo, count: u8, byte: u8) -> Result<Frame, NoMemory> {
+    let pages = pages_of(alloc, count, byte)?;
+    Ok(Frame::Run { first, pages })
+}
+
+fn discard(rt: &impl Abort, alloc: Global, range: Range) -> Result<Frame, NoMemory> {
+    let pages = set_of(rt, alloc, range)?;
+    Ok(Frame::Discard { pages })
+}
+
 fn package(
     rt: &impl Abort,
     alloc: Global,
     mapped: Range,
     owed: Range,
-    commands: Waiting,
+    (count, command): (usize, Option<Command>),
 ) -> Result<Frame, NoMemory> {
+    let commands = waiting(alloc, count, command)?;
     let owed = set_of(rt, alloc, owed)?;
+    let areas = areas_of(rt, alloc, mapped)?;
     Ok(Frame::Package {
-        areas: areas_of(rt, alloc, mapped)?,
+        areas,
         owed,
         commands,
     })
@@ -111,32 +128,24 @@ fn package(
 
 /// Makes a frame.
 pub fn frame_of(rt: &impl Abort, alloc: Global, sending: Sending) -> Result<Frame, NoMemory> {
-    Ok(match sending {
-        Sending::Advise => Frame::Advise,
-        Sending::Page(page, byte) => Frame::Page {
-            page,
-            bytes: page_of(alloc, byte)?,
-        },
-        Sending::Zero(page) => Frame::Zero { page },
-        Sending::Run(first, count, byte) => Frame::Run {
-            first,
-            pages: pages_of(alloc, count, byte)?,
-        },
-        Sending::Discard(range) => Frame::Discard {
-            pages: set_of(rt, alloc, range)?,
-        },
+    match sending {
+        Sending::Advise => Ok(Frame::Advise),
+        Sending::Page(number, byte) => page(alloc, number, byte),
+        Sending::Zero(page) => Ok(Frame::Zero { page }),
+        Sending::Run(first, count, byte) => run(alloc, first, count, byte),
+        Sending::Discard(range) => discard(rt, alloc, range),
         Sending::Package(mapped, owed, count, command) => {
-            package(rt, alloc, mapped, owed, waiting(alloc, count, command)?)?
+            package(rt, alloc, mapped, owed, (count, command))
         }
-        Sending::End(urgent) => Frame::End { urgent },
-        Sending::Resume => Frame::Resume,
-        Sending::Request(page) => Frame::Request { page },
-        Sending::Recv => Frame::Recv {
+        Sending::End(urgent) => Ok(Frame::End { urgent }),
+        Sending::Resume => Ok(Frame::Resume),
+        Sending::Request(page) => Ok(Frame::Request { page }),
+        Sending::Recv => Ok(Frame::Recv {
             state: Received::NotRun,
             owed: PageSet::new(alloc),
-        },
-        Sending::Done => Frame::Done,
-    })
+        }),
+        Sending::Done => Ok(Frame::Done),
+    }
 }
 
 fn range_of(pages: &PageSet) -> Range {
@@ -170,7 +179,15 @@ impl Brief {
 
     /// The first three of a list of frames.
     pub fn of_first(frames: &[Frame]) -> (Option<Self>, Option<Self>, Option<Self>) {
-        let at = |i: usize| frames.get(i).map(Brief::of);
-        (at(0), at(1), at(2))
+        match frames {
+            [] => (None, None, None),
+            [one] => (Some(Brief::of(one)), None, None),
+            [one, two] => (Some(Brief::of(one)), Some(Brief::of(two)), None),
+            [one, two, three, ..] => (
+                Some(Brief::of(one)),
+                Some(Brief::of(two)),
+                Some(Brief::of(three)),
+            ),
+        }
     }
 }

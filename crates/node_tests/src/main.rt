@@ -86,16 +86,24 @@ fn make_all(
     Ok(())
 }
 
+/// Makes the calls on a destination and on a new source, and returns whether all were made.
+fn work_on(rt: &HostRuntime, destination: &mut Destination) -> bool {
+    match Source::new(rt.alloc(), 2, 0, 0) {
+        Ok(mut source) => fill_and_make(rt, destination, &mut source),
+        Err(_) => false,
+    }
+}
+
+fn fill_and_make(rt: &HostRuntime, destination: &mut Destination, source: &mut Source) -> bool {
+    on_source::fill(source).is_ok() && make_all(rt, destination, source).is_ok()
+}
+
 /// Makes the calls on two new nodes, and returns whether all were made.
 fn work(rt: &HostRuntime) -> bool {
-    let alloc = rt.alloc();
-    let Ok(mut destination) = Destination::new(alloc, 2) else {
-        return false;
-    };
-    let Ok(mut source) = Source::new(alloc, 2, 0, 0) else {
-        return false;
-    };
-    on_source::fill(&mut source).is_ok() && make_all(rt, &mut destination, &mut source).is_ok()
+    match Destination::new(rt.alloc(), 2) {
+        Ok(mut destination) => work_on(rt, &mut destination),
+        Err(_) => false,
+    }
 }
 
 fn main(rt: HostRuntime) -> ExitCode {

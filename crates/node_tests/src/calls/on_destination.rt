@@ -1,6 +1,8 @@
 //! Calls of the destination.
 
 use fault_handler::Destination;
+use mig_base::PageNo;
+use mig_base::fault::TakeFault;
 use page_stream::Frame;
 use std::io;
 
@@ -18,23 +20,60 @@ fn print_state(rt: &HostRuntime, destination: &Destination) -> io::Result<()> {
     )
 }
 
-/// A frame comes. One that is not well formed is not handed over: no text spells one.
+/// The answer to a frame that comes.
+#[derive(Clone, Copy)]
+enum Taken {
+    /// It is not handed over: no text spells such a frame.
+    NotWellFormed,
+    Took,
+    SendsDone,
+    SendsOther,
+    Refused(TakeFault),
+}
+
+fn taken_of(destination: &mut Destination, epoch: u32, frame: Frame) -> Taken {
+    if !frame.is_well_formed() {
+        return Taken::NotWellFormed;
+    }
+    match destination.take(epoch, frame) {
+        Ok(None) => Taken::Took,
+        Ok(Some(Frame::Done)) => Taken::SendsDone,
+        Ok(Some(_)) => Taken::SendsOther,
+        Err(fault) => Taken::Refused(fault),
+    }
+}
+
+fn urgently_taken(destination: &mut Destination, epoch: u32, frame: Frame) -> Taken {
+    if !frame.is_well_formed() {
+        return Taken::NotWellFormed;
+    }
+    match destination.take_urgent(epoch, frame) {
+        Ok(()) => Taken::Took,
+        Err(fault) => Taken::Refused(fault),
+    }
+}
+
+/// Prints the answer to a frame, and what the destination is then.
+fn print_taken(rt: &HostRuntime, destination: &Destination, answer: Taken) -> io::Result<()> {
+    match answer {
+        Taken::NotWellFormed => return println!(rt; "not well formed"),
+        Taken::Took => print!(rt; "took")?,
+        Taken::SendsDone => print!(rt; "took, and sends Done")?,
+        Taken::SendsOther => print!(rt; "took, and sends another frame")?,
+        Taken::Refused(fault) => print!(rt; "refused {fault:?}")?,
+    }
+    print_state(rt, destination)
+}
+
+/// A frame comes.
 pub fn take(
     rt: &HostRuntime,
     destination: &mut Destination,
     epoch: u32,
     frame: Frame,
 ) -> io::Result<()> {
-    if !frame.is_well_formed() {
-        return println!(rt; "not well formed");
-    }
-    match destination.take(epoch, frame) {
-        Ok(None) => print!(rt; "took")?,
-        Ok(Some(Frame::Done)) => print!(rt; "took, and sends Done")?,
-        Ok(Some(_)) => print!(rt; "took, and sends another frame")?,
-        Err(fault) => print!(rt; "refused {fault:?}")?,
-    }
-    print_state(rt, destination)
+    let answer = taken_of(destination, epoch, frame);
+    print_taken(rt, destination, answer)
 }
 
 /// A frame comes on the urgent wire.
@@ -44,14 +83,8 @@ pub fn take_urgent(
     epoch: u32,
     frame: Frame,
 ) -> io::Result<()> {
-    if !frame.is_well_formed() {
-        return println!(rt; "not well formed");
-    }
-    match destination.take_urgent(epoch, frame) {
-        Ok(()) => print!(rt; "took")?,
-        Err(fault) => print!(rt; "refused {fault:?}")?,
-    }
-    print_state(rt, destination)
+    let answer = urgently_taken(destination, epoch, frame);
+    print_taken(rt, destination, answer)
 }
 
 /// The first copy that waits is installed or dropped.
@@ -70,11 +103,19 @@ pub fn pause(rt: &HostRuntime, destination: &mut Destination) -> io::Result<()> 
     print_state(rt, destination)
 }
 
+/// The first byte of a page that is present.
+fn first_byte(destination: &Destination, page: PageNo) -> Option<u8> {
+    match destination.space().page(page) {
+        Some(bytes) => Some(bytes[0]),
+        None => None,
+    }
+}
+
 /// Prints the first byte of each of 16 pages, or `-` where the page is not present.
 pub fn print_memory(rt: &HostRuntime, destination: &Destination) -> io::Result<()> {
     for page in 0x10..0x20 {
-        match destination.space().page(page) {
-            Some(bytes) => print!(rt; " {}", bytes[0])?,
+        match first_byte(destination, page) {
+            Some(byte) => print!(rt; " {byte}")?,
             None => print!(rt; " -")?,
         }
     }

@@ -1,6 +1,7 @@
 //! Calls of the source.
 
 use crate::calls::SourceCall;
+use mig_base::fault::RebuildFault;
 use mig_base::phase::SourcePhase;
 use mig_base::refusal::Refusal;
 use mig_base::schedule::Ticket;
@@ -8,6 +9,7 @@ use mig_base::{Command, PAGE_SIZE, PageNo, Place, Prot};
 use page_stream::Frame;
 use precopy::Source;
 use recovery::{notice_source, rebuild};
+use std::alloc::Global;
 use std::io;
 
 /// Maps 16 pages from 0x10 on, and stores to each second one.
@@ -45,24 +47,47 @@ fn print_state(rt: &HostRuntime, source: &Source) -> io::Result<()> {
 /// A frame comes back. A Recv that is accepted rebuilds what the source has to send.
 pub fn back(rt: &HostRuntime, source: &mut Source, epoch: u32, frame: &Frame) -> io::Result<()> {
     match source.back(epoch, frame) {
-        Ok(()) => resume_from(rt, source, frame)?,
+        Ok(()) => {
+            let accepted = resume_from(rt.alloc(), source, frame);
+            print_accepted(rt, accepted)?
+        }
         Err(fault) => print!(rt; "refused {fault:?}")?,
     }
     print_state(rt, source)
 }
 
+/// What comes of a frame that was accepted.
+#[derive(Clone, Copy)]
+enum Accepted {
+    Took,
+    /// A Recv, though the source is released.
+    Released,
+    /// A Recv, for which the source sends this number of frames.
+    Sends(usize),
+    Refused(RebuildFault),
+}
+
 /// Rebuilds what a source that is not released has to send, if the frame that it took is a Recv.
-fn resume_from(rt: &HostRuntime, source: &mut Source, frame: &Frame) -> io::Result<()> {
+fn resume_from(alloc: Global, source: &mut Source, frame: &Frame) -> Accepted {
     let Frame::Recv { state, owed } = frame else {
-        return print!(rt; "took");
+        return Accepted::Took;
     };
     match source.phase() {
-        SourcePhase::Released => return print!(rt; "took a Recv though it is released"),
+        SourcePhase::Released => return Accepted::Released,
         _ => {}
     }
-    match rebuild(rt.alloc(), source, *state, owed) {
-        Ok(frames) => print!(rt; "took, and sends {}", frames.len()),
-        Err(fault) => print!(rt; "refused {fault:?}"),
+    match rebuild(alloc, source, *state, owed) {
+        Ok(frames) => Accepted::Sends(frames.len()),
+        Err(fault) => Accepted::Refused(fault),
+    }
+}
+
+fn print_accepted(rt: &HostRuntime, accepted: Accepted) -> io::Result<()> {
+    match accepted {
+        Accepted::Took => print!(rt; "took"),
+        Accepted::Released => print!(rt; "took a Recv though it is released"),
+        Accepted::Sends(count) => print!(rt; "took, and sends {count}"),
+        Accepted::Refused(fault) => print!(rt; "refused {fault:?}"),
     }
 }
 
@@ -89,16 +114,24 @@ fn begin_epoch(source: &mut Source) -> Result<(), Refusal> {
     Ok(())
 }
 
+/// The outcome of a call, without what it answers.
+fn done<T: Drop>(answer: Result<T, Refusal>) -> Result<(), Refusal> {
+    match answer {
+        Ok(_) => Ok(()),
+        Err(refusal) => Err(refusal),
+    }
+}
+
 /// Makes a call that takes no frame.
 fn outcome(source: &mut Source, call: SourceCall) -> Result<(), Refusal> {
     match call {
-        SourceCall::Start => source.start().map(|_| ()),
-        SourceCall::Switch => source.switch().map(|_| ()),
-        SourceCall::End => source.end().map(|_| ()),
-        SourceCall::Serve => source.serve().map(|_| ()),
+        SourceCall::Start => done(source.start()),
+        SourceCall::Switch => done(source.switch()),
+        SourceCall::End => done(source.end()),
+        SourceCall::Serve => done(source.serve()),
         SourceCall::Push(page) => push(source, page, false),
         SourceCall::PushUrgent(page) => push(source, page, true),
-        SourceCall::Notice => notice_source(source).map(|_| ()),
+        SourceCall::Notice => done(notice_source(source)),
         SourceCall::NextEpoch => begin_epoch(source),
     }
 }

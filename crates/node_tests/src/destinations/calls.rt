@@ -142,8 +142,8 @@ fn take_urgent(
 }
 
 /// The answer for a command.
-fn tried(answer: Result<Tried, Refusal>) -> Result<Answer, Refusal> {
-    answer.map(|tried| match (tried.effect, tried.entry) {
+fn replied(tried: Tried) -> Answer {
+    match (tried.effect, tried.entry) {
         (Effect::Asleep { cpu }, None) => Asleep(cpu),
         (Effect::Answered { cpu, reply }, Some(entry))
             if entry.cpu == cpu && entry.reply == reply => { Replied(cpu, reply) }
@@ -151,7 +151,22 @@ fn tried(answer: Result<Tried, Refusal>) -> Result<Answer, Refusal> {
             InCall(cpu, messages, entry.reply)
         }
         _ => Unfit(tried),
-    })
+    }
+}
+
+fn tried(answer: Result<Tried, Refusal>) -> Result<Answer, Refusal> {
+    match answer {
+        Ok(tried) => Ok(replied(tried)),
+        Err(refusal) => Err(refusal),
+    }
+}
+
+/// The answer for a step that only tells its effect.
+fn told(answer: Result<Effect, Refusal>) -> Result<Answer, Refusal> {
+    match answer {
+        Ok(effect) => Ok(Told(effect)),
+        Err(refusal) => Err(refusal),
+    }
 }
 
 fn acted(destination: &mut Destination) -> Result<Answer, Refusal> {
@@ -175,33 +190,54 @@ fn requested(alloc: Global, destination: &Destination) -> Result<Answer, Refusal
     }
 }
 
+fn next_act(destination: &Destination) -> Result<Answer, Refusal> {
+    match destination.next_act() {
+        Ok((act, addr)) => Ok(WouldAct(act, addr)),
+        Err(refusal) => Err(refusal),
+    }
+}
+
+fn next_install(destination: &Destination) -> Result<Answer, Refusal> {
+    match destination.next_install() {
+        Ok((origin, page)) => Ok(WouldInstall(origin, page)),
+        Err(refusal) => Err(refusal),
+    }
+}
+
+fn state(destination: &Destination, cpu: u8) -> Result<Answer, Refusal> {
+    match destination.cpus().state(cpu) {
+        Ok(state) => Ok(Is(state)),
+        Err(refusal) => Err(refusal),
+    }
+}
+
+fn counts(destination: &Destination) -> Answer {
+    Counted(
+        [
+            destination.installed(),
+            destination.dropped(),
+            destination.faults(),
+        ],
+        destination.arrivals(),
+        destination.owed().len(),
+    )
+}
+
 /// Asks for what a destination knows.
 fn asked(alloc: Global, destination: &Destination, call: Call) -> Result<Answer, Refusal> {
     match call {
         Call::Report => report(alloc, destination),
         Call::Rerequest => requested(alloc, destination),
-        Call::NextAct => destination
-            .next_act()
-            .map(|(act, addr)| WouldAct(act, addr)),
-        Call::NextInstall => destination
-            .next_install()
-            .map(|(origin, page)| WouldInstall(origin, page)),
+        Call::NextAct => next_act(destination),
+        Call::NextInstall => next_install(destination),
         Call::Home(origin) => Ok(At(destination.owed().home(origin))),
-        Call::Cpu(cpu) => destination.cpus().state(cpu).map(Is),
+        Call::Cpu(cpu) => state(destination, cpu),
         Call::Phase => Ok(Stands(
             destination.phase(),
             destination.has_run(),
             destination.epoch(),
         )),
-        _ => Ok(Counted(
-            [
-                destination.installed(),
-                destination.dropped(),
-                destination.faults(),
-            ],
-            destination.arrivals(),
-            destination.owed().len(),
-        )),
+        _ => Ok(counts(destination)),
     }
 }
 
@@ -244,6 +280,39 @@ fn moving(addr: Addr, to: Addr) -> Command {
     }
 }
 
+/// A frame is made and comes.
+fn take_made(
+    rt: &impl Abort,
+    alloc: Global,
+    destination: &mut Destination,
+    epoch: u32,
+    sending: Sending,
+) -> Result<Answer, Refusal> {
+    match frame_of(rt, alloc, sending) {
+        Ok(frame) => take(rt, destination, epoch, frame),
+        Err(NoMemory) => Err(Refusal::NoMemory),
+    }
+}
+
+/// So on the urgent wire.
+fn take_made_urgent(
+    rt: &impl Abort,
+    alloc: Global,
+    destination: &mut Destination,
+    epoch: u32,
+    sending: Sending,
+) -> Result<Answer, Refusal> {
+    match frame_of(rt, alloc, sending) {
+        Ok(frame) => take_urgent(rt, destination, epoch, frame),
+        Err(NoMemory) => Err(Refusal::NoMemory),
+    }
+}
+
+fn pause(destination: &mut Destination) -> Result<Answer, Refusal> {
+    destination.pause();
+    Ok(Done)
+}
+
 /// Makes a call.
 pub fn make(
     rt: &impl Abort,
@@ -255,23 +324,16 @@ pub fn make(
         return tried(destination.issue(cpu, command));
     }
     match call {
-        Call::Take(epoch, sending) => match frame_of(rt, alloc, sending) {
-            Ok(frame) => take(rt, destination, epoch, frame),
-            Err(NoMemory) => Err(Refusal::NoMemory),
-        },
-        Call::TakeUrgent(epoch, sending) => match frame_of(rt, alloc, sending) {
-            Ok(frame) => take_urgent(rt, destination, epoch, frame),
-            Err(NoMemory) => Err(Refusal::NoMemory),
-        },
-        Call::Retry(cpu) => tried(destination.retry(cpu)),
-        Call::Read => destination.read().map(Told),
-        Call::Act => acted(destination),
-        Call::Install => destination.install().map(Told),
-        Call::Pause => {
-            destination.pause();
-            Ok(Done)
+        Call::Take(epoch, sending) => take_made(rt, alloc, destination, epoch, sending),
+        Call::TakeUrgent(epoch, sending) => {
+            take_made_urgent(rt, alloc, destination, epoch, sending)
         }
-        Call::Notice => destination.notice().map(Told),
+        Call::Retry(cpu) => tried(destination.retry(cpu)),
+        Call::Read => told(destination.read()),
+        Call::Act => acted(destination),
+        Call::Install => told(destination.install()),
+        Call::Pause => pause(destination),
+        Call::Notice => told(destination.notice()),
         _ => asked(alloc, destination, call),
     }
 }

@@ -32,10 +32,7 @@ struct Picture {
 
 impl Picture {
     fn of(destination: &Destination) -> Self {
-        let mut requests = [None; 3];
-        for (place, page) in requests.iter_mut().zip(destination.requests()) {
-            *place = Some(*page);
-        }
+        let requests = destination.requests();
         let owed = destination.owed();
         let space = destination.space();
         let cpus = destination.cpus();
@@ -45,7 +42,11 @@ impl Picture {
             epoch: destination.epoch(),
             owed: owed.len(),
             homes: [owed.home(0x10), owed.home(0x11), owed.home(0x12)],
-            requests,
+            requests: [
+                requests.get(0).copied(),
+                requests.get(1).copied(),
+                requests.get(2).copied(),
+            ],
             arrivals: destination.arrivals(),
             counts: [
                 destination.installed(),
@@ -68,6 +69,25 @@ fn is_refused(answer: Result<Answer, Refusal>) -> bool {
     matches!(answer, Err(_) | Ok(Answer::NotTaken(_)))
 }
 
+/// Makes a call, and once more where memory was refused. A call that is refused leaves the destination as it was.
+fn make_again(
+    rt: &impl Abort,
+    alloc: Global,
+    destination: &mut Destination,
+    call: Call,
+    i: usize,
+) -> Result<Answer, Refusal> {
+    let before = Picture::of(destination);
+    let answer = make(rt, alloc, destination, call);
+    if is_refused(answer) {
+        same(rt, &Picture::of(destination), &before, "refused step", i);
+    }
+    if answer == Err(Refusal::NoMemory) {
+        return make(rt, alloc, destination, call);
+    }
+    answer
+}
+
 /// Plays a table on a destination.
 fn play_on(
     rt: &impl Abort,
@@ -77,17 +97,7 @@ fn play_on(
     steps: &[Step],
 ) {
     for (i, (call, wanted)) in steps.iter().enumerate() {
-        let before = Picture::of(destination);
-        let mut answer = make(rt, alloc, destination, *call);
-        if is_refused(answer) {
-            assert!(rt;
-                Picture::of(destination) == before,
-                "{name} {i}: a refused call has changed it"
-            );
-        }
-        if answer == Err(Refusal::NoMemory) {
-            answer = make(rt, alloc, destination, *call);
-        }
+        let answer = make_again(rt, alloc, destination, *call, i);
         same(rt, &answer, wanted, name, i);
     }
 }

@@ -81,6 +81,20 @@ fn rebuilt(
     }
 }
 
+/// The same with a range of pages.
+fn rebuilt_of(
+    rt: &impl Abort,
+    alloc: Global,
+    source: &mut Source,
+    state: Received,
+    range: Range,
+) -> Result<Answer, Refusal> {
+    match set_of(rt, alloc, range) {
+        Ok(owed) => rebuilt(rt, alloc, source, state, &owed),
+        Err(NoMemory) => Err(Refusal::NoMemory),
+    }
+}
+
 fn map_call() -> Command {
     Command::Mmap {
         addr_len: 3 * PAGE_SIZE,
@@ -113,10 +127,7 @@ fn make(
         Switch => done(source.switch()),
         Notice => done(notice_source(source)),
         Looks => Ok(looks(source)),
-        Rebuild(state, range) => match set_of(rt, alloc, range) {
-            Ok(owed) => rebuilt(rt, alloc, source, state, &owed),
-            Err(NoMemory) => Err(Refusal::NoMemory),
-        },
+        Rebuild(state, range) => rebuilt_of(rt, alloc, source, state, range),
     }
 }
 
@@ -124,17 +135,29 @@ fn is_refused(answer: Result<Answer, Refusal>) -> bool {
     matches!(answer, Err(_) | Ok(NotRebuilt(_)))
 }
 
+/// Makes a call, and once more where memory was refused. A call that is refused leaves the source as it was.
+fn make_again(
+    rt: &impl Abort,
+    alloc: Global,
+    source: &mut Source,
+    call: Call,
+    i: usize,
+) -> Result<Answer, Refusal> {
+    let before = looks(source);
+    let answer = make(rt, alloc, source, call);
+    if is_refused(answer) {
+        same(rt, &looks(source), &before, "refused step", i);
+    }
+    if answer == Err(Refusal::NoMemory) {
+        return make(rt, alloc, source, call);
+    }
+    answer
+}
+
 /// Plays a table on a source.
 pub fn play_on(rt: &impl Abort, alloc: Global, source: &mut Source, name: &str, steps: &[Step]) {
     for (i, (call, wanted)) in steps.iter().enumerate() {
-        let before = looks(source);
-        let mut answer = make(rt, alloc, source, *call);
-        if is_refused(answer) {
-            same(rt, &looks(source), &before, "refused step", i);
-        }
-        if answer == Err(Refusal::NoMemory) {
-            answer = make(rt, alloc, source, *call);
-        }
+        let answer = make_again(rt, alloc, source, *call, i);
         same(rt, &answer, wanted, name, i);
     }
 }

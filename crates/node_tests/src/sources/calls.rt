@@ -3,7 +3,7 @@
 ghost use Rattle.std.specs.Prelude.{◌≡◌, false};
 ghost use Rattle.mig_model.specs.Source.{is_released};
 
-use crate::frames::set_of;
+use crate::frames::{Range, set_of};
 use dirty_log::{DirtyLog, PageContent};
 use guest::Tried;
 use mig_base::act::Act as Resolving;
@@ -86,7 +86,7 @@ pub(super) enum Heard {
 pub(super) type Two<T> = (T, T);
 
 /// A frame to the destination, or a page that is sent from the space, as far as a table says it.
-#[derive(Clone, Copy, Debug, PartialEq, Eq)]
+#[derive(Clone, Copy, PartialEq, Eq)]
 pub(super) enum Brief {
     Advise,
     /// A page with its first byte.
@@ -103,7 +103,7 @@ pub(super) enum Brief {
     Unfit,
 }
 
-#[derive(Clone, Copy, Debug, PartialEq, Eq)]
+#[derive(Clone, Copy, PartialEq, Eq)]
 pub(super) enum Answer {
     Done,
     /// A command was answered, or a map call continues, and it was entered; or its processor sleeps, and it was not.
@@ -167,15 +167,23 @@ impl Brief {
     }
 }
 
+/// Whether the entry of a command fits its effect.
+fn fits(tried: Tried) -> bool {
+    match (tried.effect, tried.entry) {
+        (Effect::Asleep { .. }, None) => true,
+        (Effect::Answered { cpu, reply }, Some(entry)) => entry.cpu == cpu && entry.reply == reply,
+        (Effect::InCall { cpu, .. }, Some(entry)) => entry.cpu == cpu,
+        _ => false,
+    }
+}
+
 /// The outcome of a command.
 fn tried(answer: Result<Tried, Refusal>) -> Result<Answer, Refusal> {
-    answer.map(|tried| match (tried.effect, tried.entry) {
-        (Effect::Asleep { .. }, None) => Tries(tried.effect),
-        (Effect::Answered { cpu, reply }, Some(entry))
-            if entry.cpu == cpu && entry.reply == reply => { Tries(tried.effect) }
-        (Effect::InCall { cpu, .. }, Some(entry)) if entry.cpu == cpu => Tries(tried.effect),
-        _ => Answer::Unfit(tried),
-    })
+    match answer {
+        Ok(tried) if fits(tried) => Ok(Tries(tried.effect)),
+        Ok(tried) => Ok(Answer::Unfit(tried)),
+        Err(refusal) => Err(refusal),
+    }
 }
 
 fn sent(answer: Result<(Effect, Frame), Refusal>) -> Result<Answer, Refusal> {
@@ -193,19 +201,37 @@ fn page_sent(page: PageNo, sent: PageContent) -> Brief {
     }
 }
 
-fn send(source: &mut Source) -> Result<Answer, Refusal> {
-    let (effect, page, sent) = source.send_next()?;
-    Ok(Sends(effect, page_sent(page, sent)))
+fn sent_page(
+    page: PageNo,
+    answer: Result<(Effect, PageContent), Refusal>,
+) -> Result<Answer, Refusal> {
+    match answer {
+        Ok((effect, sent)) => Ok(Sends(effect, page_sent(page, sent))),
+        Err(refusal) => Err(refusal),
+    }
 }
 
 fn push(source: &mut Source, ticket: Ticket) -> Result<Answer, Refusal> {
-    let (effect, sent) = source.push(ticket)?;
-    Ok(Sends(effect, page_sent(ticket.page, sent)))
+    sent_page(ticket.page, source.push(ticket))
 }
 
 fn push_urgent(source: &mut Source, ticket: Ticket) -> Result<Answer, Refusal> {
-    let (effect, sent) = source.push_urgent(ticket)?;
-    Ok(Sends(effect, page_sent(ticket.page, sent)))
+    sent_page(ticket.page, source.push_urgent(ticket))
+}
+
+fn send(source: &mut Source) -> Result<Answer, Refusal> {
+    match source.send_next() {
+        Ok((effect, page, sent)) => Ok(Sends(effect, page_sent(page, sent))),
+        Err(refusal) => Err(refusal),
+    }
+}
+
+/// The answer for a step that only tells its effect.
+fn told(answer: Result<Effect, Refusal>) -> Result<Answer, Refusal> {
+    match answer {
+        Ok(effect) => Ok(Told(effect)),
+        Err(refusal) => Err(refusal),
+    }
 }
 
 fn handed(answer: Result<(Effect, Frame, Frame), Refusal>) -> Result<Answer, Refusal> {
@@ -247,17 +273,23 @@ fn to_stopped(
     rt: &impl Abort,
     alloc: Global,
     source: &mut Source,
-    first: PageNo,
-    count: u32,
+    range: Range,
     packaged: u32,
 ) -> Result<Answer, Refusal> {
     assert!(rt; source.has_switched());
     not_released(rt, source);
-    match set_of(rt, alloc, (first, count)) {
+    match set_of(rt, alloc, range) {
         Ok(pages) => {
             source.to_stopped(pages, packaged);
             Ok(Done)
         }
+        Err(NoMemory) => Err(Refusal::NoMemory),
+    }
+}
+
+fn package_of(source: &Source, owed: &PageSet) -> Result<Answer, Refusal> {
+    match source.package(owed) {
+        Ok(frame) => Ok(Gives(Brief::of(&frame))),
         Err(NoMemory) => Err(Refusal::NoMemory),
     }
 }
@@ -268,10 +300,11 @@ fn package(
     source: &Source,
     first: PageNo,
     count: u32,
-) -> Result<Answer, NoMemory> {
-    let owed = set_of(rt, alloc, (first, count))?;
-    let frame = source.package(&owed)?;
-    Ok(Gives(Brief::of(&frame)))
+) -> Result<Answer, Refusal> {
+    match set_of(rt, alloc, (first, count)) {
+        Ok(owed) => package_of(source, &owed),
+        Err(NoMemory) => Err(Refusal::NoMemory),
+    }
 }
 
 /// The number of pages in the run that the round sends next.
@@ -282,8 +315,16 @@ pub(super) fn next_run(log: &DirtyLog) -> u32 {
     }
 }
 
-fn counts(source: &Source) -> Result<Answer, NoMemory> {
-    let present = source.present()?.len();
+/// The number of pages that are present.
+fn present(source: &Source) -> Result<u32, Refusal> {
+    match source.present() {
+        Ok(pages) => Ok(pages.len()),
+        Err(NoMemory) => Err(Refusal::NoMemory),
+    }
+}
+
+fn counts(source: &Source) -> Result<Answer, Refusal> {
+    let present = present(source)?;
     let log = source.log();
     Ok(Counted(
         [
@@ -323,6 +364,30 @@ fn command(call: Call) -> Option<(u8, Command)> {
     }
 }
 
+fn pause(rt: &impl Abort, source: &mut Source) -> Result<Answer, Refusal> {
+    not_released(rt, source);
+    source.pause();
+    Ok(Done)
+}
+
+fn set_epoch(rt: &impl Abort, source: &mut Source, epoch: u32) -> Result<Answer, Refusal> {
+    assert!(rt; source.epoch() < epoch);
+    source.set_epoch(epoch);
+    Ok(Done)
+}
+
+fn to_precopy(rt: &impl Abort, source: &mut Source) -> Result<Answer, Refusal> {
+    assert!(rt; !source.has_switched());
+    source.to_precopy();
+    Ok(Done)
+}
+
+fn release(rt: &impl Abort, source: &mut Source) -> Result<Answer, Refusal> {
+    assert!(rt; source.has_switched());
+    source.release();
+    Ok(Done)
+}
+
 /// Makes a call of the recovery, or asks for what a source knows.
 fn recovered(
     rt: &impl Abort,
@@ -331,52 +396,56 @@ fn recovered(
     call: Call,
 ) -> Result<Answer, Refusal> {
     match call {
-        Back(epoch, heard) => return back(source, epoch, &frame(alloc, heard)),
-        Pause => {
-            not_released(rt, source);
-            source.pause();
-        }
-        SetEpoch(epoch) => {
-            assert!(rt; source.epoch() < epoch);
-            source.set_epoch(epoch);
-        }
-        ToPrecopy => {
-            assert!(rt; !source.has_switched());
-            source.to_precopy();
-        }
+        Back(epoch, heard) => back(source, epoch, &frame(alloc, heard)),
+        Pause => pause(rt, source),
+        SetEpoch(epoch) => set_epoch(rt, source, epoch),
+        ToPrecopy => to_precopy(rt, source),
         ToStopped(first, count, packaged) => {
-            return to_stopped(rt, alloc, source, first, count, packaged);
+            to_stopped(rt, alloc, source, (first, count), packaged)
         }
-        Release => {
-            assert!(rt; source.has_switched());
-            source.release();
-        }
-        Package(first, count) => {
-            return package(rt, alloc, source, first, count).map_err(|_| Refusal::NoMemory);
-        }
-        Phase => return Ok(Stands(source.phase(), source.has_switched(), source.epoch())),
-        Cpu(cpu) => return source.cpus().state(cpu).map(Is),
-        _ => return counts(source).map_err(|_| Refusal::NoMemory),
+        Release => release(rt, source),
+        _ => asked(rt, alloc, source, call),
     }
-    Ok(Done)
 }
 
-/// Asks a source what it would do next, or makes the step of a run without its frame.
-fn asked(source: &mut Source, call: Call) -> Option<Result<Answer, Refusal>> {
+fn next_run_of(source: &Source, most: u8) -> Result<Answer, Refusal> {
+    match source.next_run(most) {
+        Ok((first, count)) => Ok(Finds(first, count)),
+        Err(refusal) => Err(refusal),
+    }
+}
+
+fn run_sent(source: &mut Source, most: u8) -> Result<Answer, Refusal> {
+    match source.run_sent(most) {
+        Ok((effect, first, count)) => Ok(Marks(effect, first, count)),
+        Err(refusal) => Err(refusal),
+    }
+}
+
+fn next_act(source: &Source) -> Result<Answer, Refusal> {
+    match source.next_act() {
+        Ok((act, addr)) => Ok(WouldAct(act, addr)),
+        Err(refusal) => Err(refusal),
+    }
+}
+
+fn state(source: &Source, cpu: u8) -> Result<Answer, Refusal> {
+    match source.cpus().state(cpu) {
+        Ok(state) => Ok(Is(state)),
+        Err(refusal) => Err(refusal),
+    }
+}
+
+/// Asks a source what it is, or would do next.
+fn asked(rt: &impl Abort, alloc: Global, source: &Source, call: Call) -> Result<Answer, Refusal> {
     match call {
-        NextRun(most) => Some(
-            source
-                .next_run(most)
-                .map(|(first, count)| Finds(first, count)),
-        ),
-        RunSent(most) => Some(
-            source
-                .run_sent(most)
-                .map(|(effect, first, count)| Marks(effect, first, count)),
-        ),
-        NextAct => Some(source.next_act().map(|(act, addr)| WouldAct(act, addr))),
-        NextRemaining(from) => Some(Ok(Remains(source.next_remaining(from)))),
-        _ => None,
+        NextRun(most) => next_run_of(source, most),
+        NextAct => next_act(source),
+        NextRemaining(from) => Ok(Remains(source.next_remaining(from))),
+        Package(first, count) => package(rt, alloc, source, first, count),
+        Phase => Ok(Stands(source.phase(), source.has_switched(), source.epoch())),
+        Cpu(cpu) => state(source, cpu),
+        _ => counts(source),
     }
 }
 
@@ -390,21 +459,19 @@ pub(super) fn make(
     if let Some((cpu, command)) = command(call) {
         return tried(source.issue(cpu, command));
     }
-    if let Some(answer) = asked(source, call) {
-        return answer;
-    }
     match call {
         Retry(cpu) => tried(source.retry(cpu)),
         Start => sent(source.start()),
-        Round => source.round().map(Told),
+        Round => told(source.round()),
         Send => send(source),
         SendRun(count) => sent(source.send_run(count)),
-        Read => source.read().map(Told),
-        Act => source.act().map(Told),
+        RunSent(most) => run_sent(source, most),
+        Read => told(source.read()),
+        Act => told(source.act()),
         Switch => handed(source.switch()),
         Push(epoch, page) => push(source, Ticket { epoch, page }),
         PushUrgent(epoch, page) => push_urgent(source, Ticket { epoch, page }),
-        Serve => source.serve().map(Told),
+        Serve => told(source.serve()),
         End => sent(source.end()),
         _ => recovered(rt, alloc, source, call),
     }

@@ -6,7 +6,7 @@ use mig_base::cpu_state::CpuState;
 use mig_base::effect::Effect;
 use mig_base::phase::SourcePhase;
 use mig_base::refusal::Refusal;
-use mig_base::{Command, Message, Reply};
+use mig_base::{Command, Message, PageNo, Reply};
 use precopy::Source;
 use std::alloc::Global;
 use std::process::Abort;
@@ -28,13 +28,13 @@ struct Picture {
     present: [bool; 4],
 }
 
+fn has_page(source: &Source, page: PageNo) -> bool {
+    source.space().page(page).is_some()
+}
+
 impl Picture {
     fn of(source: &Source) -> Self {
         let log = source.log();
-        let mut present = [false; 4];
-        for (page, is_present) in (0x10..0x14u32).zip(present.iter_mut()) {
-            *is_present = source.space().page(page).is_some();
-        }
         Picture {
             phase: source.phase(),
             has_switched: source.has_switched(),
@@ -50,7 +50,12 @@ impl Picture {
             cpus: [source.cpus().state(0), source.cpus().state(1)],
             events: source.space().changing(),
             next: source.space().next_message(),
-            present,
+            present: [
+                has_page(source, 0x10),
+                has_page(source, 0x11),
+                has_page(source, 0x12),
+                has_page(source, 0x13),
+            ],
         }
     }
 }
@@ -69,7 +74,26 @@ pub(super) fn new_source(
     }
 }
 
-/// Plays a table on a source. A call that is refused leaves it as it was.
+/// Makes a call, and once more where memory was refused. A call that is refused leaves the source as it was.
+fn make_again(
+    rt: &impl Abort,
+    alloc: Global,
+    source: &mut Source,
+    call: Call,
+    i: usize,
+) -> Result<Answer, Refusal> {
+    let before = Picture::of(source);
+    let answer = make(rt, alloc, source, call);
+    if answer.is_err() {
+        same(rt, &Picture::of(source), &before, "refused step", i);
+    }
+    if answer == Err(Refusal::NoMemory) {
+        return make(rt, alloc, source, call);
+    }
+    answer
+}
+
+/// Plays a table on a source.
 fn play_on(
     rt: &impl Abort,
     alloc: Global,
@@ -77,14 +101,7 @@ fn play_on(
     steps: &[(Call, Result<Answer, Refusal>)],
 ) {
     for (i, (call, wanted)) in steps.iter().enumerate() {
-        let before = Picture::of(source);
-        let mut answer = make(rt, alloc, source, *call);
-        if answer.is_err() {
-            same(rt, &Picture::of(source), &before, "refused step", i);
-        }
-        if answer == Err(Refusal::NoMemory) {
-            answer = make(rt, alloc, source, *call);
-        }
+        let answer = make_again(rt, alloc, source, *call, i);
         same(rt, &answer, wanted, "step", i);
     }
 }
