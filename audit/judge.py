@@ -653,7 +653,9 @@ class Search:
         return self.ends_of[id(reads)]
 
     def show_early(self, me, read, leaves=False):
-        """The first message of a read waits already. With `leaves` its thread may have left another fault by a signal."""
+        """The first message of a read waits already, if it has any. With `leaves` its thread may have left another fault by a signal."""
+        if not read.messages:
+            return False
         kind, values = read.messages[0]
         if kind != "fault":
             self.announce(me, kind, values)

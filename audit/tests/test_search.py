@@ -262,6 +262,10 @@ MINOR = """70 70 begin 5 open syscall 0x800
 NEVER_READ = """70 70 begin 5 poll 8:5
 70 70 end 5 ok 0x1
 """
+# A read that returns no message, which no kernel does.
+READ_OF_NOTHING = NEVER_READ + """70 70 begin 6 read 8:5 32
+70 70 end 6 ok 0
+"""
 READ_IN_VAIN = NEVER_READ + """70 70 begin 6 read 8:5 32
 70 70 end 6 EAGAIN
 """
@@ -516,6 +520,7 @@ class Search(unittest.TestCase):
                 (WOKEN_BY_A_COPY, "70 71 end 7 ok\n70 70 end 6 ok 4096\n", "70 70 end 6 ok 4096\n70 71 end 7 EINVAL\n", 3),
                 (TWO_AT_A_PAGE, "begin 8 copy 8:5 0x10000 0x7000 0x1000 0x0", "begin 8 copy 8:5 0x10000 0x7000 0x1000 0x1", 1),
                 (READ_IN_VAIN, "", "", 3),
+                (READ_OF_NOTHING, "", "", 3),
                 (POLLED_AFTER, "", "", 3),
                 (CHILDREN, "73 73 found 9:6", "73 73 found 8:5", 3)):
             self.assertIn(old, text)
