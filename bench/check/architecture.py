@@ -18,7 +18,7 @@ PICTURE = page.TOP / "docs" / "architecture.svg"
 # From the top: the height of each row, and its groups, each with what it is, its crates, and how many of the twelve columns it takes.
 # A group of the first row without a neighbour below it is as high as both rows.
 ROWS = (
-    (52, ("the program", "postmig command_line", 9), ("the library for C", "postmig_c", 3)),
+    (52, ("the program", "postmig console command_line", 9), ("the library for C", "postmig_c", 3)),
     (
         148,
         ("tools over scripts and frames", "wiretap host_calls frames expected explore finishing", 4),

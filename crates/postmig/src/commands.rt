@@ -2,23 +2,18 @@
 
 ghost use Rattle.std.specs.Prelude.{◌≤◌};
 
-use crate::input::Input;
-use crate::progress::{Counted, Erasing, ProgressLine};
-use crate::reasons::{say_wrong_line, say_wrong_lines};
+use crate::endings::{end_audit, end_frames, end_tapped};
 use crate::showing::show;
-use crate::status::{
-    ALL_DONE, BAD_COMMAND_OR_SCRIPT, NO_MEMORY, READ_OR_WRITE_FAULT, strict_status_of,
-};
-use crate::streams::{
-    end, end_audit, end_frames, end_lint, end_tapped, open_input, open_output, open_script,
-};
-use crate::tally::test;
-use crate::tap::{has_taps, make_taps};
-use crate::watched::Watched;
 use audit::Asked;
 use clap::ArgMatches;
 use clap::error::ErrorKind;
 use command_line::command_line;
+use console::{
+    ALL_DONE, BAD_COMMAND_OR_SCRIPT, Counted, Erasing, Given, Input, NO_MEMORY, ProgressLine,
+    READ_OR_WRITE_FAULT, Tap, TestAsks, Watched, can_tap, end, end_at_lines, end_lint, make_tap,
+    open_input, open_output, open_script, renew_files, say_wrong_line, strict_status_of,
+    test_files,
+};
 use draw::run_draw;
 use engine::{Mode, RunFault, check_script, run_script};
 use expected::{answer_script, echo_script};
@@ -37,10 +32,44 @@ use std::thread::Threads;
 use std::{env, io};
 use threads::run_threads;
 use trace_audit::audit_input;
-use wiretap::run_tapped;
+use wiretap::{Taps, run_tapped};
 
 /// The most bytes of an argument that a message shows.
 const LONGEST_SHOWN: usize = 4096;
+
+/// What the command line says of a command's input.
+pub(crate) fn given_by<'a>(matches: &ArgMatches<'a>) -> Given<'a> {
+    Given {
+        file: matches.get_str("file"),
+        explains: matches.get_flag("explain"),
+    }
+}
+
+/// The names of the files that get what is put on the wires of a run.
+fn taps_named<'a>(matches: &ArgMatches<'a>) -> [Option<&'a str>; 3] {
+    [
+        matches.get_str("wire"),
+        matches.get_str("back"),
+        matches.get_str("urgent"),
+    ]
+}
+
+/// Makes these files. Says on standard error why one of them cannot be made.
+fn make_taps<'a>(
+    rt: &HostRuntime,
+    input: Option<&str>,
+    names: &[Option<&'a str>; 3],
+) -> Option<Taps<Watched<'a, Tap>>> {
+    if !can_tap(rt, input, names) {
+        return None;
+    }
+    let [forward, back, urgent] = *names;
+    Some(Taps {
+        forward: make_tap(rt, forward)?,
+        back: make_tap(rt, back)?,
+        urgent: make_tap(rt, urgent)?,
+    })
+}
 
 /// Runs a script.
 fn run(rt: &HostRuntime, matches: &ArgMatches) -> u8 {
@@ -52,12 +81,14 @@ fn run(rt: &HostRuntime, matches: &ArgMatches) -> u8 {
     } else {
         Mode::Lines
     };
-    let Some(mut input) = open_script(rt, matches) else {
+    let given = given_by(matches);
+    let Some(mut input) = open_script(rt, given, matches.get_flag("answers")) else {
         return READ_OR_WRITE_FAULT;
     };
     let mut output = open_output(rt);
-    if has_taps(matches) {
-        return run_with_taps(rt, matches, &mut input, &mut output, cpus, mode);
+    let taps = taps_named(matches);
+    if taps.iter().any(|name| name.is_some()) {
+        return run_with_taps(rt, given, &taps, &mut input, &mut output, cpus, mode);
     }
     if matches.get_flag("answers") || matches.get_flag("echo") {
         return run_with_answers(rt, matches, &mut input, &mut output, cpus);
@@ -68,9 +99,7 @@ fn run(rt: &HostRuntime, matches: &ArgMatches) -> u8 {
         run_script(rt.alloc(), &mut input, &mut output, cpus, mode)
     };
     let outcome = ran.map(|()| true);
-    let status = end(rt, matches, &input, &output, outcome);
-    say_wrong_lines(rt, matches, Language::Script, &outcome);
-    status
+    end_at_lines(rt, given, &input, &output, Language::Script, outcome)
 }
 
 /// Runs a script, and writes it with the answer of each line: as a test, or in a column beside it.
@@ -90,9 +119,10 @@ fn run_with_answers(
         answer_script(rt.alloc(), input, output, cpus)
     };
     let outcome = answered.map(|()| true);
-    let status = end(rt, matches, input, output, outcome);
+    let given = given_by(matches);
+    let status = end(rt, given, input, output, outcome);
     if let Err(RunFault::Line(number)) = outcome
-        && let Some(name) = matches.get_str("file")
+        && let Some(name) = given.file
     {
         say_wrong_line(rt, name, number);
     }
@@ -102,7 +132,8 @@ fn run_with_answers(
 /// Runs a script, with files for what is put on its wires.
 fn run_with_taps(
     rt: &HostRuntime,
-    matches: &ArgMatches,
+    given: Given<'_>,
+    names: &[Option<&str>; 3],
     input: &mut Watched<'_, Input>,
     output: &mut Watched<'_, Stdout>,
     cpus: u8,
@@ -111,11 +142,11 @@ fn run_with_taps(
     requires low { 1 ≤ cpus }
     requires high { cpus ≤ 16 }
 {
-    let Some(mut taps) = make_taps(rt, matches) else {
+    let Some(mut taps) = make_taps(rt, given.file, names) else {
         return READ_OR_WRITE_FAULT;
     };
     let outcome = run_tapped(rt.alloc(), input, output, &mut taps, cpus, mode);
-    end_tapped(rt, matches, input, output, &taps, outcome)
+    end_tapped(rt, given, input, output, &taps, outcome)
 }
 
 /// Writes the lines that finish a script.
@@ -123,15 +154,14 @@ fn finish(rt: &HostRuntime, matches: &ArgMatches) -> u8 {
     let Some(cpus @ 1..=16) = matches.get_one::<u8>("cpus") else {
         return BAD_COMMAND_OR_SCRIPT;
     };
-    let Some(mut input) = open_input(rt, matches) else {
+    let given = given_by(matches);
+    let Some(mut input) = open_input(rt, given) else {
         return READ_OR_WRITE_FAULT;
     };
     let mut output = open_output(rt);
     let outcome = finish_script(rt.alloc(), &mut input, &mut output, cpus).map(|ending| ending
         == Ending::Complete);
-    let status = end(rt, matches, &input, &output, outcome);
-    say_wrong_lines(rt, matches, Language::Script, &outcome);
-    status
+    end_at_lines(rt, given, &input, &output, Language::Script, outcome)
 }
 
 /// Checks a transcript: for its verdict, or for what is asked for beyond that. A strict check of no entry differs.
@@ -140,7 +170,8 @@ fn check_input(rt: &HostRuntime, matches: &ArgMatches) -> u8 {
         all: matches.get_flag("all"),
         reasons: matches.get_flag("explain"),
     };
-    let Some(mut input) = open_input(rt, matches) else {
+    let given = given_by(matches);
+    let Some(mut input) = open_input(rt, given) else {
         return READ_OR_WRITE_FAULT;
     };
     let mut output = open_output(rt);
@@ -154,8 +185,7 @@ fn check_input(rt: &HostRuntime, matches: &ArgMatches) -> u8 {
     } else {
         (check_script(rt.alloc(), &mut input, &mut output), false)
     };
-    let status = end(rt, matches, &input, &output, outcome);
-    say_wrong_lines(rt, matches, Language::Transcript, &outcome);
+    let status = end_at_lines(rt, given, &input, &output, Language::Transcript, outcome);
     let checks_nothing = is_strict && is_empty;
     if checks_nothing {
         let _ = eprintln!(rt; "{}: no entry was checked", input.name());
@@ -170,31 +200,33 @@ fn lint(rt: &HostRuntime, matches: &ArgMatches) -> u8 {
     } else {
         Language::Script
     };
-    let name = matches.get_str("file").unwrap_or("-");
-    let Some(mut input) = open_input(rt, matches) else {
+    let given = given_by(matches);
+    let Some(mut input) = open_input(rt, given) else {
         return READ_OR_WRITE_FAULT;
     };
     let mut output = open_output(rt);
+    let name = given.file.unwrap_or("-");
     let outcome = lint_lines(rt.alloc(), &mut input, &mut output, name, language);
-    end_lint(rt, matches, &input, &output, outcome)
+    end_lint(rt, given, &input, &output, outcome)
 }
 
 /// Judges the calls of a log or of what strace has written, by the name of its file, or `-`. At a terminal it says how far it is.
 fn audit(rt: &HostRuntime, matches: &ArgMatches) -> u8 {
-    let name = matches.get_str("file").unwrap_or("-");
+    let given = given_by(matches);
     let asked = Asked {
-        explains: matches.get_flag("explain"),
+        explains: given.explains,
         late_after: matches.get_one::<u64>("late"),
     };
-    let Some(input) = open_input(rt, matches) else {
+    let Some(input) = open_input(rt, given) else {
         return READ_OR_WRITE_FAULT;
     };
     let line = ProgressLine::new(rt);
-    let mut reader = Counted::new(rt, matches, input, &line);
+    let mut reader = Counted::new(rt, given.file, input, &line);
     let mut writer = Erasing::new(open_output(rt), &line);
+    let name = given.file.unwrap_or("-");
     let outcome = audit_input(rt.alloc(), &mut reader, &mut writer, name, asked);
     line.erase();
-    end_audit(rt, matches, reader.input(), writer.output(), outcome)
+    end_audit(rt, given, reader.input(), writer.output(), outcome)
 }
 
 /// Hands frames to a destination. A strict command differs where one was refused.
@@ -202,12 +234,13 @@ fn take_frames(rt: &HostRuntime, matches: &ArgMatches) -> u8 {
     let Some(cpus @ 1..=16) = matches.get_one::<u8>("cpus") else {
         return BAD_COMMAND_OR_SCRIPT;
     };
-    let Some(mut input) = open_input(rt, matches) else {
+    let given = given_by(matches);
+    let Some(mut input) = open_input(rt, given) else {
         return READ_OR_WRITE_FAULT;
     };
     let mut output = open_output(rt);
     let outcome = run_frames(rt.alloc(), &mut input, &mut output, cpus);
-    let status = end_frames(rt, matches, &input, &output, outcome);
+    let status = end_frames(rt, given, &input, &output, outcome);
     match outcome {
         Ok(refused @ 1..) if matches.get_flag("strict") => {
             let _ = eprintln!(rt; "{}: refused frames: {refused}", input.name());
@@ -222,15 +255,14 @@ fn draw_script(rt: &HostRuntime, matches: &ArgMatches) -> u8 {
     let Some(cpus @ 1..=16) = matches.get_one::<u8>("cpus") else {
         return BAD_COMMAND_OR_SCRIPT;
     };
-    let name = matches.get_str("file").unwrap_or("-");
-    let Some(mut input) = open_input(rt, matches) else {
+    let given = given_by(matches);
+    let Some(mut input) = open_input(rt, given) else {
         return READ_OR_WRITE_FAULT;
     };
     let mut output = open_output(rt);
+    let name = given.file.unwrap_or("-");
     let outcome = run_draw(rt.alloc(), &mut input, &mut output, name, cpus).map(|()| true);
-    let status = end(rt, matches, &input, &output, outcome);
-    say_wrong_lines(rt, matches, Language::Script, &outcome);
-    status
+    end_at_lines(rt, given, &input, &output, Language::Script, outcome)
 }
 
 /// The seeds that `postmig explore` is given: the first and the last.
@@ -295,12 +327,29 @@ fn explore(rt: &HostRuntime, matches: &ArgMatches) -> u8 {
     if plan.cpus == 0 || plan.cpus > 16 || plan.pages == 0 || plan.pages > 4096 {
         return BAD_COMMAND_OR_SCRIPT;
     }
-    let Some(input) = open_input(rt, matches) else {
+    let given = given_by(matches);
+    let Some(input) = open_input(rt, given) else {
         return READ_OR_WRITE_FAULT;
     };
     let mut output = open_output(rt);
     let outcome = explore_seeds(rt, &mut output, &plan, last);
-    end(rt, matches, &input, &output, outcome.map(|()| true))
+    end(rt, given, &input, &output, outcome.map(|()| true))
+}
+
+/// Tests each FILE, or standard input; with `--write` replaces the answers of each FILE.
+fn test(rt: &HostRuntime, matches: &ArgMatches) -> u8 {
+    let Some(cpus @ 1..=16) = matches.get_one::<u8>("cpus") else {
+        return BAD_COMMAND_OR_SCRIPT;
+    };
+    let files = matches.get_strs("file");
+    if matches.get_flag("write") {
+        return renew_files(rt, files.unwrap_or(&[]), cpus);
+    }
+    let asks = TestAsks {
+        is_strict: matches.get_flag("strict"),
+        names_all: matches.get_flag("all"),
+    };
+    test_files(rt, files, asks, cpus)
 }
 
 /// Runs a migration in threads.
@@ -315,13 +364,14 @@ fn run_in_threads<T: Threads + Wait + Sync>(
     let Some(calls) = matches.get_one::<u16>("calls") else {
         return BAD_COMMAND_OR_SCRIPT;
     };
-    let Some(input) = open_input(rt, matches) else {
+    let given = given_by(matches);
+    let Some(input) = open_input(rt, given) else {
         return READ_OR_WRITE_FAULT;
     };
     let mut output = open_output(rt);
     let cut = matches.get_flag("cut");
     let outcome = run_threads(handle, rt.alloc(), &mut output, cpus, calls, cut);
-    end(rt, matches, &input, &output, outcome)
+    end(rt, given, &input, &output, outcome)
 }
 
 /// Carries out the parsed command line, and returns the exit status.

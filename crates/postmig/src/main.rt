@@ -18,23 +18,16 @@
 //! `docs/SCRIPT.md` defines scripts and transcripts, `docs/FORMATS.md` frames, `docs/EXPLORE.md` random scripts, `docs/THREADS.md` a run in
 //! threads, `docs/UFFDLOG.md` logs, and `docs/AUDIT.md` what is found in them.
 //!
-//! `command_line` has the arguments of each. The exit statuses are those of `specs/Status.antt`. Reading and writing is done by `engine`
-//! for scripts and transcripts, and by the crate of the same name for each other command. `bench/check/programs.py` runs the program on
-//! arguments, files and input of many kinds, and `progress.py` beside it on logs that are slow, at a terminal.
+//! `command_line` has the arguments of each, and `console` its files and streams. The exit statuses are those of `specs/Status.antt` here
+//! and in `console`. Reading and writing is done by `engine` for scripts and transcripts, and by the crate of the same name for each other
+//! command. `bench/check/programs.py` runs the program on arguments, files and input of many kinds, and `progress.py` beside it on logs that
+//! are slow, at a terminal.
 #![tactic(auto)]
 
 mod commands;
-mod input;
-mod progress;
-mod reasons;
-mod renewal;
+mod endings;
 mod showing;
 mod status;
-mod streams;
-mod tally;
-mod tap;
-mod terminal;
-mod watched;
 
 use crate::commands::answer;
 use std::process::ExitCode;

@@ -1,9 +1,8 @@
 //! `postmig show`: what a world holds at a line of a script.
 
-use crate::reasons::say_wrong_lines;
-use crate::status::{BAD_COMMAND_OR_SCRIPT, READ_OR_WRITE_FAULT};
-use crate::streams::{end, open_input, open_output};
+use crate::commands::given_by;
 use clap::ArgMatches;
+use console::{BAD_COMMAND_OR_SCRIPT, READ_OR_WRITE_FAULT, end_at_lines, open_input, open_output};
 use grammar::token::read_tokens;
 use grammar::{Language, Token};
 use show::{Asked, Span, What, show_script};
@@ -60,7 +59,8 @@ pub(crate) fn show(rt: &HostRuntime, matches: &ArgMatches) -> u8 {
     let Some(asked) = asked_of(rt, matches) else {
         return BAD_COMMAND_OR_SCRIPT;
     };
-    let Some(mut input) = open_input(rt, matches) else {
+    let given = given_by(matches);
+    let Some(mut input) = open_input(rt, given) else {
         return READ_OR_WRITE_FAULT;
     };
     let mut output = open_output(rt);
@@ -70,7 +70,5 @@ pub(crate) fn show(rt: &HostRuntime, matches: &ArgMatches) -> u8 {
         return BAD_COMMAND_OR_SCRIPT;
     }
     let outcome = shown.map(|_| true);
-    let status = end(rt, matches, &input, &output, outcome);
-    say_wrong_lines(rt, matches, Language::Script, &outcome);
-    status
+    end_at_lines(rt, given, &input, &output, Language::Script, outcome)
 }

@@ -1,38 +1,14 @@
-//! The exit statuses of the program.
+//! The exit statuses of the commands that have faults of their own.
 
 ghost use Rattle.std.specs.Prelude.{◌≡◌, IfOk, IfErr, OnOk};
-ghost use Rattle.postmig.specs.Status.{answer_status, audit_fault_status, fault_status, frames_fault_status, strict_status, verdict_status};
+ghost use Rattle.postmig.specs.Status.{audit_fault_status, frames_fault_status, verdict_status};
 
 use audit::Verdict;
 use call_log::LogFault;
-use engine::RunFault;
+use console::{
+    ALL_DONE, BAD_COMMAND_OR_SCRIPT, NO_FLAT_RUN, NO_MEMORY, READ_OR_WRITE_FAULT, UNDECIDED,
+};
 use frames::FramesFault;
-
-pub(crate) const ALL_DONE: u8 = 0;
-
-pub(crate) const BAD_COMMAND_OR_SCRIPT: u8 = 1;
-
-pub(crate) const READ_OR_WRITE_FAULT: u8 = 2;
-
-pub(crate) const NO_FLAT_RUN: u8 = 3;
-
-pub(crate) const NO_MEMORY: u8 = 4;
-
-pub(crate) const UNDECIDED: u8 = 5;
-
-/// The exit status of a run or a check: whether all is well, or the fault that ended it.
-pub(crate) fn status_of(outcome: Result<bool, RunFault>) -> u8
-    ensures answer { IfOk outcome (λ answer. result ≡ answer_status answer) }
-    ensures fault { IfErr outcome (λ fault. result ≡ fault_status fault) }
-{
-    match outcome {
-        Ok(true) => ALL_DONE,
-        Ok(false) => NO_FLAT_RUN,
-        Err(RunFault::Line(_)) => BAD_COMMAND_OR_SCRIPT,
-        Err(RunFault::ReadFault | RunFault::WriteFault) => READ_OR_WRITE_FAULT,
-        Err(RunFault::NoMemory) => NO_MEMORY,
-    }
-}
 
 /// The exit status of frames that were handed to a destination.
 pub(crate) fn frames_status_of(outcome: Result<u64, FramesFault>) -> u8
@@ -61,18 +37,4 @@ pub(crate) fn audit_status_of(outcome: Result<Verdict, LogFault>) -> u8
         Err(LogFault::NoMemory) => NO_MEMORY,
         Err(_) => READ_OR_WRITE_FAULT,
     }
-}
-
-/// The exit status of a strict command: its own, or if that is 0 and it has not checked what it had to, that of one that found a
-/// difference.
-pub(crate) fn strict_status_of(status: u8, is_met: bool) -> u8
-    ensures { result ≡ strict_status is_met status }
-{
-    if is_met {
-        return status;
-    }
-    if status > ALL_DONE {
-        return status;
-    }
-    NO_FLAT_RUN
 }

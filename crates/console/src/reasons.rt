@@ -1,7 +1,6 @@
 //! What is wrong with the line at which a command ended.
 
-use clap::ArgMatches;
-use engine::RunFault;
+use crate::streams::Given;
 use engine::script_reader::{MAX_LINE, split_line, without_return};
 use expected::order_part;
 use grammar::parse::parse;
@@ -42,8 +41,8 @@ impl Write for OneLine {
 
 /// Whether the reasons of all faults are said: with `--explain`, or at a terminal. Otherwise they are said of a FILE alone, so that a
 /// program that names none can compare all of standard error.
-pub(crate) fn gives_reasons(rt: &HostRuntime, matches: &ArgMatches) -> bool {
-    matches.get_flag("explain") || rt.stderr().is_terminal()
+pub(crate) fn gives_reasons(rt: &HostRuntime, given: Given<'_>) -> bool {
+    given.explains || rt.stderr().is_terminal()
 }
 
 /// Opens a FILE once more. None if it is not a regular file: what a pipe had is gone.
@@ -56,22 +55,14 @@ fn open_again(rt: &HostRuntime, name: &str) -> Option<File> {
 
 /// Says on standard error what is wrong with the first wrong line of FILE, where a run or a check ended at one; with `--explain` and at a
 /// terminal it says so of all of them.
-pub(crate) fn say_wrong_lines(
-    rt: &HostRuntime,
-    matches: &ArgMatches,
-    language: Language,
-    outcome: &Result<bool, RunFault>,
-) {
-    let Err(RunFault::Line(_)) = outcome else {
-        return;
-    };
-    let Some(name) = matches.get_str("file") else {
+pub(crate) fn say_wrong_lines(rt: &HostRuntime, given: Given<'_>, language: Language) {
+    let Some(name) = given.file else {
         return;
     };
     let Some(mut file) = open_again(rt, name) else {
         return;
     };
-    if gives_reasons(rt, matches) {
+    if gives_reasons(rt, given) {
         let _ = lint_lines(rt.alloc(), &mut file, &mut rt.stderr(), name, language);
         return;
     }
@@ -120,7 +111,7 @@ pub(crate) fn write_reason<W: Write>(
 }
 
 /// Says on standard error what is wrong with the line of a FILE at which a test ended.
-pub(crate) fn say_wrong_line(rt: &HostRuntime, name: &str, number: u64) {
+pub fn say_wrong_line(rt: &HostRuntime, name: &str, number: u64) {
     let Some(mut file) = open_again(rt, name) else {
         return;
     };

@@ -6,7 +6,7 @@ use std::io::{Read, Write};
 
 /// A reader or a writer with the last error that it returned.
 #[derive(Drop)]
-pub(crate) struct Watched<'a, S> {
+pub struct Watched<'a, S> {
     stream: S,
     /// What messages call it.
     name: &'a str,
@@ -14,7 +14,8 @@ pub(crate) struct Watched<'a, S> {
 }
 
 impl<'a, S> Watched<'a, S> {
-    pub(crate) fn new(name: &'a str, stream: S) -> Watched<'a, S> {
+    /// A stream that has not failed.
+    pub fn new(name: &'a str, stream: S) -> Watched<'a, S> {
         Watched {
             stream,
             name,
@@ -23,7 +24,7 @@ impl<'a, S> Watched<'a, S> {
     }
 
     /// What messages call it.
-    pub(crate) fn name(&self) -> &'a str {
+    pub fn name(&self) -> &'a str {
         self.name
     }
 
@@ -34,7 +35,7 @@ impl<'a, S> Watched<'a, S> {
     }
 
     /// Says on standard error why it has failed, or this, where it returned no error.
-    pub(crate) fn say_why(&self, rt: &HostRuntime, otherwise: &str) -> io::Result<()> {
+    pub fn say_why(&self, rt: &HostRuntime, otherwise: &str) -> io::Result<()> {
         match &self.error {
             Some(error) => say_reason(rt, self.name, error),
             None => eprintln!(rt; "{}: {otherwise}", self.name),

@@ -3,9 +3,8 @@
 ghost use Rattle.std.specs.Prelude.{◌≤◌};
 
 use crate::status::{ALL_DONE, READ_OR_WRITE_FAULT, status_of};
-use crate::streams::{end_test, open_file};
+use crate::streams::{end_test, open_file, open_output};
 use crate::watched::{Watched, say_reason};
-use clap::ArgMatches;
 use engine::RunFault;
 use engine::line_runner::write_out;
 use expected::renew_answers;
@@ -106,27 +105,20 @@ impl Renewal {
     }
 }
 
-/// Replaces the answers of each FILE of a command, and says how many are new.
-pub(crate) fn renew_files(
-    rt: &HostRuntime,
-    matches: &ArgMatches,
-    output: &mut Watched<'_, Stdout>,
-    cpus: u8,
-) -> u8
+/// Replaces the answers of each of these files, writes how many are new, and returns the exit status.
+pub fn renew_files(rt: &HostRuntime, files: &[&str], cpus: u8) -> u8
     requires low { 1 ≤ cpus }
     requires high { cpus ≤ 16 }
 {
+    let mut output = open_output(rt);
     let mut renewal = Renewal {
         files: 0,
         answers: 0,
         changed: 0,
         fault: ALL_DONE,
     };
-    let renewed = match matches.get_strs("file") {
-        None => Ok(()),
-        Some(names) => renewal.renew_all(rt, names, cpus),
-    };
-    match renewed.and_then(|()| renewal.write_counts(output)) {
+    let renewed = renewal.renew_all(rt, files, cpus);
+    match renewed.and_then(|()| renewal.write_counts(&mut output)) {
         Ok(()) => renewal.fault,
         Err(fault) => {
             let _ = eprintln!(rt; "{fault}");

@@ -16,7 +16,7 @@ const PIECE: usize = 4096;
 /// Standard input at a terminal. A line that is none of a script is named on standard error, with what is wrong with it, and is not passed
 /// on: a typo leaves the session as it is.
 #[derive(Drop)]
-pub(crate) struct Terminal {
+pub struct Terminal {
     stdin: Stdin,
     stderr: Stderr,
     /// Whether an order may have an answer.

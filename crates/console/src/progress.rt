@@ -6,7 +6,6 @@
 
 use crate::input::Input;
 use crate::watched::Watched;
-use clap::ArgMatches;
 use std::cell::Cell;
 use std::io::{IsTerminal, Read, Write};
 use std::time::Instant;
@@ -20,14 +19,14 @@ const NAMELESS: &str = "the input";
 
 /// The line of the terminal. Reader and writer of a command share it.
 #[derive(Drop)]
-pub(crate) struct ProgressLine<'a> {
+pub struct ProgressLine<'a> {
     rt: &'a HostRuntime,
     is_shown: Cell<bool>,
 }
 
 impl<'a> ProgressLine<'a> {
     /// A line that is not shown.
-    pub(crate) fn new(rt: &'a HostRuntime) -> ProgressLine<'a> {
+    pub fn new(rt: &'a HostRuntime) -> ProgressLine<'a> {
         ProgressLine {
             rt,
             is_shown: Cell::new(false),
@@ -48,7 +47,7 @@ impl<'a> ProgressLine<'a> {
     }
 
     /// Erases the line where it is shown, and leaves the cursor at its first column.
-    pub(crate) fn erase(&self) {
+    pub fn erase(&self) {
         if self.is_shown.get() {
             self.is_shown.set(false);
             let _ = eprint!(self.rt; "\r\x1b[K");
@@ -111,14 +110,14 @@ impl Counts {
 }
 
 /// Whether a command says how far it is.
-fn says_progress(rt: &HostRuntime, matches: &ArgMatches) -> bool {
-    let is_typed = matches.get_str("file").is_none() && rt.stdin().is_terminal();
+fn says_progress(rt: &HostRuntime, file: Option<&str>) -> bool {
+    let is_typed = file.is_none() && rt.stdin().is_terminal();
     rt.stderr().is_terminal() && !is_typed
 }
 
 /// The bytes of the FILE of a command, or 0 where it is not a regular file.
-fn size_of_file(rt: &HostRuntime, matches: &ArgMatches) -> u64 {
-    let Some(name) = matches.get_str("file") else {
+fn size_of_file(rt: &HostRuntime, file: Option<&str>) -> u64 {
+    let Some(name) = file else {
         return 0;
     };
     match fs::metadata(rt, name) {
@@ -128,17 +127,17 @@ fn size_of_file(rt: &HostRuntime, matches: &ArgMatches) -> u64 {
 }
 
 /// The counts of an input of which nothing was read. None if the command does not say how far it is.
-fn begin_counts(rt: &HostRuntime, matches: &ArgMatches) -> Option<Counts> {
-    if !says_progress(rt, matches) {
+fn begin_counts(rt: &HostRuntime, file: Option<&str>) -> Option<Counts> {
+    if !says_progress(rt, file) {
         return None;
     }
     let begun = Instant::now(rt).ok()?;
-    Some(Counts::new(begun, size_of_file(rt, matches)))
+    Some(Counts::new(begun, size_of_file(rt, file)))
 }
 
 /// An input of which the line says how much was read.
 #[derive(Drop)]
-pub(crate) struct Counted<'a> {
+pub struct Counted<'a> {
     input: Watched<'a, Input>,
     line: &'a ProgressLine<'a>,
     /// None if the line is never written.
@@ -146,21 +145,22 @@ pub(crate) struct Counted<'a> {
 }
 
 impl<'a> Counted<'a> {
-    pub(crate) fn new(
+    /// An input of which nothing was read. `file` is the FILE of the command.
+    pub fn new(
         rt: &HostRuntime,
-        matches: &ArgMatches,
+        file: Option<&str>,
         input: Watched<'a, Input>,
         line: &'a ProgressLine<'a>,
     ) -> Counted<'a> {
         Counted {
             input,
             line,
-            counts: begin_counts(rt, matches),
+            counts: begin_counts(rt, file),
         }
     }
 
     /// The input itself.
-    pub(crate) fn input(&self) -> &Watched<'a, Input> {
+    pub fn input(&self) -> &Watched<'a, Input> {
         &self.input
     }
 
@@ -199,18 +199,19 @@ impl Read for Counted<'_> {
 
 /// A writer that erases the line before it writes.
 #[derive(Drop)]
-pub(crate) struct Erasing<'a, S> {
+pub struct Erasing<'a, S> {
     output: S,
     line: &'a ProgressLine<'a>,
 }
 
 impl<'a, S> Erasing<'a, S> {
-    pub(crate) fn new(output: S, line: &'a ProgressLine<'a>) -> Erasing<'a, S> {
+    /// A writer that writes to this one.
+    pub fn new(output: S, line: &'a ProgressLine<'a>) -> Erasing<'a, S> {
         Erasing { output, line }
     }
 
     /// The writer itself.
-    pub(crate) fn output(&self) -> &S {
+    pub fn output(&self) -> &S {
         &self.output
     }
 }

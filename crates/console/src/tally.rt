@@ -1,14 +1,12 @@
 //! Scripts as tests, one file after the other.
 
 ghost use Rattle.std.specs.Prelude.{◌≡◌, ◌≤◌, OnOk, IfErr};
-ghost use Rattle.postmig.specs.Status.{tally_status, fault_status};
+ghost use Rattle.console.specs.Status.{tally_status, fault_status};
 
 use crate::input::Input;
-use crate::renewal::renew_files;
-use crate::status::{ALL_DONE, BAD_COMMAND_OR_SCRIPT, NO_FLAT_RUN, READ_OR_WRITE_FAULT, status_of};
+use crate::status::{ALL_DONE, NO_FLAT_RUN, READ_OR_WRITE_FAULT, status_of};
 use crate::streams::{end_test, open_file, open_output, standard_input};
 use crate::watched::Watched;
-use clap::ArgMatches;
 use engine::RunFault;
 use expected::{Outcome, Tested, list_differences, test_script};
 use std::io::{Stdout, Write};
@@ -16,13 +14,19 @@ use std::io::{Stdout, Write};
 /// What messages call standard input.
 const STANDARD: &str = "-";
 
+/// What is asked for of tests.
+#[derive(Clone, Copy)]
+pub struct TestAsks {
+    /// Whether an answer has to be compared in each file.
+    pub is_strict: bool,
+    /// Whether each answer that differs is named, and not the first of a file alone.
+    pub names_all: bool,
+}
+
 /// The files that were tested.
 #[derive(Drop)]
 struct Tally {
-    /// Whether an answer has to be compared in each.
-    is_strict: bool,
-    /// Whether each answer that differs is named, and not the first of a file alone.
-    names_all: bool,
+    asks: TestAsks,
     files: u32,
     /// The answers that were compared in them. A file with a fault has none.
     answers: u64,
@@ -48,7 +52,7 @@ impl Tally {
         if let Outcome::Differs = tested.outcome {
             self.differ = self.differ.saturating_add(1);
         }
-        if self.is_strict && tested.answers == 0 {
+        if self.asks.is_strict && tested.answers == 0 {
             let _ = eprintln!(rt; "{name}: no answer was compared");
             self.unchecked = self.unchecked.saturating_add(1);
         }
@@ -67,7 +71,7 @@ impl Tally {
         requires high { cpus ≤ 16 }
     {
         self.files = self.files.saturating_add(1);
-        let tested = if self.names_all {
+        let tested = if self.asks.names_all {
             list_differences(rt.alloc(), &mut input, output, name, cpus)
         } else {
             test_script(rt.alloc(), &mut input, output, name, cpus)
@@ -83,7 +87,7 @@ impl Tally {
     }
 
     /// Tests each of the files, one after the other.
-    fn test_files(
+    fn test_each(
         &mut self,
         rt: &HostRuntime,
         names: &[&str],
@@ -130,28 +134,24 @@ impl Tally {
     }
 }
 
-/// Tests each FILE of a command, or standard input. Names each that differs or has a fault, and says how many differ. With `--write` it
-/// replaces the answers of each FILE instead.
-pub(crate) fn test(rt: &HostRuntime, matches: &ArgMatches) -> u8 {
-    let Some(cpus @ 1..=16) = matches.get_one::<u8>("cpus") else {
-        return BAD_COMMAND_OR_SCRIPT;
-    };
+/// Tests each of these files, or standard input where none is named. Names each that differs or has a fault on standard output or
+/// standard error, writes how many differ, and returns the exit status.
+pub fn test_files(rt: &HostRuntime, files: Option<&[&str]>, asks: TestAsks, cpus: u8) -> u8
+    requires low { 1 ≤ cpus }
+    requires high { cpus ≤ 16 }
+{
     let mut output = open_output(rt);
-    if matches.get_flag("write") {
-        return renew_files(rt, matches, &mut output, cpus);
-    }
     let mut tally = Tally {
-        is_strict: matches.get_flag("strict"),
-        names_all: matches.get_flag("all"),
+        asks,
         files: 0,
         answers: 0,
         differ: 0,
         unchecked: 0,
         fault: ALL_DONE,
     };
-    let tested = match matches.get_strs("file") {
+    let tested = match files {
         None => tally.test_input(rt, STANDARD, standard_input(rt), &mut output, cpus),
-        Some(names) => tally.test_files(rt, names, &mut output, cpus),
+        Some(names) => tally.test_each(rt, names, &mut output, cpus),
     };
     match tested.and_then(|()| tally.write_counts(&mut output)) {
         Ok(()) => tally.status(),

@@ -7,7 +7,7 @@ use std::io::{Read, Stdin};
 
 /// Standard input, or a script that is typed, or a file that was opened.
 #[derive(Drop)]
-pub(crate) enum Input {
+pub enum Input {
     Standard(Stdin),
     Typed(Terminal),
     File(File),

@@ -1,0 +1,34 @@
+//! What the commands of a program have in common: what they read and write, how they say on standard error why they ended early, and with
+//! which exit status.
+//!
+//! The streams remember why they failed (`Watched`), so that the faults of a run stay plain words. A script may be typed at a terminal,
+//! where a wrong line is named and the session continues. `test_files` and `renew_files` play tests, one file after the other.
+//! `ProgressLine` says at a terminal how far a command is that reads for long. Nothing here knows a command line: `Given` is what one says
+//! of a command's input.
+#![tactic(auto)]
+
+mod input;
+mod progress;
+mod reasons;
+mod renewal;
+mod status;
+mod streams;
+mod tally;
+mod tap;
+mod terminal;
+mod watched;
+
+pub use input::Input;
+pub use progress::{Counted, Erasing, ProgressLine};
+pub use reasons::say_wrong_line;
+pub use renewal::renew_files;
+pub use status::{
+    ALL_DONE, BAD_COMMAND_OR_SCRIPT, NO_FLAT_RUN, NO_MEMORY, READ_OR_WRITE_FAULT, UNDECIDED,
+    status_of, strict_status_of,
+};
+pub use streams::{
+    Given, end, end_at_lines, end_lint, open_input, open_output, open_script, say_input, say_output,
+};
+pub use tally::{TestAsks, test_files};
+pub use tap::{Tap, can_tap, make_tap};
+pub use watched::Watched;

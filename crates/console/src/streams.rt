@@ -1,0 +1,165 @@
+//! What a command reads and writes, and how it says why it ended early.
+
+ghost use Rattle.std.specs.Prelude.{◌≡◌, IfOk, IfErr};
+ghost use Rattle.console.specs.Status.{answer_status, fault_status, lint_status};
+
+use crate::input::Input;
+use crate::reasons::{gives_reasons, say_wrong_line, say_wrong_lines};
+use crate::status::{BAD_COMMAND_OR_SCRIPT, READ_OR_WRITE_FAULT, status_of};
+use crate::terminal::Terminal;
+use crate::watched::{Watched, say_reason};
+use engine::RunFault;
+use grammar::Language;
+use std::fs::File;
+use std::io::{IsTerminal, Stdout};
+
+/// What a command line says of a command's input.
+#[derive(Clone, Copy)]
+pub struct Given<'a> {
+    /// The FILE that it names. None: standard input.
+    pub file: Option<&'a str>,
+    /// Whether the reasons of all faults are said, as with `--explain`.
+    pub explains: bool,
+}
+
+/// Opens the FILE of a command, or standard input. Says on standard error why a file cannot be opened.
+pub fn open_input<'a>(rt: &HostRuntime, given: Given<'a>) -> Option<Watched<'a, Input>> {
+    match given.file {
+        None => Some(standard_input(rt)),
+        Some(name) => open_file(rt, name),
+    }
+}
+
+/// Opens the FILE of a run, or standard input. At a terminal a wrong line is named, and the run continues; an order may have an answer there
+/// where that is asked for.
+pub fn open_script<'a>(
+    rt: &HostRuntime,
+    given: Given<'a>,
+    has_answers: bool,
+) -> Option<Watched<'a, Input>> {
+    let stdin = rt.stdin();
+    if given.file.is_some() || !stdin.is_terminal() {
+        return open_input(rt, given);
+    }
+    let typed = Terminal::new(rt.alloc(), stdin, rt.stderr(), has_answers);
+    Some(Watched::new("standard input", Input::Typed(typed)))
+}
+
+/// Standard input.
+pub(crate) fn standard_input(rt: &HostRuntime) -> Watched<'static, Input> {
+    Watched::new("standard input", Input::Standard(rt.stdin()))
+}
+
+/// Opens a file. Says on standard error why it cannot be opened.
+pub(crate) fn open_file<'a>(rt: &HostRuntime, name: &'a str) -> Option<Watched<'a, Input>> {
+    match File::open(rt, name) {
+        Ok(file) => Some(Watched::new(name, Input::File(file))),
+        Err(error) => {
+            let _ = eprintln!(rt; "{}", RunFault::ReadFault);
+            let _ = say_reason(rt, name, &error);
+            None
+        }
+    }
+}
+
+/// Standard output.
+pub fn open_output(rt: &HostRuntime) -> Watched<'static, Stdout> {
+    Watched::new("standard output", rt.stdout())
+}
+
+/// Why reading ended where no read failed.
+const TOO_MANY_READS: &str = "more than 4294967295 reads";
+
+/// Says on standard error why no more could be read, always of a FILE.
+pub fn say_input(rt: &HostRuntime, given: Given<'_>, input: &Watched<'_, Input>) {
+    if given.file.is_some() || gives_reasons(rt, given) {
+        let _ = input.say_why(rt, TOO_MANY_READS);
+    }
+}
+
+/// Says on standard error why no more could be written.
+pub fn say_output(rt: &HostRuntime, given: Given<'_>, output: &Watched<'_, Stdout>) {
+    if gives_reasons(rt, given) {
+        let _ = output.say_why(rt, "no byte was taken");
+    }
+}
+
+/// Says on standard error why a run or a check ended early, and returns its exit status.
+pub fn end(
+    rt: &HostRuntime,
+    given: Given<'_>,
+    input: &Watched<'_, Input>,
+    output: &Watched<'_, Stdout>,
+    outcome: Result<bool, RunFault>,
+) -> u8
+    ensures answer { IfOk outcome (λ answer. result ≡ answer_status answer) }
+    ensures fault { IfErr outcome (λ fault. result ≡ fault_status fault) }
+{
+    if let Err(fault) = outcome {
+        let _ = eprintln!(rt; "{fault}");
+        match fault {
+            RunFault::ReadFault => say_input(rt, given, input),
+            RunFault::WriteFault => say_output(rt, given, output),
+            RunFault::Line(_) | RunFault::NoMemory => {}
+        }
+    }
+    status_of(outcome)
+}
+
+/// The same of a command that reads lines of a language: says also what is wrong with the line at which it ended.
+pub fn end_at_lines(
+    rt: &HostRuntime,
+    given: Given<'_>,
+    input: &Watched<'_, Input>,
+    output: &Watched<'_, Stdout>,
+    language: Language,
+    outcome: Result<bool, RunFault>,
+) -> u8
+    ensures answer { IfOk outcome (λ answer. result ≡ answer_status answer) }
+    ensures fault { IfErr outcome (λ fault. result ≡ fault_status fault) }
+{
+    let status = end(rt, given, input, output, outcome);
+    if let Err(RunFault::Line(_)) = outcome {
+        say_wrong_lines(rt, given, language);
+    }
+    status
+}
+
+/// The same of a listing of wrong lines.
+pub fn end_lint(
+    rt: &HostRuntime,
+    given: Given<'_>,
+    input: &Watched<'_, Input>,
+    output: &Watched<'_, Stdout>,
+    outcome: Result<bool, RunFault>,
+) -> u8
+    ensures answer { IfOk outcome (λ answer. result ≡ lint_status answer) }
+    ensures fault { IfErr outcome (λ fault. result ≡ fault_status fault) }
+{
+    match outcome {
+        Ok(false) => BAD_COMMAND_OR_SCRIPT,
+        _ => end(rt, given, input, output, outcome),
+    }
+}
+
+/// Says on standard error why a test could not be run to its end, and returns its status. A fault that ends all tests is returned.
+pub(crate) fn end_test(
+    rt: &HostRuntime,
+    name: &str,
+    input: &Watched<'_, Input>,
+    fault: RunFault,
+) -> Result<u8, RunFault> {
+    match fault {
+        RunFault::Line(line) => {
+            let _ = eprintln!(rt; "{name}:{line}: not a line of a test");
+            say_wrong_line(rt, name, line);
+            Ok(BAD_COMMAND_OR_SCRIPT)
+        }
+        RunFault::ReadFault => {
+            let _ = eprintln!(rt; "{}", RunFault::ReadFault);
+            let _ = input.say_why(rt, TOO_MANY_READS);
+            Ok(READ_OR_WRITE_FAULT)
+        }
+        RunFault::WriteFault | RunFault::NoMemory => Err(fault),
+    }
+}
