@@ -613,7 +613,8 @@ static bool wait_for_more(struct dest *dest)
                                         { .fd = dest->is_handed ? dest->handed.monitor : -1, .events = POLLIN } };
     uint32_t count = OWN_FILES + door_files(&dest->door, files + OWN_FILES);
 
-    bool has_more = dest->has_more || dest->is_flowing || dest->main.is_ready || dest->urgent.is_ready;
+    bool has_more = dest->has_more || dest->is_flowing || dest->main.is_ready || dest->urgent.is_ready ||
+                    (dest->state.has_run && dest->watch.is_behind);
 
     if (poll(files, count, has_more ? 0 : 100) < 0 && errno != EINTR)
         refuse_errno(errno, "poll");
@@ -694,7 +695,7 @@ static void stop_guest(struct dest *dest)
     }
     if (!dest->is_handed)
         guest_join(&dest->guest);
-    watch_handle(&dest->watch);
+    watch_finish(&dest->watch);
     while (dest->is_handed && watch_put_kept(&dest->watch, KEPT_AT_A_TIME))
         continue;
 }

@@ -436,7 +436,7 @@ static void stop_guest(struct source *source)
         kernel_yield(0);
     }
     guest_join(&source->guest);
-    watch_handle(&source->watch);
+    watch_finish(&source->watch);
     if (watch_has_sleeper(&source->watch))
         refuse("a thread has left the guest, and the node has it asleep");
 }
@@ -597,7 +597,7 @@ static void wait_for_more(const struct source *source)
     struct pollfd files[3] = { { .fd = source->state.switched ? -1 : source->watch.userfault, .events = POLLIN },
                                waits_for(&source->main), waits_for(&source->urgent) };
 
-    bool has_more = source->main.is_ready || source->urgent.is_ready;
+    bool has_more = source->main.is_ready || source->urgent.is_ready || source->watch.is_behind;
 
     if (poll(files, 3, has_more ? 0 : is_timed ? 1 : 100) < 0 && errno != EINTR)
         refuse_errno(errno, "poll");

@@ -8,6 +8,7 @@
 #include "kernel.h"
 
 #define MOST_MESSAGES 16u
+#define MOST_READS 64u
 
 void watch_open(struct watch *watch, struct node *node, struct guest *guest, struct handed *handed)
 {
@@ -304,18 +305,29 @@ void watch_read(struct watch *watch)
         continue;
 }
 
+/* Returns whether there may be more. */
+static bool handle_some(struct watch *watch)
+{
+    uint64_t again = watch->again;
+    bool has_more = read_some(watch);
+
+    while (act(watch))
+        continue;
+    return has_more || watch->again != again;
+}
+
 void watch_handle(struct watch *watch)
 {
-    uint64_t again;
-    bool has_more;
+    watch->is_behind = true;
+    for (uint32_t reads = 0; watch->is_behind && reads < MOST_READS; reads++)
+        watch->is_behind = handle_some(watch);
+}
 
-    do {
-        again = watch->again;
-        has_more = read_some(watch);
-        while (act(watch))
-            continue;
-    } while (has_more || watch->again != again);
-    watch->is_behind = false;
+void watch_finish(struct watch *watch)
+{
+    do
+        watch_handle(watch);
+    while (watch->is_behind);
 }
 
 void watch_again(struct watch *watch)

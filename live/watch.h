@@ -13,7 +13,7 @@ struct watch {
     int userfault;
     uint64_t asleep[MOST_THREADS]; /* the address of the page that a thread waits for, as the node has it; 0: none */
     uint64_t faults, events;       /* that were read */
-    bool is_behind;                /* what the node says of messages that were read is still to be done */
+    bool is_behind;                /* there may be messages that are not read, or of which what the node says is not done */
     uint64_t again;                /* calls of the kernel that returned EAGAIN, */
     uint32_t again_in_a_row;       /* and those since another result */
     uint64_t needless;             /* faults of pages that were there by the time they were read */
@@ -33,8 +33,11 @@ uint64_t watch_asked_at(struct watch *watch, uint64_t origin);
 /* The guest's page at an address of the node, where the two number them differently. */
 char *watch_page(const struct watch *watch, uint64_t address);
 
-/* Reads all messages, and does what the node says of each. */
+/* Reads messages, and does what the node says of each. Where threads fault faster than that is done, some are left (is_behind). */
 void watch_handle(struct watch *watch);
+
+/* The same until nothing is left. The threads have stopped. */
+void watch_finish(struct watch *watch);
 
 /* Reads them, and leaves faults for later: the threads that gave memory back finish their calls, and those that wait begin none. */
 void watch_read(struct watch *watch);
