@@ -57,28 +57,40 @@ fn say_why_not(rt: &HostRuntime, name: &str, reason: &str) {
     let _ = eprintln!(rt; "{name}: {reason}");
 }
 
+/// Whether the file for a wire is the input, which is said.
+fn taps_input(rt: &HostRuntime, input: &str, name: Option<&str>) -> bool {
+    match name {
+        Some(name) if is_input(rt, input, name) => {
+            say_why_not(rt, name, "the script is read from this file");
+            true
+        }
+        _ => false,
+    }
+}
+
+/// Whether two wires would share a file, which is said.
+fn share_file(rt: &HostRuntime, one: Option<&str>, other: Option<&str>) -> bool {
+    match (one, other) {
+        (Some(one), Some(other)) if name_one_file(rt, one, other) => {
+            say_why_not(rt, one, "two wires cannot be written to one file");
+            true
+        }
+        _ => false,
+    }
+}
+
 /// Whether each of these files can get what is put on a wire. Says on standard error which cannot: one is the file from which the script is
 /// read (none: standard input), or two are one file.
 pub fn can_tap(rt: &HostRuntime, input: Option<&str>, names: &[Option<&str>; 3]) -> bool {
     let input = input.unwrap_or("/dev/stdin");
-    for name in names {
-        if let Some(name) = name
-            && is_input(rt, input, name)
-        {
-            say_why_not(rt, name, "the script is read from this file");
-            return false;
-        }
-    }
     let [forward, back, urgent] = *names;
-    for pair in [(forward, back), (forward, urgent), (back, urgent)] {
-        if let (Some(one), Some(other)) = pair
-            && name_one_file(rt, one, other)
-        {
-            say_why_not(rt, one, "two wires cannot be written to one file");
-            return false;
-        }
-    }
-    true
+    let is_read = taps_input(rt, input, forward)
+        || taps_input(rt, input, back)
+        || taps_input(rt, input, urgent);
+    !is_read
+        && !share_file(rt, forward, back)
+        && !share_file(rt, forward, urgent)
+        && !share_file(rt, back, urgent)
 }
 
 /// Makes the file for a wire, if there is one. Says on standard error why it cannot be made.
