@@ -10,11 +10,12 @@ mod reads;
 
 use crate::converter::known::Known;
 use crate::files::Files;
+use crate::kind::Kind;
 use crate::log::LogText;
 use crate::number::OBJECT;
 use crate::plan::Plan;
-use crate::stop::{Shown, Stop, refused};
-use crate::text::{has, is_among};
+use crate::stop::{Stop, refuse_bytes};
+use crate::text::has;
 use crate::traced::Traced;
 use indexmap::{IndexMap, IndexSet};
 use mig_base::NoMemory;
@@ -57,26 +58,12 @@ pub(crate) struct Converter {
     ranges: IndexSet<Range>,
 }
 
-/// Calls that may be made with an object, and are none of the language: those that wait for it or send it, and others.
-const WAITING_CALLS: &[u8] =
-    b"epoll_ctl epoll_wait epoll_pwait epoll_pwait2 select pselect6 sendmsg recvmsg";
-
-const OTHER_CALLS: &[u8] =
-    b"fstat newfstatat statx fstatfs kcmp readlink readlinkat exit_group exit rt_sigprocmask";
-
-fn is_other_call(name: &[u8]) -> bool {
-    is_among(WAITING_CALLS, name) || is_among(OTHER_CALLS, name)
-}
-
 impl Converter {
     /// One that has seen no call.
     pub(crate) fn new(alloc: Global) -> Result<Converter, NoMemory> {
-        let Ok(log) = LogText::new(alloc) else {
-            return Err(NoMemory);
-        };
         Ok(Converter {
             alloc,
-            log,
+            log: LogText::new(alloc)?,
             of_thread: IndexMap::new(alloc),
             files: IndexMap::new(alloc),
             sets: Vec::new(alloc),
@@ -97,52 +84,51 @@ impl Converter {
         Ok(())
     }
 
-    /// What a call that entered becomes: more than one plan where several objects are concerned.
-    pub(crate) fn begin(&mut self, call: &Traced) -> Result<Vec<Plan>, Stop> {
-        match call.name.as_slice() {
-            b"userfaultfd" => self.plan_userfaultfd(call),
-            b"ioctl" => self.plan_ioctl(call),
-            b"read" => self.plan_read(call),
-            b"readv" => self.plan_readv(call),
-            b"poll" | b"ppoll" => self.plan_poll(call),
-            b"mmap" => self.plan_mmap(call),
-            b"munmap" => self.plan_munmap(call),
-            b"madvise" => self.plan_madvise(call),
-            b"mremap" => self.plan_mremap(call),
-            b"clone" | b"clone3" | b"fork" => self.plan_clone(call),
-            b"execve" => self.plan_execve(call),
-            _ => self.begin_of_descriptor(call),
-        }
-    }
-
-    /// The same of a call that changes descriptors, or of one that is none of the language.
-    fn begin_of_descriptor(&mut self, call: &Traced) -> Result<Vec<Plan>, Stop> {
-        match call.name.as_slice() {
-            b"close" => self.plan_close(call),
-            b"close_range" => self.plan_close_range(call),
-            b"dup" => self.plan_dup(call),
-            b"dup2" => self.plan_dup2(call),
-            b"dup3" => self.plan_dup3(call),
-            b"fcntl" => self.plan_fcntl(call),
-            b"pidfd_getfd" => self.plan_pidfd_getfd(call),
-            name => {
-                if has(&call.arguments, OBJECT) && !is_other_call(name) {
-                    let name = Shown(name);
-                    return Err(refused(format!(in self.alloc;
-                        "'{name}' of a userfault object is no call of a log"
-                    )));
+    /// Adds what a call that entered becomes: more than one plan where several objects are concerned.
+    pub(crate) fn begin(&mut self, call: &Traced, plans: &mut Vec<Plan>) -> Result<(), Stop> {
+        match call.kind {
+            Kind::Poll => self.plan_poll(call, plans),
+            Kind::CloseRange => self.plan_close_range(call, plans),
+            _ => {
+                if let Some(plan) = self.plan_of(call)? {
+                    plans.push(plan)?;
                 }
-                Ok(Vec::new(self.alloc))
+                Ok(())
             }
         }
     }
 
-    fn refuse(&self, reason: &str) -> Stop {
-        refused(format!(in self.alloc; "{reason}"))
+    /// What a call becomes that concerns one object at most.
+    fn plan_of(&mut self, call: &Traced) -> Result<Option<Plan>, Stop> {
+        match call.kind {
+            Kind::Userfaultfd => self.plan_userfaultfd(call),
+            Kind::Ioctl => self.plan_ioctl(call),
+            Kind::Read => self.plan_read(call),
+            Kind::Readv => self.plan_readv(call),
+            Kind::Mmap => self.plan_mmap(call),
+            Kind::Munmap => self.plan_munmap(call),
+            Kind::Madvise => self.plan_madvise(call),
+            Kind::Mremap => self.plan_mremap(call),
+            Kind::Fork => self.plan_fork(call),
+            Kind::Execve => self.plan_execve(call),
+            _ => self.plan_of_descriptor(call),
+        }
     }
 
-    /// No plan.
-    fn none(&self) -> Result<Vec<Plan>, Stop> {
-        Ok(Vec::new(self.alloc))
+    /// The same of a call that changes descriptors, or of one that is none of the language.
+    fn plan_of_descriptor(&mut self, call: &Traced) -> Result<Option<Plan>, Stop> {
+        match call.kind {
+            Kind::Close => self.plan_close(call),
+            Kind::Dup => self.plan_dup(call),
+            Kind::Dup2 => self.plan_dup2(call),
+            Kind::Dup3 => self.plan_dup3(call),
+            Kind::Fcntl => self.plan_fcntl(call),
+            Kind::PidfdGetfd => self.plan_pidfd_getfd(call),
+            Kind::Vfork | Kind::Other if has(&call.arguments, OBJECT) => {
+                let wrong = "of a userfault object is no call of a log";
+                Err(refuse_bytes(self.alloc, &call.name, wrong))
+            }
+            _ => Ok(None),
+        }
     }
 }

@@ -3,9 +3,8 @@
 ghost use Rattle.std.specs.Prelude.{IsTrue};
 ghost use Rattle.strace_text.specs.Traces.{IsNoLog};
 
-use crate::number::decimal;
-use crate::quoted::hex_byte;
-use crate::text::{Class, rsplit_once, some_front, split_once};
+use crate::number::{decimal, hex_byte};
+use crate::text::{Class, front, is_same, rsplit_once, split_at_byte};
 use std::alloc::{AllocError, Global};
 
 /// The time of a line, in nanoseconds.
@@ -35,71 +34,63 @@ fn nanoseconds(digits: &[u8]) -> Option<u64> {
     }
     let mut value = decimal(digits)?;
     for _ in digits.len()..9 {
-        value = value.checked_mul(10)?;
+        value = value.saturating_mul(10);
     }
     Some(value)
 }
 
-/// The number of a thread, `71` or `[pid    71]`, and what comes after it.
-fn thread_of(line: &[u8]) -> Option<(u64, &[u8])> {
-    let Some(rest) = line.strip_prefix(b"[pid") else {
-        let (digits, rest) = some_front(line, Class::Digit)?;
-        return Some((decimal(digits)?, rest));
-    };
-    let (_, rest) = some_front(rest, Class::Blank)?;
-    let (digits, rest) = some_front(rest, Class::Digit)?;
-    Some((decimal(digits)?, rest.strip_prefix(b"]")?))
+/// The number that two digits at a place write.
+fn two_digits(text: &[u8], at: usize) -> Option<u64> {
+    decimal(text.get(at..at.saturating_add(2))?)
 }
 
-/// The three to nine digits of a fraction, and what comes after the blank that ends them.
-fn fraction(text: &[u8]) -> Option<(u64, &[u8])> {
-    let (digits, rest) = some_front(text, Class::Digit)?;
-    if digits.len() < 3 {
+/// The seconds of a time of the day, `07:15:30`.
+fn seconds_of_day(text: &[u8]) -> Option<u64> {
+    if text.len() != 8 || text.get(2) != Some(&b':') || text.get(5) != Some(&b':') {
         return None;
     }
-    Some((nanoseconds(digits)?, rest.strip_prefix(b" ")?))
+    let hours = two_digits(text, 0)?;
+    let minutes = two_digits(text, 3)?.saturating_add(hours.saturating_mul(60));
+    let seconds = two_digits(text, 6)?;
+    Some(minutes.saturating_mul(60).saturating_add(seconds))
 }
 
-/// Two digits.
-fn two(text: &[u8]) -> Option<(u64, &[u8])> {
-    let (digits, rest) = text.split_at_checked(2)?;
-    Some((decimal(digits)?, rest))
-}
-
-/// A time of the day, and what comes after the blank that ends it.
-fn time_of_day(text: &[u8]) -> Option<(Time, &[u8])> {
-    let (hours, text) = two(text)?;
-    let (minutes, text) = two(text.strip_prefix(b":")?)?;
-    let (seconds, text) = two(text.strip_prefix(b":")?)?;
-    let (part, rest) = match text {
-        [b' ', rest @ ..] => (0, rest),
-        [b'.', rest @ ..] => fraction(rest)?,
-        _ => return None,
+/// The time that a word spells: seconds with a fraction of three to nine digits, or a time of the day, which may have one.
+fn time_of(word: &[u8]) -> Option<Time> {
+    let Some((whole, fraction)) = split_at_byte(word, b'.') else {
+        return Some(Time::OfDay(seconds_of_day(word)?.saturating_mul(SECOND)));
     };
-    let whole = hours
-        .checked_mul(3600)?
-        .checked_add(minutes.checked_mul(60)?)?
-        .checked_add(seconds)?;
-    let time = whole.checked_mul(SECOND)?.checked_add(part)?;
-    Some((Time::OfDay(time), rest))
+    if fraction.len() < 3 {
+        return None;
+    }
+    let part = nanoseconds(fraction)?;
+    if let Some(seconds) = seconds_of_day(whole) {
+        let time = seconds.saturating_mul(SECOND).saturating_add(part);
+        return Some(Time::OfDay(time));
+    }
+    let time = decimal(whole)?.checked_mul(SECOND)?.checked_add(part)?;
+    Some(Time::Whole(time))
 }
 
-/// A time, and what comes after the blank that ends it.
-fn time_of(text: &[u8]) -> Option<(Time, &[u8])> {
-    let (digits, rest) = some_front(text, Class::Digit)?;
-    let Some(point) = rest.strip_prefix(b".") else {
-        return time_of_day(text);
+/// The digits of a thread's number, `71` or `[pid    71]`, and what comes after it.
+fn thread_of(line: &[u8]) -> Option<(&[u8], &[u8])> {
+    let Some(rest) = line.strip_prefix(b"[pid ") else {
+        return Some(front(line, Class::Digit));
     };
-    let (part, rest) = fraction(point)?;
-    let time = decimal(digits)?.checked_mul(SECOND)?.checked_add(part)?;
-    Some((Time::Whole(time), rest))
+    let (number, rest) = split_at_byte(rest, b']')?;
+    Some((front(number, Class::Blank).1, rest))
 }
 
 /// The thread and the time at the front of a line.
 pub(crate) fn start_of(line: &[u8]) -> Option<Start<'_>> {
-    let (thread, rest) = thread_of(line)?;
-    let (_, rest) = some_front(rest, Class::Blank)?;
-    let (time, rest) = time_of(rest)?;
+    let (digits, rest) = thread_of(line)?;
+    let thread = decimal(digits)?;
+    let (blanks, rest) = front(rest, Class::Blank);
+    if blanks.is_empty() {
+        return None;
+    }
+    let (word, rest) = split_at_byte(rest, b' ')?;
+    let time = time_of(word)?;
     Some(Start { thread, time, rest })
 }
 
@@ -108,10 +99,8 @@ pub(crate) fn is_attached(line: &[u8]) -> bool {
     let Some(rest) = line.strip_prefix(b"strace: Process ") else {
         return false;
     };
-    match some_front(rest, Class::Digit) {
-        Some((_, rest)) => rest == b" attached".as_slice() || rest == b" detached".as_slice(),
-        None => false,
-    }
+    let (digits, rest) = front(rest, Class::Digit);
+    !digits.is_empty() && (is_same(rest, b" attached") || is_same(rest, b" detached"))
 }
 
 /// Whether this first line is one of a trace with the threads and the times that [`crate::convert`] needs: `PID TIME CALL(..`, with a time as
@@ -125,31 +114,28 @@ pub fn is_trace(line: &[u8]) -> bool
     }
 }
 
-/// A byte of a dump, and what comes after it.
+/// A byte of a dump, after one blank or two, and what comes after it.
 fn dump_byte(text: &[u8]) -> Option<(u8, &[u8])> {
-    match text {
-        [b' ', b' ', high, low, rest @ ..] | [b' ', high, low, rest @ ..] => {
-            Some((hex_byte(*high, *low)?, rest))
-        }
-        _ => None,
+    let text = text.strip_prefix(b" ")?;
+    let digits = text.strip_prefix(b" ").unwrap_or(text);
+    Some((hex_byte(digits)?, digits.get(2..)?))
+}
+
+/// What comes after the place of a dump's bytes, if a line has them.
+fn after_place(line: &[u8]) -> Option<&[u8]> {
+    let (place, rest) = line.strip_prefix(b" | ")?.split_at_checked(5)?;
+    if !Class::Hex.has_all(place) {
+        return None;
     }
+    rest.strip_prefix(b" ")
 }
 
 /// The bytes that a line below a call has, with the place of the first of them, if it is such a line.
 pub(crate) fn dump_of(alloc: Global, line: &[u8]) -> Result<Option<Vec<u8>>, AllocError> {
-    let Some(text) = line.strip_prefix(b" | ") else {
-        return Ok(None);
-    };
-    let Some((place, text)) = text.split_at_checked(5) else {
+    let Some(mut rest) = after_place(line) else {
         return Ok(None);
     };
     let mut found = Vec::new(alloc);
-    if !Class::Hex.has_all(place) {
-        return Ok(None);
-    }
-    let Some(mut rest) = text.strip_prefix(b" ") else {
-        return Ok(None);
-    };
     for _ in 0..16 {
         let Some((byte, after)) = dump_byte(rest) else {
             break;
@@ -165,16 +151,19 @@ pub(crate) fn dump_of(alloc: Global, line: &[u8]) -> Result<Option<Vec<u8>>, All
 
 /// The name that is before the parenthesis of a call.
 pub(crate) fn name_of(text: &[u8]) -> Option<&[u8]> {
-    let (name, rest) = some_front(text, Class::Word)?;
-    if rest.starts_with(b"(") {
-        return Some(name);
+    let (name, rest) = front(text, Class::Word);
+    if name.is_empty() || !rest.starts_with(b"(") {
+        return None;
     }
-    None
+    Some(name)
 }
 
 /// The call that is resumed: its name, and what comes after it.
 pub(crate) fn resumed(text: &[u8]) -> Option<(&[u8], &[u8])> {
-    let (name, rest) = some_front(text.strip_prefix(b"<... ")?, Class::Word)?;
+    let (name, rest) = front(text.strip_prefix(b"<... ")?, Class::Word);
+    if name.is_empty() {
+        return None;
+    }
     let rest = rest.strip_prefix(b" resumed>")?;
     Some((name, rest.strip_prefix(b" ").unwrap_or(rest)))
 }
@@ -187,51 +176,38 @@ pub(crate) fn unfinished(text: &[u8]) -> Option<&[u8]> {
 
 /// What is between the first parenthesis and the end.
 pub(crate) fn after_parenthesis(text: &[u8]) -> &[u8] {
-    match split_once(text, b"(") {
+    match split_at_byte(text, b'(') {
         Some((_, rest)) => rest,
         None => text,
     }
 }
 
-/// How far the mark between the arguments and the result, `) = ` with any number of blanks before the sign, was read.
-#[derive(Clone, Copy)]
-enum Mark {
-    Nothing,
-    Closed(usize),
-    Blank(usize),
-    Equals(usize),
-}
-
-/// What a mark is after this byte, which is at this place.
-fn marked(mark: Mark, at: usize, byte: u8) -> Mark {
-    match (byte, mark) {
-        (b')', _) => Mark::Closed(at),
-        (b' ', Mark::Closed(begin) | Mark::Blank(begin)) => Mark::Blank(begin),
-        (b'=', Mark::Blank(begin)) => Mark::Equals(begin),
-        _ => Mark::Nothing,
-    }
-}
-
-/// Where the last such mark begins, and where it ends.
+/// Where the last mark between the arguments and the result, `) = ` with any number of blanks before the sign, begins, and where it ends.
 fn last_mark(text: &[u8]) -> Option<(usize, usize)> {
-    let mut mark = Mark::Nothing;
     let mut last = None;
+    // The parenthesis after which only blanks, and then a sign, have come.
+    let mut begin = None;
+    let mut before = b'(';
     for (at, byte) in text.iter().enumerate() {
-        if let Mark::Equals(begin) = mark {
-            if *byte == b' ' {
-                last = Some((begin, at + 1));
+        match (before, *byte) {
+            (_, b')') => begin = Some(at),
+            (b'=', b' ') => {
+                if let Some(begin) = begin.take() {
+                    last = Some((begin, at + 1));
+                }
             }
+            (_, b' ') | (b' ', b'=') => {}
+            _ => begin = None,
         }
-        mark = marked(mark, at, *byte);
+        before = *byte;
     }
     last
 }
 
 /// The nanoseconds of a duration `1.000020`.
 fn duration(text: &[u8]) -> Option<u64> {
-    let (seconds, rest) = some_front(text, Class::Digit)?;
-    let part = rest.strip_prefix(b".")?;
-    if part.is_empty() || !Class::Digit.has_all(part) {
+    let (seconds, part) = split_at_byte(text, b'.')?;
+    if seconds.is_empty() || !Class::Digit.has_all(seconds) {
         return None;
     }
     let part = nanoseconds(part)?;
@@ -239,10 +215,10 @@ fn duration(text: &[u8]) -> Option<u64> {
     Some(seconds.saturating_mul(SECOND).saturating_add(part))
 }
 
-/// The text before the duration ` <0.000020>` at the end, and the nanoseconds of that.
-fn lasted(text: &[u8]) -> Option<(&[u8], u64)> {
+/// How many bytes are before the duration ` <0.000020>` at the end, and the nanoseconds of that.
+fn lasted(text: &[u8]) -> Option<(usize, u64)> {
     let (before, rest) = rsplit_once(text, b" <")?;
-    Some((before, duration(rest.strip_suffix(b">")?)?))
+    Some((before.len(), duration(rest.strip_suffix(b">")?)?))
 }
 
 /// The parts of a whole call.
@@ -257,10 +233,10 @@ pub(crate) struct Parts<'a> {
 /// The parts of a whole call, if it has a result.
 pub(crate) fn parts_of(text: &[u8]) -> Option<Parts<'_>> {
     let (begin, end) = last_mark(text)?;
-    let (until, lasted) = lasted(text).unwrap_or((text, 0));
+    let (until, lasted) = lasted(text).unwrap_or((text.len(), 0));
     Some(Parts {
         arguments: after_parenthesis(text.get(..begin)?),
-        returned: until.get(end..).unwrap_or(b"".as_slice()),
+        returned: text.get(end..until).unwrap_or(b"".as_slice()),
         lasted,
     })
 }

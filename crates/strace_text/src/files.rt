@@ -4,13 +4,29 @@ ghost use Rattle.std.specs.Prelude.{◌≤◌, vec_len};
 
 use std::alloc::{AllocError, Global};
 
-/// A descriptor of an object.
+/// A descriptor, and the object that it is.
+#[derive(Clone, Copy)]
+pub(crate) struct On {
+    pub(crate) object: u64,
+    pub(crate) fd: u64,
+}
+
+/// A descriptor of an object, as a process has it.
 #[derive(Clone, Copy)]
 pub(crate) struct Held {
     pub(crate) fd: u64,
     pub(crate) object: u64,
     /// Whether execve closes it.
     pub(crate) closes: bool,
+}
+
+impl Held {
+    pub(crate) fn on(self) -> On {
+        On {
+            object: self.object,
+            fd: self.fd,
+        }
+    }
 }
 
 /// The descriptors of a process that are objects, in the order of their numbers.

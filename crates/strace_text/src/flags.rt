@@ -2,15 +2,26 @@
 
 use crate::number::{decimal, number};
 use crate::stop::{Shown, Stop, refused};
-use crate::text::{Class, split_once, trimmed};
+use crate::text::{Class, look_up, split_once, trimmed};
 use std::alloc::Global;
 
 /// Names of bits, or of values.
-pub(crate) type Names = &'static [(&'static str, u64)];
+#[derive(Clone, Copy)]
+pub(crate) enum Names {
+    OpenFlags,
+    Modes,
+    Protections,
+    MapFlags,
+    RemapFlags,
+    Advice,
+    Events,
+    /// Those of features and ioctls alone, which are read everywhere.
+    Features,
+}
 
 pub(crate) const CLOSES_ON_EXEC: u64 = 0x80000;
 
-pub(crate) const OPEN_FLAGS: Names = &[
+static OPEN_FLAGS: [(&str, u64); 5] = [
     ("O_RDONLY", 0),
     ("O_RDWR", 2),
     ("O_NONBLOCK", 0x800),
@@ -18,7 +29,7 @@ pub(crate) const OPEN_FLAGS: Names = &[
     ("UFFD_USER_MODE_ONLY", 1),
 ];
 
-pub(crate) const MODES: Names = &[
+static MODES: [(&str, u64); 13] = [
     ("UFFDIO_REGISTER_MODE_MISSING", 1),
     ("UFFDIO_REGISTER_MODE_WP", 2),
     ("UFFDIO_REGISTER_MODE_MINOR", 4),
@@ -34,7 +45,7 @@ pub(crate) const MODES: Names = &[
     ("UFFDIO_MOVE_MODE_ALLOW_SRC_HOLES", 2),
 ];
 
-pub(crate) const PROTECTIONS: Names = &[
+static PROTECTIONS: [(&str, u64); 6] = [
     ("PROT_NONE", 0),
     ("PROT_READ", 1),
     ("PROT_WRITE", 2),
@@ -43,7 +54,7 @@ pub(crate) const PROTECTIONS: Names = &[
     ("PROT_GROWSUP", 0x2000000),
 ];
 
-pub(crate) const MAP_FLAGS: Names = &[
+static MAP_FLAGS: [(&str, u64); 18] = [
     ("MAP_FILE", 0),
     ("MAP_SHARED", 1),
     ("MAP_PRIVATE", 2),
@@ -64,13 +75,13 @@ pub(crate) const MAP_FLAGS: Names = &[
     ("MAP_FIXED_NOREPLACE", 0x100000),
 ];
 
-pub(crate) const REMAP_FLAGS: Names = &[
+static REMAP_FLAGS: [(&str, u64); 3] = [
     ("MREMAP_MAYMOVE", 1),
     ("MREMAP_FIXED", 2),
     ("MREMAP_DONTUNMAP", 4),
 ];
 
-pub(crate) const ADVICE: Names = &[
+static ADVICE: [(&str, u64); 25] = [
     ("MADV_NORMAL", 0),
     ("MADV_RANDOM", 1),
     ("MADV_SEQUENTIAL", 2),
@@ -98,7 +109,7 @@ pub(crate) const ADVICE: Names = &[
     ("MADV_SOFT_OFFLINE", 101),
 ];
 
-pub(crate) const EVENTS: Names = &[
+static EVENTS: [(&str, u64); 12] = [
     ("POLLIN", 1),
     ("POLLPRI", 2),
     ("POLLOUT", 4),
@@ -113,10 +124,8 @@ pub(crate) const EVENTS: Names = &[
     ("POLLRDHUP", 0x2000),
 ];
 
-pub(crate) const NO_NAMES: Names = &[];
-
 /// The features after `UFFD_FEATURE_`.
-const FEATURES: Names = &[
+static FEATURES: [(&str, u64); 17] = [
     ("PAGEFAULT_FLAG_WP", 1),
     ("EVENT_FORK", 2),
     ("EVENT_REMAP", 4),
@@ -137,7 +146,7 @@ const FEATURES: Names = &[
 ];
 
 /// The bits of ioctls, after `1<<_UFFDIO_`.
-const IOCTL_BITS: Names = &[
+static IOCTL_BITS: [(&str, u64); 10] = [
     ("REGISTER", 1),
     ("UNREGISTER", 2),
     ("WAKE", 4),
@@ -150,32 +159,35 @@ const IOCTL_BITS: Names = &[
     ("API", 0x8000000000000000),
 ];
 
-/// The value of a name.
-fn named(names: Names, word: &[u8]) -> Option<u64> {
-    for (name, value) in names {
-        if name.as_bytes() == word {
-            return Some(*value);
-        }
+impl Names {
+    /// The value of a name.
+    fn value(self, word: &[u8]) -> Option<u64> {
+        let table: &[(&str, u64)] = match self {
+            Names::OpenFlags => &OPEN_FLAGS,
+            Names::Modes => &MODES,
+            Names::Protections => &PROTECTIONS,
+            Names::MapFlags => &MAP_FLAGS,
+            Names::RemapFlags => &REMAP_FLAGS,
+            Names::Advice => &ADVICE,
+            Names::Events => &EVENTS,
+            Names::Features => return None,
+        };
+        look_up(table, word)
     }
-    None
 }
 
 /// The bits of a word that is one of the names, in one of the ways that strace has for them.
 fn bits_of(word: &[u8], names: Names) -> Option<u64> {
     if let Some(size) = word.strip_suffix(b"<<MAP_HUGE_SHIFT") {
-        if !size.is_empty() {
-            return decimal(size)?.checked_mul(1 << 26);
-        }
+        return decimal(size)?.checked_mul(1 << 26);
     }
     if let Some(name) = word.strip_prefix(b"1<<_UFFDIO_") {
-        return named(IOCTL_BITS, name);
+        return look_up(&IOCTL_BITS, name);
     }
-    if let Some(name) = word.strip_prefix(b"UFFD_FEATURE_") {
-        if let Some(bit) = named(FEATURES, name) {
-            return Some(bit);
-        }
+    match word.strip_prefix(b"UFFD_FEATURE_") {
+        Some(name) => look_up(&FEATURES, name),
+        None => names.value(word),
     }
-    named(names, word)
 }
 
 /// The bits of a word.
@@ -183,13 +195,11 @@ fn flag(alloc: Global, word: &[u8], names: Names) -> Result<u64, Stop> {
     if let Some(bits) = bits_of(word, names) {
         return Ok(bits);
     }
-    match word {
-        [b'0'..=b'9', ..] if !is_ioctl_bit(word) => number(alloc, word),
-        _ => {
-            let word = Shown(word);
-            Err(refused(format!(in alloc; "unknown flag '{word}'")))
-        }
+    if word.first().is_some_and(u8::is_ascii_digit) && !is_ioctl_bit(word) {
+        return number(alloc, word);
     }
+    let word = Shown(word);
+    Err(refused(format!(in alloc; "unknown flag '{word}'")))
 }
 
 /// Whether a word has the form of an ioctl's bit.

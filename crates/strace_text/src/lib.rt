@@ -12,6 +12,7 @@ mod converter;
 mod event;
 mod files;
 mod flags;
+mod kind;
 mod log;
 mod number;
 mod plan;

@@ -1,6 +1,6 @@
 //! What a call becomes.
 
-use crate::files::Held;
+use crate::files::{Held, On};
 use crate::stop::{Shown, Stop};
 use crate::traced::Traced;
 use std::alloc::Global;
@@ -14,7 +14,7 @@ pub(crate) enum After {
     /// A set has this descriptor.
     BindIn { set: usize, held: Held },
     /// A set has no such descriptor, unless it is another object's.
-    Release { set: usize, fd: u64, object: u64 },
+    Release { set: usize, on: On },
     /// The process runs a program with these words.
     Start(String),
 }
@@ -25,45 +25,43 @@ pub(crate) enum After {
 pub(crate) struct Plan {
     /// None for a call that has no lines of its own.
     pub(crate) begin: Option<String>,
+    /// Its number among the calls of its process, which it has once its first line is written.
+    pub(crate) number: u64,
     pub(crate) messages: Vec<String>,
     pub(crate) end: Option<String>,
     pub(crate) after: After,
 }
 
 impl Plan {
-    /// One that changes no descriptor.
-    pub(crate) fn new(alloc: Global, begin: String, end: Option<String>) -> Plan {
+    /// One that reads no message.
+    pub(crate) fn new(alloc: Global, begin: String, end: Option<String>, after: After) -> Plan {
         Plan {
             begin: Some(begin),
+            number: 0,
             messages: Vec::new(alloc),
             end,
-            after: After::Nothing,
+            after,
         }
     }
+}
+
+/// What a call becomes that answers nothing, and changes no descriptor.
+pub(crate) fn simple(alloc: Global, call: &Traced, begin: String) -> Result<Option<Plan>, Stop> {
+    let end = answer(alloc, call, b"")?;
+    Ok(Some(Plan::new(alloc, begin, end, After::Nothing)))
 }
 
 /// The end of a call. The values come after `ok`.
-pub(crate) fn answer(alloc: Global, call: &Traced, values: &str) -> Result<Option<String>, Stop> {
+pub(crate) fn answer(alloc: Global, call: &Traced, values: &[u8]) -> Result<Option<String>, Stop> {
     if !call.has_returned() {
         return Ok(None);
     }
-    if call.was_interrupted() {
-        return Ok(Some(String::from_str(alloc, "interrupted")?));
-    }
-    let text = match call.errno() {
-        Some(errno) => {
-            let errno = Shown(errno);
-            format!(in alloc; "{errno}")?
-        }
-        None if values.is_empty() => String::from_str(alloc, "ok")?,
-        None => format!(in alloc; "ok {values}")?,
+    let (word, values) = match call.errno() {
+        _ if call.was_interrupted() => (b"interrupted".as_slice(), b"".as_slice()),
+        Some(errno) => (errno, b"".as_slice()),
+        None => (b"ok".as_slice(), values),
     };
-    Ok(Some(text))
-}
-
-/// The plans of a call that concerns one object.
-pub(crate) fn one(alloc: Global, plan: Plan) -> Result<Vec<Plan>, Stop> {
-    let mut plans = Vec::new(alloc);
-    plans.push(plan)?;
-    Ok(plans)
+    let blank = if values.is_empty() { "" } else { " " };
+    let (word, values) = (Shown(word), Shown(values));
+    Ok(Some(format!(in alloc; "{word}{blank}{values}")?))
 }

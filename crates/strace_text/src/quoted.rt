@@ -1,22 +1,9 @@
 //! Strings and paths, as strace prints them.
 
-use crate::stop::{Shown, Stop, refused};
+use crate::number::hex_byte;
+use crate::stop::{Stop, refuse_bytes};
 use crate::text::split_at_byte;
 use std::alloc::{AllocError, Global};
-
-/// The value of a hexadecimal digit, in small letters.
-fn nibble(byte: u8) -> Option<u8> {
-    match byte {
-        b'0'..=b'9' => Some(byte - b'0'),
-        b'a'..=b'f' => Some(byte - b'a' + 10),
-        _ => None,
-    }
-}
-
-/// The byte that two hexadecimal digits write.
-pub(crate) fn hex_byte(high: u8, low: u8) -> Option<u8> {
-    Some((nibble(high)? << 4) | nibble(low)?)
-}
 
 /// The byte that one to three octal digits write, and what comes after them.
 fn octal(text: &[u8]) -> (u8, &[u8]) {
@@ -30,28 +17,30 @@ fn octal(text: &[u8]) -> (u8, &[u8]) {
     (value, b"".as_slice())
 }
 
-/// The byte of what comes after a backslash, and what comes after that.
-fn escaped(text: &[u8]) -> Option<(u8, &[u8])> {
-    match text {
-        [b'x', high, low, rest @ ..] => Some((hex_byte(*high, *low)?, rest)),
-        [b'0'..=b'7', ..] => Some(octal(text)),
-        [b'n', rest @ ..] => Some((b'\n', rest)),
-        [b't', rest @ ..] => Some((b'\t', rest)),
-        [b'r', rest @ ..] => Some((b'\r', rest)),
-        [b'v', rest @ ..] => Some((11, rest)),
-        [b'f', rest @ ..] => Some((12, rest)),
-        [b'\\', rest @ ..] => Some((b'\\', rest)),
-        [b'"', rest @ ..] => Some((b'"', rest)),
+/// The byte for which a letter after a backslash stands.
+fn meant(letter: u8) -> Option<u8> {
+    match letter {
+        b'n' => Some(b'\n'),
+        b't' => Some(b'\t'),
+        b'r' => Some(b'\r'),
+        b'v' => Some(11),
+        b'f' => Some(12),
+        b'\\' | b'"' => Some(letter),
         _ => None,
     }
 }
 
 /// The first byte of a string, and the rest of it.
 fn string_byte(text: &[u8]) -> Option<(u8, &[u8])> {
-    match text {
-        [b'\\', rest @ ..] => escaped(rest),
-        [byte, rest @ ..] => Some((*byte, rest)),
-        [] => None,
+    let (first, rest) = text.split_first()?;
+    if *first != b'\\' {
+        return Some((*first, rest));
+    }
+    let (letter, after) = rest.split_first()?;
+    match *letter {
+        b'0'..=b'7' => Some(octal(rest)),
+        b'x' => Some((hex_byte(after)?, after.get(2..)?)),
+        letter => Some((meant(letter)?, after)),
     }
 }
 
@@ -63,8 +52,8 @@ pub(crate) fn unescape(alloc: Global, out: &mut Vec<u8>, text: &[u8]) -> Result<
             break;
         }
         let Some((byte, after)) = string_byte(rest) else {
-            let shown = Shown(rest.get(..2).unwrap_or(rest));
-            return Err(refused(format!(in alloc; "'{shown}' in a string")));
+            let wrong = rest.get(..2).unwrap_or(rest);
+            return Err(refuse_bytes(alloc, wrong, "in a string"));
         };
         out.push(byte)?;
         rest = after;
@@ -113,28 +102,28 @@ pub(crate) fn all_strings(alloc: Global, text: &[u8]) -> Result<Vec<u8>, Stop> {
     Ok(out)
 }
 
-/// Adds the bytes of a path in hexadecimal, and its `>`. What comes after it; none is added if there is no such path.
-fn decode_path<'a>(out: &mut Vec<u8>, text: &'a [u8]) -> Result<Option<&'a [u8]>, AllocError> {
+/// The byte that `\x61` writes.
+fn hex_escape(text: &[u8]) -> Option<u8> {
+    hex_byte(text.strip_prefix(b"\\x")?)
+}
+
+/// Adds the bytes of a path in hexadecimal, and its `>`. How many bytes of the text write them: 0, and none is added, if there is no such path.
+fn decode_path(out: &mut Vec<u8>, text: &[u8]) -> Result<usize, AllocError> {
     let before = out.len();
-    let mut rest = text;
-    for _ in 0..text.len() {
-        match rest {
-            [b'\\', b'x', high, low, after @ ..] => {
-                let Some(byte) = hex_byte(*high, *low) else {
-                    break;
-                };
-                out.push(byte)?;
-                rest = after;
-            }
-            [b'>', after @ ..] if out.len() > before => {
-                out.push(b'>')?;
-                return Ok(Some(after));
-            }
-            _ => break,
-        }
+    let mut count: usize = 0;
+    for escape in text.chunks(4) {
+        let Some(byte) = hex_escape(escape) else {
+            break;
+        };
+        out.push(byte)?;
+        count = count.saturating_add(4);
+    }
+    if count > 0 && text.get(count) == Some(&b'>') {
+        out.push(b'>')?;
+        return Ok(count.saturating_add(1));
     }
     out.truncate(before);
-    Ok(None)
+    Ok(0)
 }
 
 /// A text in which each `<\x61..>` is `<a..>`.
@@ -147,7 +136,8 @@ pub(crate) fn decode_paths(alloc: Global, text: &[u8]) -> Result<Vec<u8>, AllocE
         };
         out.extend_from_slice(before)?;
         out.push(b'<')?;
-        rest = decode_path(&mut out, path)?.unwrap_or(path);
+        let count = decode_path(&mut out, path)?;
+        rest = path.get(count..).unwrap_or(path);
     }
     out.extend_from_slice(rest)?;
     Ok(out)

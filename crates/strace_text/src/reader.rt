@@ -1,26 +1,29 @@
 //! Reading a trace: its lines as calls, with the halves of those that were unfinished joined.
 
 use crate::event::{
-    Time, after_parenthesis, dump_of, is_attached, is_end, is_signal, name_of, parts_of, resumed,
-    start_of, unfinished,
+    Start, Time, after_parenthesis, dump_of, is_attached, is_end, is_signal, name_of, parts_of,
+    resumed, start_of, unfinished,
 };
+use crate::kind::Kind;
 use crate::quoted::decode_paths;
-use crate::stop::{Shown, Stop, refused};
-use crate::text::split_at_byte;
+use crate::stop::{Stop, refuse, refuse_bytes, refused};
+use crate::text::{is_same, split_at_byte};
 use crate::traced::{Traced, is_result};
 use crate::writer::Refused;
 use indexmap::IndexMap;
 use mig_base::NoMemory;
-use std::alloc::Global;
+use std::alloc::{AllocError, Global};
+use std::mem;
 
 /// The nanoseconds of a day.
 const DAY: u64 = 86_400_000_000_000;
 
-/// A call that is unfinished: its place, and what it has printed.
-#[derive(Drop)]
-struct Open {
-    call: usize,
-    text: Vec<u8>,
+/// Where a line stands.
+#[derive(Clone, Copy)]
+struct At {
+    line: u64,
+    thread: u64,
+    time: u64,
 }
 
 /// Reads the lines of one trace.
@@ -29,8 +32,8 @@ struct Reader {
     alloc: Global,
     calls: Vec<Traced>,
     wrong: Vec<Refused>,
-    /// The unfinished call of each thread.
-    open: IndexMap<u64, Open>,
+    /// The unfinished call of each thread. Its arguments are what it has printed.
+    open: IndexMap<u64, usize>,
     last_time: u64,
     /// The nanoseconds of the days that have ended, where times are those of a day.
     days: u64,
@@ -50,22 +53,11 @@ pub(crate) struct Trace {
 /// Reads a trace.
 pub(crate) fn read_trace(alloc: Global, text: &[u8]) -> Result<Trace, NoMemory> {
     let mut reader = Reader::new(alloc);
-    let mut rest = text;
-    let mut number: u64 = 0;
-    for _ in 0..text.len() {
-        if rest.is_empty() {
-            break;
-        }
-        number = number.saturating_add(1);
-        let Some((line, after)) = split_at_byte(rest, b'\n') else {
-            reader.note_cut(number)?;
-            break;
-        };
-        let taken = reader.take(number, line);
-        reader.note(number, taken)?;
-        rest = after;
-    }
-    reader.finish()
+    reader.read(text)?;
+    Ok(Trace {
+        calls: reader.calls,
+        wrong: reader.wrong,
+    })
 }
 
 impl Reader {
@@ -82,50 +74,62 @@ impl Reader {
         }
     }
 
-    /// Notes why a line was not taken, if it was not.
-    fn note(&mut self, line: u64, taken: Result<(), Stop>) -> Result<(), NoMemory> {
-        match taken {
-            Ok(()) => Ok(()),
-            Err(Stop::NoMemory) => Err(NoMemory),
-            Err(Stop::Refused(reason)) => match self.wrong.push(Refused { line, reason }) {
-                Ok(()) => Ok(()),
-                Err(_) => Err(NoMemory),
-            },
+    fn read(&mut self, text: &[u8]) -> Result<(), NoMemory> {
+        let mut rest = text;
+        let mut number: u64 = 0;
+        for _ in 0..text.len() {
+            if rest.is_empty() {
+                break;
+            }
+            number = number.saturating_add(1);
+            let Some((line, after)) = split_at_byte(rest, b'\n') else {
+                let cut = refuse(self.alloc, "no line feed: the file was cut here");
+                self.note(number, cut)?;
+                break;
+            };
+            if let Err(stop) = self.take(number, line) {
+                self.note(number, stop)?;
+            }
+            rest = after;
         }
+        self.end()
     }
 
-    fn note_cut(&mut self, line: u64) -> Result<(), NoMemory> {
-        let reason = format!(in self.alloc; "no line feed: the file was cut here");
-        self.note(line, Err(refused(reason)))
-    }
-
-    fn refuse(&self, reason: &str) -> Stop {
-        refused(format!(in self.alloc; "{reason}"))
+    /// Notes why a line was not taken.
+    fn note(&mut self, line: u64, stop: Stop) -> Result<(), NoMemory> {
+        let Stop::Refused(reason) = stop else {
+            return Err(NoMemory);
+        };
+        self.wrong.push(Refused { line, reason })?;
+        Ok(())
     }
 
     /// Takes a line.
-    fn take(&mut self, number: u64, line: &[u8]) -> Result<(), Stop> {
-        if let Some(bytes) = dump_of(self.alloc, line)? {
+    fn take(&mut self, line: u64, text: &[u8]) -> Result<(), Stop> {
+        if let Some(bytes) = dump_of(self.alloc, text)? {
             return self.take_dump(&bytes);
         }
         self.dumps_to = None;
-        if is_attached(line) {
+        if is_attached(text) {
             return Ok(());
         }
-        let Some(start) = start_of(line) else {
-            return Err(self.refuse("not a thread's number, a time (-tt or -ttt) and a call"));
+        let Some(Start { thread, time, rest }) = start_of(text) else {
+            let wanted = "not a thread's number, a time (-tt or -ttt) and a call";
+            return Err(refuse(self.alloc, wanted));
         };
-        let time = self.time_of(start.time)?;
+        let time = self.time_of(time)?;
         self.clamp(time);
-        self.take_event(number, start.thread, time, start.rest)
+        self.take_event(At { line, thread, time }, rest)
     }
 
     /// Bytes that strace prints below a call with `-e read=all`.
     fn take_dump(&mut self, bytes: &[u8]) -> Result<(), Stop> {
-        let Some(call) = self.dumps_to.and_then(|place| self.calls.get_mut(place)) else {
-            return Err(self.refuse("bytes of no call"));
+        let Some(place) = self.dumps_to else {
+            return Err(refuse(self.alloc, "bytes of no call"));
         };
-        call.dump.extend_from_slice(bytes)?;
+        if let Some(call) = self.calls.get_mut(place) {
+            call.dump.extend_from_slice(bytes)?;
+        }
         Ok(())
     }
 
@@ -138,7 +142,7 @@ impl Reader {
         let last = self.last_time;
         self.last_time = time.max(last);
         if time < last {
-            return Err(self.refuse("the time runs back"));
+            return Err(refuse(self.alloc, "the time runs back"));
         }
         Ok(time)
     }
@@ -164,196 +168,164 @@ impl Reader {
     }
 
     /// Takes what a line says of its thread.
-    fn take_event(&mut self, number: u64, thread: u64, time: u64, text: &[u8]) -> Result<(), Stop> {
+    fn take_event(&mut self, at: At, text: &[u8]) -> Result<(), Stop> {
         if is_signal(text) {
             return Ok(());
         }
         if is_end(text) {
-            return self.take_end(number, thread, time);
+            return self.take_end(at);
         }
-        if let Some((name, rest)) = resumed(text) {
-            return self.resume(number, thread, time, name, rest);
+        match resumed(text) {
+            Some((name, rest)) => self.resume(at, name, rest),
+            None => self.take_call(at, text),
         }
+    }
+
+    /// Takes a call, or the first half of one.
+    fn take_call(&mut self, at: At, text: &[u8]) -> Result<(), Stop> {
         let Some(name) = name_of(text) else {
-            return Err(self.refuse("not a call"));
+            return Err(refuse(self.alloc, "not a call"));
         };
-        self.check_thread(thread)?;
-        let call = self.entered(number, thread, time, name)?;
+        self.check_thread(at.thread)?;
+        let call = entered(self.alloc, at, name)?;
         match unfinished(text) {
             Some(front) => self.hold(call, front),
-            None => self.take_whole(call, text),
+            None => self.take_whole(call, at, text),
         }
+    }
+
+    /// The unfinished call of a thread.
+    fn open_call(&self, thread: u64) -> Option<&Traced> {
+        self.calls.get(*self.open.get(&thread)?)
     }
 
     /// A thread that makes a call may not be in another one.
     fn check_thread(&self, thread: u64) -> Result<(), Stop> {
-        let Some(open) = self.open.get(&thread) else {
+        let Some(call) = self.open_call(thread) else {
             return Ok(());
         };
-        let line = match self.calls.get(open.call) {
-            Some(call) => call.entered,
-            None => 0,
-        };
+        let line = call.entered;
         Err(refused(format!(in self.alloc; "thread {thread} is in another call since line {line}")))
     }
 
-    /// A call that enters the kernel.
-    fn entered(&self, number: u64, thread: u64, time: u64, name: &[u8]) -> Result<Traced, Stop> {
-        let alloc = self.alloc;
-        Ok(Traced {
-            thread,
-            name: Vec::from_slice(alloc, name)?,
-            entered: number,
-            entered_at: time,
-            arguments: Vec::new(alloc),
-            left: None,
-            left_at: 0,
-            returned: Vec::new(alloc),
-            dump: Vec::new(alloc),
-        })
-    }
-
     /// The end of a thread, which may be in a call.
-    fn take_end(&mut self, number: u64, thread: u64, time: u64) -> Result<(), Stop> {
-        let mut end = self.entered(number, thread, time, b"+++")?;
-        end.left = Some(number);
-        end.left_at = time;
+    fn take_end(&mut self, at: At) -> Result<(), Stop> {
+        let mut end = entered(self.alloc, at, b"+++")?;
+        end.left = Some(at.line);
+        end.left_at = at.time;
         self.calls.push(end)?;
-        match self.open.swap_remove(&thread) {
-            Some(open) => self.end_unfinished(&open),
+        match self.open.swap_remove(&at.thread) {
+            Some(place) => Ok(self.end_unfinished(place)?),
             None => Ok(()),
         }
     }
 
-    /// A call that never returned has the arguments that it had printed.
-    fn end_unfinished(&mut self, open: &Open) -> Result<(), Stop> {
-        let arguments = decode_paths(self.alloc, after_parenthesis(&open.text))?;
-        if let Some(call) = self.calls.get_mut(open.call) {
-            call.arguments = arguments;
-        }
-        Ok(())
-    }
-
-    /// Keeps a call that is unfinished.
-    fn hold(&mut self, call: Traced, text: &[u8]) -> Result<(), Stop> {
-        let text = Vec::from_slice(self.alloc, text)?;
+    /// Keeps a call that is unfinished, with what it has printed.
+    fn hold(&mut self, mut call: Traced, text: &[u8]) -> Result<(), Stop> {
+        call.arguments.extend_from_slice(text)?;
         let thread = call.thread;
         let place = self.calls.len();
         self.calls.push(call)?;
-        self.open.insert(thread, Open { call: place, text })?;
+        self.open.insert(thread, place)?;
         Ok(())
     }
 
     /// Takes a call that is whole.
-    fn take_whole(&mut self, call: Traced, text: &[u8]) -> Result<(), Stop> {
-        let mut call = call;
-        let number = call.entered;
-        let time = call.entered_at;
-        finish(self.alloc, &mut call, number, time, text)?;
+    fn take_whole(&mut self, mut call: Traced, at: At, text: &[u8]) -> Result<(), Stop> {
+        finish(self.alloc, &mut call, at, text)?;
         let place = self.calls.len();
-        self.note_whole(&call, place);
+        self.note_read(call.kind, place);
         self.unclamped = Some(place);
         self.calls.push(call)?;
         Ok(())
     }
 
-    /// The next lines may have bytes of this call.
-    fn note_whole(&mut self, call: &Traced, place: usize) {
-        if matches!(call.name.as_slice(), b"read" | b"readv") {
+    /// The next lines may have bytes of a call that reads.
+    fn note_read(&mut self, kind: Kind, place: usize) {
+        if matches!(kind, Kind::Read | Kind::Readv) {
             self.dumps_to = Some(place);
         }
     }
 
     /// Takes the second half of a call.
-    fn resume(
-        &mut self,
-        number: u64,
-        thread: u64,
-        time: u64,
-        name: &[u8],
-        rest: &[u8],
-    ) -> Result<(), Stop> {
-        if !self.is_in(thread, name) {
-            let name = Shown(name);
-            return Err(refused(format!(in self.alloc; "'{name}' is resumed, and was not entered")));
+    fn resume(&mut self, at: At, name: &[u8], rest: &[u8]) -> Result<(), Stop> {
+        let is_in = match self.open_call(at.thread) {
+            Some(call) => is_same(&call.name, name),
+            None => false,
+        };
+        if !is_in {
+            return Err(refuse_bytes(self.alloc, name, "is resumed, and was not entered"));
         }
-        match self.open.swap_remove(&thread) {
-            Some(open) => self.join(open, number, time, rest),
+        match self.open.swap_remove(&at.thread) {
+            Some(place) => self.join(place, at, rest),
             None => Ok(()),
         }
     }
 
-    /// Whether a thread is in a call of this name.
-    fn is_in(&self, thread: u64, name: &[u8]) -> bool {
-        let Some(open) = self.open.get(&thread) else {
-            return false;
-        };
-        match self.calls.get(open.call) {
-            Some(call) => call.name.as_slice() == name,
-            None => false,
-        }
-    }
-
     /// Joins the halves of a call.
-    fn join(&mut self, open: Open, number: u64, time: u64, rest: &[u8]) -> Result<(), Stop> {
-        let Open {
-            call: place,
-            mut text,
-        } = open;
+    fn join(&mut self, place: usize, at: At, rest: &[u8]) -> Result<(), Stop> {
+        let Some(call) = self.calls.get_mut(place) else {
+            return Ok(());
+        };
+        let mut text = mem::replace(&mut call.arguments, Vec::new(self.alloc));
         if text.ends_with(b",") && rest.starts_with(b",") {
             text.pop();
         }
         text.extend_from_slice(rest)?;
-        let Some(call) = self.calls.get_mut(place) else {
-            return Ok(());
-        };
-        finish(self.alloc, call, number, time, &text)?;
-        call.left_at = time;
-        if matches!(call.name.as_slice(), b"read" | b"readv") {
-            self.dumps_to = Some(place);
+        finish(self.alloc, call, at, &text)?;
+        call.left_at = at.time;
+        let kind = call.kind;
+        self.note_read(kind, place);
+        Ok(())
+    }
+
+    /// A call that never returned has the arguments that it had printed.
+    fn end_unfinished(&mut self, place: usize) -> Result<(), NoMemory> {
+        if let Some(call) = self.calls.get_mut(place) {
+            call.arguments = decode_paths(self.alloc, after_parenthesis(&call.arguments))?;
         }
         Ok(())
     }
 
-    /// The calls that were read.
-    fn finish(self) -> Result<Trace, NoMemory> {
-        let Reader {
-            alloc,
-            mut calls,
-            wrong,
-            open,
-            ..
-        } = self;
-        for held in open.values() {
-            let Ok(arguments) = decode_paths(alloc, after_parenthesis(&held.text)) else {
-                return Err(NoMemory);
-            };
-            if let Some(call) = calls.get_mut(held.call) {
-                call.arguments = arguments;
+    /// The trace has ended, and with it the calls that are unfinished.
+    fn end(&mut self) -> Result<(), NoMemory> {
+        for at in 0..self.open.len() {
+            if let Some((_, place)) = self.open.get_index(at) {
+                let place = *place;
+                self.end_unfinished(place)?;
             }
         }
-        Ok(Trace { calls, wrong })
+        Ok(())
     }
 }
 
+/// A call that enters the kernel, or the end of a thread.
+fn entered(alloc: Global, at: At, name: &[u8]) -> Result<Traced, AllocError> {
+    Ok(Traced {
+        thread: at.thread,
+        name: Vec::from_slice(alloc, name)?,
+        kind: Kind::of(name),
+        entered: at.line,
+        entered_at: at.time,
+        arguments: Vec::new(alloc),
+        left: None,
+        left_at: 0,
+        returned: Vec::new(alloc),
+        dump: Vec::new(alloc),
+    })
+}
+
 /// Gives a call its arguments and its result.
-fn finish(
-    alloc: Global,
-    call: &mut Traced,
-    number: u64,
-    time: u64,
-    text: &[u8],
-) -> Result<(), Stop> {
+fn finish(alloc: Global, call: &mut Traced, at: At, text: &[u8]) -> Result<(), Stop> {
     let Some(parts) = parts_of(text) else {
-        return Err(refused(format!(in alloc; "a call without a result")));
+        return Err(refuse(alloc, "a call without a result"));
     };
     call.returned = decode_paths(alloc, parts.returned)?;
     call.arguments = decode_paths(alloc, parts.arguments)?;
     if !is_result(&call.returned) {
-        let returned = Shown(&call.returned);
-        return Err(refused(format!(in alloc; "'{returned}' is not a result")));
+        return Err(refuse_bytes(alloc, &call.returned, "is not a result"));
     }
-    call.left = Some(number);
-    call.left_at = time.saturating_add(parts.lasted);
+    call.left = Some(at.line);
+    call.left_at = at.time.saturating_add(parts.lasted);
     Ok(())
 }

@@ -1,7 +1,7 @@
 //! Why a line of a trace was not taken.
 
 use mig_base::NoMemory;
-use std::alloc::{AllocError, AllocFailed};
+use std::alloc::{AllocError, AllocFailed, Global};
 use std::fmt;
 use std::fmt::Write;
 
@@ -29,6 +29,17 @@ impl<T: Drop> From<AllocFailed<T>> for Stop {
     fn from(_e: AllocFailed<T>) -> Stop {
         Stop::NoMemory
     }
+}
+
+/// A line is refused for a reason.
+pub(crate) fn refuse(alloc: Global, reason: &str) -> Stop {
+    refused(String::from_str(alloc, reason))
+}
+
+/// A line is refused for what these bytes of it are.
+pub(crate) fn refuse_bytes(alloc: Global, bytes: &[u8], what: &str) -> Stop {
+    let bytes = Shown(bytes);
+    refused(format!(in alloc; "'{bytes}' {what}"))
 }
 
 /// A line is refused for a reason, which was written or was not for lack of memory.

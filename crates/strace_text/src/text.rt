@@ -1,8 +1,8 @@
 //! Pieces of the bytes of a line.
 
-use crate::stop::Stop;
+ghost use Rattle.std.specs.Prelude.{◌≤◌, length};
+
 use memchr::{memchr, memmem};
-use std::alloc::Global;
 
 /// Sets of bytes.
 #[derive(Clone, Copy)]
@@ -18,6 +18,8 @@ pub(crate) enum Class {
     Value,
     /// A capital letter or a digit.
     Errno,
+    /// What the events of a poll have.
+    Events,
     Blank,
     /// A blank in the wide sense: tabs and their like too.
     Space,
@@ -36,6 +38,7 @@ impl Class {
                 matches!(byte, b'0'..=b'9' | b'A'..=b'Z' | b'a'..=b'z' | b'_' | b'<' | b'|' | b'-')
             }
             Class::Errno => matches!(byte, b'0'..=b'9' | b'A'..=b'Z'),
+            Class::Events => matches!(byte, b'A'..=b'Z' | b'0'..=b'9' | b'|' | b'x'),
             Class::Blank => byte == b' ',
             Class::Space => is_space(byte),
             Class::NoSpace => !is_space(byte),
@@ -71,23 +74,21 @@ fn is_space(byte: u8) -> bool {
     matches!(byte, 9..=13 | 28..=32 | 0x85 | 0xa0)
 }
 
-/// The bytes of a class at the front, and those after them.
-pub(crate) fn front(text: &[u8], class: Class) -> (&[u8], &[u8]) {
+/// How many bytes of a class are at the front.
+pub(crate) fn span(text: &[u8], class: Class) -> usize
+    ensures { result ≤ length text.now }
+{
     for (at, byte) in text.iter().enumerate() {
         if !class.has(*byte) {
-            return text.split_at(at);
+            return at;
         }
     }
-    (text, b"".as_slice())
+    text.len()
 }
 
-/// The same, if there are any.
-pub(crate) fn some_front(text: &[u8], class: Class) -> Option<(&[u8], &[u8])> {
-    let (found, rest) = front(text, class);
-    if found.is_empty() {
-        return None;
-    }
-    Some((found, rest))
+/// The bytes of a class at the front, and those after them.
+pub(crate) fn front(text: &[u8], class: Class) -> (&[u8], &[u8]) {
+    text.split_at(span(text, class))
 }
 
 /// The bytes before the first of these bytes, and those after it.
@@ -96,34 +97,39 @@ pub(crate) fn split_at_byte(text: &[u8], byte: u8) -> Option<(&[u8], &[u8])> {
     Some((&text[..at], &text[at + 1..]))
 }
 
+/// The bytes before a mark that is at a place, and those after it.
+fn around<'a>(text: &'a [u8], at: usize, mark: &[u8]) -> Option<(&'a [u8], &'a [u8])> {
+    let (before, rest) = text.split_at_checked(at)?;
+    Some((before, rest.strip_prefix(mark)?))
+}
+
 /// The bytes before the first occurrence of a mark, and those after it.
 pub(crate) fn split_once<'a>(text: &'a [u8], mark: &[u8]) -> Option<(&'a [u8], &'a [u8])> {
-    let at = memmem::find(text, mark)?;
-    let before = text.get(..at)?;
-    let rest = text.get(at..)?.strip_prefix(mark)?;
-    Some((before, rest))
+    around(text, memmem::find(text, mark)?, mark)
 }
 
 /// The bytes before the last occurrence of a mark, and those after it.
 pub(crate) fn rsplit_once<'a>(text: &'a [u8], mark: &[u8]) -> Option<(&'a [u8], &'a [u8])> {
-    let at = memmem::rfind(text, mark)?;
-    let before = text.get(..at)?;
-    let rest = text.get(at..)?.strip_prefix(mark)?;
-    Some((before, rest))
+    around(text, memmem::rfind(text, mark)?, mark)
 }
 
 pub(crate) fn has(text: &[u8], mark: &[u8]) -> bool {
     memmem::find(text, mark).is_some()
 }
 
-/// Whether a word is one of these, between which there are blanks.
-pub(crate) fn is_among(words: &[u8], word: &[u8]) -> bool {
-    for one in words.split(|byte| *byte == b' ') {
-        if one == word {
-            return !word.is_empty();
+/// Whether two words are the same. A pattern for each word would be compared, and proved, byte by byte.
+pub(crate) fn is_same(word: &[u8], other: &[u8]) -> bool {
+    word == other
+}
+
+/// What a table has for a word.
+pub(crate) fn look_up<T: Copy>(table: &[(&str, T)], word: &[u8]) -> Option<T> {
+    for (name, value) in table {
+        if is_same(name.as_bytes(), word) {
+            return Some(*value);
         }
     }
-    false
+    None
 }
 
 /// Without the blanks at both ends.
@@ -144,17 +150,31 @@ pub(crate) fn first_word(text: &[u8]) -> &[u8] {
     front(text, Class::NoSpace).0
 }
 
-/// The arguments of a call: what a comma and a blank separate.
-pub(crate) fn comma_parts<'a>(alloc: Global, text: &'a [u8]) -> Result<Vec<&'a [u8]>, Stop> {
-    let mut parts = Vec::new(alloc);
+/// How many arguments a call has: a comma and a blank are between two.
+pub(crate) fn count_of_arguments(text: &[u8]) -> usize {
+    let mut count: usize = 1;
     let mut rest = text;
     for _ in 0..text.len() {
-        let Some((part, after)) = split_once(rest, b", ") else {
+        let Some((_, after)) = split_once(rest, b", ") else {
             break;
         };
-        parts.push(part)?;
+        count = count.saturating_add(1);
         rest = after;
     }
-    parts.push(rest)?;
-    Ok(parts)
+    count
+}
+
+/// The argument after so many others; nothing if there is none.
+pub(crate) fn argument(text: &[u8], place: usize) -> &[u8] {
+    let mut rest = text;
+    for _ in 0..place {
+        rest = match split_once(rest, b", ") {
+            Some((_, after)) => after,
+            None => b"".as_slice(),
+        };
+    }
+    match split_once(rest, b", ") {
+        Some((found, _)) => found,
+        None => rest,
+    }
 }

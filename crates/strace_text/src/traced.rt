@@ -1,12 +1,14 @@
 //! A call of a trace.
 
-use crate::text::{Class, front, some_front};
+use crate::kind::Kind;
+use crate::text::{Class, front, has, span};
 
-/// A call, or the end of a thread, whose name is `+++`. Times are nanoseconds.
+/// A call, or the end of a thread. Times are nanoseconds.
 #[derive(Drop)]
 pub(crate) struct Traced {
     pub(crate) thread: u64,
     pub(crate) name: Vec<u8>,
+    pub(crate) kind: Kind,
     /// The line at which it entered the kernel.
     pub(crate) entered: u64,
     pub(crate) entered_at: u64,
@@ -22,37 +24,41 @@ pub(crate) struct Traced {
 
 /// The name of an error at the front of a result.
 fn errno_of(returned: &[u8]) -> Option<&[u8]> {
-    let error = returned.strip_prefix(b"-1 ")?;
-    let (rest, _) = some_front(error.strip_prefix(b"E")?, Class::Errno)?;
-    error.get(..rest.len().saturating_add(1))
+    let (name, _) = front(returned.strip_prefix(b"-1 ")?, Class::Errno);
+    if name.len() > 1 && name.starts_with(b"E") {
+        return Some(name);
+    }
+    None
 }
 
 /// Whether a text begins with no letter, digit or `_`.
 fn ends_word(text: &[u8]) -> bool {
-    front(text, Class::Word).0.is_empty()
+    span(text, Class::Word) == 0
 }
 
 /// Whether a text begins with digits of a class, and they are a word.
 fn is_word_of(text: &[u8], class: Class) -> bool {
-    match some_front(text, class) {
-        Some((_, rest)) => ends_word(rest),
-        None => false,
-    }
+    let (digits, rest) = front(text, class);
+    !digits.is_empty() && ends_word(rest)
 }
 
 /// Whether a text is the result of a call: a number, `?` or an error.
 pub(crate) fn is_result(text: &[u8]) -> bool {
-    match text {
-        [b'?', rest @ ..] => ends_word(rest),
-        [b'-', b'1', b' ', b'E', rest @ ..] => is_word_of(rest, Class::Errno),
-        [b'0', b'x', rest @ ..] => is_word_of(rest, Class::Hex),
-        _ => is_word_of(text, Class::Digit),
+    if let Some(rest) = text.strip_prefix(b"?") {
+        return ends_word(rest);
     }
+    if let Some(rest) = text.strip_prefix(b"-1 E") {
+        return is_word_of(rest, Class::Errno);
+    }
+    if let Some(rest) = text.strip_prefix(b"0x") {
+        return is_word_of(rest, Class::Hex);
+    }
+    is_word_of(text, Class::Digit)
 }
 
 impl Traced {
     pub(crate) fn is_end(&self) -> bool {
-        self.name.as_slice() == b"+++".as_slice()
+        matches!(self.kind, Kind::End)
     }
 
     pub(crate) fn errno(&self) -> Option<&[u8]> {
@@ -74,6 +80,6 @@ impl Traced {
     }
 
     pub(crate) fn has_argument(&self, word: &[u8]) -> bool {
-        crate::text::has(&self.arguments, word)
+        has(&self.arguments, word)
     }
 }

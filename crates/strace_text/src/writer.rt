@@ -1,7 +1,7 @@
 //! Writing the log in the order of the trace.
 
 use crate::converter::Converter;
-use crate::plan::{After, Plan};
+use crate::plan::Plan;
 use crate::reader::{Trace, read_trace};
 use crate::stop::Stop;
 use crate::traced::Traced;
@@ -10,7 +10,7 @@ use mig_base::NoMemory;
 use std::alloc::Global;
 
 /// A line of a trace that cannot be read, with the reason.
-#[derive(Debug, PartialEq, Eq, PartialOrd, Ord, Drop)]
+#[derive(Drop)]
 pub struct Refused {
     /// The number of the line, from 1.
     pub line: u64,
@@ -19,7 +19,7 @@ pub struct Refused {
 }
 
 /// A trace that was converted.
-#[derive(Debug, Drop)]
+#[derive(Drop)]
 pub struct Converted {
     /// A log of the language `uffdlog 1`. Where a line of the trace cannot be read it has `lost`, with the number of lines that this one may
     /// have made.
@@ -30,34 +30,12 @@ pub struct Converted {
     pub wrong: Vec<Refused>,
 }
 
-/// A thread of a process.
-#[derive(Clone, Copy, PartialEq, Eq, Hash)]
-struct Member {
-    process: u64,
-    thread: u64,
-}
-
-/// What happens at a line of a trace, in this order.
-#[derive(Clone, Copy, PartialEq, Eq, PartialOrd, Ord)]
+/// What happens at a line of a trace, with the place of its call.
+#[derive(Clone, Copy)]
 enum What {
     Unread,
-    Enter,
-    Leave,
-}
-
-/// Something that happens at a line of a trace, with the place of its call.
-#[derive(Clone, Copy, PartialEq, Eq, PartialOrd, Ord)]
-struct Step {
-    line: u64,
-    what: What,
-    call: usize,
-}
-
-/// What a call became, with its number.
-#[derive(Drop)]
-struct Numbered {
-    plan: Plan,
-    number: u64,
+    Enter(usize),
+    Leave(usize),
 }
 
 /// Writes the lines of a converter in the order of the trace.
@@ -68,9 +46,9 @@ struct Writer {
     /// The number of each process's last call.
     numbers: IndexMap<u64, u64>,
     /// What the calls that have not left became.
-    plans: IndexMap<usize, Vec<Numbered>>,
+    plans: IndexMap<usize, Vec<Plan>>,
     /// The threads that were seen and have not ended, and how many each process has.
-    threads: IndexSet<Member>,
+    threads: IndexSet<u64>,
     counts: IndexMap<u64, u64>,
 }
 
@@ -79,17 +57,9 @@ struct Writer {
 /// Its calls are kept until the end, each with its arguments, and so is the log.
 pub fn convert(alloc: Global, text: &[u8]) -> Result<Converted, NoMemory> {
     let Trace { calls, mut wrong } = read_trace(alloc, text)?;
-    let steps = steps_of(alloc, &calls, &wrong)?;
     let mut writer = Writer::new(alloc)?;
-    for call in &calls {
-        writer.prepare(call)?;
-    }
-    for step in &steps {
-        writer.take(step, &calls, &mut wrong)?;
-    }
-    let Ok(()) = wrong.sort() else {
-        return Err(NoMemory);
-    };
+    writer.write_all(&calls, &mut wrong)?;
+    wrong.sort_by_key(|refused| refused.line)?;
     let log = writer.converter.log;
     Ok(Converted {
         log: log.text,
@@ -98,33 +68,25 @@ pub fn convert(alloc: Global, text: &[u8]) -> Result<Converted, NoMemory> {
     })
 }
 
-/// What happens, in its order.
-fn steps_of(alloc: Global, calls: &[Traced], wrong: &[Refused]) -> Result<Vec<Step>, NoMemory> {
+/// What happens at which line, in its order. A line is of one call, which enters before it leaves.
+fn steps_of(
+    alloc: Global,
+    calls: &[Traced],
+    wrong: &[Refused],
+) -> Result<Vec<(u64, What)>, NoMemory> {
     let mut steps = Vec::new(alloc);
     for refused in wrong {
-        steps.push(Step {
-            line: refused.line,
-            what: What::Unread,
-            call: 0,
-        })?;
+        steps.push((refused.line, What::Unread))?;
     }
     for (place, call) in calls.iter().enumerate() {
-        steps.push(Step {
-            line: call.entered,
-            what: What::Enter,
-            call: place,
-        })?;
+        steps.push((call.entered, What::Enter(place)))?;
         if let Some(line) = call.left
             && !call.is_end()
         {
-            steps.push(Step {
-                line,
-                what: What::Leave,
-                call: place,
-            })?;
+            steps.push((line, What::Leave(place)))?;
         }
     }
-    steps.sort()?;
+    steps.sort_by_key(|step| step.0)?;
     Ok(steps)
 }
 
@@ -140,43 +102,49 @@ impl Writer {
         })
     }
 
-    fn prepare(&mut self, call: &Traced) -> Result<(), NoMemory> {
-        match self.converter.prepare(call) {
-            Ok(()) => Ok(()),
-            Err(_) => Err(NoMemory),
+    fn write_all(&mut self, calls: &[Traced], wrong: &mut Vec<Refused>) -> Result<(), NoMemory> {
+        for call in calls {
+            self.converter.prepare(call)?;
         }
+        let steps = steps_of(self.alloc, calls, wrong)?;
+        for (line, what) in &steps {
+            self.take(*line, *what, calls, wrong)?;
+        }
+        Ok(())
     }
 
     /// Takes a step. Why a call could not be converted is added to the wrong lines.
     fn take(
         &mut self,
-        step: &Step,
+        line: u64,
+        what: What,
         calls: &[Traced],
         wrong: &mut Vec<Refused>,
     ) -> Result<(), NoMemory> {
-        self.converter.log.line = step.line;
-        if step.what == What::Unread {
-            self.converter.log.write_lost(1)?;
-            return Ok(());
-        }
-        let Some(call) = calls.get(step.call) else {
-            return Ok(());
-        };
-        let is_entry = step.what == What::Enter;
-        let taken = if is_entry {
-            self.enter(call, step.call)
-        } else {
-            self.leave(call, step.call)
-        };
-        match taken {
+        self.converter.log.line = line;
+        let is_entry = matches!(what, What::Enter(_));
+        match self.do_step(what, calls) {
             Ok(()) => Ok(()),
             Err(Stop::NoMemory) => Err(NoMemory),
             Err(Stop::Refused(reason)) => {
-                let line = step.line;
                 wrong.push(Refused { line, reason })?;
                 self.converter.log.write_lost(if is_entry { 2 } else { 1 })?;
                 Ok(())
             }
+        }
+    }
+
+    fn do_step(&mut self, what: What, calls: &[Traced]) -> Result<(), Stop> {
+        match what {
+            What::Unread => Ok(self.converter.log.write_lost(1)?),
+            What::Enter(place) => match calls.get(place) {
+                Some(call) => self.enter(call, place),
+                None => Ok(()),
+            },
+            What::Leave(place) => match calls.get(place) {
+                Some(call) => self.leave(call, place),
+                None => Ok(()),
+            },
         }
     }
 
@@ -192,7 +160,7 @@ impl Writer {
     /// Notes that a thread was seen.
     fn note_thread(&mut self, thread: u64) -> Result<u64, Stop> {
         let process = self.converter.process_of(thread)?;
-        if self.threads.insert(Member { process, thread })? {
+        if self.threads.insert(thread)? {
             let count = self.counts.get(&process).copied().unwrap_or(0);
             self.counts.insert(process, count.saturating_add(1))?;
         }
@@ -206,30 +174,25 @@ impl Writer {
         if call.is_end() {
             return self.end_thread(call, process);
         }
-        let plans = self.converter.begin(call)?;
-        let mut numbered = Vec::new(self.alloc);
-        for plan in plans {
-            let number = match plan.begin {
-                Some(_) => self.number(call.thread)?,
-                None => 0,
-            };
-            numbered.push(Numbered { plan, number })?;
+        let mut plans = Vec::new(self.alloc);
+        self.converter.begin(call, &mut plans)?;
+        for plan in &mut plans {
+            self.write_begin(call, plan)?;
         }
-        for one in &numbered {
-            self.write_begin(call, one)?;
-        }
-        if !numbered.is_empty() {
-            self.plans.insert(place, numbered)?;
+        if !plans.is_empty() {
+            self.plans.insert(place, plans)?;
         }
         Ok(())
     }
 
-    fn write_begin(&mut self, call: &Traced, one: &Numbered) -> Result<(), Stop> {
-        let Some(begin) = &one.plan.begin else {
+    /// Numbers a call, and adds the line that begins it.
+    fn write_begin(&mut self, call: &Traced, plan: &mut Plan) -> Result<(), Stop> {
+        let Some(begin) = &plan.begin else {
             return Ok(());
         };
-        let number = one.number;
+        let number = self.number(call.thread)?;
         let said = format!(in self.alloc; "begin {number} {begin}")?;
+        plan.number = number;
         self.converter
             .write(call.entered_at, call.thread, said.as_str())
     }
@@ -239,24 +202,29 @@ impl Writer {
         let Some(plans) = self.plans.swap_remove(&place) else {
             return Ok(());
         };
-        for one in plans {
-            self.write_end(call, &one)?;
-            let Numbered { plan, .. } = one;
-            if plan.end.is_some() || plan.begin.is_none() {
-                self.do_after(call, plan.after)?;
-            }
+        for plan in &plans {
+            self.end(call, plan)?;
         }
         Ok(())
     }
 
+    /// A call of this plan leaves.
+    fn end(&mut self, call: &Traced, plan: &Plan) -> Result<(), Stop> {
+        if plan.begin.is_some() && plan.end.is_none() {
+            return Ok(());
+        }
+        self.write_end(call, plan)?;
+        self.converter.change(call, &plan.after)
+    }
+
     /// Adds the messages and the end of a call that returned.
-    fn write_end(&mut self, call: &Traced, one: &Numbered) -> Result<(), Stop> {
-        let Some(end) = &one.plan.end else {
+    fn write_end(&mut self, call: &Traced, plan: &Plan) -> Result<(), Stop> {
+        let Some(end) = &plan.end else {
             return Ok(());
         };
-        self.converter.tell_of_end(call, &one.plan.after)?;
-        let number = one.number;
-        for message in &one.plan.messages {
+        self.converter.tell_of_end(call, &plan.after)?;
+        let number = plan.number;
+        for message in &plan.messages {
             let said = format!(in self.alloc; "message {number} {message}")?;
             self.converter
                 .write(call.left_at, call.thread, said.as_str())?;
@@ -266,21 +234,10 @@ impl Writer {
             .write(call.left_at, call.thread, said.as_str())
     }
 
-    fn do_after(&mut self, call: &Traced, after: After) -> Result<(), Stop> {
-        match after {
-            After::Nothing => Ok(()),
-            After::Start(words) => {
-                self.converter
-                    .start(call.left_at, call.thread, words.as_str())
-            }
-            after => self.converter.change(call, after),
-        }
-    }
-
     /// A thread ends, and with its last one its process.
     fn end_thread(&mut self, call: &Traced, process: u64) -> Result<(), Stop> {
         let thread = call.thread;
-        self.threads.swap_remove(&Member { process, thread });
+        self.threads.swap_remove(&thread);
         let count = self.counts.get(&process).copied().unwrap_or(0);
         let left = count.saturating_sub(1);
         self.counts.insert(process, left)?;

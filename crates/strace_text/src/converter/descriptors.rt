@@ -1,12 +1,11 @@
 //! Calls that copy or close descriptors.
 
 use super::Converter;
-use super::objects::On;
-use crate::files::Held;
+use crate::files::{Held, On};
 use crate::number::{descriptor, number};
-use crate::plan::{After, Plan, answer, one};
-use crate::stop::{Stop, refused};
-use crate::text::{comma_parts, has, is_among};
+use crate::plan::{After, Plan, answer, simple};
+use crate::stop::{Stop, refuse, refused};
+use crate::text::{argument, count_of_arguments, has, look_up};
 use crate::traced::Traced;
 
 /// The target of a copy, if the call asks for one, and whether execve closes the copy.
@@ -22,76 +21,75 @@ enum Fcntl {
     Asks,
     Duplicates { closes: bool },
     SetsFlags,
-    Other,
 }
 
-impl Fcntl {
-    fn from_text(command: &[u8]) -> Fcntl {
-        if is_among(b"F_GETFD F_SETFD F_GETFL F_GETOWN F_GETPIPE_SZ", command) {
-            return Fcntl::Asks;
-        }
-        match command {
-            b"F_DUPFD" => Fcntl::Duplicates { closes: false },
-            b"F_DUPFD_CLOEXEC" => Fcntl::Duplicates { closes: true },
-            b"F_SETFL" => Fcntl::SetsFlags,
-            _ => Fcntl::Other,
-        }
-    }
-}
+static COMMANDS: [(&str, Fcntl); 8] = [
+    ("F_GETFD", Fcntl::Asks),
+    ("F_SETFD", Fcntl::Asks),
+    ("F_GETFL", Fcntl::Asks),
+    ("F_GETOWN", Fcntl::Asks),
+    ("F_GETPIPE_SZ", Fcntl::Asks),
+    ("F_DUPFD", Fcntl::Duplicates { closes: false }),
+    ("F_DUPFD_CLOEXEC", Fcntl::Duplicates { closes: true }),
+    ("F_SETFL", Fcntl::SetsFlags),
+];
 
 impl Converter {
-    /// A call has another number of arguments.
-    pub(super) fn count_fault(&self, count: usize) -> Stop {
-        refused(format!(in self.alloc; "{count} arguments"))
+    /// Refuses a call that has fewer or more arguments.
+    pub(super) fn check_count(&self, text: &[u8], least: usize, most: usize) -> Result<(), Stop> {
+        let count = count_of_arguments(text);
+        if least <= count && count <= most {
+            return Ok(());
+        }
+        Err(refused(format!(in self.alloc; "{count} arguments")))
     }
 
-    pub(super) fn plan_close(&mut self, call: &Traced) -> Result<Vec<Plan>, Stop> {
-        match self.object_at(call.entered_at, call.thread, &call.arguments)? {
-            Some(on) => {
-                let plan = self.closing(call, on)?;
-                one(self.alloc, plan)
-            }
-            None => self.none(),
+    pub(super) fn plan_close(&mut self, call: &Traced) -> Result<Option<Plan>, Stop> {
+        match self.object_of(call)? {
+            Some(on) => Ok(Some(self.closing(call, on)?)),
+            None => Ok(None),
         }
     }
 
     /// A descriptor is closed.
     fn closing(&mut self, call: &Traced, on: On) -> Result<Plan, Stop> {
         let set = self.set_of(call.thread)?;
+        self.tell(call.entered_at, call.thread, on.fd)?;
         let On { object, fd } = on;
-        self.tell(call.entered_at, call.thread, fd)?;
+        let end = answer(self.alloc, call, b"")?;
         let begin = format!(in self.alloc; "close {object}:{fd}")?;
-        let end = answer(self.alloc, call, "")?;
-        let mut plan = Plan::new(self.alloc, begin, end);
-        plan.after = After::Release { set, fd, object };
-        Ok(plan)
+        let after = After::Release { set, on };
+        Ok(Plan::new(self.alloc, begin, end, after))
     }
 
-    pub(super) fn plan_close_range(&mut self, call: &Traced) -> Result<Vec<Plan>, Stop> {
-        let parts = comma_parts(self.alloc, &call.arguments)?;
-        let [first, last, how] = parts.as_slice() else {
-            return Err(self.count_fault(parts.len()));
-        };
-        let mut plans = Vec::new(self.alloc);
-        if has(how, b"CLOEXEC") {
-            return Ok(plans);
+    pub(super) fn plan_close_range(
+        &mut self,
+        call: &Traced,
+        plans: &mut Vec<Plan>,
+    ) -> Result<(), Stop> {
+        self.check_count(&call.arguments, 3, 3)?;
+        if has(argument(&call.arguments, 2), b"CLOEXEC") {
+            return Ok(());
         }
         let set = self.set_of(call.thread)?;
-        let Some(files) = self.sets.get(set) else {
-            return Ok(plans);
-        };
-        let files = files.copy(self.alloc, false)?;
-        for held in &files.held {
-            let fd = held.fd;
-            if number(self.alloc, first)? <= fd && fd <= number(self.alloc, last)? {
-                let object = held.object;
-                plans.push(self.closing(call, On { object, fd })?)?;
+        for place in 0..self.count_held(set) {
+            let Some(held) = self.held_at(set, place) else {
+                break;
+            };
+            if self.is_in_range(&call.arguments, held.fd)? {
+                plans.push(self.closing(call, held.on())?)?;
             }
         }
-        Ok(plans)
+        Ok(())
     }
 
-    pub(super) fn plan_dup(&mut self, call: &Traced) -> Result<Vec<Plan>, Stop> {
+    /// Whether a descriptor is between the first two arguments, or one of them.
+    fn is_in_range(&self, text: &[u8], fd: u64) -> Result<bool, Stop> {
+        let first = number(self.alloc, argument(text, 0))?;
+        Ok(first <= fd && fd <= number(self.alloc, argument(text, 1))?)
+    }
+
+    pub(super) fn plan_dup(&mut self, call: &Traced) -> Result<Option<Plan>, Stop> {
         let copy = Copy {
             target: None,
             closes: false,
@@ -99,32 +97,30 @@ impl Converter {
         self.duplicate(call, &call.arguments, copy)
     }
 
-    pub(super) fn plan_dup2(&mut self, call: &Traced) -> Result<Vec<Plan>, Stop> {
-        let parts = comma_parts(self.alloc, &call.arguments)?;
-        let [source, target] = parts.as_slice() else {
-            return Err(self.count_fault(parts.len()));
-        };
-        let copy = Copy {
-            target: Some(descriptor(self.alloc, target)?),
-            closes: false,
-        };
-        self.duplicate(call, source, copy)
+    pub(super) fn plan_dup2(&mut self, call: &Traced) -> Result<Option<Plan>, Stop> {
+        self.check_count(&call.arguments, 2, 2)?;
+        self.duplicate_to(call, false)
     }
 
-    pub(super) fn plan_dup3(&mut self, call: &Traced) -> Result<Vec<Plan>, Stop> {
-        let parts = comma_parts(self.alloc, &call.arguments)?;
-        let [source, target, how] = parts.as_slice() else {
-            return Err(self.count_fault(parts.len()));
-        };
-        let copy = Copy {
-            target: Some(descriptor(self.alloc, target)?),
-            closes: has(how, b"O_CLOEXEC"),
-        };
-        self.duplicate(call, source, copy)
+    pub(super) fn plan_dup3(&mut self, call: &Traced) -> Result<Option<Plan>, Stop> {
+        self.check_count(&call.arguments, 3, 3)?;
+        self.duplicate_to(call, has(argument(&call.arguments, 2), b"O_CLOEXEC"))
+    }
+
+    /// The first argument is copied to the second.
+    fn duplicate_to(&mut self, call: &Traced, closes: bool) -> Result<Option<Plan>, Stop> {
+        let target = Some(descriptor(self.alloc, argument(&call.arguments, 1))?);
+        let copy = Copy { target, closes };
+        self.duplicate(call, argument(&call.arguments, 0), copy)
     }
 
     /// A descriptor is copied.
-    fn duplicate(&mut self, call: &Traced, source: &[u8], copy: Copy) -> Result<Vec<Plan>, Stop> {
+    fn duplicate(
+        &mut self,
+        call: &Traced,
+        source: &[u8],
+        copy: Copy,
+    ) -> Result<Option<Plan>, Stop> {
         match self.object_at(call.entered_at, call.thread, source)? {
             Some(on) => self.duplicate_object(call, on, copy),
             None => self.replace_target(call, copy),
@@ -132,23 +128,25 @@ impl Converter {
     }
 
     /// Another file's descriptor is copied: the copy may replace a descriptor of an object.
-    fn replace_target(&mut self, call: &Traced, copy: Copy) -> Result<Vec<Plan>, Stop> {
+    fn replace_target(&mut self, call: &Traced, copy: Copy) -> Result<Option<Plan>, Stop> {
         let set = self.set_of(call.thread)?;
-        let held = copy.target.and_then(|target| self.held(set, target));
-        match held {
+        let Some(target) = copy.target else {
+            return Ok(None);
+        };
+        match self.held(set, target) {
             Some(held) if call.errno().is_none() && call.has_returned() => {
-                let On { object, fd } = On {
-                    object: held.object,
-                    fd: held.fd,
-                };
-                let plan = self.closing(call, On { object, fd })?;
-                one(self.alloc, plan)
+                Ok(Some(self.closing(call, held.on())?))
             }
-            _ => self.none(),
+            _ => Ok(None),
         }
     }
 
-    fn duplicate_object(&mut self, call: &Traced, on: On, copy: Copy) -> Result<Vec<Plan>, Stop> {
+    fn duplicate_object(
+        &mut self,
+        call: &Traced,
+        on: On,
+        copy: Copy,
+    ) -> Result<Option<Plan>, Stop> {
         let alloc = self.alloc;
         let set = self.set_of(call.thread)?;
         let On { object, fd } = on;
@@ -157,57 +155,51 @@ impl Converter {
             None => format!(in alloc; "dup {object}:{fd} -")?,
         };
         if !call.has_succeeded() {
-            let end = answer(alloc, call, "")?;
-            return one(alloc, Plan::new(alloc, begin, end));
+            return simple(alloc, call, begin);
         }
         let made = descriptor(alloc, &call.returned)?;
         let end = format!(in alloc; "ok {made}")?;
-        let mut plan = Plan::new(alloc, begin, Some(end));
-        if made != fd {
-            let held = Held {
-                fd: made,
-                object,
-                closes: copy.closes,
-            };
-            plan.after = After::BindIn { set, held };
-        }
-        one(alloc, plan)
-    }
-
-    pub(super) fn plan_fcntl(&mut self, call: &Traced) -> Result<Vec<Plan>, Stop> {
-        let parts = comma_parts(self.alloc, &call.arguments)?;
-        let source = parts.first().copied().unwrap_or(b"".as_slice());
-        let Some(on) = self.object_at(call.entered_at, call.thread, source)? else {
-            return self.none();
+        let held = Held {
+            fd: made,
+            object,
+            closes: copy.closes,
         };
-        let command = parts.get(1).copied().unwrap_or(b"".as_slice());
-        let last = if parts.len() == 3 {
-            parts.get(2).copied()
+        let after = if made == fd {
+            After::Nothing
         } else {
-            None
+            After::BindIn { set, held }
         };
-        match (Fcntl::from_text(command), last) {
-            (Fcntl::Asks, _) => self.none(),
-            (Fcntl::Duplicates { closes }, Some(_)) => self.duplicate_from(call, on, closes),
-            (Fcntl::SetsFlags, Some(flags)) => self.nonblock(call, on, has(flags, b"O_NONBLOCK")),
-            _ => Err(self.refuse("an fcntl of a userfault object that is no call of a log")),
-        }
+        Ok(Some(Plan::new(alloc, begin, Some(end), after)))
     }
 
-    fn duplicate_from(&mut self, call: &Traced, on: On, closes: bool) -> Result<Vec<Plan>, Stop> {
-        let target = None;
-        self.duplicate_object(call, on, Copy { target, closes })
+    pub(super) fn plan_fcntl(&mut self, call: &Traced) -> Result<Option<Plan>, Stop> {
+        let text = call.arguments.as_slice();
+        let source = argument(text, 0);
+        let Some(on) = self.object_at(call.entered_at, call.thread, source)? else {
+            return Ok(None);
+        };
+        let has_value = count_of_arguments(text) == 3;
+        match look_up(&COMMANDS, argument(text, 1)) {
+            Some(Fcntl::Asks) => Ok(None),
+            Some(Fcntl::Duplicates { closes }) if has_value => {
+                let target = None;
+                self.duplicate_object(call, on, Copy { target, closes })
+            }
+            Some(Fcntl::SetsFlags) if has_value => {
+                self.nonblock(call, on, has(argument(text, 2), b"O_NONBLOCK"))
+            }
+            _ => {
+                let wrong = "an fcntl of a userfault object that is no call of a log";
+                Err(refuse(self.alloc, wrong))
+            }
+        }
     }
 
     /// A descriptor of another process is copied.
-    pub(super) fn plan_pidfd_getfd(&mut self, call: &Traced) -> Result<Vec<Plan>, Stop> {
-        let is_object = match call.returned.strip_suffix(b">") {
-            Some(text) => text.ends_with(b"<anon_inode:[userfaultfd]"),
-            None => false,
-        };
-        if is_object {
+    pub(super) fn plan_pidfd_getfd(&mut self, call: &Traced) -> Result<Option<Plan>, Stop> {
+        if call.returned.ends_with(b"<anon_inode:[userfaultfd]>") {
             self.object_at(call.left_at, call.thread, &call.returned)?;
         }
-        self.none()
+        Ok(None)
     }
 }

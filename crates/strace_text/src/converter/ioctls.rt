@@ -1,312 +1,265 @@
 //! The ioctls of an object, and how it is opened.
 
 use super::Converter;
-use super::objects::On;
-use crate::files::Held;
-use crate::flags::{CLOSES_ON_EXEC, MODES, NO_NAMES, OPEN_FLAGS, flags};
+use crate::files::{Held, On};
+use crate::flags::{CLOSES_ON_EXEC, Names, flags};
 use crate::number::{after_descriptor, decimal, descriptor, number};
-use crate::plan::{After, Plan, answer, one};
-use crate::stop::{Shown, Stop, refused};
-use crate::text::{Class, front, some_front, split_once};
+use crate::plan::{After, Plan, answer, simple};
+use crate::stop::{Stop, refuse, refuse_bytes, refused};
+use crate::text::{Class, front, is_same, split_once};
 use crate::traced::Traced;
 use std::alloc::Global;
 use std::fmt::Write;
 
-/// An ioctl of an object.
-struct Ioctl {
-    /// Its name, after `UFFDIO_`.
-    name: &'static str,
-    /// The call of the language.
-    word: &'static str,
-    /// The fields that are given.
-    given: &'static [&'static str],
-    /// The field of the answer, or nothing.
-    answer: &'static str,
-    /// Whether the answer is a number of bytes.
-    counts: bool,
+/// What comes after the first word of an ioctl's answer.
+#[derive(Clone, Copy)]
+enum Answer<'a> {
+    Nothing,
+    /// The features and the ioctls of a handshake.
+    Handshake,
+    /// The bits that a field has.
+    Bits(&'a str),
+    /// The number of bytes that a field has, also of a call that failed.
+    Size(&'a str),
 }
 
-static IOCTLS: [Ioctl; 10] = [
-    Ioctl {
-        name: "API",
-        word: "api",
-        given: &["api", "features"],
-        answer: "",
-        counts: false,
-    },
-    Ioctl {
-        name: "REGISTER",
-        word: "register",
-        given: &["start", "len", "mode"],
-        answer: "ioctls",
-        counts: false,
-    },
-    Ioctl {
-        name: "UNREGISTER",
-        word: "unregister",
-        given: &["start", "len"],
-        answer: "",
-        counts: false,
-    },
-    Ioctl {
-        name: "WAKE",
-        word: "wake",
-        given: &["start", "len"],
-        answer: "",
-        counts: false,
-    },
-    Ioctl {
-        name: "COPY",
-        word: "copy",
-        given: &["dst", "src", "len", "mode"],
-        answer: "copy",
-        counts: true,
-    },
-    Ioctl {
-        name: "ZEROPAGE",
-        word: "zeropage",
-        given: &["start", "len", "mode"],
-        answer: "zeropage",
-        counts: true,
-    },
-    Ioctl {
-        name: "WRITEPROTECT",
-        word: "writeprotect",
-        given: &["start", "len", "mode"],
-        answer: "",
-        counts: false,
-    },
-    Ioctl {
-        name: "CONTINUE",
-        word: "continue",
-        given: &["start", "len", "mode"],
-        answer: "mapped",
-        counts: true,
-    },
-    Ioctl {
-        name: "POISON",
-        word: "poison",
-        given: &["start", "len", "mode"],
-        answer: "updated",
-        counts: true,
-    },
-    Ioctl {
-        name: "MOVE",
-        word: "move",
-        given: &["dst", "src", "len", "mode"],
-        answer: "move",
-        counts: true,
-    },
+/// An ioctl of an object: its name after `UFFDIO_`, the call of the language, the fields that are given, and the answer.
+type Ioctl<'a> = (&'a str, &'a str, &'a [&'a str], Answer<'a>);
+
+const API: &[&str] = &["api", "features"];
+
+const RANGE: &[&str] = &["start", "len"];
+
+const RANGE_MODE: &[&str] = &["start", "len", "mode"];
+
+const COPY_MODE: &[&str] = &["dst", "src", "len", "mode"];
+
+static IOCTLS: [Ioctl<'static>; 10] = [
+    ("API", "api", API, Answer::Handshake),
+    ("REGISTER", "register", RANGE_MODE, Answer::Bits("ioctls")),
+    ("UNREGISTER", "unregister", RANGE, Answer::Nothing),
+    ("WAKE", "wake", RANGE, Answer::Nothing),
+    ("COPY", "copy", COPY_MODE, Answer::Size("copy")),
+    ("ZEROPAGE", "zeropage", RANGE_MODE, Answer::Size("zeropage")),
+    ("WRITEPROTECT", "writeprotect", RANGE_MODE, Answer::Nothing),
+    ("CONTINUE", "continue", RANGE_MODE, Answer::Size("mapped")),
+    ("POISON", "poison", RANGE_MODE, Answer::Size("updated")),
+    ("MOVE", "move", COPY_MODE, Answer::Size("move")),
+];
+
+/// The requests that open an object by the device, with what is before their flags.
+static NEW_OBJECT: [&str; 5] = [
+    "USERFAULTFD_IOC_NEW, ",
+    "_IOC(_IOC_NONE, 0xaa, 0, 0), ",
+    "_IOC(_IOC_NONE, 0xaa, 0, 0x0), ",
+    "_IOC(_IOC_NONE, 0xaa, 0x0, 0), ",
+    "_IOC(_IOC_NONE, 0xaa, 0x0, 0x0), ",
 ];
 
 /// The ioctl of a request.
-fn ioctl_of(request: &[u8]) -> Option<&'static Ioctl> {
-    let name = request.strip_prefix(b"UFFDIO_")?;
+fn ioctl_of<'a>(request: &[u8]) -> Option<Ioctl<'a>> {
+    let wanted = request.strip_prefix(b"UFFDIO_")?;
     for ioctl in &IOCTLS {
-        if ioctl.name.as_bytes() == name {
-            return Some(ioctl);
+        if is_same(ioctl.0.as_bytes(), wanted) {
+            return Some(*ioctl);
         }
     }
     None
 }
 
-/// A field of a structure.
-#[derive(Clone, Copy)]
-struct Field<'a> {
-    name: &'a [u8],
-    value: &'a [u8],
-}
-
-/// The fields of a structure, each `name=value`.
-fn fields<'a>(alloc: Global, text: &'a [u8]) -> Result<Vec<Field<'a>>, Stop> {
-    let mut found = Vec::new(alloc);
+/// The first value that a field has in the text of a structure, or its last one. A field is `name=value`.
+fn value_of<'a>(text: &'a [u8], name: &str, is_last: bool) -> Option<&'a [u8]> {
+    let mut found = None;
     let mut rest = text;
     for _ in 0..text.len() {
-        let (name, after_name) = front(rest, Class::Word);
-        match (after_name.strip_prefix(b"="), after_name.split_first()) {
-            (Some(value), _) if Class::Small.has_all(name) && !name.is_empty() => {
-                let (value, after) = front(value, Class::Value);
-                if !value.is_empty() {
-                    found.push(Field { name, value })?;
-                }
-                rest = after;
+        let (word, after) = front(rest, Class::Word);
+        let Some((mark, after)) = after.split_first() else {
+            break;
+        };
+        rest = after;
+        if *mark != b'=' || word.is_empty() || !Class::Small.has_all(word) {
+            continue;
+        }
+        let (value, after) = front(rest, Class::Value);
+        rest = after;
+        if is_same(word, name.as_bytes()) && !value.is_empty() {
+            found = Some(value);
+            if !is_last {
+                break;
             }
-            (_, Some((_, after))) => rest = after,
-            (_, None) => break,
-        }
-    }
-    Ok(found)
-}
-
-fn first<'a>(fields: &[Field<'a>], name: &str) -> Option<&'a [u8]> {
-    for field in fields {
-        if field.name == name.as_bytes() {
-            return Some(field.value);
-        }
-    }
-    None
-}
-
-fn last<'a>(fields: &[Field<'a>], name: &str) -> Option<&'a [u8]> {
-    let mut found = None;
-    for field in fields {
-        if field.name == name.as_bytes() {
-            found = Some(field.value);
         }
     }
     found
 }
 
-/// A number of bytes in decimal digits: one that is negative in 64 bits is.
-fn signed(alloc: Global, word: &[u8]) -> Result<String, Stop> {
-    let (is_negative, size) = match word.strip_prefix(b"-") {
-        Some(digits) => (true, number(alloc, digits)?),
-        None => {
-            let value = number(alloc, word)?;
-            if value >= 1 << 63 {
-                (true, value.wrapping_neg())
-            } else {
-                (false, value)
-            }
-        }
-    };
-    if is_negative && size > 0 {
-        return Ok(format!(in alloc; "-{size}")?);
-    }
-    Ok(format!(in alloc; "{size}")?)
+fn first<'a>(text: &'a [u8], name: &str) -> Option<&'a [u8]> {
+    value_of(text, name, false)
 }
 
-/// What opens an object by the device: what comes after its number.
-fn new_object_flags(rest: &[u8]) -> Option<&[u8]> {
-    if let Some(text) = rest.strip_prefix(b"USERFAULTFD_IOC_NEW, ") {
-        return Some(text);
+fn last<'a>(text: &'a [u8], name: &str) -> Option<&'a [u8]> {
+    value_of(text, name, true)
+}
+
+/// A number of bytes in decimal digits: one that is negative in 64 bits is.
+fn size_of_bytes(alloc: Global, word: &[u8]) -> Result<String, Stop> {
+    let (is_negative, size) = match word.strip_prefix(b"-") {
+        Some(digits) => (true, number(alloc, digits)?),
+        None => (false, number(alloc, word)?),
+    };
+    if size >= 1 << 63 && !is_negative {
+        let size = size.wrapping_neg();
+        return Ok(format!(in alloc; " -{size}")?);
     }
-    let text = rest.strip_prefix(b"_IOC(_IOC_NONE, 0xaa, 0")?;
-    let text = text.strip_prefix(b"x0").unwrap_or(text);
-    let text = text.strip_prefix(b", 0")?;
-    let text = text.strip_prefix(b"x0").unwrap_or(text);
-    text.strip_prefix(b"), ")
+    let sign = if is_negative && size > 0 { "-" } else { "" };
+    Ok(format!(in alloc; " {sign}{size}")?)
+}
+
+/// The flags of a new object, if its device opens it: what comes after the request.
+fn new_object_flags(rest: &[u8]) -> Option<&[u8]> {
+    for request in &NEW_OBJECT {
+        if let Some(text) = rest.strip_prefix(request.as_bytes()) {
+            return Some(text);
+        }
+    }
+    None
 }
 
 /// Whether FIONBIO switches on, if its number is there.
 fn is_on(text: &[u8]) -> Option<bool> {
     let text = text.strip_prefix(b"[")?.strip_suffix(b"]")?;
-    let (digits, rest) = some_front(text.strip_prefix(b"-").unwrap_or(text), Class::Digit)?;
-    if !rest.is_empty() {
+    let digits = text.strip_prefix(b"-").unwrap_or(text);
+    if digits.is_empty() || !Class::Digit.has_all(digits) {
         return None;
     }
     Some(decimal(digits) != Some(0))
 }
 
 impl Converter {
-    pub(super) fn plan_userfaultfd(&mut self, call: &Traced) -> Result<Vec<Plan>, Stop> {
+    pub(super) fn plan_userfaultfd(&mut self, call: &Traced) -> Result<Option<Plan>, Stop> {
         let text = if call.arguments.is_empty() {
             b"0".as_slice()
         } else {
             call.arguments.as_slice()
         };
-        let bits = flags(self.alloc, text, OPEN_FLAGS)?;
+        let bits = flags(self.alloc, text, Names::OpenFlags)?;
         self.opened(call, "syscall", bits)
     }
 
     /// An object is opened.
-    fn opened(&mut self, call: &Traced, way: &str, bits: u64) -> Result<Vec<Plan>, Stop> {
+    fn opened(&mut self, call: &Traced, way: &str, bits: u64) -> Result<Option<Plan>, Stop> {
         let alloc = self.alloc;
         let begin = format!(in alloc; "open {way} 0x{bits:x}")?;
         if !call.has_succeeded() {
-            let end = answer(alloc, call, "")?;
-            return one(alloc, Plan::new(alloc, begin, end));
+            return simple(alloc, call, begin);
         }
-        let fd = descriptor(alloc, &call.returned)?;
+        let held = self.new_held(call, bits & CLOSES_ON_EXEC != 0)?;
+        let On { object, fd } = held.on();
+        let end = format!(in alloc; "ok {object}:{fd}")?;
+        let mut made = Vec::new(alloc);
+        made.push(held)?;
+        let after = After::Bind(made);
+        Ok(Some(Plan::new(alloc, begin, Some(end), after)))
+    }
+
+    /// The descriptor that a call has returned, of a new object.
+    fn new_held(&mut self, call: &Traced, closes: bool) -> Result<Held, Stop> {
+        let fd = descriptor(self.alloc, &call.returned)?;
         let object = self.new_object();
         let memory = self.memory_of(call.thread)?;
         self.memories.insert(object, memory)?;
-        let closes = bits & CLOSES_ON_EXEC != 0;
-        let mut made = Vec::new(alloc);
-        made.push(Held { fd, object, closes })?;
-        let end = format!(in alloc; "ok {object}:{fd}")?;
-        let mut plan = Plan::new(alloc, begin, Some(end));
-        plan.after = After::Bind(made);
-        one(alloc, plan)
+        Ok(Held { fd, object, closes })
     }
 
-    pub(super) fn plan_ioctl(&mut self, call: &Traced) -> Result<Vec<Plan>, Stop> {
+    pub(super) fn plan_ioctl(&mut self, call: &Traced) -> Result<Option<Plan>, Stop> {
         let rest = after_descriptor(&call.arguments);
         if let Some(text) = new_object_flags(rest) {
-            let bits = flags(self.alloc, text, OPEN_FLAGS)?;
+            let bits = flags(self.alloc, text, Names::OpenFlags)?;
             return self.opened(call, "device", bits);
         }
-        let Some(on) = self.object_at(call.entered_at, call.thread, &call.arguments)? else {
-            return self.none();
-        };
-        let (request, text) = split_once(rest, b", ").unwrap_or((rest, b"".as_slice()));
-        match request {
-            b"FIOCLEX" | b"FIONCLEX" => self.none(),
-            b"FIONBIO" => self.plan_nonblock(call, on, text),
-            _ => self.plan_request(call, on, request, text),
+        match self.object_of(call)? {
+            Some(on) => self.plan_request(call, on, rest),
+            None => Ok(None),
         }
     }
 
-    fn plan_nonblock(&mut self, call: &Traced, on: On, text: &[u8]) -> Result<Vec<Plan>, Stop> {
-        let Some(is_on) = is_on(text) else {
-            return Err(self.refuse("FIONBIO without its number"));
-        };
-        self.nonblock(call, on, is_on)
+    /// A request to an object, with what comes after it.
+    fn plan_request(&mut self, call: &Traced, on: On, rest: &[u8]) -> Result<Option<Plan>, Stop> {
+        let (request, text) = split_once(rest, b", ").unwrap_or((rest, b"".as_slice()));
+        if is_same(request, b"FIOCLEX") || is_same(request, b"FIONCLEX") {
+            return Ok(None);
+        }
+        if !is_same(request, b"FIONBIO") {
+            return own_request(self.alloc, call, on, request, text);
+        }
+        match is_on(text) {
+            Some(is_on) => self.nonblock(call, on, is_on),
+            None => Err(refuse(self.alloc, "FIONBIO without its number")),
+        }
     }
 
     pub(super) fn nonblock(
-        &mut self,
+        &self,
         call: &Traced,
         on: On,
         is_on: bool,
-    ) -> Result<Vec<Plan>, Stop> {
+    ) -> Result<Option<Plan>, Stop> {
         let On { object, fd } = on;
         let bit = u8::from(is_on);
         let begin = format!(in self.alloc; "nonblock {object}:{fd} {bit}")?;
-        let end = answer(self.alloc, call, "")?;
-        one(self.alloc, Plan::new(self.alloc, begin, end))
-    }
-
-    /// A request of an object's own.
-    fn plan_request(
-        &mut self,
-        call: &Traced,
-        on: On,
-        request: &[u8],
-        text: &[u8],
-    ) -> Result<Vec<Plan>, Stop> {
-        let alloc = self.alloc;
-        let Some(ioctl) = ioctl_of(request) else {
-            let request = Shown(request);
-            return Err(refused(format!(in alloc; "'{request}' is no ioctl of a log")));
-        };
-        let name = ioctl.name;
-        if !text.starts_with(b"{") {
-            return Err(refused(format!(in alloc;
-                "the fields of UFFDIO_{name} are not in the trace: this strace does not decode it, or the address was bad"
-            )));
-        }
-        let fields = fields(alloc, text)?;
-        let begin = begin_of(alloc, on, ioctl, &fields)?;
-        let end = end_of(alloc, call, ioctl, &fields)?;
-        one(alloc, Plan::new(alloc, begin, end))
+        simple(self.alloc, call, begin)
     }
 }
 
-/// The words that begin an ioctl.
-fn begin_of(alloc: Global, on: On, ioctl: &Ioctl, fields: &[Field<'_>]) -> Result<String, Stop> {
-    let name = ioctl.name;
-    for field in ioctl.given {
-        if first(fields, field).is_none() {
-            return Err(refused(format!(in alloc; "UFFDIO_{name} without '{field}'")));
+/// A request of an object's own.
+fn own_request(
+    alloc: Global,
+    call: &Traced,
+    on: On,
+    request: &[u8],
+    text: &[u8],
+) -> Result<Option<Plan>, Stop> {
+    let Some((name, word, given, wanted)) = ioctl_of(request) else {
+        return Err(refuse_bytes(alloc, request, "is no ioctl of a log"));
+    };
+    check_given(alloc, name, given, text)?;
+    let begin = begin_of(alloc, on, word, given, text)?;
+    let end = end_of(alloc, call, name, wanted, text)?;
+    Ok(Some(Plan::new(alloc, begin, end, After::Nothing)))
+}
+
+/// Refuses an ioctl without the text of its structure, or without a field that is given.
+fn check_given(alloc: Global, name: &str, given: &[&str], text: &[u8]) -> Result<(), Stop> {
+    if !text.starts_with(b"{") {
+        return Err(refused(format!(in alloc;
+            "the fields of UFFDIO_{name} are not in the trace: this strace does not decode it, or the address was bad"
+        )));
+    }
+    for field in given {
+        if first(text, field).is_none() {
+            return Err(without(alloc, name, "", field));
         }
     }
+    Ok(())
+}
+
+/// An ioctl has no such field.
+fn without(alloc: Global, name: &str, what: &str, field: &str) -> Stop {
+    refused(format!(in alloc; "UFFDIO_{name} without {what}'{field}'"))
+}
+
+/// The words that begin an ioctl.
+fn begin_of(
+    alloc: Global,
+    on: On,
+    word: &str,
+    given: &[&str],
+    text: &[u8],
+) -> Result<String, Stop> {
     let On { object, fd } = on;
-    let word = ioctl.word;
     let mut begin = format!(in alloc; "{word} {object}:{fd}")?;
-    for field in ioctl.given {
-        let value = first(fields, field).unwrap_or(b"".as_slice());
-        let bits = flags(alloc, value, MODES)?;
+    for field in given {
+        let value = first(text, field).unwrap_or(b"".as_slice());
+        let bits = flags(alloc, value, Names::Modes)?;
         write!(begin, " 0x{bits:x}")?;
     }
     Ok(begin)
@@ -316,49 +269,53 @@ fn begin_of(alloc: Global, on: On, ioctl: &Ioctl, fields: &[Field<'_>]) -> Resul
 fn end_of(
     alloc: Global,
     call: &Traced,
-    ioctl: &Ioctl,
-    fields: &[Field<'_>],
+    name: &str,
+    wanted: Answer<'_>,
+    text: &[u8],
 ) -> Result<Option<String>, Stop> {
-    let Some(mut end) = answer(alloc, call, "")? else {
-        return Ok(None);
-    };
-    if call.was_interrupted() {
-        return Ok(Some(end));
+    if !call.has_returned() || call.was_interrupted() {
+        return answer(alloc, call, b"");
     }
-    let has_succeeded = call.has_succeeded();
-    if ioctl.name == "API" && has_succeeded {
-        return Ok(Some(end_of_api(alloc, fields)?));
+    let values = values_of(alloc, call.has_succeeded(), name, wanted, text)?;
+    match answer(alloc, call, b"")? {
+        Some(end) => Ok(Some(format!(in alloc; "{end}{values}")?)),
+        None => Ok(None),
     }
-    match last(fields, ioctl.answer) {
-        Some(value) if ioctl.counts => {
-            let bytes = signed(alloc, value)?;
-            write!(end, " {bytes}")?;
-        }
-        Some(value) if has_succeeded => {
-            let bits = flags(alloc, value, NO_NAMES)?;
-            write!(end, " 0x{bits:x}")?;
-        }
-        None if has_succeeded && !ioctl.answer.is_empty() => {
-            return Err(without_result(alloc, ioctl));
-        }
-        _ => {}
-    }
-    Ok(Some(end))
 }
 
-fn without_result(alloc: Global, ioctl: &Ioctl) -> Stop {
-    let name = ioctl.name;
-    let answer = ioctl.answer;
-    refused(format!(in alloc; "UFFDIO_{name} without its result '{answer}'"))
+/// What comes after the first word of an answer, each with a blank before it.
+fn values_of(
+    alloc: Global,
+    has_succeeded: bool,
+    name: &str,
+    wanted: Answer<'_>,
+    text: &[u8],
+) -> Result<String, Stop> {
+    match wanted {
+        Answer::Size(field) => match last(text, field) {
+            Some(value) => size_of_bytes(alloc, value),
+            None if has_succeeded => Err(without(alloc, name, "its result ", field)),
+            None => Ok(String::new(alloc)),
+        },
+        Answer::Bits(field) if has_succeeded => match last(text, field) {
+            Some(value) => {
+                let bits = flags(alloc, value, Names::Features)?;
+                Ok(format!(in alloc; " 0x{bits:x}")?)
+            }
+            None => Err(without(alloc, name, "its result ", field)),
+        },
+        Answer::Handshake if has_succeeded => handshake(alloc, text),
+        _ => Ok(String::new(alloc)),
+    }
 }
 
 /// What a handshake has returned.
-fn end_of_api(alloc: Global, fields: &[Field<'_>]) -> Result<String, Stop> {
-    let ioctls = match last(fields, "ioctls") {
-        Some(value) => flags(alloc, value, NO_NAMES)?,
+fn handshake(alloc: Global, text: &[u8]) -> Result<String, Stop> {
+    let ioctls = match last(text, "ioctls") {
+        Some(value) => flags(alloc, value, Names::Features)?,
         None => 0,
     };
-    let features = last(fields, "features").unwrap_or(b"".as_slice());
-    let features = flags(alloc, features, NO_NAMES)?;
-    Ok(format!(in alloc; "ok 0x{features:x} 0x{ioctls:x}")?)
+    let features = last(text, "features").unwrap_or(b"".as_slice());
+    let features = flags(alloc, features, Names::Features)?;
+    Ok(format!(in alloc; " 0x{features:x} 0x{ioctls:x}")?)
 }

@@ -1,9 +1,9 @@
 //! What the log has said of each process, and the lines of what it does not know yet.
 
 use super::Converter;
-use super::objects::On;
-use crate::files::{Files, Held};
+use crate::files::{Files, Held, On};
 use crate::stop::Stop;
+use std::mem;
 
 /// What the log has said of a process.
 #[derive(Drop)]
@@ -95,8 +95,7 @@ impl Converter {
         }
         if let Some(held) = held {
             self.know(process, held)?;
-            let object = held.object;
-            self.say(time, thread, "found", On { object, fd })?;
+            self.say(time, thread, "found", held.on())?;
         }
         Ok(())
     }
@@ -106,11 +105,10 @@ impl Converter {
         let process = self.process_of(thread)?;
         self.own_memory(process)?;
         let set = self.set_of(thread)?;
-        let Some(files) = self.sets.get(set) else {
-            return Ok(());
-        };
-        let files = files.copy(self.alloc, false)?;
-        for held in &files.held {
+        for place in 0..self.count_held(set) {
+            let Some(held) = self.held_at(set, place) else {
+                break;
+            };
             self.tell(time, thread, held.fd)?;
         }
         Ok(())
@@ -125,11 +123,10 @@ impl Converter {
             Some(known) if known.borrows => known.memory,
             _ => return Ok(()),
         };
-        let Some(files) = self.sets.get(set) else {
-            return Ok(());
-        };
-        let files = files.copy(self.alloc, false)?;
-        for held in &files.held {
+        for place in 0..self.count_held(set) {
+            let Some(held) = self.held_at(set, place) else {
+                break;
+            };
             if self.memories.get(&held.object) == Some(&memory) {
                 self.tell(time, thread, held.fd)?;
             }
@@ -151,9 +148,8 @@ impl Converter {
                 continue;
             }
             if let Some(held) = held {
-                let object = held.object;
                 self.forget(process, fd);
-                self.say(time, process, "dropped", On { object, fd })?;
+                self.say(time, process, "dropped", held.on())?;
             }
         }
         Ok(())
@@ -194,17 +190,12 @@ impl Converter {
     /// A process has ended. Adds a line for each descriptor that it had.
     pub(crate) fn drop_all(&mut self, time: u64, thread: u64) -> Result<(), Stop> {
         let process = self.met(thread)?;
-        let Some(known) = self.known.get(&process) else {
+        let Some(known) = self.known.get_mut(&process) else {
             return Ok(());
         };
-        let files = known.files.copy(self.alloc, false)?;
+        let files = mem::replace(&mut known.files, Files::new(self.alloc));
         for held in &files.held {
-            let On { object, fd } = On {
-                object: held.object,
-                fd: held.fd,
-            };
-            self.forget(process, fd);
-            self.say(time, thread, "dropped", On { object, fd })?;
+            self.say(time, thread, "dropped", held.on())?;
         }
         Ok(())
     }

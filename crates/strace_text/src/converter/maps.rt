@@ -1,11 +1,12 @@
 //! Map calls, of which those belong to the log that meet a registered range.
 
 use super::{Converter, Range};
-use crate::flags::{ADVICE, MAP_FLAGS, PROTECTIONS, REMAP_FLAGS, flags};
+use crate::flags::{Names, flags};
+use crate::kind::Kind;
 use crate::number::{address, number, without_paths};
-use crate::plan::{Plan, answer, one};
-use crate::stop::{Shown, Stop};
-use crate::text::{comma_parts, first_word};
+use crate::plan::{After, Plan, answer};
+use crate::stop::Stop;
+use crate::text::{argument, count_of_arguments, first_word};
 use crate::traced::Traced;
 
 impl Converter {
@@ -17,6 +18,14 @@ impl Converter {
         })
     }
 
+    /// The range that the first two arguments are.
+    fn range_of(&self, text: &[u8]) -> Result<Range, Stop> {
+        Ok(Range {
+            start: address(self.alloc, argument(text, 0))?,
+            length: number(self.alloc, argument(text, 1))?,
+        })
+    }
+
     /// A map call, if it meets a registered range by one of these.
     fn map_plan(
         &mut self,
@@ -24,20 +33,17 @@ impl Converter {
         begin: String,
         range: Range,
         other: Range,
-        address: bool,
-    ) -> Result<Vec<Plan>, Stop> {
+    ) -> Result<Option<Plan>, Stop> {
         if !self.meets(range) && !self.meets(other) {
-            return self.none();
+            return Ok(None);
         }
         self.tell_of_borrowed_memory(call.entered_at, call.thread)?;
-        let returned = if address && call.has_succeeded() {
-            Shown(first_word(&call.returned))
-        } else {
-            Shown(b"")
+        let returned = match call.kind {
+            Kind::Mmap | Kind::Mremap if call.has_succeeded() => first_word(&call.returned),
+            _ => b"".as_slice(),
         };
-        let values = format!(in self.alloc; "{returned}")?;
-        let end = answer(self.alloc, call, values.as_str())?;
-        one(self.alloc, Plan::new(self.alloc, begin, end))
+        let end = answer(self.alloc, call, returned)?;
+        Ok(Some(Plan::new(self.alloc, begin, end, After::Nothing)))
     }
 
     /// The address that a call has returned, or another one.
@@ -48,84 +54,63 @@ impl Converter {
         Ok(otherwise)
     }
 
-    pub(super) fn plan_mmap(&mut self, call: &Traced) -> Result<Vec<Plan>, Stop> {
+    pub(super) fn plan_mmap(&mut self, call: &Traced) -> Result<Option<Plan>, Stop> {
         let alloc = self.alloc;
-        let arguments = without_paths(alloc, &call.arguments)?;
-        let parts = comma_parts(alloc, &arguments)?;
-        let [place, length, protection, bits, rest @ ..] = parts.as_slice() else {
-            return Err(self.count_fault(parts.len()));
-        };
-        if rest.len() > 2 {
-            return Err(self.count_fault(parts.len()));
-        }
-        let start = address(alloc, place)?;
-        let length = number(alloc, length)?;
-        let moved = self.returned_address(call, start)?;
-        let protection = flags(alloc, protection, PROTECTIONS)?;
-        let bits = flags(alloc, bits, MAP_FLAGS)?;
-        let begin = format!(in alloc; "mmap 0x{start:x} 0x{length:x} 0x{protection:x} 0x{bits:x}")?;
-        let other = Range {
-            start: moved,
+        let text = without_paths(alloc, &call.arguments)?;
+        self.check_count(&text, 4, 6)?;
+        let range = self.range_of(&text)?;
+        let Range { start, length } = range;
+        let moved = Range {
+            start: self.returned_address(call, start)?,
             length,
         };
-        self.map_plan(call, begin, Range { start, length }, other, true)
+        let protection = flags(alloc, argument(&text, 2), Names::Protections)?;
+        let bits = flags(alloc, argument(&text, 3), Names::MapFlags)?;
+        let begin = format!(in alloc; "mmap 0x{start:x} 0x{length:x} 0x{protection:x} 0x{bits:x}")?;
+        self.map_plan(call, begin, range, moved)
     }
 
-    pub(super) fn plan_munmap(&mut self, call: &Traced) -> Result<Vec<Plan>, Stop> {
-        let alloc = self.alloc;
-        let parts = comma_parts(alloc, &call.arguments)?;
-        let [place, length] = parts.as_slice() else {
-            return Err(self.count_fault(parts.len()));
-        };
-        let start = address(alloc, place)?;
-        let length = number(alloc, length)?;
-        let begin = format!(in alloc; "munmap 0x{start:x} 0x{length:x}")?;
-        let range = Range { start, length };
-        self.map_plan(call, begin, range, range, false)
+    pub(super) fn plan_munmap(&mut self, call: &Traced) -> Result<Option<Plan>, Stop> {
+        self.check_count(&call.arguments, 2, 2)?;
+        let range = self.range_of(&call.arguments)?;
+        let Range { start, length } = range;
+        let begin = format!(in self.alloc; "munmap 0x{start:x} 0x{length:x}")?;
+        self.map_plan(call, begin, range, range)
     }
 
-    pub(super) fn plan_madvise(&mut self, call: &Traced) -> Result<Vec<Plan>, Stop> {
-        let alloc = self.alloc;
-        let parts = comma_parts(alloc, &call.arguments)?;
-        let [place, length, advice] = parts.as_slice() else {
-            return Err(self.count_fault(parts.len()));
-        };
-        let start = address(alloc, place)?;
-        let length = number(alloc, length)?;
-        let advice = flags(alloc, advice, ADVICE)?;
-        let begin = format!(in alloc; "madvise 0x{start:x} 0x{length:x} {advice}")?;
-        let range = Range { start, length };
-        self.map_plan(call, begin, range, range, false)
+    pub(super) fn plan_madvise(&mut self, call: &Traced) -> Result<Option<Plan>, Stop> {
+        self.check_count(&call.arguments, 3, 3)?;
+        let range = self.range_of(&call.arguments)?;
+        let Range { start, length } = range;
+        let advice = flags(self.alloc, argument(&call.arguments, 2), Names::Advice)?;
+        let begin = format!(in self.alloc; "madvise 0x{start:x} 0x{length:x} {advice}")?;
+        self.map_plan(call, begin, range, range)
     }
 
-    pub(super) fn plan_mremap(&mut self, call: &Traced) -> Result<Vec<Plan>, Stop> {
+    pub(super) fn plan_mremap(&mut self, call: &Traced) -> Result<Option<Plan>, Stop> {
         let alloc = self.alloc;
-        let parts = comma_parts(alloc, &call.arguments)?;
-        let [place, old, new, bits, rest @ ..] = parts.as_slice() else {
-            return Err(self.count_fault(parts.len()));
+        let text = call.arguments.as_slice();
+        self.check_count(text, 4, 5)?;
+        let range = self.range_of(text)?;
+        let length = number(alloc, argument(text, 2))?;
+        let bits = flags(alloc, argument(text, 3), Names::RemapFlags)?;
+        let target = if count_of_arguments(text) == 5 {
+            address(alloc, argument(text, 4))?
+        } else {
+            0
         };
-        let target = match rest {
-            [] => b"NULL".as_slice(),
-            [target] => target,
-            _ => return Err(self.count_fault(parts.len())),
-        };
-        let start = address(alloc, place)?;
-        let old = number(alloc, old)?;
-        let new = number(alloc, new)?;
-        let bits = flags(alloc, bits, REMAP_FLAGS)?;
-        let target = address(alloc, target)?;
         let moved = Range {
             start: self.returned_address(call, target)?,
-            length: new,
+            length,
         };
+        let Range { start, length: old } = range;
         let begin = format!(in alloc;
-            "mremap 0x{start:x} 0x{old:x} 0x{new:x} 0x{bits:x} 0x{target:x}"
+            "mremap 0x{start:x} 0x{old:x} 0x{length:x} 0x{bits:x} 0x{target:x}"
         )?;
-        let range = Range { start, length: old };
-        let plans = self.map_plan(call, begin, range, moved, true)?;
-        if !plans.is_empty() && call.has_succeeded() {
+        let plan = self.map_plan(call, begin, range, moved)?;
+        if plan.is_some() && call.has_succeeded() {
             self.ranges.insert(moved)?;
         }
-        Ok(plans)
+        Ok(plan)
     }
 }

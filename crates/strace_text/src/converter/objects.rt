@@ -1,18 +1,11 @@
 //! Descriptors as objects: what the log knows, and what it finds.
 
 use super::Converter;
-use crate::files::{Files, Held};
-use crate::number::{OBJECT, Printed, decimal, descriptor_at, not_a_number};
+use crate::files::{Files, Held, On};
+use crate::number::{Fd, fd_at};
 use crate::plan::After;
 use crate::stop::Stop;
 use crate::traced::Traced;
-
-/// A descriptor of a call.
-#[derive(Clone, Copy)]
-pub(super) struct On {
-    pub(super) object: u64,
-    pub(super) fd: u64,
-}
 
 impl Converter {
     /// A new object's number.
@@ -47,6 +40,19 @@ impl Converter {
         self.sets.get(set)?.get(fd)
     }
 
+    /// How many descriptors of objects a set has.
+    pub(super) fn count_held(&self, set: usize) -> usize {
+        match self.sets.get(set) {
+            Some(files) => files.held.len(),
+            None => 0,
+        }
+    }
+
+    /// The descriptor of a set at a place in their order.
+    pub(super) fn held_at(&self, set: usize, place: usize) -> Option<Held> {
+        self.sets.get(set)?.held.get(place).copied()
+    }
+
     pub(super) fn put(&mut self, set: usize, held: Held) -> Result<(), Stop> {
         if let Some(files) = self.sets.get_mut(set) {
             files.put(held)?;
@@ -67,40 +73,29 @@ impl Converter {
         thread: u64,
         text: &[u8],
     ) -> Result<Option<On>, Stop> {
-        let Some(found) = descriptor_at(text) else {
+        let Some(found) = fd_at(self.alloc, text)? else {
             return Ok(None);
-        };
-        if !found.word.first().is_some_and(u8::is_ascii_digit) {
-            return Ok(None);
-        }
-        let Some(fd) = decimal(found.word) else {
-            return Err(not_a_number(self.alloc, found.word));
         };
         let set = self.set_of(thread)?;
-        self.meet(time, thread, &found, set, fd)?;
-        self.tell(time, thread, fd)?;
-        match self.held(set, fd) {
-            Some(held) => Ok(Some(On {
-                object: held.object,
-                fd,
-            })),
+        self.meet(time, thread, set, found)?;
+        self.tell(time, thread, found.number)?;
+        match self.held(set, found.number) {
+            Some(held) => Ok(Some(held.on())),
             None => Ok(None),
         }
     }
 
+    /// The object of the descriptor that is a call's first argument.
+    pub(super) fn object_of(&mut self, call: &Traced) -> Result<Option<On>, Stop> {
+        self.object_at(call.entered_at, call.thread, &call.arguments)
+    }
+
     /// A descriptor is or is not an object's, contrary to what was seen before.
-    fn meet(
-        &mut self,
-        time: u64,
-        thread: u64,
-        found: &Printed<'_>,
-        set: usize,
-        fd: u64,
-    ) -> Result<(), Stop> {
-        let Some(path) = found.path else {
+    fn meet(&mut self, time: u64, thread: u64, set: usize, found: Fd) -> Result<(), Stop> {
+        let fd = found.number;
+        let Some(is_object) = found.is_object else {
             return Ok(());
         };
-        let is_object = path == OBJECT;
         match self.held(set, fd) {
             None if is_object => {
                 let object = self.new_object();
@@ -124,25 +119,26 @@ impl Converter {
     /// Tells what a call that returned has changed for other processes.
     pub(crate) fn tell_of_end(&mut self, call: &Traced, after: &After) -> Result<(), Stop> {
         match *after {
-            After::Release { set, fd, object } if self.is_held(set, On { object, fd }) => {
-                self.tell_others(call.left_at, call.thread, fd)
+            After::Release { set, on } if self.is_held(set, on) => {
+                self.tell_others(call.left_at, call.thread, on.fd)
             }
             _ => Ok(()),
         }
     }
 
-    /// Changes descriptors after a call.
-    pub(crate) fn change(&mut self, call: &Traced, after: After) -> Result<(), Stop> {
+    /// Does what comes after the end of a call.
+    pub(crate) fn change(&mut self, call: &Traced, after: &After) -> Result<(), Stop> {
         let time = call.left_at;
         let thread = call.thread;
         match after {
+            After::Nothing => Ok(()),
             After::Bind(made) => {
                 let set = self.set_of(thread)?;
-                self.bind(time, thread, set, &made)
+                self.bind(time, thread, set, made)
             }
-            After::BindIn { set, held } => self.bind(time, thread, set, &[held]),
-            After::Release { set, fd, object } => self.release(thread, set, On { object, fd }),
-            After::Nothing | After::Start { .. } => Ok(()),
+            After::BindIn { set, held } => self.bind(time, thread, *set, &[*held]),
+            After::Release { set, on } => self.release(thread, *set, *on),
+            After::Start(words) => self.start(time, thread, words.as_str()),
         }
     }
 }

@@ -2,33 +2,32 @@
 
 use super::{Converter, Maker, Range};
 use crate::files::Files;
+use crate::kind::Kind;
 use crate::number::{decimal, hexadecimal};
-use crate::plan::{After, Plan, answer, one};
+use crate::plan::{After, Plan, answer};
 use crate::quoted::{closed, next_string, unescape};
 use crate::stop::{Shown, Stop};
-use crate::text::{Class, some_front};
+use crate::text::{Class, front, rsplit_once, split_once};
 use crate::traced::Traced;
-use memchr::memmem;
+use mig_base::NoMemory;
 use std::alloc::{AllocError, Global};
 use std::fmt::Write;
 
 /// The most bytes of the words of a program.
 const LONGEST_WORDS: usize = 3000;
 
-/// The number after this front in hexadecimal, where the front begins a word.
-fn field(text: &[u8], front: &[u8]) -> Option<u64> {
-    let mut before = b' ';
+/// The number in hexadecimal after the first mark that begins a word, and has digits after it.
+fn field(text: &[u8], mark: &[u8]) -> Option<u64> {
+    let mut last = b' ';
     let mut rest = text;
     for _ in 0..text.len() {
-        let at = memmem::find(rest, front)?;
-        let (skipped, found) = rest.split_at_checked(at)?;
-        before = skipped.last().copied().unwrap_or(before);
-        let digits = some_front(found.strip_prefix(front)?, Class::Hex);
-        if let (false, Some((digits, _))) = (Class::Word.has(before), digits) {
+        let (before, after) = split_once(rest, mark)?;
+        last = before.last().copied().unwrap_or(last);
+        let (digits, _) = front(after, Class::Hex);
+        if !digits.is_empty() && !Class::Word.has(last) {
             return Some(hexadecimal(digits));
         }
-        let (first, after) = found.split_first()?;
-        before = *first;
+        last = mark.last().copied().unwrap_or(last);
         rest = after;
     }
     None
@@ -65,6 +64,17 @@ fn encode(out: &mut String, bytes: &[u8]) -> Result<(), AllocError> {
     Ok(())
 }
 
+/// Adds the words of a string of the trace, after a blank if they are not the first.
+fn add_words(alloc: Global, out: &mut String, string: &[u8]) -> Result<(), Stop> {
+    if !out.is_empty() {
+        out.push(' ')?;
+    }
+    let mut bytes = Vec::new(alloc);
+    unescape(alloc, &mut bytes, string)?;
+    encode(out, &bytes)?;
+    Ok(())
+}
+
 /// The words of a list of strings, with a blank between them.
 fn words_of(alloc: Global, list: &[u8]) -> Result<String, Stop> {
     let mut out = String::new(alloc);
@@ -73,56 +83,53 @@ fn words_of(alloc: Global, list: &[u8]) -> Result<String, Stop> {
         let Some((string, after)) = next_string(rest) else {
             break;
         };
-        if !out.is_empty() {
-            out.push(' ')?;
-        }
-        let mut bytes = Vec::new(alloc);
-        unescape(alloc, &mut bytes, string)?;
-        encode(&mut out, &bytes)?;
+        add_words(alloc, &mut out, string)?;
         rest = after;
     }
     Ok(out)
 }
 
 /// The words of a program, of which a last `...` says that some were left out.
-fn shortened(alloc: Global, words: String) -> Result<String, Stop> {
+fn shortened(alloc: Global, words: String) -> Result<String, AllocError> {
     if words.is_empty() {
-        return Ok(String::from_str(alloc, "...")?);
+        return String::from_str(alloc, "...");
     }
-    let Some(front) = words.as_bytes().get(..LONGEST_WORDS) else {
-        return Ok(words);
-    };
-    if words.len() == LONGEST_WORDS {
-        return Ok(words);
+    match words.as_bytes().get(..LONGEST_WORDS) {
+        Some(front) if words.len() > LONGEST_WORDS => {
+            let front = match rsplit_once(front, b" ") {
+                Some((before, _)) => Shown(before),
+                None => Shown(front),
+            };
+            format!(in alloc; "{front} ...")
+        }
+        _ => Ok(words),
     }
-    let front = match crate::text::rsplit_once(front, b" ") {
-        Some((before, _)) => Shown(before),
-        None => Shown(front),
-    };
-    Ok(format!(in alloc; "{front} ...")?)
 }
 
 impl Converter {
     /// Notes which call made a thread, and what was registered, for the whole trace.
-    pub(crate) fn prepare(&mut self, call: &Traced) -> Result<(), Stop> {
-        match call.name.as_slice() {
-            b"clone" | b"clone3" | b"fork" | b"vfork" => self.prepare_child(call),
-            b"ioctl" if call.has_argument(b"UFFDIO_REGISTER,") && call.errno().is_none() => {
-                let start = field(&call.arguments, b"start=0x");
-                let length = field(&call.arguments, b"len=0x");
-                if let (Some(start), Some(length)) = (start, length) {
-                    self.ranges.insert(Range { start, length })?;
-                }
-                Ok(())
+    pub(crate) fn prepare(&mut self, call: &Traced) -> Result<(), NoMemory> {
+        match call.kind {
+            Kind::Fork => self.prepare_child(call, call.has_argument(b"CLONE_VM")),
+            Kind::Vfork => self.prepare_child(call, true),
+            Kind::Ioctl if call.has_argument(b"UFFDIO_REGISTER,") && call.errno().is_none() => {
+                self.prepare_range(&call.arguments)
             }
             _ => Ok(()),
         }
     }
 
-    fn prepare_child(&mut self, call: &Traced) -> Result<(), Stop> {
-        let Some((digits, _)) = some_front(&call.returned, Class::Digit) else {
-            return Ok(());
-        };
+    fn prepare_range(&mut self, arguments: &[u8]) -> Result<(), NoMemory> {
+        let start = field(arguments, b"start=0x");
+        let length = field(arguments, b"len=0x");
+        if let (Some(start), Some(length)) = (start, length) {
+            self.ranges.insert(Range { start, length })?;
+        }
+        Ok(())
+    }
+
+    fn prepare_child(&mut self, call: &Traced, shares_memory: bool) -> Result<(), NoMemory> {
+        let (digits, _) = front(&call.returned, Class::Digit);
         let Some(child) = decimal(digits) else {
             return Ok(());
         };
@@ -130,8 +137,7 @@ impl Converter {
             by: call.thread,
             is_thread: call.has_argument(b"CLONE_THREAD"),
             shares_files: call.has_argument(b"CLONE_FILES"),
-            shares_memory: call.name.as_slice() == b"vfork".as_slice()
-                || call.has_argument(b"CLONE_VM"),
+            shares_memory,
         };
         self.made.insert(child, maker)?;
         Ok(())
@@ -195,35 +201,30 @@ impl Converter {
     }
 
     /// A fork. What makes a thread, or shares the memory, is none of the language.
-    pub(super) fn plan_clone(&mut self, call: &Traced) -> Result<Vec<Plan>, Stop> {
+    pub(super) fn plan_fork(&mut self, call: &Traced) -> Result<Option<Plan>, Stop> {
         if call.has_argument(b"CLONE_THREAD") || call.has_argument(b"CLONE_VM") {
-            return self.none();
+            return Ok(None);
         }
-        let child = match some_front(&call.returned, Class::Digit) {
-            Some((digits, _)) => digits,
-            None => b"".as_slice(),
-        };
-        let child = Shown(child);
-        let child = format!(in self.alloc; "{child}")?;
-        let end = answer(self.alloc, call, child.as_str())?;
+        let (child, _) = front(&call.returned, Class::Digit);
+        let end = answer(self.alloc, call, child)?;
         let begin = String::from_str(self.alloc, "fork")?;
-        one(self.alloc, Plan::new(self.alloc, begin, end))
+        Ok(Some(Plan::new(self.alloc, begin, end, After::Nothing)))
     }
 
     /// A program that is run.
-    pub(super) fn plan_execve(&mut self, call: &Traced) -> Result<Vec<Plan>, Stop> {
+    pub(super) fn plan_execve(&mut self, call: &Traced) -> Result<Option<Plan>, Stop> {
         if !call.has_succeeded() {
-            return self.none();
+            return Ok(None);
         }
         let list = list_of(&call.arguments).unwrap_or(b"".as_slice());
         let words = shortened(self.alloc, words_of(self.alloc, list)?)?;
-        let plan = Plan {
+        Ok(Some(Plan {
             begin: None,
+            number: 0,
             messages: Vec::new(self.alloc),
             end: None,
             after: After::Start(words),
-        };
-        one(self.alloc, plan)
+        }))
     }
 
     /// A process runs a program from now on, and has the descriptors that survive.
