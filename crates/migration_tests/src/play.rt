@@ -4,13 +4,14 @@ use crate::answers::Answer;
 use crate::calls::{Call, step_of};
 use crate::copies::play_copied;
 use crate::counts::play_many;
+use crate::edges::{Edge, play_edge};
 use crate::everywhere::{Again, break_and_complete};
 use crate::openings::NOTHING;
 use crate::runs::{play_longest, run_all, run_three};
-use crate::same::same;
 use mig_base::WorldPhase;
 use mig_base::counts::Counts;
 use mig_base::cpu_state::CpuState;
+use mig_base::effect::Effect;
 use mig_base::phase::SourcePhase;
 use mig_base::refusal::Refusal;
 use mig_base::schedule::Step;
@@ -52,63 +53,80 @@ impl Picture {
     }
 }
 
-/// Makes a step. One that is refused changes nothing, and where memory is refused it is made again.
-pub fn make(rt: &impl Abort, world: &mut World, step: Step, i: usize) -> Answer {
+/// Makes a step, and again where memory was refused. What comes of it, and how often memory was refused. A step that is refused changes
+/// nothing.
+pub fn make(
+    rt: &impl Abort,
+    world: &mut World,
+    step: Step,
+    i: usize,
+) -> (Result<Effect, Refusal>, u32) {
     let before = Picture::of(world);
-    let mut outcome = world.step(step);
+    let outcome = world.step(step);
     if outcome.is_err() {
-        same(rt, &Picture::of(world), &before, "refused step", i);
+        assert!(rt; Picture::of(world) == before, "refused step {i}");
     }
-    if outcome == Err(Refusal::NoMemory) {
-        outcome = world.step(step);
+    if outcome != Err(Refusal::NoMemory) {
+        return (outcome, 0);
     }
-    Answer::of(outcome)
+    (world.step(step), 1)
 }
 
-fn progress(world: &World) -> Answer {
+fn counts(world: &World) -> [u64; 6] {
     let counts = world.counts();
-    Answer::Stands(
-        world.phase(),
-        [
-            u64::from(counts.rounds),
-            counts.sent,
-            u64::from(world.owed_left()),
-            counts.installed,
-            counts.dropped,
-            counts.faults,
-        ],
-    )
+    [
+        u64::from(counts.rounds),
+        counts.sent,
+        u64::from(world.owed_left()),
+        counts.installed,
+        counts.dropped,
+        counts.faults,
+    ]
 }
 
-/// What a look shows.
-pub fn look(world: &World, call: Call) -> Answer {
-    match call {
-        Call::Source => Answer::SourceIs(world.source_phase(), world.epoch()),
-        Call::Remaining => {
-            let remaining = world.remaining();
-            Answer::Remain(remaining.len(), remaining.next_member(0))
-        }
-        Call::Cpu(cpu) => match world.cpu_state(cpu) {
-            Ok(state) => Answer::CpuIs(state),
-            Err(refusal) => Answer::Refused(refusal),
-        },
-        Call::Transcript => {
+/// Whether a look shows this.
+fn shows(world: &World, call: Call, wanted: Answer) -> bool {
+    match (call, wanted) {
+        (Call::Progress, Answer::Stands(phase, six)) => world.phase() == phase
+            && counts(world) == six,
+        (Call::Source, Answer::SourceIs(phase, epoch)) => world.source_phase() == phase
+            && world.epoch() == epoch,
+        (Call::Remaining, Answer::Remain(len, first)) => world.remaining().len() == len
+            && world.remaining().next_member(0) == first,
+        (Call::Cpu(cpu), Answer::CpuIs(state)) => world.cpu_state(cpu) == Ok(state),
+        (Call::Cpu(cpu), Answer::Refused(refusal)) => world.cpu_state(cpu) == Err(refusal),
+        (Call::Transcript, Answer::Entered(len, last)) => {
             let entries = world.transcript();
-            Answer::Entered(entries.len(), entries.last().map(|entry| entry.reply))
+            entries.len() == len && entries.last().map(|entry| entry.reply) == last
         }
-        _ => progress(world),
+        _ => false,
     }
 }
 
-/// Plays a table on a world.
-pub fn play(rt: &impl Abort, world: &mut World, table: &str, rows: &[Row]) {
-    for (i, (call, wanted)) in rows.iter().enumerate() {
-        let answer = match step_of(*call, world.epoch()) {
-            Some(step) => make(rt, world, step, i),
-            None => look(world, *call),
-        };
-        same(rt, &answer, wanted, table, i);
+/// Plays a row of a table. How often memory was refused.
+fn play_row(
+    rt: &impl Abort,
+    world: &mut World,
+    table: &str,
+    i: usize,
+    (call, wanted): &Row,
+) -> u32 {
+    let Some(step) = step_of(*call, world.epoch()) else {
+        assert!(rt; shows(world, *call, *wanted), "{table} {i}");
+        return 0;
+    };
+    let (outcome, refused) = make(rt, world, step, i);
+    assert_eq!(rt; Some(outcome), wanted.outcome(), "{table} {i}");
+    refused
+}
+
+/// Plays a table on a world. How often memory was refused.
+pub fn play(rt: &impl Abort, world: &mut World, table: &str, rows: &[Row]) -> u32 {
+    let mut refused = 0u32;
+    for (i, row) in rows.iter().enumerate() {
+        refused = refused.saturating_add(play_row(rt, world, table, i, row));
     }
+    refused
 }
 
 /// What is played after the tables, that no table can say.
@@ -128,6 +146,8 @@ pub enum Behind {
     Copied(Parts<'static>),
     /// The channel breaks, and the migration continues to its completion.
     Broken(Again),
+    /// What is looked at by itself.
+    Edge(Edge),
 }
 
 /// Plays tables on a world, and what comes after them. Whether memory was found for it.
@@ -151,6 +171,7 @@ fn tell(
         Behind::Three => return run_three(rt, alloc, world),
         Behind::Copied(ways) => return play_copied(rt, world, ways),
         Behind::Broken(again) => break_and_complete(rt, alloc, world, again),
+        Behind::Edge(edge) => play_edge(rt, alloc, world, edge),
     }
     true
 }

@@ -1,6 +1,5 @@
 //! Pages that are sent in runs, and steps that are made in one call.
 
-use crate::answers::Answer;
 use crate::answers::Answer::{
     Moved, Refused, Replied, RoundMade, SentRun, Stands, Started, Switched, TookAdvise, TookRun,
 };
@@ -10,7 +9,6 @@ use crate::calls::Call::{
 use crate::calls::step_of;
 use crate::openings::NOTHING;
 use crate::play::{Behind, Row, play, play_behind, play_new};
-use crate::same::same;
 use mig_base::Reply::{At, BadAccess, Done, Value};
 use mig_base::effect::Effect;
 use mig_base::refusal::Refusal;
@@ -152,7 +150,7 @@ pub fn run_all(rt: &impl Abort, alloc: Global, world: &mut World) -> bool {
     }
     assert!(rt; outcomes.len() == 9);
     for (i, (outcome, row)) in outcomes.iter().zip(&IN_ONE_CALL).enumerate() {
-        same(rt, &Answer::of(*outcome), &row.1, "in one call", i);
+        assert_eq!(rt; Some(*outcome), row.1.outcome(), "in one call {i}");
     }
     assert!(rt; world.transcript() == ENTRIES.as_slice());
     true
