@@ -7,7 +7,6 @@ use crate::answers::Answer::{
 use crate::calls::Call::{
     Break, Map, Notice, Round, Send, SourceAct, SourceRead, Start, Store, Switch,
 };
-use crate::openings::NOTHING;
 use crate::play::{Behind, Row, on_world, play};
 use finish::{finish, next_to_finish};
 use mig_base::Reply::{At, Done};
@@ -107,11 +106,24 @@ fn finish_again(rt: &impl Abort, alloc: Global, world: &mut World) {
     none_is_due(rt, world);
 }
 
-fn what_waits(rt: &impl Abort, world: &mut World) {
-    play(rt, world, "stored twice", &STORED_TWICE);
+/// What waits once the store sleeps.
+fn fault_waits(rt: &impl Abort, world: &World) {
     assert!(rt; dirty(world) == Some(0), "the sent page is dirty");
     let waits = world.source_message().is_some() && world.source_events() == 0;
     assert!(rt; waits, "no fault waits");
+}
+
+/// What waits after the switch.
+fn pages_wait(rt: &impl Abort, world: &World) {
+    let waits = !world.has_sent_end() && world.would(Step::End) == Err(Refusal::PagesLeft);
+    assert!(rt; waits, "End");
+    let none = world.arrivals() == 0 && world.asked() == 0 && world.requests().is_empty();
+    assert!(rt; none, "waits");
+}
+
+fn what_waits(rt: &impl Abort, world: &mut World) {
+    play(rt, world, "stored twice", &STORED_TWICE);
+    fault_waits(rt, world);
     play(rt, world, "read", &READ);
     assert!(rt; world.source_held() == 1, "no fault is held");
     play(rt, world, "acted", &ACTED);
@@ -120,13 +132,7 @@ fn what_waits(rt: &impl Abort, world: &mut World) {
         "the page that may be written is clean"
     );
     play(rt, world, "switched", &SWITCHED);
-    let end = world.would(Step::End);
-    assert!(rt;
-        !world.has_sent_end() && end == Err(Refusal::PagesLeft),
-        "End"
-    );
-    let none = world.arrivals() == 0 && world.asked() == 0 && world.requests().is_empty();
-    assert!(rt; none, "waits");
+    pages_wait(rt, world);
 }
 
 pub fn play_edge(rt: &impl Abort, alloc: Global, world: &mut World, edge: Edge) {
@@ -140,9 +146,7 @@ pub fn play_edge(rt: &impl Abort, alloc: Global, world: &mut World, edge: Edge) 
 
 /// Looks at a world of one processor, whose epoch stands at this number.
 fn look(rt: &impl Abort, alloc: Global, epoch: u32, edge: Edge) {
-    let none = NOTHING.as_slice();
-    let (new, parts) = ((1, epoch, 0), (none, none, none, none));
-    let told = on_world(rt, alloc, new, "edge", parts, Behind::Edge(edge));
+    let told = on_world(rt, alloc, (1, epoch, 0), "edge", &[], Behind::Edge(edge));
     assert!(rt; told == Ok(true), "no world");
 }
 

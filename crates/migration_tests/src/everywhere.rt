@@ -5,7 +5,7 @@
 
 use crate::answers::Answer::{Broken, Noticed, Refused, Resumed, TookResume};
 use crate::calls::Call::{Break, Deliver, Notice, Resume};
-use crate::openings::{NOTHING, OWED, OWED_THREE, SENT};
+use crate::openings::{OWED, OWED_THREE, SENT};
 use crate::play::{Behind, Row, make, on_world, play};
 use crate::scenes::{ASKED_FOR, MOVED, UNMAPPED, URGENT};
 use mig_base::cpu_state::CpuState;
@@ -200,16 +200,14 @@ pub fn break_and_complete(rt: &impl Abort, alloc: Global, world: &mut World, aga
 
 /// Plays the front of a story, and then breaks the channel once and twice.
 fn break_behind(rt: &impl Abort, alloc: Global, table: &str, opening: &[Row], rows: &[Row]) {
-    let none = NOTHING.as_slice();
     for again in [
         Again::Never,
         Again::BeforeResume,
         Again::BeforeRecv,
         Again::AfterRecv,
     ] {
-        let parts = (opening, rows, none, none);
         let behind = Behind::Broken(again);
-        let told = on_world(rt, alloc, (2, 0, 0), table, parts, behind);
+        let told = on_world(rt, alloc, (2, 0, 0), table, &[opening, rows], behind);
         assert!(rt; told == Ok(true), "no world for {table}");
     }
 }
@@ -217,7 +215,7 @@ fn break_behind(rt: &impl Abort, alloc: Global, table: &str, opening: &[Row], ro
 /// Breaks the channel after each row of an opening.
 fn break_opening(rt: &impl Abort, alloc: Global, table: &str, opening: &[Row]) {
     for end in 0..opening.len() {
-        break_behind(rt, alloc, table, &opening[..end], NOTHING.as_slice());
+        break_behind(rt, alloc, table, &opening[..end], &[]);
     }
 }
 

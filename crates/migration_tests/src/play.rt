@@ -6,7 +6,6 @@ use crate::copies::play_copied;
 use crate::counts::play_many;
 use crate::edges::{Edge, play_edge};
 use crate::everywhere::{Again, break_and_complete};
-use crate::openings::NOTHING;
 use crate::runs::{play_longest, run_all, run_three};
 use mig_base::WorldPhase;
 use mig_base::counts::Counts;
@@ -23,7 +22,10 @@ use world::World;
 pub type Row = (Call, Answer);
 
 /// Tables that are played one after the other.
-pub type Parts<'a> = (&'a [Row], &'a [Row], &'a [Row], &'a [Row]);
+pub type Parts<'a> = &'a [&'a [Row]];
+
+/// What both show at first, what happens to a copy, what happens to the world, and what the copy shows then.
+pub type Ways<'a> = (&'a [Row], &'a [Row], &'a [Row], &'a [Row]);
 
 /// What a refused step has to leave.
 #[derive(Clone, Copy, PartialEq, Eq)]
@@ -103,6 +105,17 @@ fn shows(world: &World, call: Call, wanted: Answer) -> bool {
     }
 }
 
+/// Stops unless a step has the outcome of a row, and prints both.
+pub fn same(
+    rt: &impl Abort,
+    outcome: Result<Effect, Refusal>,
+    wanted: Answer,
+    table: &str,
+    i: usize,
+) {
+    assert_eq!(rt; Some(outcome), wanted.outcome(), "{table} {i}");
+}
+
 /// Plays a row of a table. How often memory was refused.
 fn play_row(
     rt: &impl Abort,
@@ -116,7 +129,7 @@ fn play_row(
         return 0;
     };
     let (outcome, refused) = make(rt, world, step, i);
-    assert_eq!(rt; Some(outcome), wanted.outcome(), "{table} {i}");
+    same(rt, outcome, *wanted, table, i);
     refused
 }
 
@@ -141,9 +154,8 @@ pub enum Behind {
     OneCall,
     /// Three steps in one call.
     Three,
-    /// The world is copied, and both continue: what both show at first, what happens to the copy, what happens to the world, and what the
-    /// copy shows then.
-    Copied(Parts<'static>),
+    /// The world is copied, and both continue.
+    Copied(Ways<'static>),
     /// The channel breaks, and the migration continues to its completion.
     Broken(Again),
     /// What is looked at by itself.
@@ -159,10 +171,9 @@ fn tell(
     parts: Parts,
     behind: Behind,
 ) -> bool {
-    play(rt, world, table, parts.0);
-    play(rt, world, table, parts.1);
-    play(rt, world, table, parts.2);
-    play(rt, world, table, parts.3);
+    for rows in parts {
+        play(rt, world, table, rows);
+    }
     match behind {
         Behind::Nothing => {}
         Behind::Many => play_many(rt, world),
@@ -206,9 +217,8 @@ pub fn on_world(
     told
 }
 
-/// Plays a table on a new world of two processors, after an opening.
-pub fn play_new(rt: &impl Abort, alloc: Global, table: &str, opening: &[Row], rows: &[Row]) {
-    let parts = (opening, rows, NOTHING.as_slice(), NOTHING.as_slice());
+/// Plays tables on a new world of two processors.
+pub fn play_new(rt: &impl Abort, alloc: Global, table: &str, parts: Parts) {
     let told = on_world(rt, alloc, (2, 0, 0), table, parts, Behind::Nothing);
     assert!(rt; told == Ok(true), "no world for {table}");
 }
@@ -220,13 +230,5 @@ pub fn play_behind(
     cpus: u8,
     behind: Behind,
 ) -> Result<bool, Refusal> {
-    let none = NOTHING.as_slice();
-    on_world(
-        rt,
-        alloc,
-        (cpus, 0, 0),
-        "none",
-        (none, none, none, none),
-        behind,
-    )
+    on_world(rt, alloc, (cpus, 0, 0), "none", &[], behind)
 }

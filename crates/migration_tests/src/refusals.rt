@@ -3,7 +3,7 @@
 //! Such a step has changed nothing; the same step has the answer of the table then, and so has each step after it. In the end the
 //! transcript is checked.
 
-use crate::openings::{NOTHING, OWED, OWED_THREE, RESUMED, SENT};
+use crate::openings::{OWED, OWED_THREE, RESUMED, SENT};
 use crate::play::{Parts, play};
 use crate::scenes::{
     ACCESSES, ALL_IS_OWED, ASKED_FOR, DISCARDED, IN_FLIGHT, MOVED, PUSHED_ANEW, SWITCHED,
@@ -29,7 +29,7 @@ fn checked(rt: &impl Abort, alloc: Global, world: &World) -> u32 {
 /// Plays tables on a world one after the other, and checks its transcript. How often memory was refused.
 fn play_all(rt: &impl Abort, alloc: Global, world: &mut World, table: &str, parts: Parts) -> u32 {
     let mut refused = 0u32;
-    for rows in [parts.0, parts.1, parts.2, parts.3] {
+    for rows in parts {
         refused = refused.saturating_add(play(rt, world, table, rows));
     }
     refused.saturating_add(checked(rt, alloc, world))
@@ -55,18 +55,16 @@ fn play_new(rt: &impl Abort, alloc: Global, table: &str, parts: Parts) -> u32 {
 
 #[test]
 fn scenes_with_refusals(rt: HostRuntime) -> Result<(), Fail> {
-    let none = NOTHING.as_slice();
-    let resumed = RESUMED.as_slice();
     let scenes: [(&str, Parts); 6] = [
-        ("accesses", (&ACCESSES, none, none, none)),
-        ("discarded", (&DISCARDED, none, none, none)),
-        ("asked for", (&SENT, &ASKED_FOR, none, none)),
-        ("moved", (&OWED, &MOVED, none, none)),
+        ("accesses", &[&ACCESSES]),
+        ("discarded", &[&DISCARDED]),
+        ("asked for", &[&SENT, &ASKED_FOR]),
+        ("moved", &[&OWED, &MOVED]),
         (
             "in flight",
-            (&OWED_THREE, &IN_FLIGHT, resumed, &PUSHED_ANEW),
+            &[&OWED_THREE, &IN_FLIGHT, &RESUMED, &PUSHED_ANEW],
         ),
-        ("switched", (&SENT, &SWITCHED, resumed, &ALL_IS_OWED)),
+        ("switched", &[&SENT, &SWITCHED, &RESUMED, &ALL_IS_OWED]),
     ];
     for (table, parts) in scenes {
         let refused = play_new(&rt, rt.alloc(), table, parts);
