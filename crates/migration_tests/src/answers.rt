@@ -11,7 +11,7 @@ use mig_base::{Addr, Message, PageNo, Reply, WorldPhase};
 pub type Last = Option<(u8, Reply)>;
 
 /// The effect of a step, why it is refused, or what a look shows.
-#[derive(Clone, Copy, PartialEq, Eq)]
+#[derive(Clone, Copy)]
 pub enum Answer {
     Replied(u8, Reply),
     Asleep(u8),
@@ -31,12 +31,8 @@ pub enum Answer {
     ReadRemap(Addr, Addr, u64, Last),
     ReadRemove(Addr, Addr, Last),
     ReadUnmap(Addr, Addr, Last),
-    /// A page fault that is reported as an event.
-    Unfit(Message),
     Unprotected(Addr),
     Zeroed(Addr),
-    Woke(Addr),
-    Forgot(Addr),
     /// The page of the source, and where it is needed.
     Requested(Addr, Addr),
     /// How many pages are to be discarded, and how many are owed.
@@ -73,76 +69,81 @@ pub enum Answer {
 }
 
 impl Answer {
-    pub fn of(outcome: Result<Effect, Refusal>) -> Self {
-        match outcome {
-            Ok(effect) => of_processor(effect),
-            Err(refusal) => Answer::Refused(refusal),
+    /// The outcome of the step that has this answer. None for what a look shows.
+    pub fn outcome(self) -> Option<Result<Effect, Refusal>> {
+        match self {
+            Answer::Refused(refusal) => Some(Err(refusal)),
+            answer => match of_processor(answer) {
+                Some(effect) => Some(Ok(effect)),
+                None => None,
+            },
         }
     }
 }
 
-/// The answer for a step of a processor or a handler.
-fn of_processor(effect: Effect) -> Answer {
-    match effect {
-        Effect::Answered { cpu, reply } => Answer::Replied(cpu, reply),
-        Effect::Asleep { cpu } => Answer::Asleep(cpu),
-        Effect::InCall { cpu, messages } => Answer::InCall(cpu, messages),
-        Effect::ReadFault { addr, wp: false } => Answer::ReadMissing(addr),
-        Effect::ReadFault { addr, wp: true } => Answer::ReadProtected(addr),
-        Effect::ReadEvent { event } => of_event(event, None),
-        Effect::ReadLast { event, cpu, reply } => of_event(event, Some((cpu, reply))),
-        Effect::Unprotected { addr } => Answer::Unprotected(addr),
-        Effect::Zeroed { addr } => Answer::Zeroed(addr),
-        Effect::Woke { addr } => Answer::Woke(addr),
-        Effect::Forgot { addr } => Answer::Forgot(addr),
-        Effect::Requested { origin, addr } => Answer::Requested(origin, addr),
-        Effect::Installed { addr, origin } => Answer::Installed(addr, origin),
-        Effect::Dropped { origin } => Answer::Dropped(origin),
-        _ => of_source(effect),
+/// The effect of a step of a processor or a handler.
+fn of_processor(answer: Answer) -> Option<Effect> {
+    match answer {
+        Answer::Replied(cpu, reply) => Some(Effect::Answered { cpu, reply }),
+        Answer::Asleep(cpu) => Some(Effect::Asleep { cpu }),
+        Answer::InCall(cpu, messages) => Some(Effect::InCall { cpu, messages }),
+        Answer::ReadMissing(addr) => Some(Effect::ReadFault { addr, wp: false }),
+        Answer::ReadProtected(addr) => Some(Effect::ReadFault { addr, wp: true }),
+        Answer::ReadRemap(from, to, len, last) => Some(read(
+            Message::Remap { from, to, len },
+            last,
+        )),
+        Answer::ReadRemove(start, end, last) => Some(read(Message::Remove { start, end }, last)),
+        Answer::ReadUnmap(start, end, last) => Some(read(Message::Unmap { start, end }, last)),
+        Answer::Unprotected(addr) => Some(Effect::Unprotected { addr }),
+        Answer::Zeroed(addr) => Some(Effect::Zeroed { addr }),
+        Answer::Requested(origin, addr) => Some(Effect::Requested { origin, addr }),
+        Answer::Installed(addr, origin) => Some(Effect::Installed { addr, origin }),
+        Answer::Dropped(origin) => Some(Effect::Dropped { origin }),
+        _ => of_source(answer),
     }
 }
 
-fn of_event(event: Message, last: Last) -> Answer {
-    match event {
-        Message::Remap { from, to, len } => Answer::ReadRemap(from, to, len, last),
-        Message::Remove { start, end } => Answer::ReadRemove(start, end, last),
-        Message::Unmap { start, end } => Answer::ReadUnmap(start, end, last),
-        Message::PageFault { .. } => Answer::Unfit(event),
+fn read(event: Message, last: Last) -> Effect {
+    match last {
+        Some((cpu, reply)) => Effect::ReadLast { event, cpu, reply },
+        None => Effect::ReadEvent { event },
     }
 }
 
 /// What the source did, or the link.
-fn of_source(effect: Effect) -> Answer {
-    match effect {
-        Effect::Started { epoch } => Answer::Started(epoch),
-        Effect::RoundMade { round, todo } => Answer::RoundMade(round, todo),
-        Effect::SentPage { addr } => Answer::SentPage(addr),
-        Effect::SentZero { addr } => Answer::SentZero(addr),
-        Effect::SentRun { addr, pages } => Answer::SentRun(addr, pages),
-        Effect::Switched { discard, owed } => Answer::Switched(discard, owed),
-        Effect::Asked { addr } => Answer::Asked(addr),
-        Effect::EndSent => Answer::EndSent,
-        Effect::Broken => Answer::Broken,
-        Effect::Noticed { side } => Answer::Noticed(side),
-        Effect::Resumed { epoch } => Answer::Resumed(epoch),
-        Effect::Moved { bytes } => Answer::Moved(bytes),
-        _ => of_frame(effect),
+fn of_source(answer: Answer) -> Option<Effect> {
+    match answer {
+        Answer::Started(epoch) => Some(Effect::Started { epoch }),
+        Answer::RoundMade(round, todo) => Some(Effect::RoundMade { round, todo }),
+        Answer::SentPage(addr) => Some(Effect::SentPage { addr }),
+        Answer::SentZero(addr) => Some(Effect::SentZero { addr }),
+        Answer::SentRun(addr, pages) => Some(Effect::SentRun { addr, pages }),
+        Answer::Switched(discard, owed) => Some(Effect::Switched { discard, owed }),
+        Answer::Asked(addr) => Some(Effect::Asked { addr }),
+        Answer::EndSent => Some(Effect::EndSent),
+        Answer::Broken => Some(Effect::Broken),
+        Answer::Noticed(side) => Some(Effect::Noticed { side }),
+        Answer::Resumed(epoch) => Some(Effect::Resumed { epoch }),
+        Answer::Moved(bytes) => Some(Effect::Moved { bytes }),
+        _ => of_frame(answer),
     }
 }
 
 /// The frame that a node took.
-fn of_frame(effect: Effect) -> Answer {
-    match effect {
-        Effect::TookAdvise => Answer::TookAdvise,
-        Effect::TookPage { addr } => Answer::TookPage(addr),
-        Effect::TookZero { addr } => Answer::TookZero(addr),
-        Effect::TookRun { addr, pages } => Answer::TookRun(addr, pages),
-        Effect::TookDiscard { pages } => Answer::TookDiscard(pages),
-        Effect::TookPackage { owed } => Answer::TookPackage(owed),
-        Effect::TookEnd => Answer::TookEnd,
-        Effect::TookResume => Answer::TookResume,
-        Effect::TookRequest { addr } => Answer::TookRequest(addr),
-        Effect::TookRecv { state, pages } => Answer::TookRecv(state, pages),
-        _ => Answer::TookDone,
+fn of_frame(answer: Answer) -> Option<Effect> {
+    match answer {
+        Answer::TookAdvise => Some(Effect::TookAdvise),
+        Answer::TookPage(addr) => Some(Effect::TookPage { addr }),
+        Answer::TookZero(addr) => Some(Effect::TookZero { addr }),
+        Answer::TookRun(addr, pages) => Some(Effect::TookRun { addr, pages }),
+        Answer::TookDiscard(pages) => Some(Effect::TookDiscard { pages }),
+        Answer::TookPackage(owed) => Some(Effect::TookPackage { owed }),
+        Answer::TookEnd => Some(Effect::TookEnd),
+        Answer::TookResume => Some(Effect::TookResume),
+        Answer::TookRequest(addr) => Some(Effect::TookRequest { addr }),
+        Answer::TookRecv(state, pages) => Some(Effect::TookRecv { state, pages }),
+        Answer::TookDone => Some(Effect::TookDone),
+        _ => None,
     }
 }

@@ -11,23 +11,14 @@ use crate::calls::Call::{
     Progress, Push, PushFor, Remaining, Resume, Retry, Round, Send, SendRun, Source, SourceAct,
     SourceRead, Start, Store, Switch,
 };
-use crate::openings::{NOTHING, OWED, RESUMED, SENT};
-use crate::play::{Behind, Row, on_world};
+use crate::openings::{OWED, RESUMED, SENT};
+use crate::play::{Row, play_new};
 use mig_base::Reply::{At, Done, Value};
 use mig_base::cpu_state::CpuState;
 use mig_base::phase::{Received, SourcePhase};
 use mig_base::refusal::Refusal;
 use mig_base::schedule::Side;
 use mig_base::{Command, WorldPhase};
-use std::alloc::Global;
-use std::process::Abort;
-
-/// Plays an opening, what happens up to a break, how both sides continue, and what follows.
-fn play_broken(rt: &impl Abort, alloc: Global, table: &str, parts: (&[Row], &[Row], &[Row])) {
-    let parts = (parts.0, parts.1, RESUMED.as_slice(), parts.2);
-    let told = on_world(rt, alloc, (2, 0, 0), table, parts, Behind::Nothing);
-    assert!(rt; told == Ok(true), "no world for {table}");
-}
 
 /// While a round is sent. The guest runs on, and a page that was sent stays protected.
 static IN_A_ROUND: [Row; 8] = [
@@ -121,14 +112,10 @@ static TWICE: [Row; 8] = [
 
 #[test]
 fn breaks_of_the_channel(rt: HostRuntime) {
-    let in_a_round = (
-        SENT.as_slice(),
-        IN_A_ROUND.as_slice(),
-        A_NEW_ROUND.as_slice(),
-    );
-    play_broken(&rt, rt.alloc(), "in a round", in_a_round);
-    let discarded = (NOTHING.as_slice(), DISCARDED.as_slice(), WOKEN.as_slice());
-    play_broken(&rt, rt.alloc(), "discarded", discarded);
-    let twice = (OWED.as_slice(), BREAKS.as_slice(), TWICE.as_slice());
-    play_broken(&rt, rt.alloc(), "twice", twice);
+    let in_a_round: [&[Row]; 4] = [&SENT, &IN_A_ROUND, &RESUMED, &A_NEW_ROUND];
+    play_new(&rt, rt.alloc(), "in a round", &in_a_round);
+    let discarded: [&[Row]; 3] = [&DISCARDED, &RESUMED, &WOKEN];
+    play_new(&rt, rt.alloc(), "discarded", &discarded);
+    let twice: [&[Row]; 4] = [&OWED, &BREAKS, &RESUMED, &TWICE];
+    play_new(&rt, rt.alloc(), "twice", &twice);
 }

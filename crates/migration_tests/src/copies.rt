@@ -11,8 +11,8 @@ use crate::calls::Call::{
     Progress, Push, PushUrgent, Remaining, Resume, Retry, Serve, Source, SourceAct, SourceRead,
     Store, Switch, Transcript,
 };
-use crate::openings::{NOTHING, OWED_THREE, SENT};
-use crate::play::{Behind, Parts, Row, on_world, play};
+use crate::openings::{OWED_THREE, SENT};
+use crate::play::{Behind, Parts, Row, Ways, on_world, play};
 use mig_base::Reply::{Done, Value};
 use mig_base::cpu_state::CpuState;
 use mig_base::phase::{Received, SourcePhase};
@@ -31,7 +31,7 @@ fn copy_of(world: &World) -> Result<World, NoMemory> {
 }
 
 /// Plays what both show at first, how the copy continues, how the world continues, and what the copy shows then.
-fn play_both(rt: &impl Abort, world: &mut World, copy: &mut World, ways: Parts) {
+fn play_both(rt: &impl Abort, world: &mut World, copy: &mut World, ways: Ways) {
     play(rt, copy, "the copy at first", ways.0);
     play(rt, copy, "the copy goes on", ways.1);
     play(rt, world, "the world at first", ways.0);
@@ -40,7 +40,7 @@ fn play_both(rt: &impl Abort, world: &mut World, copy: &mut World, ways: Parts) 
 }
 
 /// Copies a world, and plays on both. Whether memory was found for the copy.
-pub fn play_copied(rt: &impl Abort, world: &mut World, ways: Parts) -> bool {
+pub fn play_copied(rt: &impl Abort, world: &mut World, ways: Ways) -> bool {
     let Ok(mut copy) = copy_of(world) else {
         return false;
     };
@@ -162,32 +162,17 @@ static STORED_THERE: [Row; 2] = [
 ];
 
 /// Plays on a world up to its copy, and then on both.
-fn copy_behind(
-    rt: &impl Abort,
-    alloc: Global,
-    table: &str,
-    parts: (&[Row], &[Row]),
-    ways: Parts<'static>,
-) {
-    let parts = (parts.0, parts.1, NOTHING.as_slice(), NOTHING.as_slice());
+fn copy_behind(rt: &impl Abort, alloc: Global, table: &str, parts: Parts, ways: Ways<'static>) {
     let told = on_world(rt, alloc, (2, 0, 0), table, parts, Behind::Copied(ways));
     assert!(rt; told == Ok(true), "no world for {table}");
 }
 
 #[test]
 fn copies_go_on_in_two_ways(rt: HostRuntime) {
-    copy_behind(
-        &rt,
-        rt.alloc(),
-        "midway",
-        (&OWED_THREE, &MIDWAY),
-        (&AT_FIRST, &BROKEN, &COMPLETED, &STILL_OWED),
-    );
-    copy_behind(
-        &rt,
-        rt.alloc(),
-        "held",
-        (&SENT, &HELD),
-        (&HELD_AT_FIRST, &MOVED_FIRST, &STORED_FIRST, &STORED_THERE),
-    );
+    let parts: [&[Row]; 2] = [&OWED_THREE, &MIDWAY];
+    let ways: Ways = (&AT_FIRST, &BROKEN, &COMPLETED, &STILL_OWED);
+    copy_behind(&rt, rt.alloc(), "midway", &parts, ways);
+    let parts: [&[Row]; 2] = [&SENT, &HELD];
+    let ways: Ways = (&HELD_AT_FIRST, &MOVED_FIRST, &STORED_FIRST, &STORED_THERE);
+    copy_behind(&rt, rt.alloc(), "held", &parts, ways);
 }

@@ -9,7 +9,6 @@ use crate::calls::Call::{
     Back, Break, Cpu, Deliver, DestAct, DestRead, End, Install, Load, Map, Notice, Progress, Push,
     Resume, Retry, Round, Send, Source, Start, Store, Switch, Transcript,
 };
-use crate::openings::NOTHING;
 use crate::play::{Behind, Row, on_world, play, play_behind};
 use mig_base::Reply::{At, Done, Value};
 use mig_base::cpu_state::CpuState;
@@ -23,16 +22,8 @@ use world::World;
 
 /// Plays a table on a world of one processor whose counts of epochs and of rounds stand at these.
 fn play_at(rt: &impl Abort, alloc: Global, counts: (u32, u32), rows: &[Row]) {
-    let none = NOTHING.as_slice();
     let new = (1, counts.0, counts.1);
-    let told = on_world(
-        rt,
-        alloc,
-        new,
-        "counts",
-        (rows, none, none, none),
-        Behind::Nothing,
-    );
+    let told = on_world(rt, alloc, new, "counts", &[rows], Behind::Nothing);
     assert!(rt; told == Ok(true));
 }
 
@@ -81,18 +72,19 @@ fn the_greatest_counts(rt: HostRuntime) {
     play_at(&rt, rt.alloc(), (6, 5), &FURTHER);
 }
 
+/// A world has this number of processors, or it is not made.
+fn has_processors(rt: &impl Abort, alloc: Global, cpus: u8, wanted: Result<bool, Refusal>) {
+    let told = play_behind(rt, alloc, cpus, Behind::Nothing);
+    assert!(rt; told == wanted, "{cpus} processors");
+}
+
 #[test]
 fn counts_of_processors(rt: HostRuntime) {
-    for (cpus, wanted) in [
-        (0, Err(Refusal::NoCpu)),
-        (1, Ok(true)),
-        (16, Ok(true)),
-        (17, Err(Refusal::NoCpu)),
-        (255, Err(Refusal::NoCpu)),
-    ] {
-        let told = play_behind(&rt, rt.alloc(), cpus, Behind::Nothing);
-        assert!(rt; told == wanted, "{cpus} processors");
-    }
+    has_processors(&rt, rt.alloc(), 0, Err(Refusal::NoCpu));
+    has_processors(&rt, rt.alloc(), 1, Ok(true));
+    has_processors(&rt, rt.alloc(), 16, Ok(true));
+    has_processors(&rt, rt.alloc(), 17, Err(Refusal::NoCpu));
+    has_processors(&rt, rt.alloc(), 255, Err(Refusal::NoCpu));
 }
 
 /// Each of 16 processors loads from a page, and sleeps.

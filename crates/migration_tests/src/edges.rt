@@ -1,11 +1,19 @@
 //! What no script reaches: the last epoch, an allocation that is refused, and what waits in a world.
 
+use crate::answers::Answer::{
+    Asleep, Broken, Noticed, ReadProtected, Replied, RoundMade, SentPage, Started, Switched,
+    Unprotected,
+};
+use crate::calls::Call::{
+    Break, Map, Notice, Round, Send, SourceAct, SourceRead, Start, Store, Switch,
+};
+use crate::play::{Behind, Row, on_world, play};
 use finish::{finish, next_to_finish};
-use mig_base::effect::Effect;
+use mig_base::Reply::{At, Done};
+use mig_base::WorldPhase;
 use mig_base::phase::{DestPhase, SourcePhase};
 use mig_base::refusal::Refusal;
 use mig_base::schedule::{Side, Step};
-use mig_base::{Command, Place, Prot, WorldPhase};
 use std::alloc::Global;
 use std::process::Abort;
 use world::World;
@@ -13,68 +21,41 @@ use world::World;
 /// The last epoch.
 const LAST: u32 = u32::MAX;
 
-/// A world of one processor, whose epoch stands at this number. Made again where memory was refused.
-fn new_world(alloc: Global, epoch: u32) -> Option<World> {
-    match World::with_counts(alloc, 1, epoch, 0) {
-        Ok(world) => Some(world),
-        Err(_) => World::with_counts(alloc, 1, epoch, 0).ok(),
-    }
+/// What is looked at by itself.
+#[derive(Clone, Copy)]
+pub enum Edge {
+    /// A start in the last epoch is not due.
+    Start,
+    /// Nor is a resumption.
+    Resume,
+    /// A migration is finished after memory was refused.
+    Finish,
+    /// What waits in a world.
+    Waits,
 }
 
-/// Makes a step, once more where memory was refused.
-fn make(world: &mut World, step: Step) -> Result<Effect, Refusal> {
-    match world.step(step) {
-        Err(Refusal::NoMemory) => world.step(step),
-        made => made,
-    }
-}
+static BREAK: [Row; 2] = [(Start, Started(LAST)), (Break, Broken)];
 
-/// Makes a step that has to be accepted.
-fn must(rt: &impl Abort, world: &mut World, step: Step) {
-    assert!(rt; make(world, step).is_ok(), "a step is refused");
-}
+static NOTICED: [Row; 2] = [
+    (Notice(Side::Source), Noticed(Side::Source)),
+    (Notice(Side::Destination), Noticed(Side::Destination)),
+];
 
-/// One page is mapped, stored to and sent, and stored to again once its fault is resolved.
-fn store_twice(rt: &impl Abort, world: &mut World) {
-    let addr = 0x10000;
-    let map = Command::Mmap {
-        addr_len: 4096,
-        prot: Prot::ReadWrite,
-        place: Place::Fixed(addr),
-    };
-    let store = Command::Store {
-        addr,
-        width: 8,
-        value: 7,
-    };
-    must(
-        rt,
-        world,
-        Step::Issue {
-            cpu: 0,
-            command: map,
-        },
-    );
-    must(
-        rt,
-        world,
-        Step::Issue {
-            cpu: 0,
-            command: store,
-        },
-    );
-    must(rt, world, Step::Start);
-    must(rt, world, Step::Round);
-    must(rt, world, Step::Send);
-    must(
-        rt,
-        world,
-        Step::Issue {
-            cpu: 0,
-            command: store,
-        },
-    );
-}
+/// One page is mapped, stored to and sent, and stored to again.
+static STORED_TWICE: [Row; 6] = [
+    (Map(0, 4096), Replied(0, At(0x10000))),
+    (Store(0, 0x10000, 8, 7), Replied(0, Done)),
+    (Start, Started(1)),
+    (Round, RoundMade(1, 1)),
+    (Send, SentPage(0x10000)),
+    (Store(0, 0x10000, 8, 7), Asleep(0)),
+];
+
+static READ: [Row; 1] = [(SourceRead, ReadProtected(0x10000))];
+
+static ACTED: [Row; 1] = [(SourceAct, Unprotected(0x10000))];
+
+static SWITCHED: [Row; 1] = [(Switch, Switched(1, 1))];
 
 /// How many pages are dirty, asked once more where memory was refused.
 fn dirty(world: &World) -> Option<u32> {
@@ -84,93 +65,107 @@ fn dirty(world: &World) -> Option<u32> {
     }
 }
 
+/// Stops unless the count of epochs is used where a migration is finished.
+fn is_used(rt: &impl Abort, alloc: Global, world: &mut World) {
+    let is_used = finish(world, alloc).err() == Some(Refusal::CountUsed);
+    assert!(rt; is_used, "finished");
+}
+
+fn none_is_due(rt: &impl Abort, world: &World) {
+    assert!(rt; next_to_finish(world).is_none(), "a step is due");
+}
+
+fn no_start(rt: &impl Abort, alloc: Global, world: &mut World) {
+    none_is_due(rt, world);
+    is_used(rt, alloc, world);
+    let refused = world.would(Step::Start);
+    assert!(rt; refused == Err(Refusal::CountUsed), "would start");
+    assert!(rt; world.phase() == WorldPhase::Idle, "changed");
+}
+
+fn no_resume(rt: &impl Abort, alloc: Global, world: &mut World) {
+    play(rt, world, "break", &BREAK);
+    let due = next_to_finish(world);
+    assert!(rt; due == Some(Step::Notice(Side::Source)), "not noticed");
+    is_used(rt, alloc, world);
+    let is_up = world.source_phase() == SourcePhase::Precopy;
+    assert!(rt; is_up, "the source has noticed");
+    play(rt, world, "noticed", &NOTICED);
+    let is_paused = world.destination_phase() == DestPhase::Paused && !world.is_up();
+    assert!(rt; is_paused, "not paused");
+    none_is_due(rt, world);
+}
+
+fn finish_again(rt: &impl Abort, alloc: Global, world: &mut World) {
+    play(rt, world, "stored twice", &STORED_TWICE);
+    let is_finished = finish(world, alloc).is_ok() || finish(world, alloc).is_ok();
+    assert!(rt;
+        is_finished && world.phase() == WorldPhase::Complete,
+        "not finished"
+    );
+    none_is_due(rt, world);
+}
+
+/// What waits once the store sleeps.
+fn fault_waits(rt: &impl Abort, world: &World) {
+    assert!(rt; dirty(world) == Some(0), "the sent page is dirty");
+    let waits = world.source_message().is_some() && world.source_events() == 0;
+    assert!(rt; waits, "no fault waits");
+}
+
+/// What waits after the switch.
+fn pages_wait(rt: &impl Abort, world: &World) {
+    let waits = !world.has_sent_end() && world.would(Step::End) == Err(Refusal::PagesLeft);
+    assert!(rt; waits, "End");
+    let none = world.arrivals() == 0 && world.asked() == 0 && world.requests().is_empty();
+    assert!(rt; none, "waits");
+}
+
+fn what_waits(rt: &impl Abort, world: &mut World) {
+    play(rt, world, "stored twice", &STORED_TWICE);
+    fault_waits(rt, world);
+    play(rt, world, "read", &READ);
+    assert!(rt; world.source_held() == 1, "no fault is held");
+    play(rt, world, "acted", &ACTED);
+    assert!(rt;
+        dirty(world) == Some(1),
+        "the page that may be written is clean"
+    );
+    play(rt, world, "switched", &SWITCHED);
+    pages_wait(rt, world);
+}
+
+pub fn play_edge(rt: &impl Abort, alloc: Global, world: &mut World, edge: Edge) {
+    match edge {
+        Edge::Start => no_start(rt, alloc, world),
+        Edge::Resume => no_resume(rt, alloc, world),
+        Edge::Finish => finish_again(rt, alloc, world),
+        Edge::Waits => what_waits(rt, world),
+    }
+}
+
+/// Looks at a world of one processor, whose epoch stands at this number.
+fn look(rt: &impl Abort, alloc: Global, epoch: u32, edge: Edge) {
+    let told = on_world(rt, alloc, (1, epoch, 0), "edge", &[], Behind::Edge(edge));
+    assert!(rt; told == Ok(true), "no world");
+}
+
 #[test]
 fn a_start_in_the_last_epoch_is_not_due(rt: HostRuntime) {
-    let Some(mut world) = new_world(rt.alloc(), LAST) else {
-        return;
-    };
-    assert!(&rt; next_to_finish(&world).is_none(), "a step is due");
-    assert!(&rt;
-        finish(&mut world, rt.alloc()).err() == Some(Refusal::CountUsed),
-        "finished"
-    );
-    assert!(&rt;
-        world.would(Step::Start) == Err(Refusal::CountUsed),
-        "would start"
-    );
-    assert!(&rt; world.phase() == WorldPhase::Idle, "changed");
+    look(&rt, rt.alloc(), LAST, Edge::Start);
 }
 
 #[test]
 fn a_resume_in_the_last_epoch_is_not_due(rt: HostRuntime) {
-    let Some(mut world) = new_world(rt.alloc(), LAST - 1) else {
-        return;
-    };
-    must(&rt, &mut world, Step::Start);
-    must(&rt, &mut world, Step::Break);
-    assert!(&rt;
-        next_to_finish(&world) == Some(Step::Notice(Side::Source)),
-        "not noticed"
-    );
-    assert!(&rt;
-        finish(&mut world, rt.alloc()).err() == Some(Refusal::CountUsed),
-        "finished"
-    );
-    assert!(&rt;
-        world.source_phase() == SourcePhase::Precopy,
-        "the source has noticed"
-    );
-    must(&rt, &mut world, Step::Notice(Side::Source));
-    must(&rt, &mut world, Step::Notice(Side::Destination));
-    assert!(&rt;
-        world.destination_phase() == DestPhase::Paused && !world.is_up(),
-        "not paused"
-    );
-    assert!(&rt; next_to_finish(&world).is_none(), "a step is due");
+    look(&rt, rt.alloc(), LAST - 1, Edge::Resume);
 }
 
 #[test]
 fn finish_goes_on_after_memory_was_refused(rt: HostRuntime) {
-    let Some(mut world) = new_world(rt.alloc(), 0) else {
-        return;
-    };
-    store_twice(&rt, &mut world);
-    let mut finished = finish(&mut world, rt.alloc()).is_ok();
-    if !finished {
-        finished = finish(&mut world, rt.alloc()).is_ok();
-    }
-    assert!(&rt;
-        finished && world.phase() == WorldPhase::Complete,
-        "not finished"
-    );
-    assert!(&rt; next_to_finish(&world).is_none(), "a step is due");
+    look(&rt, rt.alloc(), 0, Edge::Finish);
 }
 
 #[test]
 fn what_waits_is_told(rt: HostRuntime) {
-    let Some(mut world) = new_world(rt.alloc(), 0) else {
-        return;
-    };
-    store_twice(&rt, &mut world);
-    assert!(&rt; dirty(&world) == Some(0), "the sent page is dirty");
-    assert!(&rt;
-        world.source_message().is_some() && world.source_events() == 0,
-        "no fault waits"
-    );
-    must(&rt, &mut world, Step::SourceRead);
-    assert!(&rt; world.source_held() == 1, "no fault is held");
-    must(&rt, &mut world, Step::SourceAct);
-    assert!(&rt;
-        dirty(&world) == Some(1),
-        "the page that may be written is clean"
-    );
-    must(&rt, &mut world, Step::Switch);
-    assert!(&rt;
-        !world.has_sent_end() && world.would(Step::End) == Err(Refusal::PagesLeft),
-        "End"
-    );
-    assert!(&rt;
-        world.arrivals() == 0 && world.asked() == 0 && world.requests().is_empty(),
-        "waits"
-    );
+    look(&rt, rt.alloc(), 0, Edge::Waits);
 }

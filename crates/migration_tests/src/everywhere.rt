@@ -3,13 +3,13 @@
 //! A story is played up to each of its rows. Then the channel breaks, both nodes continue, and the migration is led to its completion by
 //! steps of the nodes alone. In the end the guest loads from each page, and its transcript is checked.
 
-use crate::answers::Answer;
 use crate::answers::Answer::{Broken, Noticed, Refused, Resumed, TookResume};
 use crate::calls::Call::{Break, Deliver, Notice, Resume};
-use crate::openings::{NOTHING, OWED, OWED_THREE, SENT};
+use crate::openings::{OWED, OWED_THREE, SENT};
 use crate::play::{Behind, Row, make, on_world, play};
 use crate::scenes::{ASKED_FOR, MOVED, UNMAPPED, URGENT};
 use mig_base::cpu_state::CpuState;
+use mig_base::effect::Effect;
 use mig_base::refusal::Refusal;
 use mig_base::schedule::{Side, Step, Ticket};
 use mig_base::{Command, WorldPhase};
@@ -20,7 +20,7 @@ use std::process::Abort;
 use world::World;
 
 /// When the channel breaks a second time.
-#[derive(Clone, Copy, Debug)]
+#[derive(Clone, Copy)]
 pub enum Again {
     Never,
     /// While the Resume is in flight.
@@ -29,6 +29,17 @@ pub enum Again {
     BeforeRecv,
     /// Once the source has taken the Recv.
     AfterRecv,
+}
+
+impl Again {
+    fn name(self) -> &'static str {
+        match self {
+            Again::Never => "once",
+            Again::BeforeResume => "before the Resume",
+            Again::BeforeRecv => "before the Recv",
+            Again::AfterRecv => "after the Recv",
+        }
+    }
 }
 
 /// Before a migration begins, and once it is complete.
@@ -72,11 +83,9 @@ static AFTER_RECV: [Row; 5] = [
 
 /// The source takes the Recv, whatever it says.
 fn take_recv(rt: &impl Abort, world: &mut World) {
-    let answer = make(rt, world, Step::DeliverBack { n: u64::MAX }, 0);
-    assert!(rt;
-        matches!(answer, Answer::TookRecv(_, _)),
-        "another answer to the Recv"
-    );
+    let (outcome, _) = make(rt, world, Step::DeliverBack { n: u64::MAX }, 0);
+    let is_recv = matches!(outcome, Ok(Effect::TookRecv { .. }));
+    assert!(rt; is_recv, "another answer to the Recv");
 }
 
 /// The channel breaks, once or twice, and both nodes continue.
@@ -86,7 +95,7 @@ fn recover(rt: &impl Abort, world: &mut World, again: Again) {
         Again::Never | Again::AfterRecv => play(rt, world, "not again", &NOT_AGAIN),
         Again::BeforeResume => play(rt, world, "before the Resume", &BEFORE_RESUME),
         Again::BeforeRecv => play(rt, world, "before the Recv", &BEFORE_RECV),
-    }
+    };
     take_recv(rt, world);
     if matches!(again, Again::AfterRecv) && world.phase() != WorldPhase::Complete {
         play(rt, world, "after the Recv", &AFTER_RECV);
@@ -97,7 +106,7 @@ fn recover(rt: &impl Abort, world: &mut World, again: Again) {
 /// Makes the first of some steps that is not refused. Whether there is one.
 fn make_first(rt: &impl Abort, world: &mut World, steps: &[Step]) -> bool {
     for (i, step) in steps.iter().enumerate() {
-        if !matches!(make(rt, world, *step, i), Refused(_)) {
+        if make(rt, world, *step, i).0.is_ok() {
             return true;
         }
     }
@@ -162,11 +171,8 @@ fn load_all(rt: &impl Abort, world: &mut World) {
     answer_all(rt, world);
     for addr in [0x10000, 0x11000, 0x12000, 0x20000] {
         let command = Command::Load { addr, width: 8 };
-        let answer = make(rt, world, Step::Issue { cpu: 0, command }, 0);
-        assert!(rt;
-            !matches!(answer, Refused(_)),
-            "a load at {addr:#x} is refused"
-        );
+        let (outcome, _) = make(rt, world, Step::Issue { cpu: 0, command }, 0);
+        assert!(rt; outcome.is_ok(), "a load at {addr:#x} is refused");
         answer_all(rt, world);
     }
 }
@@ -182,29 +188,26 @@ fn checked(alloc: Global, world: &World) -> Result<(), CheckFault> {
 /// The channel breaks, and the migration continues to its completion.
 pub fn break_and_complete(rt: &impl Abort, alloc: Global, world: &mut World, again: Again) {
     if matches!(world.phase(), WorldPhase::Idle | WorldPhase::Complete) {
-        return play(rt, world, "no break", &NO_BREAK);
+        play(rt, world, "no break", &NO_BREAK);
+        return;
     }
     recover(rt, world, again);
     complete(rt, world);
     load_all(rt, world);
-    assert!(rt;
-        checked(alloc, world) == Ok(()),
-        "another reply, broken {again:?}"
-    );
+    let is_flat = checked(alloc, world) == Ok(());
+    assert!(rt; is_flat, "another reply, broken {}", again.name());
 }
 
 /// Plays the front of a story, and then breaks the channel once and twice.
 fn break_behind(rt: &impl Abort, alloc: Global, table: &str, opening: &[Row], rows: &[Row]) {
-    let none = NOTHING.as_slice();
     for again in [
         Again::Never,
         Again::BeforeResume,
         Again::BeforeRecv,
         Again::AfterRecv,
     ] {
-        let parts = (opening, rows, none, none);
         let behind = Behind::Broken(again);
-        let told = on_world(rt, alloc, (2, 0, 0), table, parts, behind);
+        let told = on_world(rt, alloc, (2, 0, 0), table, &[opening, rows], behind);
         assert!(rt; told == Ok(true), "no world for {table}");
     }
 }
@@ -212,7 +215,7 @@ fn break_behind(rt: &impl Abort, alloc: Global, table: &str, opening: &[Row], ro
 /// Breaks the channel after each row of an opening.
 fn break_opening(rt: &impl Abort, alloc: Global, table: &str, opening: &[Row]) {
     for end in 0..opening.len() {
-        break_behind(rt, alloc, table, &opening[..end], NOTHING.as_slice());
+        break_behind(rt, alloc, table, &opening[..end], &[]);
     }
 }
 

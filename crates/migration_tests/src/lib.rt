@@ -32,6 +32,4 @@ mod refusals;
 #[cfg(test)]
 mod runs;
 #[cfg(test)]
-mod same;
-#[cfg(test)]
 mod scenes;

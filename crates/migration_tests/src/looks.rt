@@ -9,7 +9,7 @@ use crate::calls::Call::{
     Break, Cpu, Deliver, DeliverUrgent, DestAct, DestRead, Load, Map, Notice, Progress, Push,
     PushUrgent, Remaining, Retry, Round, Send, Source, Start, Store, Switch,
 };
-use crate::openings::{NOTHING, OWED, OWED_THREE, STARTED};
+use crate::openings::{OWED, OWED_THREE, STARTED};
 use crate::play::{Row, play_new};
 use mig_base::Reply::{At, Done, Value};
 use mig_base::cpu_state::CpuState;
@@ -87,9 +87,9 @@ static ZEROS: [Row; 16] = [
 
 #[test]
 fn what_a_caller_sees(rt: HostRuntime) {
-    play_new(&rt, rt.alloc(), "at first", &NOTHING, &AT_FIRST);
-    play_new(&rt, rt.alloc(), "stopped", &OWED, &STOPPED);
-    play_new(&rt, rt.alloc(), "pushed", &OWED_THREE, &PUSHED);
-    play_new(&rt, rt.alloc(), "asleep", &NOTHING, &ASLEEP);
-    play_new(&rt, rt.alloc(), "zeros", &STARTED, &ZEROS);
+    play_new(&rt, rt.alloc(), "at first", &[&AT_FIRST]);
+    play_new(&rt, rt.alloc(), "stopped", &[&OWED, &STOPPED]);
+    play_new(&rt, rt.alloc(), "pushed", &[&OWED_THREE, &PUSHED]);
+    play_new(&rt, rt.alloc(), "asleep", &[&ASLEEP]);
+    play_new(&rt, rt.alloc(), "zeros", &[&STARTED, &ZEROS]);
 }

@@ -10,9 +10,6 @@ use mig_base::Reply::{At, Done};
 use mig_base::refusal::Refusal;
 use mig_base::schedule::Side;
 
-/// Nothing happens.
-pub static NOTHING: [Row; 0] = [];
-
 /// One page with a one, and a migration that has begun.
 pub static STARTED: [Row; 3] = [
     (Map(0, 4096), Replied(0, At(0x10000))),

@@ -4,13 +4,13 @@ use crate::answers::Answer;
 use crate::calls::{Call, step_of};
 use crate::copies::play_copied;
 use crate::counts::play_many;
+use crate::edges::{Edge, play_edge};
 use crate::everywhere::{Again, break_and_complete};
-use crate::openings::NOTHING;
 use crate::runs::{play_longest, run_all, run_three};
-use crate::same::same;
 use mig_base::WorldPhase;
 use mig_base::counts::Counts;
 use mig_base::cpu_state::CpuState;
+use mig_base::effect::Effect;
 use mig_base::phase::SourcePhase;
 use mig_base::refusal::Refusal;
 use mig_base::schedule::Step;
@@ -22,7 +22,10 @@ use world::World;
 pub type Row = (Call, Answer);
 
 /// Tables that are played one after the other.
-pub type Parts<'a> = (&'a [Row], &'a [Row], &'a [Row], &'a [Row]);
+pub type Parts<'a> = &'a [&'a [Row]];
+
+/// What both show at first, what happens to a copy, what happens to the world, and what the copy shows then.
+pub type Ways<'a> = (&'a [Row], &'a [Row], &'a [Row], &'a [Row]);
 
 /// What a refused step has to leave.
 #[derive(Clone, Copy, PartialEq, Eq)]
@@ -52,63 +55,91 @@ impl Picture {
     }
 }
 
-/// Makes a step. One that is refused changes nothing, and where memory is refused it is made again.
-pub fn make(rt: &impl Abort, world: &mut World, step: Step, i: usize) -> Answer {
+/// Makes a step, and again where memory was refused. What comes of it, and how often memory was refused. A step that is refused changes
+/// nothing.
+pub fn make(
+    rt: &impl Abort,
+    world: &mut World,
+    step: Step,
+    i: usize,
+) -> (Result<Effect, Refusal>, u32) {
     let before = Picture::of(world);
-    let mut outcome = world.step(step);
+    let outcome = world.step(step);
     if outcome.is_err() {
-        same(rt, &Picture::of(world), &before, "refused step", i);
+        assert!(rt; Picture::of(world) == before, "refused step {i}");
     }
-    if outcome == Err(Refusal::NoMemory) {
-        outcome = world.step(step);
+    if outcome != Err(Refusal::NoMemory) {
+        return (outcome, 0);
     }
-    Answer::of(outcome)
+    (world.step(step), 1)
 }
 
-fn progress(world: &World) -> Answer {
+fn counts(world: &World) -> [u64; 6] {
     let counts = world.counts();
-    Answer::Stands(
-        world.phase(),
-        [
-            u64::from(counts.rounds),
-            counts.sent,
-            u64::from(world.owed_left()),
-            counts.installed,
-            counts.dropped,
-            counts.faults,
-        ],
-    )
+    [
+        u64::from(counts.rounds),
+        counts.sent,
+        u64::from(world.owed_left()),
+        counts.installed,
+        counts.dropped,
+        counts.faults,
+    ]
 }
 
-/// What a look shows.
-pub fn look(world: &World, call: Call) -> Answer {
-    match call {
-        Call::Source => Answer::SourceIs(world.source_phase(), world.epoch()),
-        Call::Remaining => {
-            let remaining = world.remaining();
-            Answer::Remain(remaining.len(), remaining.next_member(0))
-        }
-        Call::Cpu(cpu) => match world.cpu_state(cpu) {
-            Ok(state) => Answer::CpuIs(state),
-            Err(refusal) => Answer::Refused(refusal),
-        },
-        Call::Transcript => {
+/// Whether a look shows this.
+fn shows(world: &World, call: Call, wanted: Answer) -> bool {
+    match (call, wanted) {
+        (Call::Progress, Answer::Stands(phase, six)) => world.phase() == phase
+            && counts(world) == six,
+        (Call::Source, Answer::SourceIs(phase, epoch)) => world.source_phase() == phase
+            && world.epoch() == epoch,
+        (Call::Remaining, Answer::Remain(len, first)) => world.remaining().len() == len
+            && world.remaining().next_member(0) == first,
+        (Call::Cpu(cpu), Answer::CpuIs(state)) => world.cpu_state(cpu) == Ok(state),
+        (Call::Cpu(cpu), Answer::Refused(refusal)) => world.cpu_state(cpu) == Err(refusal),
+        (Call::Transcript, Answer::Entered(len, last)) => {
             let entries = world.transcript();
-            Answer::Entered(entries.len(), entries.last().map(|entry| entry.reply))
+            entries.len() == len && entries.last().map(|entry| entry.reply) == last
         }
-        _ => progress(world),
+        _ => false,
     }
 }
 
-/// Plays a table on a world.
-pub fn play(rt: &impl Abort, world: &mut World, table: &str, rows: &[Row]) {
-    for (i, (call, wanted)) in rows.iter().enumerate() {
-        let answer = match step_of(*call, world.epoch()) {
-            Some(step) => make(rt, world, step, i),
-            None => look(world, *call),
-        };
-        same(rt, &answer, wanted, table, i);
+/// Stops unless a step has the outcome of a row, and prints both.
+pub fn same(
+    rt: &impl Abort,
+    outcome: Result<Effect, Refusal>,
+    wanted: Answer,
+    table: &str,
+    i: usize,
+) {
+    assert_eq!(rt; Some(outcome), wanted.outcome(), "{table} {i}");
+}
+
+/// Plays a row of a table. How often memory was refused.
+fn play_row(
+    rt: &impl Abort,
+    world: &mut World,
+    table: &str,
+    i: usize,
+    (call, wanted): &Row,
+) -> u32 {
+    let Some(step) = step_of(*call, world.epoch()) else {
+        assert!(rt; shows(world, *call, *wanted), "{table} {i}");
+        return 0;
+    };
+    let (outcome, refused) = make(rt, world, step, i);
+    same(rt, outcome, *wanted, table, i);
+    refused
+}
+
+/// Plays a table on a world. How often memory was refused.
+pub fn play(rt: &impl Abort, world: &mut World, table: &str, rows: &[Row]) -> u32 {
+    let mut refused = 0u32;
+    for (i, row) in rows.iter().enumerate() {
+        refused = refused.saturating_add(play_row(rt, world, table, i, row));
     }
+    refused
 }
 
 /// What is played after the tables, that no table can say.
@@ -123,11 +154,12 @@ pub enum Behind {
     OneCall,
     /// Three steps in one call.
     Three,
-    /// The world is copied, and both continue: what both show at first, what happens to the copy, what happens to the world, and what the
-    /// copy shows then.
-    Copied(Parts<'static>),
+    /// The world is copied, and both continue.
+    Copied(Ways<'static>),
     /// The channel breaks, and the migration continues to its completion.
     Broken(Again),
+    /// What is looked at by itself.
+    Edge(Edge),
 }
 
 /// Plays tables on a world, and what comes after them. Whether memory was found for it.
@@ -139,10 +171,9 @@ fn tell(
     parts: Parts,
     behind: Behind,
 ) -> bool {
-    play(rt, world, table, parts.0);
-    play(rt, world, table, parts.1);
-    play(rt, world, table, parts.2);
-    play(rt, world, table, parts.3);
+    for rows in parts {
+        play(rt, world, table, rows);
+    }
     match behind {
         Behind::Nothing => {}
         Behind::Many => play_many(rt, world),
@@ -151,6 +182,7 @@ fn tell(
         Behind::Three => return run_three(rt, alloc, world),
         Behind::Copied(ways) => return play_copied(rt, world, ways),
         Behind::Broken(again) => break_and_complete(rt, alloc, world, again),
+        Behind::Edge(edge) => play_edge(rt, alloc, world, edge),
     }
     true
 }
@@ -185,9 +217,8 @@ pub fn on_world(
     told
 }
 
-/// Plays a table on a new world of two processors, after an opening.
-pub fn play_new(rt: &impl Abort, alloc: Global, table: &str, opening: &[Row], rows: &[Row]) {
-    let parts = (opening, rows, NOTHING.as_slice(), NOTHING.as_slice());
+/// Plays tables on a new world of two processors.
+pub fn play_new(rt: &impl Abort, alloc: Global, table: &str, parts: Parts) {
     let told = on_world(rt, alloc, (2, 0, 0), table, parts, Behind::Nothing);
     assert!(rt; told == Ok(true), "no world for {table}");
 }
@@ -199,13 +230,5 @@ pub fn play_behind(
     cpus: u8,
     behind: Behind,
 ) -> Result<bool, Refusal> {
-    let none = NOTHING.as_slice();
-    on_world(
-        rt,
-        alloc,
-        (cpus, 0, 0),
-        "none",
-        (none, none, none, none),
-        behind,
-    )
+    on_world(rt, alloc, (cpus, 0, 0), "none", &[], behind)
 }

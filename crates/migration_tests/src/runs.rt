@@ -1,6 +1,5 @@
 //! Pages that are sent in runs, and steps that are made in one call.
 
-use crate::answers::Answer;
 use crate::answers::Answer::{
     Moved, Refused, Replied, RoundMade, SentRun, Stands, Started, Switched, TookAdvise, TookRun,
 };
@@ -8,9 +7,7 @@ use crate::calls::Call::{
     Deliver, DeliverPart, Load, Map, Progress, Round, SendRun, Start, Store, Switch,
 };
 use crate::calls::step_of;
-use crate::openings::NOTHING;
-use crate::play::{Behind, Row, play, play_behind, play_new};
-use crate::same::same;
+use crate::play::{Behind, Row, play, play_behind, play_new, same};
 use mig_base::Reply::{At, BadAccess, Done, Value};
 use mig_base::effect::Effect;
 use mig_base::refusal::Refusal;
@@ -65,7 +62,7 @@ pub fn play_longest(rt: &impl Abort, world: &mut World) {
 
 #[test]
 fn pages_in_runs(rt: HostRuntime) {
-    play_new(&rt, rt.alloc(), "beyond", &NOTHING, &BEYOND);
+    play_new(&rt, rt.alloc(), "beyond", &[&BEYOND]);
     let told = play_behind(&rt, rt.alloc(), 2, Behind::Longest);
     assert!(rt; told == Ok(true));
 }
@@ -140,42 +137,57 @@ fn steps_of(rows: &[Row; 9]) -> [Step; 9] {
     steps
 }
 
-/// Makes all steps in one call. Whether memory was there for each; if so all is as wanted.
-pub fn run_all(rt: &impl Abort, alloc: Global, world: &mut World) -> bool {
-    let steps = steps_of(&IN_ONE_CALL);
-    let Ok(outcomes) = world.run(alloc, steps.as_slice()) else {
-        assert_eq!(rt; world.phase(), WorldPhase::Idle);
-        return false;
-    };
+/// Stops unless each step has the outcome of its row.
+fn are_told(rt: &impl Abort, outcomes: &[Result<Effect, Refusal>], rows: &[Row]) {
+    assert!(rt; outcomes.len() == rows.len());
+    for (i, (outcome, row)) in outcomes.iter().zip(rows).enumerate() {
+        same(rt, *outcome, row.1, "in one call", i);
+    }
+}
+
+/// Whether memory was there for each step of one call; if so all is as wanted.
+fn is_told(rt: &impl Abort, world: &World, outcomes: &[Result<Effect, Refusal>]) -> bool {
     if outcomes.contains(&Err(Refusal::NoMemory)) {
         return false;
     }
-    assert!(rt; outcomes.len() == 9);
-    for (i, (outcome, row)) in outcomes.iter().zip(&IN_ONE_CALL).enumerate() {
-        same(rt, &Answer::of(*outcome), &row.1, "in one call", i);
-    }
+    are_told(rt, outcomes, &IN_ONE_CALL);
     assert!(rt; world.transcript() == ENTRIES.as_slice());
     true
+}
+
+/// Makes all steps in one call. Whether memory was there for each.
+pub fn run_all(rt: &impl Abort, alloc: Global, world: &mut World) -> bool {
+    let steps = steps_of(&IN_ONE_CALL);
+    match world.run(alloc, steps.as_slice()) {
+        Ok(outcomes) => is_told(rt, world, &outcomes),
+        Err(_) => {
+            assert_eq!(rt; world.phase(), WorldPhase::Idle);
+            false
+        }
+    }
 }
 
 /// The first round of a guest that has no page, and a second start.
 const THREE: [Step; 3] = [Step::Start, Step::Round, Step::Start];
 
-/// Makes these steps in one call. Whether memory was there for each; if so all is as wanted.
-pub fn run_three(rt: &impl Abort, alloc: Global, world: &mut World) -> bool {
-    let Ok(outcomes) = world.run(alloc, THREE.as_slice()) else {
-        return false;
-    };
-    if outcomes.contains(&Err(Refusal::NoMemory)) {
-        return false;
-    }
+/// Whether memory was there for each of these steps; if so all is as wanted.
+fn are_three(rt: &impl Abort, outcomes: &[Result<Effect, Refusal>]) -> bool {
     let wanted = [
         Ok(Effect::Started { epoch: 1 }),
         Ok(Effect::RoundMade { round: 1, todo: 0 }),
         Err(Refusal::Phase),
     ];
-    assert!(rt; outcomes.as_slice() == wanted.as_slice());
-    true
+    let is_refused = outcomes.contains(&Err(Refusal::NoMemory));
+    assert!(rt; is_refused || outcomes == wanted.as_slice());
+    !is_refused
+}
+
+/// Makes these steps in one call. Whether memory was there for each.
+pub fn run_three(rt: &impl Abort, alloc: Global, world: &mut World) -> bool {
+    match world.run(alloc, THREE.as_slice()) {
+        Ok(outcomes) => are_three(rt, &outcomes),
+        Err(_) => false,
+    }
 }
 
 fn is_run(rt: &impl Abort, alloc: Global, cpus: u8, behind: Behind) -> bool {
