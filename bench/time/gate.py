@@ -155,9 +155,10 @@ def summary():
     said, rows = read_ledger()
     dearest = sorted(rows, key=lambda it: -rows[it]["sum"])[:10]
     program = [rows[it]["proof"] for it in tower.below("postmig") if it in rows]
+    clock = f"{said['clock minutes']} minutes of the clock and " if "clock minutes" in said else ""
     yield (
-        f"`{said['command']}` took {said['clock minutes']} minutes of the clock and {said['processor minutes']} processor minutes "
-        f"(user time), on {said['machine']}. Seconds of user time, of all crates and of the ten dearest:"
+        f"`{said['command']}` took {clock}{said['processor minutes']} processor minutes (user time), on {said['machine']}. "
+        "Seconds of user time, of all crates and of the ten dearest:"
     )
     yield ""
     yield "| Crate | Proof | Tests | First edit | Other edits | Sum |"

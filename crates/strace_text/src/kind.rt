@@ -26,7 +26,7 @@ pub(crate) enum Kind {
     PidfdGetfd,
     /// It may be made with an object, and is none of the language: it waits for it or sends it, or changes nothing.
     Passing,
-    /// The end of a thread, which is no call.
+    /// The end of a thread; it is not a call.
     End,
     Other,
 }

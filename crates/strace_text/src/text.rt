@@ -164,7 +164,7 @@ pub(crate) fn count_of_arguments(text: &[u8]) -> usize {
     count
 }
 
-/// The argument after so many others; nothing if there is none.
+/// The argument at this place from 0; nothing if there is none.
 pub(crate) fn argument(text: &[u8], place: usize) -> &[u8] {
     let mut rest = text;
     for _ in 0..place {
