@@ -1,5 +1,7 @@
 //! An argument of a subcommand, as a row of a table.
 
+ghost use Rattle.std.specs.Prelude.{◌≡◌, IfOk};
+
 use clap::builder::ValueParser;
 use clap::{Arg, ArgAction};
 use std::alloc::{AllocError, Global};
@@ -52,8 +54,10 @@ pub(crate) const PLAIN: Argument = Argument {
     unless: &[],
 };
 
-/// The argument as it is written.
-fn in_form<'a>(arg: Arg<'a>, id: &'a str, form: Form) -> Arg<'a> {
+/// The argument as it is written, by the same name.
+fn in_form<'a>(arg: Arg<'a>, id: &'a str, form: Form) -> Arg<'a>
+    ensures { result.id ≡ arg.entry.id }
+{
     match form {
         Form::Flag => arg.long(id).action(ArgAction::SetTrue),
         Form::Valued(name, kind) => arg.long(id).value_name(name).value_parser(kind),
@@ -70,7 +74,9 @@ fn in_form<'a>(arg: Arg<'a>, id: &'a str, form: Form) -> Arg<'a> {
 
 impl Argument {
     /// The argument as `clap` takes it.
-    pub(crate) fn to_arg<'a>(&self, alloc: Global) -> Result<Arg<'a>, AllocError> {
+    pub(crate) fn to_arg<'a>(&self, alloc: Global) -> Result<Arg<'a>, AllocError>
+        ensures { IfOk result (λ arg. arg.id ≡ self.now.id) }
+    {
         let arg = Arg::new(alloc, self.id)
             .help(self.help)
             .aliases(self.aliases)?

@@ -76,14 +76,14 @@ pub fn package(
     })
 }
 
-/// Puts bytes behind others, at the second try where memory is refused.
+/// Puts bytes after others, at the second try where memory is refused.
 pub fn append(rt: &impl Abort, bytes: &mut Vec<u8>, more: &[u8]) {
     if bytes.extend_from_slice(more).is_err() {
         bytes.extend_from_slice(more).expect(rt, "a second time");
     }
 }
 
-/// Puts a byte behind others as many times, at the second try where memory is refused.
+/// Puts a byte after others as many times, at the second try where memory is refused.
 pub fn fill(rt: &impl Abort, bytes: &mut Vec<u8>, byte: u8, count: usize) {
     let len = bytes.len().saturating_add(count);
     if bytes.resize(len, byte).is_err() {

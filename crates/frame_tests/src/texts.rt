@@ -331,7 +331,7 @@ fn a_run_of_pages(rt: HostRuntime) {
     look(&rt, rt.alloc(), &frame, 1, &wanted);
 }
 
-/// Writes a page after a byte from where its bytes stand.
+/// Writes a page after a byte from where its bytes are.
 fn page_behind(rt: &impl Abort, page: &[u8; PAGE_BYTES], bytes: &mut Vec<u8>) {
     append(rt, bytes, &[0xee]);
     if encode_page_into(0x10, page, 1, bytes).is_err() {
@@ -340,7 +340,7 @@ fn page_behind(rt: &impl Abort, page: &[u8; PAGE_BYTES], bytes: &mut Vec<u8>) {
     }
 }
 
-/// A page that is written from where its bytes stand is written as its frame is.
+/// A page whose bytes are written from where they are, is written as its frame.
 #[test]
 fn a_page_from_its_place(rt: HostRuntime) {
     let mut bytes = Vec::new(rt.alloc());

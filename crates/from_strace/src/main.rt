@@ -3,6 +3,9 @@
 //! Lines that cannot be read are written to standard error, and the status is 1 then.
 #![tactic(auto)]
 
+ghost use Rattle.std.specs.Prelude.{◌≡◌, length};
+ghost use Rattle.from_strace.specs.Status.{trace_status};
+
 use std::alloc::Global;
 use std::io;
 use std::io::{Read, Write};
@@ -26,6 +29,16 @@ fn read_all<R: Read>(alloc: Global, input: &mut R) -> io::Result<Vec<u8>> {
     Ok(text)
 }
 
+/// The exit status: whether each line could be read.
+fn status_of(converted: &Converted) -> u8
+    ensures { result ≡ trace_status (length converted.now.wrong.items) }
+{
+    if converted.wrong.is_empty() {
+        return 0;
+    }
+    1
+}
+
 /// Writes a log, and the lines that could not be read.
 fn write_all(rt: &HostRuntime, converted: &Converted) -> io::Result<ExitCode> {
     let mut out = rt.stdout();
@@ -35,11 +48,7 @@ fn write_all(rt: &HostRuntime, converted: &Converted) -> io::Result<ExitCode> {
         let reason = refused.reason.as_str();
         eprintln!(rt; "{line}: {reason}")?;
     }
-    Ok(if converted.wrong.is_empty() {
-        ExitCode::SUCCESS
-    } else {
-        ExitCode::from(1)
-    })
+    Ok(ExitCode::from(status_of(converted)))
 }
 
 fn main(rt: HostRuntime) -> io::Result<ExitCode> {

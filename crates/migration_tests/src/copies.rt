@@ -12,7 +12,7 @@ use crate::calls::Call::{
     Store, Switch, Transcript,
 };
 use crate::openings::{OWED_THREE, SENT};
-use crate::play::{Behind, Parts, Row, Ways, on_world, play};
+use crate::play::{After, Parts, Row, Ways, on_world, play};
 use mig_base::Reply::{Done, Value};
 use mig_base::cpu_state::CpuState;
 use mig_base::phase::{Received, SourcePhase};
@@ -162,8 +162,8 @@ static STORED_THERE: [Row; 2] = [
 ];
 
 /// Plays on a world up to its copy, and then on both.
-fn copy_behind(rt: &impl Abort, alloc: Global, table: &str, parts: Parts, ways: Ways<'static>) {
-    let told = on_world(rt, alloc, (2, 0, 0), table, parts, Behind::Copied(ways));
+fn copy_after(rt: &impl Abort, alloc: Global, table: &str, parts: Parts, ways: Ways<'static>) {
+    let told = on_world(rt, alloc, (2, 0, 0), table, parts, After::Copied(ways));
     assert!(rt; told == Ok(true), "no world for {table}");
 }
 
@@ -171,8 +171,8 @@ fn copy_behind(rt: &impl Abort, alloc: Global, table: &str, parts: Parts, ways: 
 fn copies_go_on_in_two_ways(rt: HostRuntime) {
     let parts: [&[Row]; 2] = [&OWED_THREE, &MIDWAY];
     let ways: Ways = (&AT_FIRST, &BROKEN, &COMPLETED, &STILL_OWED);
-    copy_behind(&rt, rt.alloc(), "midway", &parts, ways);
+    copy_after(&rt, rt.alloc(), "midway", &parts, ways);
     let parts: [&[Row]; 2] = [&SENT, &HELD];
     let ways: Ways = (&HELD_AT_FIRST, &MOVED_FIRST, &STORED_FIRST, &STORED_THERE);
-    copy_behind(&rt, rt.alloc(), "held", &parts, ways);
+    copy_after(&rt, rt.alloc(), "held", &parts, ways);
 }

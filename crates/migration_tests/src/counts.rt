@@ -9,7 +9,7 @@ use crate::calls::Call::{
     Back, Break, Cpu, Deliver, DestAct, DestRead, End, Install, Load, Map, Notice, Progress, Push,
     Resume, Retry, Round, Send, Source, Start, Store, Switch, Transcript,
 };
-use crate::play::{Behind, Row, on_world, play, play_behind};
+use crate::play::{After, Row, on_world, play, play_after};
 use mig_base::Reply::{At, Done, Value};
 use mig_base::cpu_state::CpuState;
 use mig_base::phase::SourcePhase;
@@ -23,7 +23,7 @@ use world::World;
 /// Plays a table on a world of one processor whose counts of epochs and of rounds stand at these.
 fn play_at(rt: &impl Abort, alloc: Global, counts: (u32, u32), rows: &[Row]) {
     let new = (1, counts.0, counts.1);
-    let told = on_world(rt, alloc, new, "counts", &[rows], Behind::Nothing);
+    let told = on_world(rt, alloc, new, "counts", &[rows], After::Nothing);
     assert!(rt; told == Ok(true));
 }
 
@@ -74,7 +74,7 @@ fn the_greatest_counts(rt: HostRuntime) {
 
 /// A world has this number of processors, or it is not made.
 fn has_processors(rt: &impl Abort, alloc: Global, cpus: u8, wanted: Result<bool, Refusal>) {
-    let told = play_behind(rt, alloc, cpus, Behind::Nothing);
+    let told = play_after(rt, alloc, cpus, After::Nothing);
     assert!(rt; told == wanted, "{cpus} processors");
 }
 
@@ -173,6 +173,6 @@ pub fn play_many(rt: &impl Abort, world: &mut World) {
 
 #[test]
 fn the_most_processors(rt: HostRuntime) {
-    let told = play_behind(&rt, rt.alloc(), 16, Behind::Many);
+    let told = play_after(&rt, rt.alloc(), 16, After::Many);
     assert!(rt; told == Ok(true));
 }

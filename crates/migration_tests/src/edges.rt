@@ -7,7 +7,7 @@ use crate::answers::Answer::{
 use crate::calls::Call::{
     Break, Map, Notice, Round, Send, SourceAct, SourceRead, Start, Store, Switch,
 };
-use crate::play::{Behind, Row, on_world, play};
+use crate::play::{After, Row, on_world, play};
 use finish::{finish, next_to_finish};
 use mig_base::Reply::{At, Done};
 use mig_base::WorldPhase;
@@ -144,9 +144,9 @@ pub fn play_edge(rt: &impl Abort, alloc: Global, world: &mut World, edge: Edge) 
     }
 }
 
-/// Looks at a world of one processor, whose epoch stands at this number.
+/// Looks at a world of one processor, whose epoch is this number.
 fn look(rt: &impl Abort, alloc: Global, epoch: u32, edge: Edge) {
-    let told = on_world(rt, alloc, (1, epoch, 0), "edge", &[], Behind::Edge(edge));
+    let told = on_world(rt, alloc, (1, epoch, 0), "edge", &[], After::Edge(edge));
     assert!(rt; told == Ok(true), "no world");
 }
 

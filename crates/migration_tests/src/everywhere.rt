@@ -6,7 +6,7 @@
 use crate::answers::Answer::{Broken, Noticed, Refused, Resumed, TookResume};
 use crate::calls::Call::{Break, Deliver, Notice, Resume};
 use crate::openings::{OWED, OWED_THREE, SENT};
-use crate::play::{Behind, Row, make, on_world, play};
+use crate::play::{After, Row, make, on_world, play};
 use crate::scenes::{ASKED_FOR, MOVED, UNMAPPED, URGENT};
 use mig_base::cpu_state::CpuState;
 use mig_base::effect::Effect;
@@ -199,15 +199,15 @@ pub fn break_and_complete(rt: &impl Abort, alloc: Global, world: &mut World, aga
 }
 
 /// Plays the front of a story, and then breaks the channel once and twice.
-fn break_behind(rt: &impl Abort, alloc: Global, table: &str, opening: &[Row], rows: &[Row]) {
+fn break_after(rt: &impl Abort, alloc: Global, table: &str, opening: &[Row], rows: &[Row]) {
     for again in [
         Again::Never,
         Again::BeforeResume,
         Again::BeforeRecv,
         Again::AfterRecv,
     ] {
-        let behind = Behind::Broken(again);
-        let told = on_world(rt, alloc, (2, 0, 0), table, &[opening, rows], behind);
+        let after = After::Broken(again);
+        let told = on_world(rt, alloc, (2, 0, 0), table, &[opening, rows], after);
         assert!(rt; told == Ok(true), "no world for {table}");
     }
 }
@@ -215,7 +215,7 @@ fn break_behind(rt: &impl Abort, alloc: Global, table: &str, opening: &[Row], ro
 /// Breaks the channel after each row of an opening.
 fn break_opening(rt: &impl Abort, alloc: Global, table: &str, opening: &[Row]) {
     for end in 0..opening.len() {
-        break_behind(rt, alloc, table, &opening[..end], &[]);
+        break_after(rt, alloc, table, &opening[..end], &[]);
     }
 }
 
@@ -223,7 +223,7 @@ fn break_opening(rt: &impl Abort, alloc: Global, table: &str, opening: &[Row]) {
 fn break_each(rt: &impl Abort, alloc: Global, table: &str, opening: &[Row], rows: &[Row]) {
     break_opening(rt, alloc, table, opening);
     for end in 0..=rows.len() {
-        break_behind(rt, alloc, table, opening, &rows[..end]);
+        break_after(rt, alloc, table, opening, &rows[..end]);
     }
 }
 

@@ -144,7 +144,7 @@ pub fn play(rt: &impl Abort, world: &mut World, table: &str, rows: &[Row]) -> u3
 
 /// What is played after the tables, that no table can say.
 #[derive(Clone, Copy)]
-pub enum Behind {
+pub enum After {
     Nothing,
     /// A guest of 16 processors.
     Many,
@@ -169,20 +169,20 @@ fn tell(
     world: &mut World,
     table: &str,
     parts: Parts,
-    behind: Behind,
+    after: After,
 ) -> bool {
     for rows in parts {
         play(rt, world, table, rows);
     }
-    match behind {
-        Behind::Nothing => {}
-        Behind::Many => play_many(rt, world),
-        Behind::Longest => play_longest(rt, world),
-        Behind::OneCall => return run_all(rt, alloc, world),
-        Behind::Three => return run_three(rt, alloc, world),
-        Behind::Copied(ways) => return play_copied(rt, world, ways),
-        Behind::Broken(again) => break_and_complete(rt, alloc, world, again),
-        Behind::Edge(edge) => play_edge(rt, alloc, world, edge),
+    match after {
+        After::Nothing => {}
+        After::Many => play_many(rt, world),
+        After::Longest => play_longest(rt, world),
+        After::OneCall => return run_all(rt, alloc, world),
+        After::Three => return run_three(rt, alloc, world),
+        After::Copied(ways) => return play_copied(rt, world, ways),
+        After::Broken(again) => break_and_complete(rt, alloc, world, again),
+        After::Edge(edge) => play_edge(rt, alloc, world, edge),
     }
     true
 }
@@ -194,10 +194,10 @@ fn tell_of_one(
     new: (u8, u32, u32),
     table: &str,
     parts: Parts,
-    behind: Behind,
+    after: After,
 ) -> Result<bool, Refusal> {
     let mut world = World::with_counts(alloc, new.0, new.1, new.2)?;
-    Ok(tell(rt, alloc, &mut world, table, parts, behind))
+    Ok(tell(rt, alloc, &mut world, table, parts, after))
 }
 
 /// Plays on a new world of this number of processors, with the given counts of epochs and rounds. If memory for the world is refused,
@@ -208,27 +208,22 @@ pub fn on_world(
     new: (u8, u32, u32),
     table: &str,
     parts: Parts,
-    behind: Behind,
+    after: After,
 ) -> Result<bool, Refusal> {
-    let told = tell_of_one(rt, alloc, new, table, parts, behind);
+    let told = tell_of_one(rt, alloc, new, table, parts, after);
     if told == Err(Refusal::NoMemory) {
-        return tell_of_one(rt, alloc, new, table, parts, behind);
+        return tell_of_one(rt, alloc, new, table, parts, after);
     }
     told
 }
 
 /// Plays tables on a new world of two processors.
 pub fn play_new(rt: &impl Abort, alloc: Global, table: &str, parts: Parts) {
-    let told = on_world(rt, alloc, (2, 0, 0), table, parts, Behind::Nothing);
+    let told = on_world(rt, alloc, (2, 0, 0), table, parts, After::Nothing);
     assert!(rt; told == Ok(true), "no world for {table}");
 }
 
 /// Plays what no table can say on a new world.
-pub fn play_behind(
-    rt: &impl Abort,
-    alloc: Global,
-    cpus: u8,
-    behind: Behind,
-) -> Result<bool, Refusal> {
-    on_world(rt, alloc, (cpus, 0, 0), "none", &[], behind)
+pub fn play_after(rt: &impl Abort, alloc: Global, cpus: u8, after: After) -> Result<bool, Refusal> {
+    on_world(rt, alloc, (cpus, 0, 0), "none", &[], after)
 }

@@ -7,7 +7,7 @@ use crate::calls::Call::{
     Deliver, DeliverPart, Load, Map, Progress, Round, SendRun, Start, Store, Switch,
 };
 use crate::calls::step_of;
-use crate::play::{Behind, Row, play, play_behind, play_new, same};
+use crate::play::{After, Row, play, play_after, play_new, same};
 use mig_base::Reply::{At, BadAccess, Done, Value};
 use mig_base::effect::Effect;
 use mig_base::refusal::Refusal;
@@ -63,7 +63,7 @@ pub fn play_longest(rt: &impl Abort, world: &mut World) {
 #[test]
 fn pages_in_runs(rt: HostRuntime) {
     play_new(&rt, rt.alloc(), "beyond", &[&BEYOND]);
-    let told = play_behind(&rt, rt.alloc(), 2, Behind::Longest);
+    let told = play_after(&rt, rt.alloc(), 2, After::Longest);
     assert!(rt; told == Ok(true));
 }
 
@@ -190,16 +190,16 @@ pub fn run_three(rt: &impl Abort, alloc: Global, world: &mut World) -> bool {
     }
 }
 
-fn is_run(rt: &impl Abort, alloc: Global, cpus: u8, behind: Behind) -> bool {
-    play_behind(rt, alloc, cpus, behind) == Ok(true)
+fn is_run(rt: &impl Abort, alloc: Global, cpus: u8, after: After) -> bool {
+    play_after(rt, alloc, cpus, after) == Ok(true)
 }
 
 /// One call for all steps, which continues after a refusal. Where memory was refused a second world is run.
 #[test]
 fn steps_in_one_call(rt: HostRuntime) {
-    for (cpus, behind) in [(2, Behind::OneCall), (1, Behind::Three)] {
-        if !is_run(&rt, rt.alloc(), cpus, behind) {
-            assert!(rt; is_run(&rt, rt.alloc(), cpus, behind));
+    for (cpus, after) in [(2, After::OneCall), (1, After::Three)] {
+        if !is_run(&rt, rt.alloc(), cpus, after) {
+            assert!(rt; is_run(&rt, rt.alloc(), cpus, after));
         }
     }
 }

@@ -73,7 +73,7 @@ impl<'a> Unread<'a> {
         }
     }
 
-    /// Reads the frame of a call that a letter stands for.
+    /// Reads the frame of the call of a letter.
     fn frame_call(&mut self, alloc: Global, letter: u8) -> Option<Call> {
         let (epoch, frame) = self.next_frame(alloc)?;
         Some(match letter {
@@ -83,7 +83,7 @@ impl<'a> Unread<'a> {
         })
     }
 
-    /// The call of the source that a letter stands for.
+    /// The call of the source for a letter.
     fn source_call(&mut self, letter: u8) -> Option<SourceCall> {
         match letter {
             b's' => Some(SourceCall::Start),
@@ -98,7 +98,7 @@ impl<'a> Unread<'a> {
         }
     }
 
-    /// The call that a letter stands for: none where the bytes spell no call, or memory runs out.
+    /// The call for a letter: none where the bytes spell no call, or memory runs out.
     fn call(&mut self, alloc: Global, letter: u8) -> Option<Call> {
         match letter {
             b't' | b'u' | b'b' => self.frame_call(alloc, letter),

@@ -45,7 +45,7 @@ impl Plan {
     }
 }
 
-/// What a call becomes that answers nothing, and changes no descriptor.
+/// What a call becomes that returns nothing, and changes no descriptor.
 pub(crate) fn simple(alloc: Global, call: &Traced, begin: String) -> Result<Option<Plan>, Stop> {
     let end = answer(alloc, call, b"")?;
     Ok(Some(Plan::new(alloc, begin, end, After::Nothing)))

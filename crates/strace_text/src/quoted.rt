@@ -17,7 +17,7 @@ fn octal(text: &[u8]) -> (u8, &[u8]) {
     (value, b"".as_slice())
 }
 
-/// The byte for which a letter after a backslash stands.
+/// The byte of a letter that is after a backslash.
 fn meant(letter: u8) -> Option<u8> {
     match letter {
         b'n' => Some(b'\n'),

@@ -18,7 +18,7 @@ use std::mem;
 /// The nanoseconds of a day.
 const DAY: u64 = 86_400_000_000_000;
 
-/// Where a line stands.
+/// Where a line is.
 #[derive(Clone, Copy)]
 struct At {
     line: u64,

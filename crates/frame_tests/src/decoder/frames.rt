@@ -68,7 +68,7 @@ fn one_text(rt: &impl Abort, alloc: Global, bytes: &[u8]) {
     alone(rt, alloc, bytes);
 }
 
-/// Reads a text in a version, with as many bytes of 7 behind it.
+/// Reads a text in a version, with as many bytes of 7 after it.
 fn one_of(rt: &impl Abort, alloc: Global, version: u8, front: &[u8], sevens: usize) {
     let bytes = text(rt, alloc, version, front, sevens, 0);
     one_text(rt, alloc, &bytes);

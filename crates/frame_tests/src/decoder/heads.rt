@@ -9,7 +9,7 @@ use mig_base::{PAGE_BYTES, PageNo};
 use std::alloc::Global;
 use std::process::Abort;
 
-/// What stands at the front.
+/// What is at the front.
 #[derive(Clone, Copy, PartialEq, Eq)]
 enum Front {
     /// Less than a frame.
@@ -53,7 +53,7 @@ fn summary(rt: &impl Abort, head: &Head, epoch: u32, text: &mut Vec<u8>) -> Fron
     }
 }
 
-/// What stands at the front of some bytes. The text of a frame without pages is written.
+/// What is at the front of some bytes. The text of a frame without pages is written.
 fn found(
     rt: &impl Abort,
     alloc: Global,
@@ -71,7 +71,7 @@ fn found(
     }
 }
 
-/// Stops unless this stands at the front, and no frame without pages.
+/// Stops unless this is at the front, and no frame without pages.
 fn finds(
     rt: &impl Abort,
     alloc: Global,

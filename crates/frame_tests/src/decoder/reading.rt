@@ -1,4 +1,4 @@
-//! Feeding a decoder. The frames that it answers are written again, so that the tests compare bytes.
+//! Feeding a decoder. The frames that it returns are written again, so that the tests compare bytes.
 
 use crate::parts::{append, fill, same_bytes};
 use frame_decoder::{Decoder, StreamFault, read_text};
@@ -7,7 +7,7 @@ use page_stream::{Frame, encode_into};
 use std::alloc::Global;
 use std::process::Abort;
 
-/// Puts the text of a frame behind others, at the second try where memory is refused.
+/// Puts the text of a frame after others, at the second try where memory is refused.
 pub fn write(
     rt: &impl Abort,
     frame: &Frame,
@@ -21,7 +21,7 @@ pub fn write(
     }
 }
 
-/// Puts the texts of frames behind others, and answers how many they are.
+/// Puts the texts of frames after others, and returns how many they are.
 fn write_all(
     rt: &impl Abort,
     frames: &[(u32, Frame)],
@@ -51,7 +51,7 @@ fn fed(decoder: &mut Decoder, piece: &[u8]) -> Result<Vec<(u32, Frame)>, StreamF
     }
 }
 
-/// Feeds a piece, and puts the texts of the frames that are answered behind others. Answers how many frames they are.
+/// Feeds a piece, and puts the texts of the frames that it returns after others. Returns how many frames they are.
 pub fn feed(
     rt: &impl Abort,
     decoder: &mut Decoder,

@@ -45,7 +45,7 @@ fn texts_from(rt: &impl Abort, alloc: Global, first: usize) -> Vec<u8> {
     all
 }
 
-/// Feeds the pieces of a wire to a decoder, and writes the frames that it answers.
+/// Feeds the pieces of a wire to a decoder, and writes the frames that it returns.
 fn feed_pieces(rt: &impl Abort, wire: &Wire, decoder: &mut Decoder, texts: &mut Vec<u8>) {
     for index in 0..wire.pieces() {
         assert!(rt; feed(rt, decoder, wire.piece(index), texts).is_ok());

@@ -154,7 +154,7 @@ fn take(rt: &impl Abort, wire: &mut Wire, epoch: u32) {
     wire.drop_first();
 }
 
-/// Makes room for a page, and sends it from where its bytes stand.
+/// Makes room for a page, and sends it from where its bytes are.
 fn send_page(rt: &impl Abort, wire: &mut Wire, page: &[u8; PAGE_BYTES]) {
     if wire.reserve(1).is_err() {
         wire.reserve(1).expect(rt, "a second time");

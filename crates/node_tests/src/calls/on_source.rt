@@ -114,7 +114,7 @@ fn begin_epoch(source: &mut Source) -> Result<(), Refusal> {
     Ok(())
 }
 
-/// The outcome of a call, without what it answers.
+/// The outcome of a call, without what it returns.
 fn done<T: Drop>(answer: Result<T, Refusal>) -> Result<(), Refusal> {
     match answer {
         Ok(_) => Ok(()),
