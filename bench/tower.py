@@ -1,10 +1,10 @@
-"""The crates of the repository, and what each stands on, as crates.txt has them."""
+"""The crates of the repository, and what each depends on, as crates.txt has them."""
 
 import page
 
 
 def lines_of(text):
-    """Of each crate the words behind its name, and those behind the colon."""
+    """Of each crate the words after its name, and those after the colon."""
     found = {}
     for line in text.splitlines():
         head, colon, rest = line.partition("#")[0].partition(":")
@@ -14,7 +14,7 @@ def lines_of(text):
 
 
 def crates():
-    """What each crate stands on, in the order of crates.txt, which has each crate behind those that it stands on."""
+    """What each crate depends on, in the order of crates.txt, which has each crate after those that it depends on."""
     return {name: below for name, (_, below) in lines_of((page.TOP / "crates.txt").read_text()).items()}
 
 
@@ -24,7 +24,7 @@ def product():
 
 
 def below(*names):
-    """These crates and all crates of the repository that they stand on, lowest first."""
+    """These crates and all crates of the repository that they depend on, lowest first."""
     known, found = crates(), set(names)
     for it in reversed(known):
         if it in found:
@@ -33,10 +33,10 @@ def below(*names):
 
 
 def above(names):
-    """These crates and all that stand on them, lowest first."""
+    """These crates and all that depend on them, lowest first."""
     known, found = crates(), set(names)
-    for it, stands_on in known.items():
-        if found & set(stands_on):
+    for it, depends_on in known.items():
+        if found & set(depends_on):
             found.add(it)
     return [it for it in known if it in found]
 

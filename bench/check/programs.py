@@ -7,8 +7,14 @@ A case is a folder: args has an argument a line, stdin the standard input, data/
 that have to lie there then, stdout and stderr what it has to write, and status its exit status. What is absent is empty, and the status 0;
 only where the status is another is an absent stderr not compared. In the file output is a path that standard output goes to in place of a
 pipe, and in memory the bytes of address space that the program may take. Where there is a file typed, its lines are typed at a terminal, and
-stdout is all that the terminal then shows but what was typed. It runs the proved builds: crates/postmig/out/postmig, as LLVM makes it, and beside it, where
-rt ci has left one, that of Rattle's own compiler; or with --program that one alone.
+stdout is all that the terminal then shows but what was typed.
+
+A case with a file session runs the program several times, one after another. A line that begins with '$ postmig ' has the arguments, as a
+shell reads them; the lines below it are what that writes to standard output and then to standard error, and '[N]' as the last of them is a
+status that is not 0.
+
+It runs the proved builds: crates/postmig/out/postmig, as LLVM makes it, and beside it, where rt ci has left one, that of Rattle's own
+compiler; or with --program that one alone.
 """
 
 import argparse
@@ -17,6 +23,7 @@ import os
 import pathlib
 import pty
 import resource
+import shlex
 import shutil
 import subprocess
 import sys
@@ -28,6 +35,8 @@ import shared  # noqa: F401
 import page
 
 CASES = page.TOP / "bench" / "programs"
+# What a line of a session begins with that has the arguments of a run.
+START = b"$ postmig "
 BUILDS = [page.TOP / "crates" / "postmig" / "out" / name for name in ("postmig", "postmig.by-rattle")]
 
 
@@ -72,6 +81,12 @@ def typed(words, lines, folder):
         return subprocess.CompletedProcess(words, child.wait(timeout=60), output, b"")
 
 
+def changed(case, data):
+    """The names of the files that are not as they have to be after a case."""
+    wanted = sorted((case / "after").iterdir()) if (case / "after").is_dir() else []
+    return [file.name for file in wanted if part(data, file.name) != file.read_bytes()]
+
+
 def ran(case, program):
     """How the program ends on a case, and the names of the files that are then not as they have to be."""
     words = [bytes(program), *part(case, "args").splitlines()]
@@ -87,12 +102,32 @@ def ran(case, program):
     with room(case) as data, open(output, "wb") if output else contextlib.nullcontext(subprocess.PIPE) as to:
         given = part(case, "stdin")
         ended = subprocess.run(words, input=given, cwd=data, stdout=to, stderr=subprocess.PIPE, timeout=60, preexec_fn=limit)
-        wanted = sorted((case / "after").iterdir()) if (case / "after").is_dir() else []
-        return ended, [file.name for file in wanted if part(data, file.name) != file.read_bytes()]
+        return ended, changed(case, data)
+
+
+def session(text):
+    """The runs of a session: the arguments of each, and the lines that are wanted of it."""
+    for part in text.removeprefix(START).split(b"\n" + START):
+        first, _, rest = part.partition(b"\n")
+        yield first.decode(), rest.rstrip(b"\n")
+
+
+def faults_of_session(case, program):
+    """What differs in a session, in words."""
+    with room(case) as data:
+        for words, wanted in session(part(case, "session")):
+            ended = subprocess.run([bytes(program), *shlex.split(words)], cwd=data, stdin=subprocess.DEVNULL, capture_output=True, timeout=60)
+            said = ended.stdout + ended.stderr + (f"[{ended.returncode}]\n".encode() if ended.returncode else b"")
+            if said.rstrip(b"\n") != wanted:
+                yield f"'{words}' writes {said[:400]}"
+        yield from (f"{name} is another file then" for name in changed(case, data))
 
 
 def faults(case, program):
     """What differs in a case, in words."""
+    if (case / "session").is_file():
+        yield from faults_of_session(case, program)
+        return
     ended, others = ran(case, program)
     wanted = int(part(case, "status") or 0)
     if ended.returncode != wanted:

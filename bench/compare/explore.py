@@ -1,15 +1,16 @@
 #!/usr/bin/env python3
 """Explores with many seeds, judges each script by the other commands, and counts what happened in them.
 
-python3 bench/compare/explore.py [SEEDS] [--first SEED] [--lines N] [--cpus C] [--pages M] [--finish] [--least N] [--program PATH] [--scripts FILE]
-        [--write]
+python3 bench/compare/explore.py [SEEDS] [--first SEED] [--lines N] [--cpus C] [--pages M] [--finish] [--sweep] [--least N] [--program PATH]
+        [--scripts FILE] [--write]
 
 For each seed from SEED on (1), SEEDS of them (20), and for each profile: `postmig explore` writes a script with its answers. The same
-without answers has the same lines; `postmig run` prints the answers; `postmig check` accepts the transcript of the run. Its status is 1
-where one of these does not hold. Then it prints tables of what happened. Run it once ./postmig prove has built the program. With --finish
-each script ends with the lines that finish it, and its migration has to be complete. With --scripts it judges scripts with answers that
-stand in a file, one after the other, and runs no `postmig explore`. With --write the tables go to dist/EXPLORED.md, or with --finish a part
-of the first to docs/EXPLORE.md.
+without answers has the same lines; `postmig run` prints the answers; `postmig check` accepts the transcript of the run; no store has zeros
+as its lowest byte. Its status is 1 where one of these does not hold. Then it prints tables of what happened. Run it once ./postmig prove
+has built the program. With --finish each script ends with the lines that finish it and a sweep, and its migration has to be complete; with
+--sweep it ends with a sweep, loads of all pages after the lines that it has without. With --scripts it judges scripts with answers that stand in a file, one after
+the other, and runs no `postmig explore`. With --write the tables go to dist/EXPLORED.md, or with --finish a part of the first to
+docs/EXPLORE.md.
 
 A script shows a destination that installs zeros for every page if one of its loads returns other bytes than 0 that were installed: there
 it would return 0 for them. With --least the status is also 1 where fewer than N of 100 scripts of a profile with post-copy show it.
@@ -66,12 +67,20 @@ def judge(program, text):
 
 
 def explored(program, seed, profile, options):
-    """A script with its answers, whose lines are those that are written without answers."""
+    """A script with its answers. Its lines are those that are written without answers, and begin with those that are written without a sweep. No value is stored
+    whose lowest byte is 0, so that a load of any width shows it; what does not fit into its byte is stored nowhere."""
     words = [program, "explore", "--seed", str(seed), "--profile", profile, *options]
     text = written([*words, "--answers"]).decode()
-    plain = written(words).decode().splitlines()
-    if plain[1:] != split(text)[1]:
+    lines = split(text)[1]
+    if written(words).decode().splitlines()[1:] != lines:
         raise ValueError(f"{' '.join(words)}: other lines with answers")
+    if "--sweep" in words:
+        front = written([it for it in words if it != "--sweep"]).decode().splitlines()[1:]
+        if lines[: len(front)] != front:
+            raise ValueError(f"{' '.join(words)}: other lines before the sweep")
+    for line in lines:
+        if re.search(r" store .*( 0x0|00)$", line) and not line.endswith(" 1 0x100"):
+            raise ValueError(f"{' '.join(words)}: zeros are stored: {line}")
     return text
 
 
@@ -251,15 +260,15 @@ def main():
     asked.add_argument("seeds", nargs="?", type=int, default=20)
     asked.add_argument("--first", type=int, default=1)
     asked.add_argument("--program", default=str(PROGRAM))
-    asked.add_argument("--finish", action="store_true")
+    for name in ("finish", "sweep", "write"):
+        asked.add_argument(f"--{name}", action="store_true")
     asked.add_argument("--scripts")
-    asked.add_argument("--write", action="store_true")
     asked.add_argument("--least", type=int, default=0)
     for name in ("lines", "cpus", "pages"):
         asked.add_argument(f"--{name}", type=int)
     given = asked.parse_args()
     options = [word for name in ("lines", "cpus", "pages") if getattr(given, name) for word in (f"--{name}", str(getattr(given, name)))]
-    options += ["--finish"] * given.finish
+    options += ["--finish"] * given.finish + ["--sweep"] * given.sweep
 
     def one(case):
         text = case if given.scripts else explored(given.program, *case, options)

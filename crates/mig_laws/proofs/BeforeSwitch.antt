@@ -12,6 +12,7 @@ use Rattle.mig_base.specs.declared.phase.SourcePhase.{SourcePhase}
 use Rattle.mig_base.specs.declared.refusal.Refusal.{Refusal}
 use Rattle.mig_base.specs.declared.schedule.Side.{Side}
 use Rattle.mig_base.specs.declared.schedule.Step.{Step}
+use Rattle.mig_base.proofs.TestLemmas.{or_first}
 use Rattle.mig_model.specs.GuestSteps.{issue, retry, when_quiet}
 use Rattle.mig_model.specs.Log.{forgotten, no_pages, present}
 use Rattle.mig_model.specs.NodeSteps.{first_of}
@@ -60,10 +61,6 @@ acted-same (Requested origin) node page = (refl, refl)
 stopped : (phase : SourcePhase) → not (is_stopped phase) ≡ false → is_stopped phase ≡ false → ⊥
 stopped phase may calm = false≢true (sym may ∙ ap not calm)
 
-first-off : (one other : Bool) → (one || other) ≡ false → one ≡ false
-first-off true other off = off
-first-off false other off = refl
-
 step-before : (node : Source) (step : Step) (did : Did Source) → source_step node step ≡ Ok did → StaysBefore true node did
 step-before node (Step.Issue cpu command) did gives =
     let tried = issue node.guest (not node.switched) cpu command in
@@ -102,7 +99,7 @@ step-before node Step.Serve did gives =
     (over_map _ _ (source.serve node) (holds-in_phase _ (is_stopped node.phase) _ (λ may.
     holds-and_then _ (ok_or (first_of node.asked) Refusal.NothingThere) _ (each _ (ok_or (first_of node.asked) Refusal.NothingThere) (λ page off. (off, λ calm is. (calm, tt))))))) gives
 step-before node Step.End did gives =
-    ok-holds (StaysBefore true node) (sends (source.end node)) did (over_map _ _ (source.end node) (holds-unless _ _ _ (λ none off. (off, λ calm is. absurd (stopped node.phase (first-off (not (is_stopped node.phase)) (node.end_epoch == node.epoch) none.0) calm))))) gives
+    ok-holds (StaysBefore true node) (sends (source.end node)) did (over_map _ _ (source.end node) (holds-unless _ _ _ (λ none off. (off, λ calm is. absurd (stopped node.phase (or_first (not (is_stopped node.phase)) (node.end_epoch == node.epoch) none.0) calm))))) gives
 step-before node (Step.Notice Side.Source) did gives =
     ok-holds (StaysBefore true node) (acts (source.pause node)) did
     (over_map _ _ (source.pause node) (holds-in_phase _ (is_under_way node && not (is_source_paused node.phase)) _ (λ may off. (off, λ calm is. (refl, tt))))) gives

@@ -6,6 +6,7 @@ use Rattle.std.specs.Option.{option_map}
 use Rattle.std.specs.Ordering.{nat_cmp}
 use Rattle.std.specs.FinMap.{FinMap, insert}
 use Rattle.std.proofs.lemmas.Bool.{false≢true}
+use Rattle.std.proofs.lemmas.Option.{none-some}
 use Rattle.mig_base.specs.Bytes.{zero_page}
 use Rattle.mig_base.specs.Tests.{first_holding, is_empty}
 use Rattle.mig_base.specs.Userfault.{next_message}
@@ -26,7 +27,7 @@ use Rattle.mig_model.specs.NodeSteps.{Acted, Sends, acted, first_of, in_phase, r
 use Rattle.mig_model.specs.Owed.{home}
 use Rattle.mig_model.specs.Wire.{Copy, Frame, Sent, is_copy, kept_with, run_copies, wire_with}
 use Rattle.mig_model.specs.Wire.Frame.{Advise, Page, Zero, Run, Discard, Package, End, Resume, Request, Recv, Done}
-use Rattle.mig_model.proofs.steps.StepLemmas.{Holds, holds-and_then, holds-in_phase, not_refused}
+use Rattle.mig_model.proofs.steps.StepLemmas.{Holds, holds-and_then, holds-in_phase, in-phase, not_refused}
 use Rattle.mig_laws.specs.Sides as sides
 use Rattle.mig_laws.specs.Sides.{Did, Line}
 use Rattle.mig_laws.proofs.OrderRuns.{each}
@@ -95,24 +96,21 @@ step-line DestinationStep.Notice old effect new is = acts-line _ old (destinatio
 
 -- Frames: why one is taken
 
-some-none : {A : Type 0} (fault : A) → Some fault ≡ None → ⊥
-some-none fault is = cc
-
 no-fault : (o : Option TakeFault) → option_map of_take o ≡ None → o ≡ None
 no-fault None is = refl
-no-fault (Some fault) is = absurd (some-none (of_take fault) is)
+no-fault (Some fault) is = absurd (none-some (of_take fault) (sym is))
 
 both-none : (one other : Option TakeFault) → ◌≡◌ {A = Option TakeFault} (elim one [ None ↦ other | Some fault ↦ Some fault ]) None → (one ≡ None) × (other ≡ None)
 both-none None other is = (refl, is)
-both-none (Some fault) other is = absurd (some-none fault is)
+both-none (Some fault) other is = absurd (none-some fault (sym is))
 
 two-off : (one other : Bool) (fault last : TakeFault) → first_holding ((one, fault) ∷ (other, last) ∷ []) ≡ None → (one ≡ false) × (other ≡ false)
-two-off true other fault last is = absurd (some-none fault is)
-two-off false true fault last is = absurd (some-none last is)
+two-off true other fault last is = absurd (none-some fault (sym is))
+two-off false true fault last is = absurd (none-some last (sym is))
 two-off false false fault last is = (refl, refl)
 
 first-off : (one : Bool) (fault : TakeFault) (rest : List (Bool × TakeFault)) → first_holding ((one, fault) ∷ rest) ≡ None → one ≡ false
-first-off true fault rest is = absurd (some-none fault is)
+first-off true fault rest is = absurd (none-some fault (sym is))
 first-off false fault rest is = refl
 
 in-place : (one other : Bool) → (not one || other) ≡ false → one ≡ true
@@ -241,16 +239,12 @@ runs-urgent node epoch frame none =
     let fault = no-fault (urgent_fault node epoch frame) none in
     running-of (is_running node.phase) (is_copy frame) (first-off (not (is_running node.phase && is_copy frame)) TakeFault.OutOfPlace ((not (epoch == node.epoch), TakeFault.StaleEpoch) ∷ []) fault)
 
-in-order : {A : Type 0} (may : Bool) (result : Result A Refusal) → may ≡ true → in_phase may result ≡ result
-in-order true result may = refl
-in-order false result may = absurd (false≢true may)
-
 urgent-taken : (old : PostingDestination) (sent : Sent) (effect : Effect) (new : PostingDestination) → HasOrder old.node → urgent_taking_fault old.node sent.epoch sent.frame ≡ None → effect ≡ frame_effect sent.frame → new ≡ urgently_taken old sent.frame →
     IsDestinationLine old (Line.TookUrgent sent) effect new
 urgent-taken old sent effect new order none effect_is new_is =
     record {
       did = record { effect = frame_effect sent.frame; frames = []; urgent = []; entries = []; node = urgent_took old.node sent.frame };
-      gives = in-order old.node.has_run (sides.acts (destination.take_urgent old.node sent.frame)) (order.running (runs-urgent old.node sent.epoch sent.frame none));
+      gives = in-phase old.node.has_run (sides.acts (destination.take_urgent old.node sent.frame)) (order.running (runs-urgent old.node sent.epoch sent.frame none));
       effect_is = effect_is;
       node_is = ap (λ (p : PostingDestination). p.node) new_is;
       waits = ap (λ (p : PostingDestination). p.wire) new_is;

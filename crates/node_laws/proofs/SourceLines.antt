@@ -5,6 +5,7 @@ use Rattle.std.specs.Prelude.{Result, Ok, Err, IfOk}
 use Rattle.mig_base.specs.Sets.{run_length}
 use Rattle.mig_base.specs.Tests.{first_holding}
 use Rattle.std.proofs.lemmas.Bool.{false≢true}
+use Rattle.std.proofs.lemmas.Option.{none-some}
 use Rattle.mig_base.specs.declared.effect.Effect.{Effect}
 use Rattle.mig_base.specs.declared.fault.BackFault.{BackFault}
 use Rattle.mig_base.specs.declared.refusal.Refusal.{Refusal}
@@ -130,16 +131,13 @@ step-line SourceStep.Resume old effect new is = posts-line _ old (source.resume 
 
 -- A frame that comes back
 
-some-none : {A : Type 0} (fault : A) → Some fault ≡ None → ⊥
-some-none fault is = cc
-
 came-back : (o : Option BackFault) (rest : Option FrameFault) → ◌≡◌ {A = Option FrameFault} (elim o [ None ↦ rest | Some fault ↦ Some (of_back fault) ]) None → o ≡ None
 came-back None rest is = refl
-came-back (Some fault) rest is = absurd (some-none (of_back fault) is)
+came-back (Some fault) rest is = absurd (none-some (of_back fault) (sym is))
 
 second-of : (one other : Bool) → first_holding ((one, BackFault.OutOfPlace) ∷ (other, BackFault.StaleEpoch) ∷ []) ≡ None → other ≡ false
-second-of true other is = absurd (some-none BackFault.OutOfPlace is)
-second-of false true is = absurd (some-none BackFault.StaleEpoch is)
+second-of true other is = absurd (none-some BackFault.OutOfPlace (sym is))
+second-of false true is = absurd (none-some BackFault.StaleEpoch (sym is))
 second-of false false is = refl
 
 same-epoch : (one other : ℕ) → not (one == other) ≡ false → one ≡ other

@@ -4,7 +4,7 @@ use Command::{DontNeed, Load, Mmap, Mremap, Munmap, Store};
 use Order::{Make, Progress, Push};
 use Step::{Deliver, DeliverBack, DeliverUrgent, Issue, Notice, Retry, SendRun};
 use grammar::parse::parse;
-use grammar::{ForwardWire, Language, Line, Order, Token};
+use grammar::{ForwardWire, Language, Line, Order, Token, print_order};
 use mig_base::schedule::{Side, Step, Ticket};
 use mig_base::{Command, Place, Prot};
 use std::process::Abort;
@@ -263,6 +263,21 @@ fn lines_of_scripts(rt: HostRuntime) -> Result<(), Fail> {
     }
     for (i, text) in NOTHING.iter().enumerate() {
         look(&rt, &mut tokens, text, Some(Line::Skipped), i);
+    }
+    Ok(())
+}
+
+/// What is printed for an order is read as that order.
+#[test]
+fn orders_are_read_back(rt: HostRuntime) -> Result<(), Fail> {
+    let mut tokens = Vec::new(rt.alloc());
+    let mut text = String::new(rt.alloc());
+    for (i, (_, order)) in ORDERS.iter().enumerate() {
+        if print_order(&mut text, *order).is_err() {
+            assert!(&rt; text.is_empty());
+            print_order(&mut text, *order)?;
+        }
+        look(&rt, &mut tokens, text.as_bytes(), Some(Line::Do(*order)), i);
     }
     Ok(())
 }
