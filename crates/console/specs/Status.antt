@@ -25,6 +25,10 @@ fault_status NoMemory = 4
 abbrev pub tally_status : ℕ → ℕ → ℕ → ℕ
 tally_status differ unchecked fault = if nat_lt 0 differ then 3 else if nat_lt 0 unchecked then 3 else fault
 
+-- the status of the first of two files that has a fault, or 0
+abbrev pub first_status : ℕ → ℕ → ℕ
+first_status known status = if nat_lt 0 known then known else status
+
 -- the status of a strict command, by whether it has checked what it had to, and by the status that it has otherwise
 abbrev pub strict_status : Bool → ℕ → ℕ
 strict_status is_met status = if is_met then status else if nat_lt 0 status then status else 3

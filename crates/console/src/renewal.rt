@@ -2,8 +2,8 @@
 
 ghost use Rattle.std.specs.Prelude.{◌≤◌};
 
-use crate::status::{ALL_DONE, READ_OR_WRITE_FAULT, status_of};
-use crate::streams::{end_test, open_file, open_output};
+use crate::status::{ALL_DONE, READ_OR_WRITE_FAULT, first_status_of};
+use crate::streams::{end_files, end_test, open_file, open_output};
 use crate::watched::{Watched, say_reason};
 use engine::RunFault;
 use engine::line_runner::write_out;
@@ -42,13 +42,6 @@ struct Renewal {
 }
 
 impl Renewal {
-    /// Counts a file that could not be run to its end or written.
-    fn note(&mut self, status: u8) {
-        if self.fault == ALL_DONE {
-            self.fault = status;
-        }
-    }
-
     /// Replaces the answers of a file. A file that would not change is not written. A fault that ends everything is returned.
     fn renew_file(&mut self, rt: &HostRuntime, name: &str, cpus: u8) -> Result<(), RunFault>
         requires low { 1 ≤ cpus }
@@ -56,14 +49,14 @@ impl Renewal {
     {
         self.files = self.files.saturating_add(1);
         let Some(mut input) = open_file(rt, name) else {
-            self.note(READ_OR_WRITE_FAULT);
+            self.fault = first_status_of(self.fault, READ_OR_WRITE_FAULT);
             return Ok(());
         };
         let renewed = match renew_answers(rt.alloc(), &mut input, cpus) {
             Ok(renewed) => renewed,
             Err(fault) => {
                 let status = end_test(rt, name, &input, fault)?;
-                self.note(status);
+                self.fault = first_status_of(self.fault, status);
                 return Ok(());
             }
         };
@@ -74,7 +67,7 @@ impl Renewal {
         if write_file(rt, name, &renewed.text) {
             self.changed = self.changed.saturating_add(renewed.changed);
         } else {
-            self.note(READ_OR_WRITE_FAULT);
+            self.fault = first_status_of(self.fault, READ_OR_WRITE_FAULT);
         }
         Ok(())
     }
@@ -118,11 +111,6 @@ pub fn renew_files(rt: &HostRuntime, files: &[&str], cpus: u8) -> u8
         fault: ALL_DONE,
     };
     let renewed = renewal.renew_all(rt, files, cpus);
-    match renewed.and_then(|()| renewal.write_counts(&mut output)) {
-        Ok(()) => renewal.fault,
-        Err(fault) => {
-            let _ = eprintln!(rt; "{fault}");
-            status_of(Err(fault))
-        }
-    }
+    let ended = renewed.and_then(|()| renewal.write_counts(&mut output));
+    end_files(rt, ended, renewal.fault)
 }

@@ -1,7 +1,7 @@
 //! The exit statuses of a command.
 
 ghost use Rattle.std.specs.Prelude.{◌≡◌, IfOk, IfErr};
-ghost use Rattle.console.specs.Status.{answer_status, fault_status, strict_status};
+ghost use Rattle.console.specs.Status.{answer_status, fault_status, first_status, strict_status};
 
 use engine::RunFault;
 
@@ -49,4 +49,14 @@ pub fn strict_status_of(status: u8, is_met: bool) -> u8
         return status;
     }
     NO_FLAT_RUN
+}
+
+/// The exit status of files one after another: that of the first with a fault, where 0 is none.
+pub(crate) fn first_status_of(known: u8, status: u8) -> u8
+    ensures { result ≡ first_status known status }
+{
+    if known > ALL_DONE {
+        return known;
+    }
+    status
 }

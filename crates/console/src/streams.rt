@@ -148,7 +148,10 @@ pub(crate) fn end_test(
     name: &str,
     input: &Watched<'_, Input>,
     fault: RunFault,
-) -> Result<u8, RunFault> {
+) -> Result<u8, RunFault>
+    ensures said { IfOk result (λ status. status ≡ fault_status fault) }
+    ensures left { IfErr result (λ left. left ≡ fault) }
+{
     match fault {
         RunFault::Line(line) => {
             let _ = eprintln!(rt; "{name}:{line}: not a line of a test");
@@ -161,5 +164,20 @@ pub(crate) fn end_test(
             Ok(READ_OR_WRITE_FAULT)
         }
         RunFault::WriteFault | RunFault::NoMemory => Err(fault),
+    }
+}
+
+/// The exit status of a command that has worked on files: this one, or that of the fault that ended it early, which is written to standard
+/// error.
+pub(crate) fn end_files(rt: &HostRuntime, ended: Result<(), RunFault>, status: u8) -> u8
+    ensures whole { IfOk ended (λ _. result ≡ status) }
+    ensures fault { IfErr ended (λ fault. result ≡ fault_status fault) }
+{
+    match ended {
+        Ok(()) => status,
+        Err(fault) => {
+            let _ = eprintln!(rt; "{fault}");
+            status_of(Err(fault))
+        }
     }
 }

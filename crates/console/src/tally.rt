@@ -1,11 +1,11 @@
 //! Scripts as tests, one file after the other.
 
-ghost use Rattle.std.specs.Prelude.{◌≡◌, ◌≤◌, OnOk, IfErr};
-ghost use Rattle.console.specs.Status.{tally_status, fault_status};
+ghost use Rattle.std.specs.Prelude.{◌≡◌, ◌≤◌};
+ghost use Rattle.console.specs.Status.{tally_status};
 
 use crate::input::Input;
-use crate::status::{ALL_DONE, NO_FLAT_RUN, READ_OR_WRITE_FAULT, status_of};
-use crate::streams::{end_test, open_file, open_output, standard_input};
+use crate::status::{ALL_DONE, NO_FLAT_RUN, READ_OR_WRITE_FAULT, first_status_of};
+use crate::streams::{end_files, end_test, open_file, open_output, standard_input};
 use crate::watched::Watched;
 use engine::RunFault;
 use expected::{Outcome, Tested, list_differences, test_script};
@@ -39,13 +39,6 @@ struct Tally {
 }
 
 impl Tally {
-    /// Counts a file that could not be tested to its end.
-    fn note(&mut self, status: u8) {
-        if self.fault == ALL_DONE {
-            self.fault = status;
-        }
-    }
-
     /// Counts a file of this name that was tested. It is named on standard error where no answer was compared although one had to be.
     fn count(&mut self, rt: &HostRuntime, name: &str, tested: Tested) {
         self.answers = self.answers.saturating_add(tested.answers);
@@ -80,7 +73,7 @@ impl Tally {
             Ok(tested) => self.count(rt, name, tested),
             Err(fault) => {
                 let status = end_test(rt, name, &input, fault)?;
-                self.note(status);
+                self.fault = first_status_of(self.fault, status);
             }
         }
         Ok(())
@@ -102,7 +95,7 @@ impl Tally {
                 Some(input) => self.test_input(rt, name, input, output, cpus)?,
                 None => {
                     self.files = self.files.saturating_add(1);
-                    self.note(READ_OR_WRITE_FAULT);
+                    self.fault = first_status_of(self.fault, READ_OR_WRITE_FAULT);
                 }
             }
         }
@@ -153,11 +146,6 @@ pub fn test_files(rt: &HostRuntime, files: Option<&[&str]>, asks: TestAsks, cpus
         None => tally.test_input(rt, STANDARD, standard_input(rt), &mut output, cpus),
         Some(names) => tally.test_each(rt, names, &mut output, cpus),
     };
-    match tested.and_then(|()| tally.write_counts(&mut output)) {
-        Ok(()) => tally.status(),
-        Err(fault) => {
-            let _ = eprintln!(rt; "{fault}");
-            status_of(Err(fault))
-        }
-    }
+    let ended = tested.and_then(|()| tally.write_counts(&mut output));
+    end_files(rt, ended, tally.status())
 }

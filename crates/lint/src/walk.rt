@@ -11,7 +11,9 @@ use grammar::Language;
 
 const COMMENT: Problem = Problem::Plain("a comment stands on a line of its own");
 
-const ANSWER: Problem = Problem::Plain("`=>` begins an answer, which only `postmig test` reads");
+const ANSWER: Problem = Problem::Plain(
+    "`=>` begins an answer: it has a space on both sides, and only `postmig test` reads it",
+);
 
 /// Why a word is not what is wanted, where it is none of its words and no number.
 fn unexpected(word: &[u8], wanted: Wanted) -> Problem {
