@@ -20,6 +20,13 @@ fault_status ReadFault = 2
 fault_status WriteFault = 2
 fault_status NoMemory = 4
 
+-- whether a fault ends the tests of all files, and not that of one alone
+abbrev pub ends_tests : RunFault → Bool
+ends_tests (Line n) = false
+ends_tests ReadFault = false
+ends_tests WriteFault = true
+ends_tests NoMemory = true
+
 -- the status of tests, by the number of files that differ, by that of files in which no answer was compared although one had to be, and
 -- by the status of the first fault, or 0
 abbrev pub tally_status : ℕ → ℕ → ℕ → ℕ

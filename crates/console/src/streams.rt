@@ -1,7 +1,7 @@
 //! What a command reads and writes, and how it says why it ended early.
 
-ghost use Rattle.std.specs.Prelude.{◌≡◌, IfOk, IfErr};
-ghost use Rattle.console.specs.Status.{answer_status, fault_status, lint_status};
+ghost use Rattle.std.specs.Prelude.{◌≡◌, true, false, IfOk, IfErr};
+ghost use Rattle.console.specs.Status.{answer_status, ends_tests, fault_status, lint_status};
 
 use crate::input::Input;
 use crate::reasons::{gives_reasons, say_wrong_line, say_wrong_lines};
@@ -149,8 +149,9 @@ pub(crate) fn end_test(
     input: &Watched<'_, Input>,
     fault: RunFault,
 ) -> Result<u8, RunFault>
-    ensures said { IfOk result (λ status. status ≡ fault_status fault) }
-    ensures left { IfErr result (λ left. left ≡ fault) }
+    ensures said { IfOk result (λ status.
+        (ends_tests fault ≡ false) × (status ≡ fault_status fault)) }
+    ensures left { IfErr result (λ left. (ends_tests fault ≡ true) × (left ≡ fault)) }
 {
     match fault {
         RunFault::Line(line) => {

@@ -1,6 +1,6 @@
 -- A source that has not switched sends neither a Package nor an End, and stays out of the phase Stopped unless a Recv says that the
 -- destination runs.
-use Rattle.std.proofs.Common.{◌≡◌, ℕ, ◌&&◌, ◌||◌, ◌==◌, Bool, true, false, not, List, [], ◌∷◌, refl, sym, ap, subst, ◌∙◌, if◌then◌else◌}
+use Rattle.std.proofs.Common.{◌≡◌, ℕ, ◌&&◌, ◌==◌, Bool, true, false, not, List, [], ◌∷◌, refl, sym, ap, subst, ◌∙◌, if◌then◌else◌}
 use Rattle.std.specs.Prelude.{Ok, ok_or}
 use Rattle.std.proofs.lemmas.Bool.{false≢true}
 use Rattle.std.specs.FinSet as finset
@@ -18,7 +18,7 @@ use Rattle.mig_model.specs.Log.{forgotten, no_pages, present}
 use Rattle.mig_model.specs.NodeSteps.{first_of}
 use Rattle.mig_model.specs.Source.{Source, bytes_of, is_handling, is_stopped, is_under_way, is_source_paused, package_frames, source_act, source_acted_by, source_answers, source_took, space_of}
 use Rattle.mig_model.specs.SourceSteps as source
-use Rattle.mig_model.specs.Wire.{Frame, is_zeros, page_frame}
+use Rattle.mig_model.specs.Wire.{Frame, is_zeros}
 use Rattle.mig_model.specs.Wire.Frame.{Advise, Page, Zero, Run, Discard, Package, End, Resume, Request, Recv, Done}
 use Rattle.mig_model.proofs.steps.StepLemmas.{holds-and_then, holds-in_phase, holds-unless}
 use Rattle.mig_laws.specs.Replacements.{comes_before_run}

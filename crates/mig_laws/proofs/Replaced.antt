@@ -1,14 +1,10 @@
 -- Where another destination takes the place of one that has not run, what happens is what could have happened to two processes of which
 -- neither was replaced.
-use Rattle.std.proofs.Common.{◌≡◌, ◌⊎◌, inl, inr, ℕ, ◌||◌, Bool, true, false, not, List, [], ◌∷◌, ◌++◌, if◌then◌else◌, append_assoc, refl, sym, ap, subst, ◌∙◌}
-use Rattle.std.specs.Prelude.{Result, Ok, Err}
-use Rattle.std.specs.Ordering.{nat_cmp}
+use Rattle.std.proofs.Common.{◌≡◌, inl, inr, ℕ, Bool, true, false, List, [], ◌∷◌, ◌++◌, if◌then◌else◌, append_assoc, refl, sym, ap, subst, ◌∙◌}
+use Rattle.std.specs.Prelude.{Ok}
 use Rattle.std.specs.FinMap as finmap
-use Rattle.std.specs.FinMap.{FinMap}
 use Rattle.std.proofs.lemmas.Bool.{false≢true}
 use Rattle.std.proofs.lemmas.List.{append-nil}
-use Rattle.mig_base.specs.declared.command.Entry.{Entry}
-use Rattle.mig_base.specs.declared.effect.Effect.{Effect}
 use Rattle.mig_base.specs.declared.phase.DestPhase.{DestPhase}
 use Rattle.mig_base.specs.declared.phase.Received.{Received}
 use Rattle.mig_base.specs.declared.refusal.Refusal.{Refusal}
@@ -22,13 +18,13 @@ use Rattle.mig_model.specs.SourceSteps as source
 use Rattle.mig_model.specs.Wire.{Frame, Sent, sending, sending_if}
 use Rattle.mig_model.specs.Wire.Frame.{Advise, Page, Zero, Run, Discard, Package, End, Resume, Request, Recv, Done}
 use Rattle.mig_model.proofs.steps.StepLemmas.{holds-unless}
-use Rattle.mig_laws.specs.Orders.{TakesFront, destination_may, is_alone, source_may}
-use Rattle.mig_laws.specs.Processes.{AreEvents, Channel, Event, IsEvent, IsHere, IsJoining, IsOpening, IsThere, Processes, first_processes, last_of, log_here, log_there, logged_here, logged_there, put_first, put_later}
-use Rattle.mig_laws.specs.Replacements.{AreChanges, Change, IsNotRun, IsReplaced, comes_before_run, is_before_run, last_log, newcomer_log, not_run, resume_of, resume_taken, source_log}
+use Rattle.mig_laws.specs.Orders.{TakesFront, destination_may, is_alone}
+use Rattle.mig_laws.specs.Processes.{AreEvents, Channel, Event, IsEvent, IsHere, IsOpening, IsThere, Processes, first_processes, last_of, log_there, logged_there, put_first, put_later}
+use Rattle.mig_laws.specs.Replacements.{IsNotRun, comes_before_run, is_before_run, not_run, resume_of}
 use Rattle.mig_laws.specs.Sides.{Did, Line, destination_after, destination_entries, destination_line, entries_by, node_by, sends, source_line}
 use Rattle.mig_laws.proofs.BeforeSwitch.{Come, is_quiet, line-before, takes_quiet}
 use Rattle.mig_laws.proofs.EitherOrder.{ok-holds, sending_if-first}
-use Rattle.mig_laws.proofs.NotRun.{AnswersNotRun, Copies, line-not_run, takes-resume}
+use Rattle.mig_laws.proofs.NotRun.{AnswersNotRun, Copies, line-not_run}
 use Rattle.mig_laws.proofs.OrderRuns.{issue-runs, never, over_map, retry-runs}
 
 -- Frames in flight

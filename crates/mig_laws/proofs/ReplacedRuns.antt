@@ -1,23 +1,20 @@
 -- Changes are events of two processes of which neither was replaced: the first destination could have taken the Resume itself.
-use Rattle.std.proofs.Common.{◌≡◌, ℕ, Bool, true, false, not, List, [], ◌∷◌, ◌++◌, append_assoc, refl, sym, ap, subst, ◌∙◌}
+use Rattle.std.proofs.Common.{◌≡◌, ℕ, Bool, true, false, List, [], ◌∷◌, ◌++◌, append_assoc, refl, sym, ap, subst, ◌∙◌}
 use Rattle.std.specs.Prelude.{Ok}
 use Rattle.std.specs.FinMap as finmap
-use Rattle.std.proofs.lemmas.Bool.{false≢true}
 use Rattle.std.proofs.lemmas.List.{append-nil}
-use Rattle.mig_base.specs.declared.command.Entry.{Entry}
 use Rattle.mig_base.specs.declared.effect.Effect.{Effect}
 use Rattle.mig_base.specs.declared.phase.DestPhase.{DestPhase}
 use Rattle.mig_base.specs.declared.schedule.Side.{Side}
-use Rattle.mig_base.specs.declared.schedule.Step.{Step}
 use Rattle.mig_model.specs.Destination.{Destination, first_destination, is_dest_paused}
 use Rattle.mig_model.specs.Migration.{after_steps, first_world_with}
 use Rattle.mig_model.specs.Source.{Source, first_source}
 use Rattle.mig_model.specs.Wire.{Sent, sending}
 use Rattle.mig_laws.specs.Processes.{AreEvents, Channel, Event, IsEvent, IsSettled, IsThere, Processes, first_processes, log_here, log_there, logged_here, logged_there}
-use Rattle.mig_laws.specs.Replacements.{AreChanges, Change, IsChange, IsReplaced, last_log, newcomer_log, not_run, resume_of, resume_taken, source_log}
+use Rattle.mig_laws.specs.Replacements.{AreChanges, Change, IsReplaced, last_log, newcomer_log, not_run, resume_of, resume_taken, source_log}
 use Rattle.mig_laws.specs.Sides.{Did, Line, destination_after, destination_entries, destination_line, entries_by, node_by, source_entries}
 use Rattle.mig_laws.proofs.NotRun.{Copies, takes-resume}
-use Rattle.mig_laws.proofs.Replaced.{EndsNoticed, IsBefore, StillBefore, after-append, entries-append, events-before, first-before, notice}
+use Rattle.mig_laws.proofs.Replaced.{EndsNoticed, IsBefore, after-append, entries-append, events-before, first-before, notice}
 use Rattle.mig_laws.proofs.TwoProcesses.{IsWorldOf, world-of}
 
 -- Events that grow at their end

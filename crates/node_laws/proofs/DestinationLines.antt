@@ -1,6 +1,5 @@
 -- An accepted call of a destination is a line of its log.
-use Rattle.std.proofs.lemmas.Bool.Decides.{nat_tests}
-use Rattle.std.proofs.Common.{◌≡◌, ◌⊎◌, inl, inr, ℕ, zero, suc, ◌+◌, ◌*◌, ◌==◌, ◌&&◌, ◌||◌, not, arith, Bool, true, false, Option, Some, None, List, [], ◌∷◌, ◌++◌, length, refl, sym, ap, subst, ◌∙◌}
+use Rattle.std.proofs.Common.{◌≡◌, ℕ, zero, suc, ◌+◌, ◌*◌, ◌==◌, ◌&&◌, ◌||◌, not, arith, Bool, true, false, Option, Some, None, List, [], ◌∷◌, ◌++◌, length, refl, sym, ap, subst, ◌∙◌}
 use Rattle.std.specs.Prelude.{Result, Ok, Err, IfOk, OnOk, ok_or}
 use Rattle.std.specs.Option.{option_map}
 use Rattle.std.specs.Ordering.{nat_cmp}
@@ -23,7 +22,7 @@ use Rattle.mig_model.specs.Effects.{frame_effect}
 use Rattle.mig_model.specs.Faults.{frame_fault, is_bad, is_early, is_end, is_in_place, is_of_epoch, is_too_soon, take_fault, urgent_fault, wait_fault}
 use Rattle.mig_model.specs.GuestSteps as guest
 use Rattle.mig_model.specs.GuestSteps.{Tried}
-use Rattle.mig_model.specs.NodeSteps.{Acted, Sends, acted, first_of, in_phase, rest_of, sent}
+use Rattle.mig_model.specs.NodeSteps.{Acted, Sends, acted, first_of, rest_of, sent}
 use Rattle.mig_model.specs.Owed.{home}
 use Rattle.mig_model.specs.Wire.{Copy, Frame, Sent, is_copy, kept_with, run_copies, wire_with}
 use Rattle.mig_model.specs.Wire.Frame.{Advise, Page, Zero, Run, Discard, Package, End, Resume, Request, Recv, Done}
