@@ -18,7 +18,7 @@ def require(*programs):
     """Ends the script where a program was not built."""
     for it in programs:
         if not pathlib.Path(it).is_file():
-            sys.exit(f"there is no {it}: ./postmig prove or rt ci makes the program, rt run in crates/bench that of the speed")
+            sys.exit(f"there is no {it}: rt ci makes each program, ./postmig prove that of crates/postmig, and rt run in crates/NAME one alone")
 
 
 def run(words, given=b"", folder=None):

@@ -1,9 +1,9 @@
 #!/usr/bin/env python3
 """Makes random calls of a destination and of a source, and compares each answer with that of the nodes of bench/model.
 
-python3 bench/compare/takes.py PROGRAM [--runs N] [--calls N] [--seed N] [--jobs N] [--write INPUT OUTPUT]
+python3 bench/compare/takes.py [PROGRAM] [--runs N] [--calls N] [--seed N] [--jobs N] [--write INPUT OUTPUT]
 
-PROGRAM is that of the crate node_tests. It makes `Destination::take`, `take_urgent`, `install` and `pause`, and `Source::back` with what
+PROGRAM is that of the crate node_tests, crates/node_tests/out/node_tests unless it is named. It makes `Destination::take`, `take_urgent`, `install` and `pause`, and `Source::back` with what
 the source does in between, in any order: no wire joins the two nodes, so every well-formed frame comes in every phase, of the node's
 epoch and of others, in either version. About half of the calls are drawn from those that the node takes in its phase, so that all phases
 are reached.
@@ -21,10 +21,11 @@ import sys
 
 import shared  # noqa: F401
 
+import page
 from drawing import Drawing
 from model import nodes
 from model.frames import LOW, TAGS
-from program import run
+from program import require, run
 
 CPUS = 2
 PAGES = range(LOW, LOW + 16)
@@ -221,7 +222,7 @@ def table(counts, wrong, runs):
 
 def main():
     parser = argparse.ArgumentParser(description=__doc__.splitlines()[0])
-    parser.add_argument("program", nargs="?")
+    parser.add_argument("program", nargs="?", default=page.TOP / "crates" / "node_tests" / "out" / "node_tests")
     parser.add_argument("--runs", type=int, default=10_000)
     parser.add_argument("--calls", type=int, default=60)
     parser.add_argument("--seed", type=int, default=1)
@@ -235,6 +236,7 @@ def main():
             answers.write(b"".join(run.output() for run in runs))
         return
     program = os.path.abspath(options.program)
+    require(program)
     numbers = range(options.runs)
     jobs = [(program, options.seed, numbers[at : at + 100], options.calls) for at in range(0, len(numbers), 100)]
     counts, wrong = collections.Counter(), []
