@@ -8,9 +8,9 @@ For each seed from SEED on (1), SEEDS of them (20), and for each profile: `postm
 without answers has the same lines; `postmig run` prints the answers; `postmig check` accepts the transcript of the run; no store has zeros
 as its lowest byte. Its status is 1 where one of these does not hold. Then it prints tables of what happened. Run it once ./postmig prove
 has built the program. With --finish each script ends with the lines that finish it and a sweep, and its migration has to be complete; with
---sweep it ends with a sweep, loads of all pages after the lines that it has without. With --scripts it judges scripts with answers that stand in a file, one after
-the other, and runs no `postmig explore`. With --write the tables go to dist/EXPLORED.md, or with --finish a part of the first to
-docs/EXPLORE.md.
+--sweep it ends with a sweep, loads of all pages after the lines that it has without. With --scripts it judges scripts with answers that are
+in a file, one after the other, and runs no `postmig explore`. With --write the tables go to dist/EXPLORED.md, or with --finish a part of the
+first to docs/EXPLORE.md.
 
 A script shows a destination that installs zeros for every page if one of its loads returns other bytes than 0 that were installed: there
 it would return 0 for them. With --least the status is also 1 where fewer than N of 100 scripts of a profile with post-copy show it.
@@ -67,8 +67,8 @@ def judge(program, text):
 
 
 def explored(program, seed, profile, options):
-    """A script with its answers. Its lines are those that are written without answers, and begin with those that are written without a sweep. No value is stored
-    whose lowest byte is 0, so that a load of any width shows it; what does not fit into its byte is stored nowhere."""
+    """A script with its answers. Its lines are those that are written without answers, and begin with those that are written without a
+    sweep. No value is stored whose lowest byte is 0, so that a load of any width shows it; what does not fit into its byte is stored nowhere."""
     words = [program, "explore", "--seed", str(seed), "--profile", profile, *options]
     text = written([*words, "--answers"]).decode()
     lines = split(text)[1]

@@ -3,10 +3,10 @@
 
 python3 bench/compare/takes.py [PROGRAM] [--runs N] [--calls N] [--seed N] [--jobs N] [--write INPUT OUTPUT]
 
-PROGRAM is that of the crate node_tests, crates/node_tests/out/node_tests unless it is named. It makes `Destination::take`, `take_urgent`, `install` and `pause`, and `Source::back` with what
-the source does in between, in any order: no wire joins the two nodes, so every well-formed frame comes in every phase, of the node's
-epoch and of others, in either version. About half of the calls are drawn from those that the node takes in its phase, so that all phases
-are reached.
+PROGRAM is that of the crate node_tests, crates/node_tests/out/node_tests unless it is named. It makes `Destination::take`, `take_urgent`,
+`install` and `pause`, and `Source::back` with what the source does in between, in any order: no wire joins the two nodes, so every
+well-formed frame comes in every phase, of the node's epoch and of others, in either version. About half of the calls are drawn from those
+that the node takes in its phase, so that all phases are reached.
 
 It prints a table of what was seen, and ends with status 1 where an answer differs, where the program ends otherwise than with status 0,
 or where something was seen too seldom. With --write it writes the calls of two runs, one of each node, and the answers of the second nodes.
