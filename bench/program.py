@@ -21,6 +21,14 @@ def require(*programs):
             sys.exit(f"there is no {it}: rt ci makes each program, ./postmig prove that of crates/postmig, and rt run in crates/NAME one alone")
 
 
+def file_at(name):
+    """The path of a file that a command line names; the script ends where there is none."""
+    path = pathlib.Path(name)
+    if not path.is_file():
+        sys.exit(f"{name}: no such file")
+    return path
+
+
 def run(words, given=b"", folder=None):
     """How a command ends on an input, with what it wrote."""
     return subprocess.run(words, input=given, stdout=subprocess.PIPE, stderr=subprocess.PIPE, cwd=folder)

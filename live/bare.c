@@ -1,109 +1,216 @@
-/* The pages of one process go over the same connection, and are put by the same call, without a node and without a guest. */
-#include "bare.h"
-
+/* The same guest, connections and calls of the kernel without a node: what a migration costs beside it is the node's and the driver's. One process
+   has both sides. */
 #include <errno.h>
 #include <inttypes.h>
 #include <poll.h>
 #include <pthread.h>
 #include <stdio.h>
+#include <stdlib.h>
 #include <string.h>
 
 #include "door.h"
+#include "figures.h"
+#include "guest.h"
 #include "kernel.h"
+#include "log.h"
+#include "roles.h"
 #include "wire.h"
 
 #define HEAD_BYTES 16u
-#define MOST_UNSENT (128u << 10) /* as that of the source */
+#define FRAME_BYTES (HEAD_BYTES + PAGE_BYTES)
+#define REQUEST_BYTES 4u
+#define MOST_UNSENT (128u << 10) /* as that of a source, */
+#define PAGES_AT_A_TIME 16u      /* and of a destination */
+#define MOST_MESSAGES 16u
+#define URGENT_NS 5000000u
 
 struct bare {
     const struct options *options;
     struct address address;
-    uint32_t pages;
-    char *from, *to;
+    struct guest guest; /* at `to` */
+    char *from;
+    uint32_t next, sent;    /* as a source, it continues after the page that was asked for last */
+    bool *is_sent, *is_put; /* each page; */
+    uint64_t *waited_since; /* and since when somebody waits for it, or 0 */
     int userfault;
+    uint32_t put, waiting; /* pages, and those that somebody waits for */
+    uint64_t last_request;
+    struct stream main, urgent; /* of the putting side */
+    struct samples waits;
     uint64_t busy_sending, busy_putting; /* nanoseconds of processor time */
 };
 
-static void wait_for(const struct stream *stream)
+static void expect(bool is_whole)
 {
-    struct pollfd file = { .fd = stream->file, .events = stream_events(stream) };
-
-    if (poll(&file, 1, 100) < 0 && errno != EINTR)
-        refuse_errno(errno, "poll");
+    if (!is_whole)
+        refuse("the connection is broken");
 }
 
-static void put_page(const struct bare *bare, struct stream *stream, uint32_t page)
-{
-    uint8_t *out = stream_room(stream, HEAD_BYTES + PAGE_BYTES);
+/* SENDING */
 
+static void send_page(struct bare *bare, struct stream *stream, uint32_t page)
+{
+    uint8_t *out = stream_room(stream, FRAME_BYTES);
+
+    bare->next = (page + 1) % bare->options->plan.pages;
+    if (bare->is_sent[page])
+        return;
+    bare->is_sent[page] = true;
+    bare->sent++;
     memset(out, 0, HEAD_BYTES);
     memcpy(out, &page, sizeof page);
     memcpy(out + HEAD_BYTES, bare->from + (size_t)page * PAGE_BYTES, PAGE_BYTES);
-    stream->out.end += HEAD_BYTES + PAGE_BYTES;
+    stream->out.end += FRAME_BYTES;
+}
+
+static void serve(struct bare *bare, struct stream *main, struct stream *urgent)
+{
+    expect(stream_receive(main, 0));
+    for (; stream_length(main) >= REQUEST_BYTES; stream_take(main, REQUEST_BYTES)) {
+        uint32_t page;
+
+        memcpy(&page, stream_front(main), sizeof page);
+        send_page(bare, urgent, page);
+        bare->last_request = kernel_now();
+    }
+}
+
+/* Each connection begins with a head that is no page's. (Without a byte nobody accepts it.) */
+static void connect_there(const struct bare *bare, struct stream *stream)
+{
+    int file = wire_connect(&bare->address, bare->options->buffer);
+
+    if (file < 0)
+        refuse_errno(errno, "%s", bare->address.text);
+    stream_open(stream, file, NULL, &(struct cut)NO_CUT);
+    memset(stream_room(stream, HEAD_BYTES), 0, HEAD_BYTES);
+    stream->out.end += HEAD_BYTES;
+    while (stream_unsent(stream)) {
+        struct pollfd made = { .fd = stream->file, .events = POLLOUT };
+
+        (void)poll(&made, 1, 100); /* it is tried again */
+        expect(stream_send(stream));
+    }
 }
 
 static void *send_all(void *argument)
 {
     struct bare *bare = argument;
-    struct stream stream = NO_STREAM;
-    int file = wire_connect(&bare->address, bare->options->buffer);
+    struct stream main = NO_STREAM, urgent = NO_STREAM;
+    uint32_t pages = bare->options->plan.pages;
 
-    if (file < 0)
-        refuse_errno(errno, "%s", bare->address.text);
-    stream_open(&stream, file, NULL, &(struct cut)NO_CUT);
-    for (uint32_t page = 0; page < bare->pages || stream_unsent(&stream);) {
-        while (page < bare->pages && stream_unsent(&stream) < MOST_UNSENT)
-            put_page(bare, &stream, page++);
-        if (!stream_send(&stream))
-            refuse("the connection is broken");
-        if (stream_unsent(&stream) >= MOST_UNSENT || page == bare->pages)
-            wait_for(&stream);
+    connect_there(bare, &main);
+    connect_there(bare, &urgent);
+    if (bare->options->goes_first)
+        (void)kernel_go_first(); /* as much as is allowed */
+    while (bare->sent < pages || stream_unsent(&main) || stream_unsent(&urgent)) {
+        struct pollfd files[] = { stream_waits(&main), stream_waits(&urgent) };
+
+        serve(bare, &main, bare->options->has_urgent ? &urgent : &main);
+        expect(stream_send(&urgent));
+        for (uint32_t few = 0; few < PAGES_AT_A_TIME && bare->sent < pages && stream_unsent(&main) < MOST_UNSENT; few++)
+            send_page(bare, &main, bare->next);
+        expect(stream_send(&main));
+        kernel_first(stream_unsent(&main) >= MOST_UNSENT || kernel_now() - bare->last_request < URGENT_NS);
+        if ((stream_unsent(&main) >= MOST_UNSENT || bare->sent == pages) && poll(files, 2, 100) < 0 && errno != EINTR)
+            refuse_errno(errno, "poll");
     }
     bare->busy_sending = kernel_thread_time();
-    stream_free(&stream);
+    while (stream_receive(&main, 0)) { /* until the other side closes it */
+        stream_take(&main, stream_length(&main));
+        (void)poll(&(struct pollfd){ .fd = main.file, .events = POLLIN }, 1, -1); /* it is looked at again */
+    }
+    stream_free(&main);
+    stream_free(&urgent);
     return NULL;
 }
 
-/* The pages that are there. */
-static uint32_t put_some(const struct bare *bare, struct stream *stream)
-{
-    uint32_t count = 0;
+/* PUTTING */
 
-    for (; stream_length(stream) >= HEAD_BYTES + PAGE_BYTES; count++) {
+static char *page_at(const struct bare *bare, uint32_t page)
+{
+    return bare->guest.memory + (size_t)page * PAGE_BYTES;
+}
+
+static void put_page(struct bare *bare, uint32_t page, const uint8_t *bytes)
+{
+    int error = kernel_copy(bare->userfault, page_at(bare, page), bytes);
+
+    if (error)
+        refuse_errno(error, "UFFDIO_COPY");
+    bare->is_put[page] = true;
+    bare->put++;
+    if (!bare->waited_since[page])
+        return;
+    bare->waiting--;
+    samples_add(&bare->waits, kernel_now() - bare->waited_since[page]);
+}
+
+static void put_some(struct bare *bare, struct stream *stream)
+{
+    if (stream_length(stream) < FRAME_BYTES) /* (what is received waits here, and not where it is bounded) */
+        expect(stream_receive(stream, 0));
+    for (uint32_t few = 0; few < PAGES_AT_A_TIME && stream_length(stream) >= FRAME_BYTES; few++) {
         uint32_t page;
-        int error;
 
         memcpy(&page, stream_front(stream), sizeof page);
-        error = kernel_copy(bare->userfault, bare->to + (size_t)page * PAGE_BYTES, stream_front(stream) + HEAD_BYTES);
-        if (error)
-            refuse_errno(error, "UFFDIO_COPY");
-        stream_take(stream, HEAD_BYTES + PAGE_BYTES);
+        put_page(bare, page, stream_front(stream) + HEAD_BYTES);
+        stream_take(stream, FRAME_BYTES);
     }
-    return count;
 }
 
-static void put_all(struct bare *bare, int file)
+static void take_fault(struct bare *bare, const struct uffd_msg *message)
 {
-    struct stream stream = NO_STREAM;
+    uint64_t at = message->arg.pagefault.address - (uintptr_t)bare->guest.memory;
+    uint32_t page = (uint32_t)(at / PAGE_BYTES), thread = guest_thread_of(&bare->guest, message->arg.pagefault.feat.ptid);
+
+    if (bare->is_put[page]) {
+        if (kernel_wake(bare->userfault, page_at(bare, page)))
+            refuse("UFFDIO_WAKE");
+    } else if (!bare->waited_since[page]) {
+        bare->waited_since[page] = guest_access_begun(&bare->guest, thread);
+        bare->waiting++;
+        memcpy(stream_room(&bare->main, REQUEST_BYTES), &page, REQUEST_BYTES);
+        bare->main.out.end += REQUEST_BYTES;
+    }
+}
+
+static void take_faults(struct bare *bare)
+{
+    struct uffd_msg messages[MOST_MESSAGES];
+    size_t count;
+
+    while ((count = kernel_read(bare->userfault, messages, MOST_MESSAGES)))
+        for (size_t i = 0; i < count; i++)
+            take_fault(bare, &messages[i]);
+    expect(stream_send(&bare->main));
+}
+
+static void put_all(struct bare *bare)
+{
     uint64_t begun = kernel_thread_time();
-    uint32_t count = 0;
 
-    stream_open(&stream, file, NULL, &(struct cut)NO_CUT);
-    while (count < bare->pages) {
-        uint32_t some;
+    while (bare->put < bare->options->plan.pages) {
+        struct pollfd files[] = { stream_waits(&bare->main), stream_waits(&bare->urgent), { .fd = bare->userfault, .events = POLLIN } };
+        bool has_more = stream_length(&bare->main) >= FRAME_BYTES || stream_length(&bare->urgent) >= FRAME_BYTES;
 
-        if (!stream_receive(&stream, 0) && !stream_length(&stream))
-            refuse("the connection is broken");
-        some = put_some(bare, &stream);
-        count += some;
-        if (!some)
-            wait_for(&stream);
+        kernel_first(!has_more || bare->waiting);
+        if (poll(files, 3, has_more ? 0 : 100) < 0 && errno != EINTR)
+            refuse_errno(errno, "poll");
+        take_faults(bare);
+        put_some(bare, &bare->urgent);
+        put_some(bare, &bare->main);
     }
     bare->busy_putting = kernel_thread_time() - begun;
-    stream_free(&stream);
+    guest_ask_stop(&bare->guest);
+    while (!guest_has_stopped(&bare->guest)) { /* faults that were read late */
+        take_faults(bare);
+        (void)poll(NULL, 0, 1); /* a shorter wait is as good */
+    }
+    guest_join(&bare->guest);
 }
 
-static int accept_one(const struct door *door)
+static void accept_one(const struct door *door, struct stream *stream)
 {
     int file = -1;
 
@@ -114,8 +221,13 @@ static int accept_one(const struct door *door)
             refuse_errno(errno, "poll");
         file = accept4(door->file, NULL, NULL, SOCK_NONBLOCK | SOCK_CLOEXEC);
     }
-    return file;
+    stream_open(stream, file, NULL, &(struct cut)NO_CUT);
+    while (stream_length(stream) < HEAD_BYTES)
+        expect(stream_receive(stream, HEAD_BYTES));
+    stream_take(stream, HEAD_BYTES);
 }
+
+/* THE START */
 
 /* Listens at a port of the kernel's choice. */
 static void open_door(struct bare *bare, struct door *door)
@@ -123,9 +235,29 @@ static void open_door(struct bare *bare, struct door *door)
     static char text[32];
 
     address_read(&bare->address, "127.0.0.1:0");
-    door_open(door, &bare->address, bare->options->buffer);
+    door_open(door, &bare->address, bare->options->buffer, NULL);
     (void)snprintf(text, sizeof text, "127.0.0.1:%u", door_port(door)); /* it fits */
     address_read(&bare->address, text);
+}
+
+/* What the memory has before the first operation is at `from`; the guest finds none of it. */
+static void begin(struct bare *bare, const struct options *options)
+{
+    const size_t bytes = (size_t)options->plan.pages * PAGE_BYTES;
+
+    *bare = (struct bare){ .options = options, .main = NO_STREAM, .urgent = NO_STREAM };
+    bare->is_sent = calloc(options->plan.pages, sizeof *bare->is_sent);
+    bare->is_put = calloc(options->plan.pages, sizeof *bare->is_put);
+    bare->waited_since = calloc(options->plan.pages, sizeof *bare->waited_since);
+    if (!bare->is_sent || !bare->is_put || !bare->waited_since)
+        refuse("no memory for the list of pages");
+    bare->from = kernel_map(bytes);
+    guest_open(&bare->guest, &options->plan, &options->pace, bare->from);
+    guest_fill(&bare->guest);
+    bare->guest.memory = kernel_map(bytes);
+    bare->userfault = kernel_open_userfault();
+    kernel_register(bare->userfault, bare->guest.memory, bytes, false);
+    guest_make(&bare->guest);
 }
 
 int bare_run(const struct options *options)
@@ -134,27 +266,31 @@ int bare_run(const struct options *options)
     static struct door door;
     uint64_t begun, took;
     pthread_t sender;
-    int file, error;
+    int error;
 
-    bare = (struct bare){ .options = options, .pages = options->plan.pages };
-    bare.from = kernel_map((size_t)bare.pages * PAGE_BYTES);
-    bare.to = kernel_map((size_t)bare.pages * PAGE_BYTES);
-    memset(bare.from, 7, (size_t)bare.pages * PAGE_BYTES);
-    bare.userfault = kernel_open_userfault();
-    kernel_register(bare.userfault, bare.to, (size_t)bare.pages * PAGE_BYTES, false);
+    begin(&bare, options);
     open_door(&bare, &door);
-    begun = kernel_now();
     error = pthread_create(&sender, NULL, send_all, &bare);
     if (error)
         refuse_errno(error, "a thread cannot be started");
-    file = accept_one(&door);
-    put_all(&bare, file);
+    accept_one(&door, &bare.main);
+    accept_one(&door, &bare.urgent);
+    if (options->goes_first)
+        (void)kernel_go_first(); /* as much as is allowed */
+    begun = kernel_now();
+    guest_start(&bare.guest);
+    put_all(&bare);
     took = kernel_now() - begun;
+    stream_close(&bare.main);
+    stream_close(&bare.urgent);
     error = pthread_join(sender, NULL);
     if (error)
         refuse_errno(error, "a thread does not end");
     door_close(&door);
-    printf("bare pages=%u took=%" PRIu64 " sending=%" PRIu64 " putting=%" PRIu64 "\n", bare.pages, took, bare.busy_sending,
-           bare.busy_putting);
-    return memcmp(bare.from, bare.to, (size_t)bare.pages * PAGE_BYTES) ? STATUS_WRONG : STATUS_OK;
+    kernel_unregister(bare.userfault, bare.guest.memory, (size_t)options->plan.pages * PAGE_BYTES);
+    log_figures("bare pages=%u took=%" PRIu64 " sending=%" PRIu64 " putting=%" PRIu64, options->plan.pages, took, bare.busy_sending,
+                bare.busy_putting);
+    log_figures(" waits=%zu p50=%.1f p99=%.1f most=%.1f\n", bare.waits.count, samples_part(&bare.waits, 500), samples_part(&bare.waits, 990),
+                samples_part(&bare.waits, 1000));
+    return guest_verdict(&bare.guest);
 }

@@ -71,8 +71,8 @@ static bool is_page(const struct batch *batch, uint32_t number)
     size_t head_bytes, page_bytes;
 
     return batch->length >= number * FRAME_BYTES + PAGE_HEAD_BYTES &&
-           postmig_frame_lengths(head, PAGE_HEAD_BYTES, &head_bytes, &page_bytes) == POSTMIG_OK && head_bytes == PAGE_HEAD_BYTES &&
-           page_bytes == PAGE_BYTES;
+        postmig_frame_lengths(head, PAGE_HEAD_BYTES, &head_bytes, &page_bytes) == POSTMIG_OK && head_bytes == PAGE_HEAD_BYTES &&
+        page_bytes == PAGE_BYTES;
 }
 
 /* What has the header of the Page before it is a Page. */

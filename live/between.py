@@ -35,13 +35,13 @@ def put_or_end(connection, data):
 
 class Relay:
     """cuts: for each connection, in the order in which they are accepted, None or ("out" or "in", a number of bytes): it is cut once these have
-    gone to the listener, or have come from it. Later ones are whole. delay: in seconds, of each byte in both directions."""
+    gone to the listener, or have come from it; with a third word, "swallow", it stays open then, and what follows is swallowed. Later ones are whole. delay: in seconds, of each byte in both directions."""
 
     def __init__(self, target, listen=("127.0.0.1", 0), cuts=(), delay=0.0):
         self.target, self.cuts, self.delay = target, list(cuts), delay
         self.server = socket.create_server(listen)
         self.address = "{}:{}".format(*self.server.getsockname())
-        self.made = 0
+        self.made = self.swallowed = 0
         threading.Thread(target=self.accept, daemon=True).start()
 
     def accept(self):
@@ -60,10 +60,10 @@ class Relay:
                     side.setsockopt(socket.IPPROTO_TCP, socket.TCP_NODELAY, 1)
                 for direction, one, other in (("out", near, far), ("in", far, near)):
                     most = cut[1] if cut and cut[0] == direction else None
-                    threading.Thread(target=self.carry, args=(one, other, most), daemon=True).start()
+                    threading.Thread(target=self.carry, args=(one, other, most, cut and cut[2:]), daemon=True).start()
 
-    def carry(self, one, other, most):
-        """At most so many bytes, from one to the other."""
+    def carry(self, one, other, most, is_swallowed=False):
+        """At most this many bytes, from one to the other. What is swallowed is read, and goes nowhere."""
         put = self.held_back(other) if self.delay else lambda data: put_or_end(other, data)
         left = most
         try:
@@ -73,6 +73,8 @@ class Relay:
                 if not data:
                     return
                 left = None if left is None else left - len(data)
+            while is_swallowed and one.recv(MOST_AT_ONCE):
+                self.swallowed += 1
         except OSError:
             pass
         reset(one, other)

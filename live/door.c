@@ -1,27 +1,21 @@
 /* Accepts connections, and keeps them until it is known whose they are. */
 #include "door.h"
 
+#include <arpa/inet.h>
 #include <errno.h>
 #include <netinet/in.h>
+#include <netinet/tcp.h>
 #include <string.h>
-#include <sys/un.h>
 #include <unistd.h>
 
 #include "kernel.h"
 #include "live.h"
+#include "local.h"
+#include "log.h"
 
 #define MILLION 1000000u
-
-/* A socket file whose program is gone is in nobody's use. */
-static void remove_stale(const struct address *address)
-{
-    int file = wire_connect(address, 0);
-
-    if (file >= 0)
-        (void)close(file); /* somebody listens: bind(2) says so */
-    else if (errno == ECONNREFUSED)
-        (void)unlink(((const struct sockaddr_un *)(const void *)&address->name)->sun_path); /* if it stays, bind(2) says so */
-}
+#define MOST_WAITING 128  /* connections that the kernel has made */
+#define MOST_ACCEPTED 64u /* by one look */
 
 void door_none(struct door *door)
 {
@@ -31,22 +25,29 @@ void door_none(struct door *door)
         door->newcomer[i].file = -1;
 }
 
-void door_open(struct door *door, const struct address *address, uint32_t buffer)
+/* (a connection is made for the program once something has come on it) */
+static int listen_by_tcp(const struct address *address, uint32_t buffer)
 {
-    int yes = 1;
+    int file = socket(address->name.ss_family, SOCK_STREAM | SOCK_NONBLOCK | SOCK_CLOEXEC, 0), yes = 1, seconds = PATIENCE_MS / 1000;
 
+    if (file < 0 || setsockopt(file, SOL_SOCKET, SO_REUSEADDR, &yes, sizeof yes) ||
+        setsockopt(file, IPPROTO_TCP, TCP_DEFER_ACCEPT, &seconds, sizeof seconds))
+        refuse_errno(errno, "a socket");
+    if (!socket_set_up(file, buffer))
+        refuse_errno(errno, "an option of a socket");
+    if (bind(file, (const struct sockaddr *)&address->name, address->length) || listen(file, MOST_WAITING))
+        refuse_errno(errno, errno == EADDRINUSE ? "%s is in use by another program" : "%s", address->text);
+    return file;
+}
+
+void door_open(struct door *door, const struct address *address, uint32_t buffer, const struct hello *own)
+{
     door_none(door);
     door->address = address;
-    if (address_is_unix(address))
-        remove_stale(address);
-    door->file = socket(address->name.ss_family, SOCK_STREAM | SOCK_NONBLOCK | SOCK_CLOEXEC, 0);
-    if (door->file < 0 || setsockopt(door->file, SOL_SOCKET, SO_REUSEADDR, &yes, sizeof yes))
-        refuse_errno(errno, "a socket");
-    socket_set_up(door->file, buffer);
-    if (bind(door->file, (const struct sockaddr *)&address->name, address->length))
-        refuse_errno(errno, errno == EADDRINUSE ? "%s is in use by another program" : "%s", address->text);
-    if (listen(door->file, MOST_NEWCOMERS))
-        refuse_errno(errno, errno == EADDRINUSE ? "%s is in use by another program" : "%s", address->text);
+    door->own = own;
+    door->file = address_is_unix(address) ? local_listen(address, MOST_WAITING) : listen_by_tcp(address, buffer);
+    if (address_is_unix(address) && !socket_set_up(door->file, buffer))
+        refuse_errno(errno, "an option of a socket");
 }
 
 uint16_t door_port(const struct door *door)
@@ -66,38 +67,126 @@ static void turn_away(struct door *door, struct newcomer *newcomer)
     tls_free(newcomer->tls);
     (void)close(newcomer->file); /* nothing was written */
     newcomer->file = -1;
-    door->turned_away++;
+    door->turned_away += !newcomer->is_refused;
 }
 
-/* A free place; where there is none, the place of who has waited longest without a hello, or else longest. */
-static struct newcomer *place_for_another(struct door *door)
+/* Of an address of either family. */
+static struct in6_addr host_of(const struct sockaddr_storage *name)
 {
-    struct newcomer *oldest = &door->newcomer[0];
+    struct in6_addr host = { 0 };
+
+    if (name->ss_family == AF_INET6)
+        return ((const struct sockaddr_in6 *)name)->sin6_addr;
+    if (name->ss_family == AF_INET) {
+        host.s6_addr[10] = host.s6_addr[11] = 0xff;
+        memcpy(host.s6_addr + 12, &((const struct sockaddr_in *)name)->sin_addr, 4);
+    }
+    return host;
+}
+
+static bool is_same_host(const struct in6_addr *one, const struct in6_addr *other)
+{
+    return !memcmp(one, other, sizeof *one);
+}
+
+static bool is_known(const struct door *door, const struct in6_addr *host)
+{
+    return door->is_known && is_same_host(&door->known, host);
+}
+
+static uint32_t places_of(const struct door *door, const struct in6_addr *host)
+{
+    uint32_t count = 0;
+
+    for (const struct newcomer *it = door->newcomer; it < door->newcomer + MOST_NEWCOMERS; it++)
+        count += it->file >= 0 && is_same_host(&it->host, host);
+    return count;
+}
+
+/* Whether the first is to give way before the second: a stranger before the known host, who has said less, whose host has more places, and then
+   who has waited longer. */
+static bool gives_way(const struct door *door, const struct newcomer *one, const struct newcomer *other)
+{
+    bool one_is_known = is_known(door, &one->host), other_is_known = is_known(door, &other->host);
+    uint32_t places = places_of(door, &one->host), other_places = places_of(door, &other->host);
+
+    if (one_is_known != other_is_known)
+        return other_is_known;
+    if ((one->length == HELLO_BYTES) != (other->length == HELLO_BYTES))
+        return other->length == HELLO_BYTES;
+    return places != other_places ? places > other_places : one->deadline < other->deadline;
+}
+
+/* A free place, or that of who gives way first. Strangers leave some to the known host. */
+static struct newcomer *place_for(struct door *door, const struct in6_addr *host)
+{
+    uint32_t most = MOST_NEWCOMERS - (door->is_known && !is_known(door, host) ? RESERVED : 0), count = 0;
+    struct newcomer *empty = NULL, *first = NULL;
 
     for (struct newcomer *it = door->newcomer; it < door->newcomer + MOST_NEWCOMERS; it++) {
-        bool is_told = it->length == HELLO_BYTES, was_told = oldest->length == HELLO_BYTES;
-
-        if (it->file < 0)
-            return it;
-        if (is_told < was_told || (is_told == was_told && it->deadline < oldest->deadline))
-            oldest = it;
+        if (it->file < 0) {
+            empty = it;
+            continue;
+        }
+        count++;
+        if (!first || gives_way(door, it, first))
+            first = it;
     }
-    turn_away(door, oldest);
-    return oldest;
+    if (count < most)
+        return empty;
+    turn_away(door, first);
+    return first;
 }
 
-static void accept_all(struct door *door)
+/* A few at most, so that who waits is looked at in between. */
+static void accept_some(struct door *door)
 {
-    for (;;) {
-        int file = accept4(door->file, NULL, NULL, SOCK_NONBLOCK | SOCK_CLOEXEC);
+    for (uint32_t i = 0; i < MOST_ACCEPTED; i++) {
+        struct sockaddr_storage name = { 0 };
+        socklen_t length = sizeof name;
+        int file = accept4(door->file, (struct sockaddr *)&name, &length, SOCK_NONBLOCK | SOCK_CLOEXEC);
         struct newcomer *place;
+        struct in6_addr host;
+        struct tls *tls;
 
         if (file < 0) /* nobody more, or one that has gone again */
             return;
-        place = place_for_another(door);
-        *place = (struct newcomer){ .file = file, .tls = tls_new(file, TLS_LISTENS),
-                                    .deadline = kernel_now() + (uint64_t)PATIENCE_MS * MILLION };
+        if ((address_is_unix(door->address) && !local_is_own(file)) || !tls_new(&tls, file, TLS_LISTENS)) {
+            (void)close(file); /* nothing was written */
+            door->turned_away++;
+            continue;
+        }
+        host = host_of(&name);
+        place = place_for(door, &host);
+        *place = (struct newcomer){ .file = file, .host = host, .tls = tls, .deadline = kernel_now() + (uint64_t)PATIENCE_MS * MILLION };
     }
+}
+
+/* Sends it the reason, and waits until it goes. (One whose connection does not take that at once gets none.) */
+static void refuse_newcomer(struct door *door, struct newcomer *newcomer, const char *reason)
+{
+    struct hello answer = *door->own;
+    uint8_t bytes[HELLO_BYTES];
+
+    answer.epoch = newcomer->hello.epoch;
+    (void)memccpy(answer.reason, reason, 0, MOST_OF_REASON);
+    hello_write(&answer, bytes);
+    if (newcomer->tls)
+        (void)tls_send(newcomer->tls, bytes, sizeof bytes);
+    else
+        (void)send(newcomer->file, bytes, sizeof bytes, MSG_NOSIGNAL | MSG_DONTWAIT);
+    newcomer->is_refused = true;
+    door->turned_away++;
+    log_event("a source is refused: %s", reason);
+}
+
+/* False once it has gone. What it says is not read. */
+static bool is_going(struct newcomer *newcomer)
+{
+    uint8_t bytes[4096];
+    ssize_t got = newcomer->tls ? tls_receive(newcomer->tls, bytes, sizeof bytes) : recv(newcomer->file, bytes, sizeof bytes, MSG_DONTWAIT);
+
+    return got > 0 || (got < 0 && (errno == EAGAIN || errno == EINTR));
 }
 
 /* False for a stranger, and for one that has gone. */
@@ -107,21 +196,46 @@ static bool read_hello(struct newcomer *newcomer)
     size_t room = HELLO_BYTES - newcomer->length;
     ssize_t got;
 
+    if (newcomer->is_refused)
+        return is_going(newcomer);
     if (!room)
         return true;
     got = newcomer->tls ? tls_receive(newcomer->tls, at, room) : recv(newcomer->file, at, room, MSG_DONTWAIT);
     if (got < 0)
         return errno == EAGAIN || errno == EINTR;
     newcomer->length += (uint32_t)got;
-    return got > 0 && (newcomer->length < HELLO_BYTES || hello_read(&newcomer->hello, newcomer->bytes));
+    return got > 0 && hello_read(&newcomer->hello, newcomer->bytes, newcomer->length);
 }
 
 void door_look(struct door *door)
 {
-    accept_all(door);
+    accept_some(door);
     for (struct newcomer *it = door->newcomer; it < door->newcomer + MOST_NEWCOMERS; it++)
         if (it->file >= 0 && (!read_hello(it) || kernel_now() > it->deadline))
             turn_away(door, it);
+}
+
+static bool is_other(const struct wanted *wanted, const struct newcomer *newcomer)
+{
+    return wanted->instance && newcomer->hello.instance != wanted->instance;
+}
+
+/* Why a source is not let in, or NULL. */
+static const char *reason_against(const struct door *door, const struct wanted *wanted, const struct newcomer *newcomer)
+{
+    static char reason[MOST_OF_REASON + 1];
+
+    if (is_other(wanted, newcomer) && wanted->others == OTHERS_GO)
+        return "this destination serves another source";
+    return hello_unlike(&newcomer->hello, door->own, reason) ? reason : NULL;
+}
+
+/* (an urgent connection comes with the main one of its source) */
+static bool is_wanted(const struct wanted *wanted, const struct newcomer *newcomer)
+{
+    if (is_other(wanted, newcomer))
+        return wanted->others == OTHERS_COME && wanted->channel == MAIN;
+    return newcomer->hello.epoch <= wanted->most;
 }
 
 bool door_take(struct door *door, const struct wanted *wanted, struct stream *stream, struct hello *hello)
@@ -129,13 +243,20 @@ bool door_take(struct door *door, const struct wanted *wanted, struct stream *st
     bool is_there = false;
 
     for (struct newcomer *it = door->newcomer; it < door->newcomer + MOST_NEWCOMERS; it++) {
-        if (it->file < 0 || it->length < HELLO_BYTES || it->hello.channel != wanted->channel)
+        const char *reason;
+
+        if (it->file < 0 || it->is_refused || it->length < HELLO_BYTES || it->hello.channel != wanted->channel)
             continue;
-        if (it->hello.epoch < wanted->least || (wanted->instance && it->hello.instance != wanted->instance)) {
+        reason = reason_against(door, wanted, it);
+        if (reason) {
+            refuse_newcomer(door, it, reason);
+        } else if (it->hello.epoch < wanted->least && !is_other(wanted, it)) {
             turn_away(door, it);
-        } else if (!is_there && it->hello.epoch <= wanted->most) {
+        } else if (!is_there && is_wanted(wanted, it)) {
             stream_open(stream, it->file, it->tls, &(struct cut)NO_CUT);
             *hello = it->hello;
+            door->known = it->host;
+            door->is_known = true;
             it->file = -1;
             is_there = true;
         }
@@ -151,7 +272,7 @@ uint32_t door_files(const struct door *door, struct pollfd *files)
     for (uint32_t i = 0; i < MOST_NEWCOMERS; i++) {
         short handshake = door->newcomer[i].file < 0 ? 0 : tls_waits_for(door->newcomer[i].tls);
 
-        if (door->newcomer[i].file >= 0 && door->newcomer[i].length < HELLO_BYTES)
+        if (door->newcomer[i].file >= 0 && (door->newcomer[i].is_refused || door->newcomer[i].length < HELLO_BYTES))
             files[count++] = (struct pollfd){ .fd = door->newcomer[i].file, .events = handshake ? handshake : POLLIN };
     }
     return count;
@@ -165,6 +286,15 @@ bool door_has_newcomer(const struct door *door)
     return false;
 }
 
+const char *door_source(const struct door *door)
+{
+    static char text[INET6_ADDRSTRLEN];
+
+    if (address_is_unix(door->address))
+        return door->address->text;
+    return inet_ntop(AF_INET6, &door->known, text, sizeof text) ? text : "?";
+}
+
 void door_close(struct door *door)
 {
     for (uint32_t i = 0; i < MOST_NEWCOMERS; i++)
@@ -172,7 +302,8 @@ void door_close(struct door *door)
             turn_away(door, &door->newcomer[i]);
     if (door->file < 0)
         return;
-    (void)close(door->file); /* it carried nothing */
     if (address_is_unix(door->address))
-        (void)unlink(((const struct sockaddr_un *)(const void *)&door->address->name)->sun_path); /* it may be gone already */
+        local_close(door->file, door->address);
+    else
+        (void)close(door->file); /* it carried nothing */
 }

@@ -110,11 +110,11 @@ def listen(asked):
 
 def main():
     parser = argparse.ArgumentParser()
-    for name, usual in (("memory", "256M"), ("threads", 4), ("seed", 1), ("cold", 4), ("given", 0)):
+    for name, usual in (("memory", "256M"), ("threads", 4), ("seed", 1), ("cold", 4), ("given", 0), ("shared", 0)):
         parser.add_argument(f"--{name}", type=type(usual), default=usual)
     options = parser.parse_args()
     count = int(options.memory[:-1]) * {"M": 256, "G": 262144}[options.memory[-1]]
-    guest = Guest((count, options.threads, options.seed, options.cold, options.given))
+    guest = Guest((count, options.threads, options.seed, options.cold, options.given, options.shared))
     memory = {LOW_PAGE + number: data for number in range(count) if (data := guest.page(number))}
     early = {page: data for page, data in memory.items() if page < LOW_PAGE + count // 2}
     changed = [page for page in early if page % 16 == 0]  # (nothing changes here: these are sent again as if it did)

@@ -1,4 +1,4 @@
-/* Figures of a run: lines of KEY=VALUE on the standard output, and times from a request to its install. */
+/* Figures of a run: lines of KEY=VALUE on the standard output, and times of waits. */
 #ifndef FIGURES_H
 #define FIGURES_H
 
@@ -8,8 +8,9 @@
 
 /* Durations in nanoseconds. */
 struct samples {
-    uint32_t *value;
+    uint64_t *value;
     size_t count, room;
+    uint64_t dropped; /* for lack of memory */
 };
 void samples_add(struct samples *samples, uint64_t nanoseconds);
 /* The value in microseconds that the part `of` 1,000 of them does not exceed; 0 where there are none. The samples are sorted then. */

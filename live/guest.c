@@ -12,15 +12,18 @@
 #include <time.h>
 #include <unistd.h>
 
+#include "history.h"
 #include "kernel.h"
+#include "log.h"
 
 #define PERIOD 64u
-#define SLOTS 16u                         /* words of a page that are stored to */
+#define SLOTS 16u /* words of a page that are stored to */
 #define WORDS (PAGE_BYTES / 8)
 #define WORDS_OF_SLOT (WORDS / SLOTS)
-#define PLAN_WORD MOST_THREADS            /* of page 0: the plan, in one number */
+#define PLAN_WORD MOST_THREADS /* of page 0: the plan, in one number */
 #define HOT_PART 8u
 #define BALLOON_PART 16u
+#define COMMON_PART 64u
 
 static uint64_t mix(uint64_t x)
 {
@@ -35,25 +38,53 @@ static volatile uint64_t *word_at(const struct guest *guest, uint32_t page, uint
     return (volatile uint64_t *)(void *)(guest->memory + (uint64_t)page * PAGE_BYTES) + word;
 }
 
-static uint64_t plan_number(const struct guest_plan *plan)
+/* Its address, as the node and a history have it. */
+static uint64_t address_of(uint32_t page, uint32_t word)
+{
+    return (uint64_t)(LOW_PAGE + page) * PAGE_BYTES + word * 8u;
+}
+
+/* The threads' own accesses: the driver copies the same pages meanwhile, and their protection orders the two. (They have names of their own for a
+   sanitizer that does not see that.) */
+static __attribute__((noinline)) uint64_t read_word(const struct guest *guest, uint32_t thread, uint32_t page, uint32_t word)
+{
+    uint64_t begin = history_begin(), value = *word_at(guest, page, word);
+
+    history_load(thread, begin, address_of(page, word), value);
+    return value;
+}
+
+static __attribute__((noinline)) void store_word(const struct guest *guest, uint32_t thread, uint32_t page, uint32_t word, uint64_t value)
+{
+    uint64_t begin = history_begin();
+
+    *word_at(guest, page, word) = value;
+    history_store(thread, begin, address_of(page, word), value);
+}
+
+uint64_t guest_number(const struct guest_plan *plan)
 {
     uint64_t number = mix(plan->pages);
 
     number = mix(number ^ plan->threads);
     number = mix(number ^ plan->seed);
     number = mix(number ^ plan->cold);
-    return mix(number ^ plan->given) | 1;
+    number = mix(number ^ plan->given);
+    return mix(number ^ plan->shared) | 1;
 }
 
 /* THE MEMORY BEFORE THE FIRST OPERATION */
 
-enum filling { UNTOUCHED, ZEROS, PATTERN };
+enum filling { UNTOUCHED,
+               ZEROS,
+               PATTERN };
 
 static enum filling filling_of(const struct guest *guest, uint32_t page)
 {
     uint64_t part = mix((uint64_t)guest->plan.seed << 32 | page) % 100;
 
-    return part < 10 ? UNTOUCHED : part < 15 ? ZEROS : PATTERN;
+    return part < 10 ? UNTOUCHED : part < 15 ? ZEROS
+                                             : PATTERN;
 }
 
 static uint64_t pattern_word(const struct guest *guest, uint32_t page, uint32_t word)
@@ -66,17 +97,43 @@ static uint64_t first_word(const struct guest *guest, uint32_t page, uint32_t wo
     return filling_of(guest, page) == PATTERN ? pattern_word(guest, page, word) : 0;
 }
 
+/* The word of a page that is stored to as its slot. */
+static uint32_t word_of_slot(uint32_t page, uint32_t slot)
+{
+    return slot * WORDS_OF_SLOT + (uint32_t)(mix(page) % WORDS_OF_SLOT);
+}
+
+/* Adds what the driver has done, since `begin`, to the words of a page that the threads use. For the history each slot is a thread's: they are
+   used within one interval. */
+static void add_slots(const struct guest *guest, uint32_t page, uint64_t begin, void (*add)(uint32_t, uint64_t, uint64_t, uint64_t))
+{
+    for (uint32_t slot = 0; slot < SLOTS && history_is_open(); slot++) {
+        uint32_t word = page ? word_of_slot(page, slot) : slot;
+
+        add(slot, begin, address_of(page, word), *word_at(guest, page, word));
+    }
+}
+
+static void fill_page(struct guest *guest, uint32_t page)
+{
+    enum filling filling = filling_of(guest, page);
+    uint64_t begin = history_begin();
+
+    for (uint32_t word = 0; word < WORDS && filling == PATTERN; word++)
+        *word_at(guest, page, word) = pattern_word(guest, page, word);
+    if (filling == PATTERN)
+        add_slots(guest, page, begin, history_store);
+    if (filling == ZEROS)
+        *word_at(guest, page, 0) = 0;
+}
+
+/* (It was mapped before, and nobody has used it since.) */
 void guest_fill(struct guest *guest)
 {
-    *word_at(guest, 0, PLAN_WORD) = plan_number(&guest->plan);
-    for (uint32_t page = 1; page < guest->plan.pages; page++) {
-        enum filling filling = filling_of(guest, page);
-
-        for (uint32_t word = 0; word < WORDS && filling == PATTERN; word++)
-            *word_at(guest, page, word) = pattern_word(guest, page, word);
-        if (filling == ZEROS)
-            *word_at(guest, page, 0) = 0;
-    }
+    history_map(0, history_begin(), address_of(0, 0), (uint64_t)guest->plan.pages * PAGE_BYTES);
+    store_word(guest, 0, 0, PLAN_WORD, guest_number(&guest->plan));
+    for (uint32_t page = 1; page < guest->plan.pages; page++)
+        fill_page(guest, page);
 }
 
 /* TRACKS */
@@ -122,21 +179,23 @@ static uint32_t slots_of_thread(const struct guest *guest)
     return SLOTS / guest->plan.threads;
 }
 
-/* The hot pages are after page 0, the cold ones after them, and the balloon is at the end. */
+/* The hot pages are after page 0, the cold ones after them, then those that are given back by any thread, and the balloon is at the end. */
 static void set_tracks(struct guest *guest, struct guest_thread *thread)
 {
     const struct guest_plan *plan = &guest->plan;
-    uint32_t shared = guest->balloon_page - 1, hot = shared / HOT_PART, own = guest->balloon_pages / plan->threads;
+    uint32_t shared = guest->common_page - 1, hot = shared / HOT_PART, own = guest->balloon_pages / plan->threads;
     uint64_t offset = mix((uint64_t)plan->seed << 32 | thread->number), each = slots_of_thread(guest);
-    uint32_t at = 0, counts[TRACKS] = { 0, plan->cold, 2 * plan->given, plan->given };
+    uint32_t at = 0, counts[TRACKS] = { 0, plan->cold, 2 * plan->given, plan->given, 2 * plan->shared, plan->shared };
 
-    counts[HOT] = PERIOD - counts[COLD] - counts[BALLOON] - counts[GIVEN];
+    counts[HOT] = PERIOD - plan->cold - 3 * (plan->given + plan->shared);
     for (int i = 0; i < TRACKS; at += counts[i++])
         thread->track[i].first = at;
     set_track(&thread->track[HOT], counts[HOT], 1, hot * each, offset);
     set_track(&thread->track[COLD], counts[COLD], 1 + hot, (shared - hot) * each, offset);
     set_track(&thread->track[BALLOON], counts[BALLOON], guest->balloon_page, (uint64_t)own * SLOTS, offset);
     set_track(&thread->track[GIVEN], counts[GIVEN], guest->balloon_page, own, offset);
+    set_track(&thread->track[COMMON], counts[COMMON], guest->common_page, guest->common_pages * each, offset);
+    set_track(&thread->track[TAKEN], counts[TAKEN], guest->common_page, guest->common_pages, offset);
 }
 
 /* The item of operation x of the track. */
@@ -184,12 +243,6 @@ struct place {
     uint32_t page, word;
 };
 
-/* The word of a page that is stored to as its slot. */
-static uint32_t word_of_slot(uint32_t page, uint32_t slot)
-{
-    return slot * WORDS_OF_SLOT + (uint32_t)(mix(page) % WORDS_OF_SLOT);
-}
-
 /* In pages that all threads share, each thread has every slot of which the number is its own modulo their number. */
 static struct place place_of(const struct guest_thread *thread, const struct track *track, uint64_t item)
 {
@@ -210,7 +263,7 @@ static uint64_t value_of(const struct guest_thread *thread, uint64_t operation)
     return (uint64_t)(thread->number + 1) << 56 | (operation + 1);
 }
 
-/* What a word that is stored to has before operation k of its thread. */
+/* What a word that is stored to has before operation k of its thread. In a page that another thread gives back it may be 0 too. */
 static uint64_t right_value(const struct guest_thread *thread, const struct track *track, uint64_t item, uint64_t k)
 {
     uint64_t stored = last_before(track, item, k), given = 0;
@@ -218,6 +271,8 @@ static uint64_t right_value(const struct guest_thread *thread, const struct trac
 
     if (track == &thread->track[BALLOON])
         given = last_before(&thread->track[GIVEN], item / SLOTS, k);
+    if (track == &thread->track[COMMON])
+        given = last_before(&thread->track[TAKEN], item / slots_of_thread(thread->guest), k);
     if (stored > given)
         return value_of(thread, stored - 1);
     return given ? 0 : first_word(thread->guest, place.page, place.word);
@@ -231,7 +286,7 @@ static bool was_given_back(const struct guest *guest, uint32_t page)
     const struct guest_thread *thread = &guest->thread[at % threads];
 
     return page >= guest->balloon_page && at / threads < thread->track[GIVEN].items &&
-           last_before(&thread->track[GIVEN], at / threads, thread->next);
+        last_before(&thread->track[GIVEN], at / threads, thread->next);
 }
 
 /* Of a page in the balloon, whose slots are all one thread's. */
@@ -263,17 +318,45 @@ static void set_shared_slots(const struct guest *guest, uint32_t page, uint64_t 
     }
 }
 
+/* Whether a thread other than this one, NULL: any thread, has given a page back that all use. */
+static bool was_taken(const struct guest *guest, uint32_t page, const struct guest_thread *but)
+{
+    for (uint32_t i = 0; i < guest->plan.threads; i++)
+        if (&guest->thread[i] != but && last_before(&guest->thread[i].track[TAKEN], page - guest->common_page, guest->thread[i].next))
+            return true;
+    return false;
+}
+
+/* Of a page that all threads give back: where a word may be 0 too, it is taken as it is. */
+static void set_common_slots(const struct guest *guest, uint32_t page, uint64_t *words)
+{
+    uint32_t threads = guest->plan.threads, each = slots_of_thread(guest);
+
+    for (uint32_t slot = 0; slot < each * threads; slot++) {
+        const struct guest_thread *thread = &guest->thread[slot % threads];
+        const struct track *track = &thread->track[COMMON];
+        uint64_t item = (uint64_t)(page - track->first_page) * each + slot / threads;
+        uint32_t word = word_of_slot(page, slot);
+
+        if (last_before(track, item, thread->next))
+            words[word] = right_value(thread, track, item, thread->next);
+        if (was_taken(guest, page, thread) && !*word_at(guest, page, word))
+            words[word] = 0;
+    }
+}
+
 static void set_state_words(const struct guest *guest, uint64_t *words)
 {
     memset(words, 0, PAGE_BYTES);
     for (uint32_t i = 0; i < guest->plan.threads; i++)
         words[i] = guest->thread[i].next;
-    words[PLAN_WORD] = plan_number(&guest->plan);
+    words[PLAN_WORD] = guest_number(&guest->plan);
 }
 
 static void set_words(const struct guest *guest, uint32_t page, uint64_t *words)
 {
-    bool is_empty = page >= guest->balloon_page && was_given_back(guest, page);
+    bool is_common = page >= guest->common_page && page < guest->balloon_page;
+    bool is_empty = is_common ? was_taken(guest, page, NULL) : page >= guest->balloon_page && was_given_back(guest, page);
 
     if (page == 0) {
         set_state_words(guest, words);
@@ -283,6 +366,8 @@ static void set_words(const struct guest *guest, uint32_t page, uint64_t *words)
         words[word] = is_empty ? 0 : first_word(guest, page, word);
     if (page >= guest->balloon_page)
         set_own_slots(guest, page, words);
+    else if (is_common)
+        set_common_slots(guest, page, words);
     else
         set_shared_slots(guest, page, words);
 }
@@ -293,6 +378,7 @@ uint32_t guest_check(struct guest *guest, uint32_t *first_wrong)
     uint32_t wrong = 0;
 
     for (uint32_t page = 0; page < guest->plan.pages; page++) {
+        add_slots(guest, page, history_begin(), history_load);
         set_words(guest, page, words);
         if (memcmp(guest->memory + (uint64_t)page * PAGE_BYTES, words, sizeof words) && !wrong++)
             *first_wrong = page;
@@ -304,10 +390,19 @@ uint32_t guest_check(struct guest *guest, uint32_t *first_wrong)
 
 static void give_back(const struct guest_thread *thread, const struct track *track, uint64_t item)
 {
-    uint32_t page = track->first_page + (uint32_t)item * thread->guest->plan.threads + thread->number;
+    bool is_own = track == &thread->track[GIVEN];
+    uint32_t page = track->first_page + (uint32_t)item * (is_own ? thread->guest->plan.threads : 1) + (is_own ? thread->number : 0);
+    uint64_t begin = history_begin();
 
     if (madvise(thread->guest->memory + (uint64_t)page * PAGE_BYTES, PAGE_BYTES, MADV_DONTNEED))
         refuse_errno(errno, "the guest's MADV_DONTNEED");
+    history_give_back(thread->number, begin, address_of(page, 0), PAGE_BYTES);
+}
+
+/* The next access to memory begins now. */
+static void note_access(struct guest_thread *thread)
+{
+    atomic_store_explicit(&thread->begun, kernel_now(), memory_order_relaxed);
 }
 
 /* Loads one of the thread's own words, and compares it. */
@@ -318,13 +413,14 @@ static void load_word(struct guest_thread *thread, uint64_t k)
     uint64_t item, value, right;
     struct place place;
 
-    if (track == &thread->track[GIVEN])
-        track = &thread->track[BALLOON];
+    if (track == &thread->track[GIVEN] || track == &thread->track[TAKEN])
+        track--; /* the words of these pages */
     item = choice / PERIOD % track->items;
     place = place_of(thread, track, item);
-    value = *word_at(thread->guest, place.page, place.word);
+    note_access(thread);
+    value = read_word(thread->guest, thread->number, place.page, place.word);
     right = right_value(thread, track, item, k + 1);
-    if (value == right)
+    if (value == right || (!value && track == &thread->track[COMMON]))
         return;
     if (!thread->wrong++) {
         thread->wrong_address = (uint64_t)place.page * PAGE_BYTES + place.word * 8u;
@@ -339,12 +435,13 @@ static void make_operation(struct guest_thread *thread, uint64_t k)
     uint64_t item = item_of(track, made_before(track, k));
     struct place place;
 
-    if (track == &thread->track[GIVEN]) {
+    if (track == &thread->track[GIVEN] || track == &thread->track[TAKEN]) {
         give_back(thread, track, item);
         return;
     }
     place = place_of(thread, track, item);
-    *word_at(thread->guest, place.page, place.word) = value_of(thread, k);
+    note_access(thread);
+    store_word(thread->guest, thread->number, place.page, place.word, value_of(thread, k));
     load_word(thread, k);
 }
 
@@ -370,9 +467,12 @@ static void *run_thread(void *argument)
     struct guest *guest = thread->guest;
 
     atomic_store(&thread->id, (int)syscall(SYS_gettid));
-    if (*word_at(guest, 0, PLAN_WORD) != plan_number(&guest->plan))
-        refuse("this guest was started with other pages, threads, seed, cold or given at the source");
-    thread->next = *word_at(guest, 0, thread->number);
+    while (!atomic_load(&guest->is_started))
+        (void)poll(&(struct pollfd){ .fd = guest->start_event, .events = POLLIN }, 1, -1); /* it is looked at again */
+    note_access(thread);
+    if (read_word(guest, thread->number, 0, PLAN_WORD) != guest_number(&guest->plan))
+        refuse("this guest was started with other pages, threads, seed, cold, given or shared at the source");
+    thread->next = read_word(guest, thread->number, 0, thread->number);
     while (!atomic_load_explicit(&guest->is_stopping, memory_order_relaxed)) {
         make_operation(thread, thread->next++);
         if (!thread->operations++)
@@ -380,7 +480,8 @@ static void *run_thread(void *argument)
         if (guest->pace.pause && thread->next % guest->pace.batch == 0)
             rest(guest);
     }
-    *word_at(guest, 0, thread->number) = thread->next;
+    if (thread->operations) /* else it is there */
+        store_word(guest, thread->number, 0, thread->number, thread->next);
     atomic_fetch_add(&guest->stopped, 1);
     return NULL;
 }
@@ -393,8 +494,11 @@ void guest_open(struct guest *guest, const struct guest_plan *plan, const struct
     guest->memory = memory;
     guest->balloon_pages = plan->given ? plan->pages / BALLOON_PART : 0;
     guest->balloon_page = plan->pages - guest->balloon_pages;
+    guest->common_pages = plan->shared ? plan->pages / COMMON_PART : 0;
+    guest->common_page = guest->balloon_page - guest->common_pages;
+    guest->start_event = eventfd(0, EFD_CLOEXEC | EFD_NONBLOCK);
     guest->stop_event = eventfd(0, EFD_CLOEXEC | EFD_NONBLOCK);
-    if (guest->stop_event < 0)
+    if (guest->start_event < 0 || guest->stop_event < 0)
         refuse_errno(errno, "eventfd");
     for (uint32_t i = 0; i < plan->threads; i++) {
         guest->thread[i].guest = guest;
@@ -403,7 +507,7 @@ void guest_open(struct guest *guest, const struct guest_plan *plan, const struct
     }
 }
 
-void guest_start(struct guest *guest)
+void guest_make(struct guest *guest)
 {
     for (uint32_t i = 0; i < guest->plan.threads; i++) {
         int error = pthread_create(&guest->thread[i].handle, NULL, run_thread, &guest->thread[i]);
@@ -413,13 +517,24 @@ void guest_start(struct guest *guest)
     }
 }
 
-void guest_ask_stop(struct guest *guest)
+static void raise_event(int event)
 {
     uint64_t one = 1;
 
-    atomic_store(&guest->is_stopping, true);
-    if (write(guest->stop_event, &one, sizeof one) != (ssize_t)sizeof one)
+    if (write(event, &one, sizeof one) != (ssize_t)sizeof one)
         refuse_errno(errno, "eventfd");
+}
+
+void guest_start(struct guest *guest)
+{
+    atomic_store(&guest->is_started, true);
+    raise_event(guest->start_event);
+}
+
+void guest_ask_stop(struct guest *guest)
+{
+    atomic_store(&guest->is_stopping, true);
+    raise_event(guest->stop_event);
 }
 
 bool guest_has_stopped(struct guest *guest)
@@ -455,6 +570,18 @@ uint64_t guest_wrong_loads(const struct guest *guest)
     return sum;
 }
 
+bool guest_shares(const struct guest *guest, uint32_t first, uint32_t count)
+{
+    uint32_t page = first - LOW_PAGE;
+
+    return page < guest->balloon_page && page + count > guest->common_page && guest->common_pages;
+}
+
+uint64_t guest_access_begun(const struct guest *guest, uint32_t thread)
+{
+    return atomic_load_explicit(&guest->thread[thread].begun, memory_order_relaxed);
+}
+
 uint32_t guest_thread_of(struct guest *guest, uint32_t id)
 {
     for (uint32_t i = 0; i < guest->plan.threads; i++)
@@ -468,7 +595,7 @@ int guest_verdict(struct guest *guest)
     uint64_t wrong_loads = guest_wrong_loads(guest);
     uint32_t page = 0, wrong = guest_check(guest, &page);
 
-    printf("verdict words=%" PRIu64 " operations=%" PRIu64 " wrong_loads=%" PRIu64 " wrong_pages=%u first_wrong=0x%x\n",
-           (uint64_t)guest->plan.pages * WORDS, guest_operations(guest), wrong_loads, wrong, LOW_PAGE + page);
+    log_figures("verdict words=%" PRIu64 " operations=%" PRIu64 " wrong_loads=%" PRIu64 " wrong_pages=%u first_wrong=0x%x\n",
+                (uint64_t)guest->plan.pages * WORDS, guest_operations(guest), wrong_loads, wrong, LOW_PAGE + page);
     return wrong || wrong_loads ? STATUS_WRONG : STATUS_OK;
 }

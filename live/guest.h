@@ -18,8 +18,9 @@ struct guest_plan {
     uint32_t pages;
     uint32_t threads;
     uint32_t seed;
-    uint32_t cold;  /* of 64 operations, stores outside of the hot pages, an eighth of all */
-    uint32_t given; /* of 64 operations, pages that are given back; twice as many store to such pages */
+    uint32_t cold;   /* of 64 operations, stores outside of the hot pages, an eighth of all */
+    uint32_t given;  /* of 64 operations, pages that are given back; twice as many store to such pages */
+    uint32_t shared; /* the same of pages that all threads use, and each gives back under the others */
 };
 
 /* How fast it runs. */
@@ -32,11 +33,17 @@ struct guest_pace {
 struct track {
     uint32_t first, count; /* operations `first` .. `first + count - 1` of each 64 */
     uint32_t first_page;
-    uint64_t items;        /* words, or pages */
+    uint64_t items;                 /* words, or pages */
     uint64_t step, inverse, offset; /* operation x of the track has the item (step x + offset) modulo items */
 };
 
-enum { HOT, COLD, BALLOON, GIVEN, TRACKS };
+enum { HOT,
+       COLD,
+       BALLOON,
+       GIVEN,
+       COMMON,
+       TAKEN,
+       TRACKS };
 
 struct guest;
 
@@ -45,8 +52,9 @@ struct guest_thread {
     uint32_t number;
     struct track track[TRACKS];
     pthread_t handle;
-    _Atomic int id; /* as a fault's message names it; 0 before it runs */
-    uint64_t next;  /* the operation that is made next */
+    _Atomic int id;         /* as a fault's message names it; 0 before it runs */
+    uint64_t next;          /* the operation that is made next */
+    _Atomic uint64_t begun; /* when its last access to memory has begun, in ns */
     uint64_t operations, wrong;
     uint64_t wrong_address, wrong_value, right_value; /* of the first wrong load */
 };
@@ -56,8 +64,9 @@ struct guest {
     struct guest_pace pace;
     char *memory;
     uint32_t balloon_page, balloon_pages; /* the last pages, which are given back; each belongs to one thread */
-    int stop_event;                       /* readable once the threads are asked to stop */
-    _Atomic bool is_stopping;
+    uint32_t common_page, common_pages;   /* before them, those that each thread gives back under the others */
+    int start_event, stop_event;          /* readable once the threads are to run, and once they are asked to stop */
+    _Atomic bool is_started, is_stopping;
     _Atomic uint32_t stopped;
     _Atomic uint64_t first_done; /* when the first operation was finished since the threads were started, or 0 */
     struct guest_thread thread[MOST_THREADS];
@@ -69,7 +78,8 @@ void guest_open(struct guest *guest, const struct guest_plan *plan, const struct
 /* Stores what the memory has before the first operation. */
 void guest_fill(struct guest *guest);
 
-/* Starts the threads, each at the operation that page 0 has for it. */
+/* Makes the threads, which wait; and has them run, each at the operation that page 0 has for it. */
+void guest_make(struct guest *guest);
 void guest_start(struct guest *guest);
 
 /* Asks the threads to stop, each between two operations. Their faults and events are still to be handled until all have. */
@@ -81,8 +91,17 @@ void guest_join(struct guest *guest);
 uint64_t guest_operations(const struct guest *guest);
 uint64_t guest_wrong_loads(const struct guest *guest);
 
+/* Whether one of these pages may be given back by one thread while another uses it. */
+bool guest_shares(const struct guest *guest, uint32_t first, uint32_t count);
+
 /* Which thread a fault's message names. */
 uint32_t guest_thread_of(struct guest *guest, uint32_t id);
+
+/* When the access that a thread makes has begun, in ns. */
+uint64_t guest_access_begun(const struct guest *guest, uint32_t thread);
+
+/* A number of its plan, which two guests have alike. */
+uint64_t guest_number(const struct guest_plan *plan);
 
 /* Compares each word of the memory with what it must be. All threads have stopped, and nobody watches the memory. Returns the number of
    wrong pages, and the first of them. */

@@ -9,14 +9,16 @@
 #include <stdlib.h>
 #include <string.h>
 #include <sys/socket.h>
-#include <sys/un.h>
 #include <unistd.h>
 
 #include "kernel.h"
 #include "live.h"
+#include "local.h"
+#include "log.h"
 
 #define MOST_TEXT 8192u
-#define PATIENT_MS 10000
+#define PATIENT_MS 60000
+#define MOST_UNREAD 16u
 
 /* THE LIST OF RANGES */
 
@@ -141,26 +143,21 @@ static void wait_until_readable(int file, const char *for_what)
 
 static int accept_monitor(const struct address *address)
 {
-    int door = socket(AF_UNIX, SOCK_STREAM | SOCK_CLOEXEC, 0), file;
-    struct ucred peer;
-    socklen_t length = sizeof peer;
+    int door = local_listen(address, 1), file;
 
-    if (door < 0)
-        refuse_errno(errno, "a socket");
-    if (bind(door, (const struct sockaddr *)&address->name, address->length) || listen(door, 1))
-        refuse_errno(errno, "%s", address->text);
-    printf("waiting for=%s\n", address->text);
-    (void)fflush(stdout); /* who reads it may have gone */
-    wait_until_readable(door, "monitor");
-    file = accept4(door, NULL, NULL, SOCK_CLOEXEC);
-    if (file < 0)
-        refuse_errno(errno, "a monitor cannot be accepted");
-    if (getsockopt(file, SOL_SOCKET, SO_PEERCRED, &peer, &length))
-        refuse_errno(errno, "SO_PEERCRED");
-    if (peer.uid != geteuid() && peer.uid != 0)
-        refuse("the monitor is a process of user %u", (unsigned)peer.uid);
-    (void)close(door); /* it carried nothing */
-    (void)unlink(((const struct sockaddr_un *)(const void *)&address->name)->sun_path); /* it may be gone already */
+    log_figures("waiting for=%s\n", address->text);
+    for (;;) {
+        wait_until_readable(door, "monitor");
+        file = accept4(door, NULL, NULL, SOCK_CLOEXEC);
+        if (file >= 0 && local_is_own(file))
+            break;
+        if (file < 0 && errno != EAGAIN && errno != ECONNABORTED)
+            refuse_errno(errno, "a monitor cannot be accepted");
+        log_event("somebody at %s is no process of this user: turned away", address->text);
+        if (file >= 0)
+            (void)close(file); /* nothing was written */
+    }
+    local_close(door, address);
     return file;
 }
 
@@ -238,8 +235,21 @@ bool handed_has_stopped(struct handed *handed)
     return handed->has_stopped;
 }
 
-void handed_close(struct handed *handed)
+void handed_leave(struct handed *handed)
 {
+    struct pollfd files[] = { { .fd = handed->monitor, .events = POLLIN }, { .fd = handed->userfault, .events = POLLIN } };
+    struct uffd_msg unread[MOST_UNREAD];
+
+    if (handed_has_stopped(handed))
+        refuse("the guest has stopped, and was not asked to");
+    for (uint32_t i = 0; i < handed->ranges; i++)
+        kernel_unregister(handed->userfault, handed_page(handed, handed->range[i].offset / PAGE_BYTES), handed->range[i].bytes);
+    handed_say(handed, HANDED_STOP);
+    while (!handed_has_stopped(handed)) {
+        (void)poll(files, 2, 100); /* what is there is read in any case */
+        while (kernel_read(handed->userfault, unread, MOST_UNREAD))
+            continue;
+    }
     (void)close(handed->userfault); /* nothing was written to it */
     (void)close(handed->monitor);   /* nor waits for the monitor */
     free(handed->kept);

@@ -27,7 +27,9 @@ struct handed_range {
     uint64_t at, bytes, offset;
 };
 
-enum kept { NOT_KEPT, KEPT, WAS_KEPT }; /* WAS_KEPT: it was put, and not given back since */
+enum kept { NOT_KEPT,
+            KEPT,
+            WAS_KEPT }; /* WAS_KEPT: it was put, and not given back since */
 
 struct handed {
     int monitor; /* the connection */
@@ -65,7 +67,8 @@ void handed_say(const struct handed *handed, char what);
 /* Whether they have stopped. A monitor that ends before that is lost, and the guest with it. */
 bool handed_has_stopped(struct handed *handed);
 
-/* Nothing more is done to the memory. */
-void handed_close(struct handed *handed);
+/* All its pages are there: the memory is left to the kernel. Who waits there is woken, the monitor hears that its threads are to stop, and messages are
+   read until it has: a thread that gives pages back waits until its message was read. Then the connection ends. */
+void handed_leave(struct handed *handed);
 
 #endif

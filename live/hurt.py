@@ -5,6 +5,7 @@ import contextlib
 import shlex
 import signal
 import socket
+import struct
 import subprocess
 import sys
 import tempfile
@@ -13,16 +14,20 @@ import time
 
 import pair
 
-SLOW = ["--push-rate", "2000", "--rounds", "0"]
-PRECOPY = ["--rounds", "1000", "--target", "0"]
+# Pre-copy and post-copy that last until a case is done with them, however slow the machine is; and a guest that does not ask for all at once.
+PRECOPY = ["--rounds", "1", "--rate", "100"]
+SLOW = ["--push-rate", "50", "--rounds", "0"]
+QUIET = ["--pause", "200000"]
 MEMORY = ["--memory", "16M", "--cold", "16"]
-GREETING = b"pmlive\x01"
+GREETING = b"pmlive\x02"
 ADVISE = bytes.fromhex("020100000000000100000000")
-HELLO_BYTES = 20
+HELLO_BYTES = 192
 
 
-def hello(channel=0, epoch=1, instance=7):
-    return GREETING + bytes([channel]) + epoch.to_bytes(4, "big") + instance.to_bytes(8, "big")
+def hello(channel=0, epoch=1, instance=7, memory=16, threads=4, name="", reason="", flags=0):
+    """Of a side that does not beat, whose guest is unknown."""
+    numbers = struct.pack(">BIQIIHHQIHH", channel, epoch, instance, flags, memory * 256, 1, threads, 0, 262144, 16, 0)
+    return GREETING + numbers + name.encode().ljust(32, b"\0") + reason.encode().ljust(112, b"\0")
 
 
 def expect(sides):
@@ -34,10 +39,10 @@ def expect(sides):
 class Watched:
     """Two sides with traces, and events for the first lines of progress with the phases that the cases wait for."""
 
-    def __init__(self, program, source, dest=(), memory=()):
-        self.program, self.shared = program, [*(memory or MEMORY), "--progress"]
+    def __init__(self, program, source, dest=(), memory=(), **more):
+        self.program, self.shared = program, [*(memory or MEMORY), *(QUIET if "--push-rate" in source else ()), "--progress"]
         self.phases = {name: threading.Event() for name in ("source precopy", "source stopped", "destination running")}
-        self.migration = pair.Migration(self.shared, source, list(dest), program, on_progress=self.see, is_traced=True)
+        self.migration = pair.Migration(self.shared, source, list(dest), program, on_progress=self.see, is_traced=True, **more)
         self.source, self.dest = self.migration.source, self.migration.dest
         self.address = f"127.0.0.1:{self.dest.number('listening', 'port')}"
 
@@ -47,14 +52,19 @@ class Watched:
             event.set()
 
     def at(self, phase):
-        if not self.phases[phase].wait(20):
+        if not self.phases[phase].wait(pair.PATIENCE):
             raise TimeoutError(f"the phase {phase} does not come")
 
     def another_dest(self):
         self.migration.traces[1] += "-of-another"
         dest = pair.Side([str(self.program), "dest", "--listen", self.address, *self.shared, "--trace", self.migration.traces[1]])
-        dest.listening.wait(20)
+        dest.listening.wait(pair.PATIENCE)
         return dest
+
+    def finish(self):
+        """What is wrong with the migration, whose background goes as fast as it can from now on."""
+        answer = self.source.order("push-rate 0")
+        return self.migration.finish() or (None if answer.get("ok") else f"push-rate: {answer}")
 
     def judged(self):
         """What is wrong with the steps of the source and of the last destination."""
@@ -66,86 +76,93 @@ def destination_dies_before_the_switch(program):
     both = Watched(program, [*PRECOPY, "--patience", "1"])
     both.at("source precopy")
     both.dest.process.send_signal(signal.SIGKILL)
-    both.dest.end(5)
-    return expect([("source", both.source.end(20), pair.LOST, "the guest has run on here, and its memory is right")])
+    both.dest.end()
+    return expect([("source", both.source.end(), pair.LOST, "the guest has run on here, and its memory is right")])
 
 
 def another_destination_before_the_switch(program):
-    both = Watched(program, ["--rounds", "40", "--target", "0"])
+    both = Watched(program, [*PRECOPY, "--patience", "60"])
     both.at("source precopy")
     both.dest.process.send_signal(signal.SIGKILL)
-    both.dest.end(5)
+    both.dest.end()
     dest = both.another_dest()
-    source = both.source.end(40)
-    dest.close_input()
-    return expect([("source", source, pair.DONE, ""), ("destination", dest.end(20), pair.DONE, "")]) or both.judged()
+    both.source.order("rate 0")
+    source = both.source.end()
+    dest.ask_end()
+    return expect([("source", source, pair.DONE, ""), ("destination", dest.end(), pair.DONE, "")]) or both.judged()
 
 
 def destination_dies_after_the_switch(program):
     both = Watched(program, [*SLOW, "--patience", "1"])
     both.at("destination running")
     both.dest.process.send_signal(signal.SIGKILL)
-    both.dest.end(5)
-    return expect([("source", both.source.end(20), pair.LOST, "it is lost, and does not run here")])
+    both.dest.end()
+    return expect([("source", both.source.end(), pair.LOST, "whether it runs there is not known here")])
 
 
 def another_destination_after_the_switch(program):
-    both = Watched(program, [*SLOW, "--patience", "5"])
+    both = Watched(program, SLOW)
     both.at("destination running")
     both.dest.process.send_signal(signal.SIGKILL)
-    both.dest.end(5)
+    both.dest.end()
     dest = both.another_dest()
-    source = both.source.end(20)
-    dest.close_input()
+    both.source.says("another destination listens there than at the switch")
+    both.source.order("abandon")
+    source = both.source.end()
+    dest.ask_end()
     return expect([("source", source, pair.LOST, "another destination listens there than at the switch"),
-                   ("destination", dest.end(20), pair.LOST, "the source is gone before the switch")])
+                   ("destination", dest.end(), pair.LOST, "it ends before the switch")])
 
 
 def source_dies_before_the_switch(program):
     both = Watched(program, PRECOPY)
     both.at("source precopy")
     both.source.process.send_signal(signal.SIGKILL)
-    both.source.end(5)
-    both.dest.close_input()
-    return expect([("destination", both.dest.end(20), pair.LOST, "the source is gone before the switch")])
+    both.source.end()
+    both.dest.ask_end()
+    return expect([("destination", both.dest.end(), pair.LOST, "it ends before the switch")])
 
 
 def source_dies_after_the_switch(program):
     both = Watched(program, SLOW)
     both.at("destination running")
     both.source.process.send_signal(signal.SIGKILL)
-    both.source.end(5)
-    both.dest.close_input()
-    return expect([("destination", both.dest.end(20), pair.LOST, "the guest is lost")])
+    both.source.end()
+    both.dest.ask_end()
+    if both.dest.order("end").get("ok") or both.dest.order("status").get("phase") not in ("running", "paused"):
+        return "a guest that lacks pages is ended"
+    both.dest.order("abandon")
+    ended = both.dest.end()
+    return expect([("destination", ended, pair.LOST, "the guest is lost"), ("destination", ended, pair.LOST, "the signal is refused")])
 
 
 def frozen_destination(program):
-    both = Watched(program, [*PRECOPY, "--patience", "1"])
+    both = Watched(program, [*PRECOPY, "--patience", "1", "--silence", "1"])
     both.at("source precopy")
     both.dest.process.send_signal(signal.SIGSTOP)
-    source = both.source.end(20)
+    source = both.source.end()
     both.dest.process.kill()
-    both.dest.end(5)
+    both.dest.end()
     return expect([("source", source, pair.LOST, "the guest has run on here, and its memory is right")])
 
 
 def strangers(program, words=(), texts=(b"", b"GET / HTTP/1.1\r\n\r\n", hello()[:9], hello(0, 9), hello(1, 0), hello(1, 5), hello(0, 0))):
     """Those that say nothing, half a hello, something else, or an epoch that is over: none of them disturbs the migration."""
-    both = Watched(program, ["--push-rate", "3000", "--rounds", "0"], memory=[*MEMORY, *words])
+    both = Watched(program, SLOW, memory=[*MEMORY, *words])
     both.at("destination running")
     host, port = both.address.split(":")
     with contextlib.ExitStack() as stack:
         for text in texts * 6:
             stranger = stack.enter_context(socket.create_connection((host, int(port)), 5))
             stranger.sendall(text)
-        wrong = both.migration.finish(20)
-    turned_away = both.dest.number("destination", "turned_away")
-    return wrong or (None if turned_away >= 20 and both.source.number("source", "breaks") == 0 else f"{turned_away} were turned away")
+        are_gone = pair.wait_until(lambda: both.dest.status("turned_away") >= 20)
+        wrong = both.finish()
+    return wrong or (None if are_gone and both.source.number("source", "breaks") == 0 else "too few were turned away, or the source was")
 
 
-def is_open(connection):
-    """Whether the other side has left a connection open for a moment, on which it says nothing."""
-    connection.settimeout(0.3)
+def is_open(connection, seconds):
+    """Whether the other side leaves a connection open for this time, on which it says nothing."""
+    connection.settimeout(seconds)
     try:
         return bool(connection.recv(1))
     except TimeoutError:
@@ -157,7 +174,7 @@ def is_open(connection):
 def old_epoch(program):
     """A connection of the same source, but of an epoch that is over, does not take the place of the one of today; one of the next does."""
     dest = pair.Side([str(program), "dest", "--listen", "127.0.0.1:0", *MEMORY])
-    dest.listening.wait(20)
+    dest.listening.wait(pair.PATIENCE)
     with contextlib.ExitStack() as stack:
         def connect(epoch):
             connection = stack.enter_context(socket.create_connection(("127.0.0.1", dest.number("listening", "port")), 5))
@@ -167,11 +184,12 @@ def old_epoch(program):
         today = connect(5)
         wrong = None if len(today.recv(HELLO_BYTES)) == HELLO_BYTES else "no hello of the destination"
         old = connect(3)
-        wrong = wrong or ("an old epoch is let in" if is_open(old) else None) or (None if is_open(today) else "it takes the place of today's")
+        wrong = wrong or ("an old epoch is let in" if is_open(old, pair.PATIENCE) else None)
+        wrong = wrong or (None if is_open(today, 0.3) else "it takes the place of today's")
         connect(6)
-        wrong = wrong or ("two connections serve one source" if is_open(today) else None)
+        wrong = wrong or ("two connections serve one source" if is_open(today, pair.PATIENCE) else None)
     dest.process.kill()
-    dest.end(5)
+    dest.end()
     return wrong
 
 
@@ -181,10 +199,13 @@ def hostile_source(program):
                         (ADVISE + bytes.fromhex("0203000000000001000000040000000f"), "stream fault BadField"),
                         (bytes.fromhex("020600000000000100000004") + bytes(4), "refused OutOfPlace")):
         dest = pair.Side([str(program), "dest", "--listen", "127.0.0.1:0", *MEMORY])
-        dest.listening.wait(20)
+        dest.listening.wait(pair.PATIENCE)
         with socket.create_connection(("127.0.0.1", dest.number("listening", "port")), 5) as source:
             source.sendall(hello() + text)
-            wrong = expect([("destination", dest.end(10), pair.REFUSED, fault)])
+            while source.recv(4096):
+                pass
+            dest.ask_end()
+            wrong = expect([("destination", dest.end(), pair.LOST, fault)])
         if wrong:
             return wrong
     return None
@@ -194,10 +215,10 @@ def served(program, answer, patience="1"):
     """What becomes of a source whose destination sends these bytes, and no more."""
     with socket.create_server(("127.0.0.1", 0)) as server:
         address = f"127.0.0.1:{server.getsockname()[1]}"
-        source = pair.Side([str(program), "source", "--connect", address, *MEMORY, *PRECOPY, "--patience", patience, "--no-urgent"])
+        source = pair.Side([str(program), "source", "--connect", address, *MEMORY, *PRECOPY, *pair.KEPT, "--patience", patience, "--no-urgent"])
         with server.accept()[0] as connection:
             connection.sendall(answer)
-            return source.end(20)
+            return source.end()
 
 
 def hostile_destination(program):
@@ -220,7 +241,7 @@ def handed(program, words):
 
 
 def connect(place):
-    for _ in range(1000):
+    for _ in range(100 * pair.PATIENCE):
         connection = socket.socket(socket.AF_UNIX)
         try:
             connection.connect(place)
@@ -245,37 +266,53 @@ def hostile_monitor(program):
         folder, place, handler = handed(program, ["--memory", "1M"])
         with folder, connect(place) as monitor, open("/dev/null") as file:
             socket.send_fds(monitor, [text.encode()], [file.fileno()] if has_file else [])
-            wrong = expect([(f"handler of {text}", handler.end(10), pair.REFUSED, said)])
+            wrong = expect([(f"handler of {text}", handler.end(), pair.REFUSED, said)])
         if wrong:
             return wrong
     return None
 
 
 def handed_after_the_switch(program):
-    migration = pair.Migration([*MEMORY, "--progress"], SLOW, [], program, is_handed=True)
-    while migration.dest.figures.get("progress", {}).get("phase") != "running" and migration.dest.is_running():
-        time.sleep(0.01)
+    migration = pair.Migration([*MEMORY, *QUIET, "--progress"], SLOW, [], program, is_handed=True)
+    if not pair.wait_until(lambda: migration.dest.figures.get("progress", {}).get("phase") == "running"):
+        raise TimeoutError("the handler does not run the guest")
     return migration
 
 
 def monitor_dies_after_the_switch(program):
     three = handed_after_the_switch(program)
     three.monitor.process.send_signal(signal.SIGKILL)
-    three.monitor.end(5)
-    wrong = expect([("handler", three.dest.end(20), pair.LOST, "ended")])
+    three.monitor.end()
+    wrong = expect([("handler", three.dest.end(), pair.LOST, "ended")])
     three.source.process.kill()
-    three.source.end(5)
+    three.source.end()
     return wrong
 
 
 def handler_dies_after_the_switch(program):
     three = handed_after_the_switch(program)
     three.dest.process.send_signal(signal.SIGKILL)
-    three.dest.end(5)
-    wrong = expect([("monitor", three.monitor.end(20), pair.LOST, "the handler has ended: the guest is lost")])
+    three.dest.end()
+    wrong = expect([("monitor", three.monitor.end(), pair.LOST, "the handler has ended: the guest is lost")])
     three.source.process.kill()
-    three.source.end(5)
+    three.source.end()
     return wrong
+
+
+def pages_given_back_under_each_other(program):
+    """Threads wait for pages of which others have no more use: each load returns, and no processor is woken and left."""
+    for is_handed in (False, True):
+        for seed in range(1, 5):
+            migration = pair.Migration(["--memory", "2M", "--threads", "8", "--shared", "4", "--cold", "1", "--pause", "20", "--seed", str(seed), "--progress"],
+                                       ["--rounds", "0", "--push-rate", "2000"], ["--check-owed"], program, is_handed=is_handed, is_traced=True, delay=0.02)
+            wrong = migration.finish()
+            if wrong or migration.dest.number("destination", "roused"):
+                break
+        if wrong:
+            return wrong
+        if not migration.dest.number("destination", "roused"):
+            return "no thread has waited for a page that was given back"
+    return None
 
 
 FED = ["--memory", "1M", "--threads", "3", "--given", "2"]
@@ -283,7 +320,7 @@ FED = ["--memory", "1M", "--threads", "3", "--given", "2"]
 
 def fed(program, role, command, words=()):
     """The status of a side whose other side is a command, and all that it says."""
-    done = subprocess.run([program, role, *FED, *words, "--feed", command], stdin=subprocess.DEVNULL, capture_output=True, text=True, timeout=60)
+    done = subprocess.run([program, role, *FED, "--after", "100", *words, "--feed", command], stdin=subprocess.DEVNULL, capture_output=True, text=True, timeout=pair.PATIENCE)
     return done.returncode, done.stdout + done.stderr
 
 
@@ -296,13 +333,21 @@ def source_of_somebody_else(program):
     cut = f"{example()} 2>/dev/null | head -c"
     return expect([("dest", fed(program, "dest", example(), ["--check-owed"]), pair.DONE, "wrong_loads=0 wrong_pages=0"),
                    ("dest of another guest", fed(program, "dest", example("--seed", "2")), pair.REFUSED, "this guest was started with other"),
-                   ("dest before the switch", fed(program, "dest", f"{cut} 300000"), pair.LOST, "the source is gone before the switch"),
+                   ("dest before the switch", fed(program, "dest", f"{cut} 300000"), pair.LOST, "it ends before the switch"),
                    ("dest after the switch", fed(program, "dest", f"{cut} 700000"), pair.LOST, "the guest is lost")])
+
+
+def source_of_somebody_else_for_a_monitor(program):
+    with tempfile.TemporaryDirectory(prefix="live-") as folder:
+        place = f"unix:{folder}/monitor"
+        handler = pair.Side([str(program), "handler", *FED, "--monitor", place, "--feed", example()])
+        monitor = pair.Side([str(program), "monitor", *FED, "--connect", place])
+        return expect([("monitor", monitor.end(), pair.DONE, ""), ("handler", handler.end(), pair.DONE, "")])
 
 
 def no_other_side(program):
     return expect([("dest", fed(program, "dest", "exit 3"), pair.LOST, "fed status=3"),
-                   ("dest", fed(program, "dest", "echo this is no frame"), pair.REFUSED, "stream fault BadTag"),
+                   ("dest", fed(program, "dest", "echo this is no frame"), pair.LOST, "stream fault BadTag"),
                    ("source", fed(program, "source", "exit 3"), pair.LOST, "its memory is right"),
                    ("source", fed(program, "source", "exec cat"), pair.LOST, "refused OutOfPlace")])
 
@@ -313,7 +358,7 @@ def both_are_fed(program):
         relay = [shlex.join([sys.executable, str(pair.FOLDER / "relay.py"), how, f"{folder}/socket"]) for how in ("listen", "connect")]
         with concurrent.futures.ThreadPoolExecutor(2) as threads:
             dest = threads.submit(fed, program, "dest", relay[0], ["--check-owed"])
-            source = threads.submit(fed, program, "source", relay[1], ["--rounds", "2", "--target", "0"])
+            source = threads.submit(fed, program, "source", relay[1], ["--rounds", "2", "--target", "0", *pair.KEPT])
     return expect([("source", source.result(), pair.DONE, ""), ("dest", dest.result(), pair.DONE, "wrong_loads=0 wrong_pages=0")])
 
 
@@ -321,7 +366,8 @@ CASES = (
     destination_dies_before_the_switch, another_destination_before_the_switch, destination_dies_after_the_switch,
     another_destination_after_the_switch, source_dies_before_the_switch, source_dies_after_the_switch, frozen_destination, strangers,
     old_epoch, hostile_source, hostile_destination, hostile_monitor, monitor_dies_after_the_switch, handler_dies_after_the_switch,
-    source_of_somebody_else, no_other_side, both_are_fed,
+    pages_given_back_under_each_other, source_of_somebody_else, source_of_somebody_else_for_a_monitor, no_other_side,
+    both_are_fed,
 )
 
 
@@ -329,8 +375,10 @@ def found_by(case, program):
     """What is wrong by this case, or None. A side that is not there when it should be is wrong too."""
     try:
         return case(program)
-    except (OSError, TimeoutError, subprocess.SubprocessError) as error:
-        return str(error)
+    except (OSError, ValueError, subprocess.SubprocessError) as error:
+        return f"{type(error).__name__}: {error}"
+    finally:
+        pair.end_started()
 
 
 def all_cases(program, cases=CASES):

@@ -3,23 +3,29 @@
 
 #include <errno.h>
 #include <fcntl.h>
+#include <limits.h>
+#include <malloc.h>
 #include <sched.h>
 #include <stdio.h>
+#include <stdlib.h>
 #include <string.h>
 #include <sys/ioctl.h>
 #include <sys/mman.h>
+#include <sys/resource.h>
 #include <sys/syscall.h>
 #include <sys/uio.h>
 #include <time.h>
 #include <unistd.h>
 
 #include "live.h"
+#include "sums.h"
 
-#define FEATURES                                                                                                                   \
-    (UFFD_FEATURE_PAGEFAULT_FLAG_WP | UFFD_FEATURE_EVENT_REMAP | UFFD_FEATURE_EVENT_REMOVE | UFFD_FEATURE_EVENT_UNMAP |             \
+#define FEATURES                                                                                                        \
+    (UFFD_FEATURE_PAGEFAULT_FLAG_WP | UFFD_FEATURE_EVENT_REMAP | UFFD_FEATURE_EVENT_REMOVE | UFFD_FEATURE_EVENT_UNMAP | \
      UFFD_FEATURE_THREAD_ID)
 /* A thread without a processor cannot finish its call. The driver yields this number of times before it sleeps. */
 #define YIELDS 8u
+#define LEAST_NICE (-20)
 /* Ranges of one process_madvise(2), which takes as many as writev(2). */
 #define MOST_RANGES 1024u
 
@@ -39,11 +45,44 @@ uint64_t kernel_thread_time(void)
     return (uint64_t)time.tv_sec * 1000000000u + (uint64_t)time.tv_nsec;
 }
 
+static _Thread_local struct {
+    bool is_allowed, is_now; /* SCHED_RR: who is yielded to runs only while this thread sleeps */
+} first;
+
+static bool set_policy(int policy, int priority)
+{
+    const struct sched_param parameter = { .sched_priority = priority };
+
+    return !sched_setscheduler(0, policy | SCHED_RESET_ON_FORK, &parameter);
+}
+
+void kernel_first(bool is_first)
+{
+    if (!first.is_allowed || first.is_now == is_first)
+        return;
+    if (set_policy(is_first ? SCHED_RR : SCHED_OTHER, is_first ? sched_get_priority_min(SCHED_RR) : 0))
+        first.is_now = is_first;
+}
+
+/* (alone on one processor it would leave the others nothing) */
+const char *kernel_go_first(void)
+{
+    cpu_set_t set;
+
+    if (!sched_getaffinity(0, sizeof set, &set) && CPU_COUNT(&set) > 1 && set_policy(SCHED_RR, sched_get_priority_min(SCHED_RR))) {
+        first.is_allowed = first.is_now = true;
+        return "SCHED_RR while somebody waits";
+    }
+    if (!setpriority(PRIO_PROCESS, (id_t)gettid(), LEAST_NICE))
+        return "nice";
+    return "none: it needs CAP_SYS_NICE, or a limit of real-time priority (RLIMIT_RTPRIO) of 1";
+}
+
 void kernel_yield(uint32_t times)
 {
     const struct timespec moment = { .tv_nsec = 20000 };
 
-    if (times > YIELDS)
+    if (first.is_now || times > YIELDS)
         (void)nanosleep(&moment, NULL); /* a shorter sleep is as good */
     else
         (void)sched_yield(); /* it always succeeds */
@@ -68,6 +107,21 @@ static bool may_be_huge(const char *at)
     }
     (void)fclose(file); /* it was only read */
     return eligible;
+}
+
+void kernel_reserve(size_t bytes)
+{
+    void *volatile all; /* (else a compiler may leave all of it out) */
+
+    /* All of the heap is one piece, which is never made smaller, and no allocation is a mapping of its own. (Another malloc(3) than glibc's
+       has no such settings: there this only asks whether it is there.) */
+    (void)mallopt(M_MMAP_MAX, 0);
+    (void)mallopt(M_TRIM_THRESHOLD, INT_MAX);
+    (void)mallopt(M_ARENA_MAX, 1);
+    all = malloc(bytes);
+    if (!all)
+        refuse("no memory: %zu bytes are needed for the node", bytes);
+    free(all);
 }
 
 char *kernel_map(size_t bytes)
@@ -120,16 +174,28 @@ static struct uffdio_range range_of(const char *at, size_t bytes)
     return (struct uffdio_range){ .start = (uintptr_t)at, .len = bytes };
 }
 
+/* Returns 0 or an errno. Where memory was lacking nothing was done, and it is tried again. */
+static int call_userfault(int userfault, unsigned long request, const char *name, void *argument)
+{
+    while (ioctl(userfault, request, argument)) {
+        if (errno != ENOMEM)
+            return errno;
+        lack(ENOMEM, "%s", name);
+    }
+    return 0;
+}
+
 void kernel_register(int userfault, char *at, size_t bytes, bool with_protection)
 {
     uint64_t modes = UFFDIO_REGISTER_MODE_MISSING | (with_protection ? UFFDIO_REGISTER_MODE_WP : 0);
     struct uffdio_register call = { .range = range_of(at, bytes), .mode = modes };
     uint64_t needed = 1ull << _UFFDIO_WAKE | 1ull << _UFFDIO_COPY | 1ull << _UFFDIO_ZEROPAGE;
+    int error = call_userfault(userfault, UFFDIO_REGISTER, "UFFDIO_REGISTER", &call);
 
     if (with_protection)
         needed |= 1ull << _UFFDIO_WRITEPROTECT;
-    if (ioctl(userfault, UFFDIO_REGISTER, &call))
-        refuse_errno(errno, "UFFDIO_REGISTER of the guest's memory");
+    if (error)
+        refuse_errno(error, "UFFDIO_REGISTER of the guest's memory");
     if ((call.ioctls & needed) != needed)
         refuse("UFFDIO_REGISTER allows the calls 0x%llx, and 0x%llx are needed", (unsigned long long)call.ioctls,
                (unsigned long long)needed);
@@ -141,50 +207,88 @@ void kernel_unregister(int userfault, char *at, size_t bytes)
 
     if (ioctl(userfault, UFFDIO_UNREGISTER, &range))
         refuse_errno(errno, "UFFDIO_UNREGISTER of the guest's memory");
+    /* (The kernel wakes before it clears the range, and nobody at a protected page: who faults in between would sleep for ever.) */
+    if (ioctl(userfault, UFFDIO_WAKE, &range))
+        refuse_errno(errno, "UFFDIO_WAKE of the guest's memory");
 }
 
 int kernel_copy_pages(int userfault, char *to, const void *from, size_t pages, size_t *put)
 {
     struct uffdio_copy call = { .dst = (uintptr_t)to, .src = (uintptr_t)from, .len = pages * PAGE_BYTES };
-    int error = ioctl(userfault, UFFDIO_COPY, &call) ? errno : 0;
+    int error = call_userfault(userfault, UFFDIO_COPY, "UFFDIO_COPY", &call);
 
     *put = call.copy > 0 ? (size_t)call.copy / PAGE_BYTES : 0; /* else it is an errno, or was not written */
+    sums_put(to, from, *put);
     return error;
+}
+
+static int put_zeros(int userfault, char *to, uint64_t mode)
+{
+    struct uffdio_zeropage call = { .range = range_of(to, PAGE_BYTES), .mode = mode };
+
+    return call_userfault(userfault, UFFDIO_ZEROPAGE, "UFFDIO_ZEROPAGE", &call);
 }
 
 int kernel_copy(int userfault, char *to, const void *from)
 {
     size_t put;
+    int error;
 
-    return kernel_copy_pages(userfault, to, from, 1, &put);
+    if (from)
+        return kernel_copy_pages(userfault, to, from, 1, &put);
+    error = put_zeros(userfault, to, 0);
+    if (!error)
+        sums_put(to, NULL, 1);
+    return error;
 }
 
 int kernel_zero(int userfault, char *to)
 {
-    struct uffdio_zeropage call = { .range = range_of(to, PAGE_BYTES) };
-
-    return ioctl(userfault, UFFDIO_ZEROPAGE, &call) ? errno : 0;
+    return put_zeros(userfault, to, 0);
 }
 
-int kernel_unprotect(int userfault, char *at)
+int kernel_zero_asleep(int userfault, char *to)
 {
-    struct uffdio_writeprotect call = { .range = range_of(at, PAGE_BYTES) };
+    return put_zeros(userfault, to, UFFDIO_ZEROPAGE_MODE_DONTWAKE);
+}
 
-    return ioctl(userfault, UFFDIO_WRITEPROTECT, &call) ? errno : 0;
+int kernel_unprotect(int userfault, char *at, size_t bytes)
+{
+    struct uffdio_writeprotect call = { .range = range_of(at, bytes) };
+
+    return call_userfault(userfault, UFFDIO_WRITEPROTECT, "UFFDIO_WRITEPROTECT", &call);
 }
 
 int kernel_protect(int userfault, char *at, size_t bytes)
 {
     struct uffdio_writeprotect call = { .range = range_of(at, bytes), .mode = UFFDIO_WRITEPROTECT_MODE_WP };
 
-    return ioctl(userfault, UFFDIO_WRITEPROTECT, &call) ? errno : 0;
+    return call_userfault(userfault, UFFDIO_WRITEPROTECT, "UFFDIO_WRITEPROTECT", &call);
 }
 
 int kernel_wake(int userfault, char *at)
 {
     struct uffdio_range range = range_of(at, PAGE_BYTES);
 
-    return ioctl(userfault, UFFDIO_WAKE, &range) ? errno : 0;
+    return call_userfault(userfault, UFFDIO_WAKE, "UFFDIO_WAKE", &range);
+}
+
+/* (a fault of the kernel's own, in the place of the process, does not wait for a userfaultfd: the call fails) */
+bool kernel_peek(const char *at, size_t bytes, void *to)
+{
+    static int file = -1;
+    size_t done = 0;
+
+    if (file < 0 && (file = open("/proc/self/mem", O_RDONLY | O_CLOEXEC)) < 0)
+        refuse_errno(errno, "/proc/self/mem");
+    while (done < bytes) {
+        ssize_t got = pread(file, (char *)to + done, bytes - done, (off_t)((uintptr_t)at + done));
+
+        if (got <= 0)
+            return false;
+        done += (size_t)got;
+    }
+    return true;
 }
 
 size_t kernel_read(int userfault, struct uffd_msg *messages, size_t most)

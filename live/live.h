@@ -2,21 +2,22 @@
 #ifndef LIVE_H
 #define LIVE_H
 
+#include <stdbool.h>
 #include <stdint.h>
 
 #define PAGE_BYTES 4096u
 /* The first page of a guest, and how many it may have: the bounds of the model. */
 #define LOW_PAGE 0x10u
-#define LEAST_PAGES 256u    /* 1 MiB */
-#define MOST_PAGES 262144u  /* 1 GiB */
+#define LEAST_PAGES 256u   /* 1 MiB */
+#define MOST_PAGES 262144u /* 1 GiB */
 #define MOST_THREADS 16u
 
 /* How the program ends. */
 enum status {
     STATUS_OK = 0,
-    STATUS_LOST = 1,   /* the migration has not been completed */
+    STATUS_LOST = 1,    /* the migration has not been completed */
     STATUS_REFUSED = 2, /* bad use, or the kernel refuses or returns what was not expected */
-    STATUS_WRONG = 3   /* a word of the guest's memory is wrong */
+    STATUS_WRONG = 3    /* a word of the guest's memory is wrong */
 };
 
 /* Writes `live: TEXT` to the standard error, and ends with STATUS_REFUSED. */
@@ -25,7 +26,25 @@ _Noreturn void refuse(const char *format, ...) __attribute__((format(printf, 1, 
 /* The same with the text of an errno after it. */
 _Noreturn void refuse_errno(int error, const char *format, ...) __attribute__((format(printf, 2, 3)));
 
-/* The same as refuse with STATUS_LOST. */
+/* The same with STATUS_LOST, whatever is to be kept. */
 _Noreturn void lose(const char *format, ...) __attribute__((format(printf, 1, 2)));
+
+/* The caller is the driver's thread, which has the node. */
+void live_begin(void);
+
+/* What becomes of the process where something is refused in the driver's thread. `keep` gets the reason, once it is written, and returns the
+   status of the program; NULL: it ends at once. */
+struct keeping {
+    int (*keep)(const char *why);
+    bool (*meanwhile)(uint32_t milliseconds); /* waits, and returns whether the operator ends the process; NULL: nothing is waited for */
+};
+void live_keep(struct keeping keeping);
+
+/* What a side says once it does nothing more, and keeps what it has. */
+#define HELD "all that is here is kept as it is, and nothing is done any more, until the operator abandons it"
+
+/* Something is lacking that there may be later. With `meanwhile` this waits, longer from time to time, and returns: the caller tries again. Else
+   it is the same as refuse_errno, or refuse where `error` is 0. */
+void lack(int error, const char *format, ...) __attribute__((format(printf, 2, 3)));
 
 #endif

@@ -1,6 +1,7 @@
 """Cases of TLS: a right and a wrong key, none, strangers in the handshake, connections that are cut at any byte. Each returns what is wrong, or
 None."""
 
+import concurrent.futures
 import contextlib
 import os
 import pathlib
@@ -11,14 +12,14 @@ import ssl
 import subprocess
 import tempfile
 
+import between
 import hurt
 import pair
 
 MEMORY = ["--memory", "8M", "--cold", "16", "--threads", "3", "--given", "1", "--buffer", "16384"]
-SHORT = ["--rounds", "0", "--patience", "1"]
+BROKEN = "the connection is broken"
 STRANGERS = 64
-# Those of a migration, which may end before the last one; and those that have to be met.
-CUTS, LEAST_CUTS = 32, 8
+CUTS = 16
 # The begin of a ClientHello, a record longer than TLS allows, a message of 16 MiB, an alert, and what is no TLS.
 BEGUN = bytes.fromhex("16030100c8010000c40303") + bytes(20)
 HALVES = (b"", b"\x16", BEGUN, b"\x16\x03\x01\xff\xff" + bytes(60), b"\x16\x03\x01\x40\x00\x01\xff\xff\xff" + bytes(16380),
@@ -29,20 +30,27 @@ def folder():
     return tempfile.TemporaryDirectory(prefix="live-")
 
 
-def source_of(program, dest, words):
-    """What becomes of a source."""
-    address = f"127.0.0.1:{dest.number('listening', 'port')}"
-    return pair.Side([str(program), "source", "--connect", address, *MEMORY, *SHORT, *words]).end(20)
+def source_of(program, address, words, text=""):
+    """What becomes of a source, of which the migration is cancelled once it says this text."""
+    source = pair.Side([str(program), "source", "--connect", address, *MEMORY, "--rounds", "0", *pair.KEPT, *words])
+    if text:
+        source.says(text)
+        source.ask_end()
+    return source.end()
 
 
 def lets_in_only(program, key, others):
     """A destination with this key or none turns each of these sources away, whose guests run on; and then lets the right one in."""
     dest = pair.Side([str(program), "dest", "--listen", "127.0.0.1:0", *MEMORY, *key])
-    dest.listening.wait(20)
-    wrong = [hurt.expect([(name, source_of(program, dest, words), pair.LOST, text)]) for name, words, text in others]
-    wrong.append(hurt.expect([("the right source", source_of(program, dest, key), pair.DONE, "")]))
-    dest.close_input()
-    wrong.append(hurt.expect([("destination", dest.end(20), pair.DONE, "")]))
+    dest.listening.wait(pair.PATIENCE)
+    address = f"127.0.0.1:{dest.number('listening', 'port')}"
+    wrong = []
+    for name, words, text in others:
+        said = source_of(program, address, words, text)
+        wrong.append(hurt.expect([(name, said, pair.LOST, text), (name, said, pair.LOST, "its memory is right")]))
+    wrong.append(hurt.expect([("the right source", source_of(program, address, key), pair.DONE, "")]))
+    dest.ask_end()
+    wrong.append(hurt.expect([("destination", dest.end(), pair.DONE, "")]))
     return "; ".join(filter(None, wrong)) or None
 
 
@@ -53,13 +61,12 @@ def keys_at_the_door(program):
         same.write_text(pathlib.Path(key[1]).read_text().replace("guest:", "somebody:"))
         same.chmod(0o600)
         return lets_in_only(program, key, (("another key", other, "TLS: "), ("another user", user, "TLS: "),
-                                           ("another user with the key", ["--psk", str(same)], "TLS: "),
-                                           ("no key", [], "its memory is right"), ("another key", other, "its memory is right")))
+                                           ("another user with the key", ["--psk", str(same)], "TLS: "), ("no key", ["--patience", "1"], "")))
 
 
 def key_at_a_plain_door(program):
     with folder() as name:
-        return lets_in_only(program, [], (("a key", pair.new_key(name), "its memory is right"),))
+        return lets_in_only(program, [], (("a key", pair.new_key(name), BROKEN),))
 
 
 def strangers_in_the_handshake(program):
@@ -74,17 +81,19 @@ def strangers_take_no_memory(program):
 
     with folder() as name:
         key = pair.new_key(name)
-        dest = pair.Side([str(program), "dest", "--listen", "127.0.0.1:0", *MEMORY, *key])
-        dest.listening.wait(20)
+        dest = pair.Side([str(program), "dest", "--listen", "127.0.0.1:0", "--control", f"unix:{name}/control", *MEMORY, *key])
+        dest.listening.wait(pair.PATIENCE)
+        address = f"127.0.0.1:{dest.number('listening', 'port')}"
         before = resident(dest)
         for number in range(STRANGERS):
-            with socket.create_connection(("127.0.0.1", dest.number("listening", "port")), 5) as stranger:
+            with socket.create_connection(between.place(address), 5) as stranger:
                 stranger.sendall(HALVES[number % len(HALVES)])
+        are_gone = pair.wait_until(lambda: dest.status("turned_away") >= STRANGERS // 2)
         grown = resident(dest) - before
-        wrong = hurt.expect([("source", source_of(program, dest, key), pair.DONE, "")])
-        dest.close_input()
-        wrong = wrong or hurt.expect([("destination", dest.end(20), pair.DONE, "")])
-    return wrong or (None if grown < 4 << 20 else f"{grown} bytes after {STRANGERS} strangers")
+        wrong = hurt.expect([("source", source_of(program, address, key), pair.DONE, "")])
+        dest.ask_end()
+        wrong = wrong or hurt.expect([("destination", dest.end(), pair.DONE, "")])
+    return wrong or (None if are_gone and grown < 4 << 20 else f"{grown} bytes after {STRANGERS} strangers, turned away: {are_gone}")
 
 
 def listener_without_tls(program):
@@ -94,10 +103,10 @@ def listener_without_tls(program):
         for answer in (b"", b"HTTP/1.1 200 OK\r\n\r\n", b"\x15\x03\x03\x00\x02\x02\x28", BEGUN, bytes(100)):
             with socket.create_server(("127.0.0.1", 0)) as server:
                 address = f"127.0.0.1:{server.getsockname()[1]}"
-                source = pair.Side([str(program), "source", "--connect", address, *MEMORY, *SHORT, *key])
+                source = pair.Side([str(program), "source", "--connect", address, *MEMORY, *pair.KEPT, "--patience", "1", *key])
                 with server.accept()[0] as connection:
                     connection.sendall(answer)
-                    wrong = hurt.expect([(f"source that hears {answer!r}", source.end(20), pair.LOST, "its memory is right")])
+                    wrong = hurt.expect([(f"source that hears {answer!r}", source.end(), pair.LOST, "its memory is right")])
             if wrong:
                 return wrong
     return None
@@ -114,29 +123,28 @@ def listener_with_a_certificate(program):
         context = ssl.SSLContext(ssl.PROTOCOL_TLS_SERVER)
         context.load_cert_chain(*files)
         address = f"127.0.0.1:{server.getsockname()[1]}"
-        source = pair.Side([str(program), "source", "--connect", address, *MEMORY, *SHORT, *pair.new_key(name)])
-        server.settimeout(2)
-        with contextlib.suppress(TimeoutError):
-            while True:
-                connection = server.accept()[0]
-                with connection, contextlib.suppress(ssl.SSLError, ConnectionError):
+        with concurrent.futures.ThreadPoolExecutor(1) as thread:
+            source = thread.submit(source_of, program, address, pair.new_key(name), "TLS: ")
+            server.settimeout(0.1)
+            while not source.done():
+                with contextlib.suppress(TimeoutError, ssl.SSLError, ConnectionError), server.accept()[0] as connection:
                     connection.settimeout(2)
                     if context.wrap_socket(connection, server_side=True).recv(1):
                         return "it is taken for the destination"
-        found = source.end(20)
-        return hurt.expect([("source", found, pair.LOST, "TLS: "), ("source", found, pair.LOST, "its memory is right")])
+        return hurt.expect([("source", source.result(), pair.LOST, "TLS: "), ("source", source.result(), pair.LOST, "its memory is right")])
 
 
 def cut_at_any_byte(program):
-    """Of what is on the wire, handshakes included, in both directions."""
+    """Of what is on the wire, handshakes included, in both directions: at any byte that each epoch sends, whatever the machine does."""
     choice = random.Random(7)
     for is_handed in (False, True):
-        cuts = [(choice.choice(("out", "in")), choice.randrange(choice.choice((8, 400, 2000, 200000)))) for _ in range(CUTS)]
+        cuts = [choice.choice((("out", choice.randrange(choice.choice((8, 400, 2000, 100000)))), ("in", choice.randrange(choice.choice((8, 300))))))
+                for _ in range(CUTS)]
         with folder() as name:
             migration = pair.Migration([*MEMORY, *pair.new_key(name), "--progress"], ["--rounds", "1", "--target", "0"], ["--check-owed"], program,
                                        cuts=cuts, is_handed=is_handed)
-            wrong = migration.finish(40)
-        if wrong or migration.relay.made < LEAST_CUTS:
+            wrong = migration.finish()
+        if wrong or migration.relay.made < CUTS:
             return wrong or f"only {migration.relay.made} connections"
     return None
 
@@ -150,10 +158,12 @@ def keys_that_are_none(program):
             file = pathlib.Path(name, "key")
             file.write_text(text)
             os.chmod(file, mode)
-            done = subprocess.run([program, "dest", "--listen", "127.0.0.1:0", "--memory", "1M", "--psk", file], stdin=subprocess.DEVNULL,
-                                  capture_output=True, text=True, timeout=20)
-            if (said and (done.returncode != pair.REFUSED or said not in done.stderr)) or (not said and done.returncode != pair.LOST):
-                return f"the key {text!r}, mode {mode:o}: status {done.returncode}, {done.stderr.strip()}"
+            dest = pair.Side([str(program), "dest", "--listen", "127.0.0.1:0", "--memory", "1M", "--psk", str(file)])
+            dest.listening.wait(pair.PATIENCE)
+            dest.ask_end()
+            status, text_said = dest.end()
+            if (said and (status != pair.REFUSED or said not in text_said)) or (not said and status != pair.LOST):
+                return f"the key {text!r}, mode {mode:o}: status {status}, {text_said}"
     return None
 
 

@@ -1,26 +1,24 @@
 /* The command line. */
 #include <errno.h>
 #include <getopt.h>
+#include <inttypes.h>
 #include <signal.h>
-#include <stdarg.h>
 #include <stdio.h>
 #include <stdlib.h>
 #include <string.h>
 
-#include "bare.h"
-#include "dest.h"
+#include "history.h"
 #include "live.h"
-#include "monitor.h"
+#include "log.h"
 #include "options.h"
-#include "source.h"
-#include "trace.h"
+#include "roles.h"
 
 static const char USAGE[] =
     "live source --connect ADDRESS [OPTION ..]    moves its guest to a destination\n"
-    "live dest --listen ADDRESS [OPTION ..]       runs the guest on; its standard input ends once the source is gone\n"
+    "live dest --listen ADDRESS [OPTION ..]       runs the guest on, until SIGTERM, SIGINT or a word at --control once it has all\n"
     "live handler --listen ADDRESS --monitor unix:PATH [OPTION ..]   the same for memory of a monitor, which hands it over at PATH\n"
     "live monitor --connect unix:PATH [OPTION ..] such a monitor: it runs the guest\n"
-    "live bare [--memory SIZE] [--buffer BYTES]   what the connection and UFFDIO_COPY take without a node\n"
+    "live bare [OPTION ..]                        what the connections and UFFDIO_COPY take without a node, for the same guest\n"
     "\n"
     "ADDRESS is HOST:PORT (port 0: one that is free), or unix:PATH. Without --psk HOST is one of loopback.\n"
     "\n"
@@ -30,6 +28,7 @@ static const char USAGE[] =
     "  --seed N          of what it does (1)\n"
     "  --cold N          of 64 operations, stores outside of the hot eighth of memory (4)\n"
     "  --given N         of 64 operations, pages that are given back (0)\n"
+    "  --shared N        the same of pages that all threads use (0)\n"
     "of each:\n"
     "  --batch N         operations after which a thread sleeps (64)\n"
     "  --pause US        for this number of microseconds (200)\n"
@@ -38,57 +37,31 @@ static const char USAGE[] =
     "                    since the switch, or of a destination since the End (post); `none` leaves an epoch whole\n"
     "  --feed COMMAND    takes the part of the other side: frames go to its standard input and come from its standard output. There\n"
     "                    is no --connect or --listen then, and no second epoch\n"
+    "  --migration NAME  that both sides must have alike, at most 32 letters: with one key for several migrations each has its own\n"
+    "  --control unix:PATH   lines of the operator: status, watch, cancel, end, abandon, rate N, push-rate N, patience N\n"
+    "  --silence S       a connection on which nothing came for S seconds counts as broken (5)\n"
     "  --psk FILE        TLS with a pre-shared key, USER:HEXKEY in the first line of FILE; of both, the same line for both\n"
+    "  --no-priority     the driver's thread has the priority of the guest's. (Else SCHED_RR on two processors or more, or nice, if allowed)\n"
     "  --progress        a line each tenth of a second\n"
     "  --trace FILE      the steps of its node, a line for each: `live/merge` makes one script of both sides' files. (not of a monitor)\n"
+    "  --sums            the trace ends with sums of frames and pages, which `live/merge` compares\n"
+    "of a process in which the guest runs:\n"
+    "  --history FILE    the accesses of its threads, each with the moments between which it took effect: `live/histories.py` joins both\n"
+    "                    sides' files for `postmig history`. (not with --shared)\n"
     "of the source:\n"
     "  --rounds N        of pre-copy at most (3)\n"
     "  --target PAGES    it switches after a round with no more (1000)\n"
     "  --no-urgent       pages that were asked for go on the main connection\n"
-    "  --push-rate N     pages per second in the background (0: all that the connection takes)\n"
+    "  --rate N          pages per second of pre-copy, and\n"
+    "  --push-rate N     in the background of post-copy (0: all that the connection takes)\n"
     "  --before MS       of the guest before the migration begins (20)\n"
-    "  --patience S      without a destination, after which the migration is lost (10)\n"
+    "  --patience S      without a destination, after which the source gives up (10 before the switch, and without end after it)\n"
+    "  --after MS        of a guest that is kept, after which the program ends (without end)\n"
     "of the destination:\n"
-    "  --after MS        of the guest after the migration (50)\n"
+    "  --after MS        of the guest after the end was asked for (50)\n"
     "  --check-owed      asks the kernel whether each owed page is missing before the guest runs\n"
     "\n"
-    "Status: 0 done, 1 the migration is lost, 2 bad use or an answer of the kernel that was not expected, 3 the guest's memory is wrong.\n";
-
-static _Noreturn void end(enum status status, int error, const char *format, va_list arguments)
-{
-    trace_end();
-    (void)fflush(NULL); /* the figures; the text is what counts now */
-    fprintf(stderr, "live: ");
-    vfprintf(stderr, format, arguments);
-    if (error)
-        fprintf(stderr, ": %s (%s)", strerrorname_np(error), strerror(error));
-    fputc('\n', stderr);
-    _Exit((int)status);
-}
-
-void refuse(const char *format, ...)
-{
-    va_list arguments;
-
-    va_start(arguments, format);
-    end(STATUS_REFUSED, 0, format, arguments);
-}
-
-void refuse_errno(int error, const char *format, ...)
-{
-    va_list arguments;
-
-    va_start(arguments, format);
-    end(STATUS_REFUSED, error, format, arguments);
-}
-
-void lose(const char *format, ...)
-{
-    va_list arguments;
-
-    va_start(arguments, format);
-    end(STATUS_LOST, 0, format, arguments);
-}
+    "Status: 0 done, 1 the migration is not completed, 2 bad use or an answer of the kernel that was not expected, 3 the guest's memory is wrong.\n";
 
 /* NUMBERS */
 
@@ -136,7 +109,8 @@ static void read_cut(struct cuts *cuts, const char *text)
     char channel[8] = "", direction[5] = "", rest;
     unsigned long long bytes = 0;
     bool is_read = sscanf(text, "%7[a-z]:%4[a-z]:%19llu%c", channel, direction, &bytes, &rest) == 3;
-    struct cut *cut = !strcmp(channel, "main") ? &cuts->main : !strcmp(channel, "urgent") ? &cuts->urgent : NULL;
+    struct cut *cut = !strcmp(channel, "main") ? &cuts->main : !strcmp(channel, "urgent") ? &cuts->urgent
+                                                                                          : NULL;
     uint64_t *place = direction_of(cut, direction);
 
     if (!is_read || !place)
@@ -159,50 +133,107 @@ static void read_cuts(struct options *options, char *text)
 
 /* OPTIONS */
 
+#define MOST_PLANNED 60u /* of 64 operations; the others store to hot pages */
+
 enum {
-    CONNECT = 256, LISTEN, MEMORY, THREADS, SEED, COLD_STORES, GIVEN_BACK, BATCH, PAUSE, BUFFER, CUT, PROGRESS, ROUNDS, TARGET,
-    NO_URGENT, PUSH_RATE, BEFORE, PATIENCE, AFTER, CHECK_OWED, MONITOR, FEED, PSK, TRACE, HELP
+    CONNECT = 256,
+    LISTEN,
+    MEMORY,
+    THREADS,
+    SEED,
+    COLD_STORES,
+    GIVEN_BACK,
+    SHARED,
+    BATCH,
+    PAUSE,
+    BUFFER,
+    CUT,
+    PROGRESS,
+    ROUNDS,
+    TARGET,
+    NO_URGENT,
+    RATE,
+    PUSH_RATE,
+    CONTROL,
+    MIGRATION,
+    SILENCE,
+    NO_PRIORITY,
+    BEFORE,
+    PATIENCE,
+    AFTER,
+    CHECK_OWED,
+    MONITOR,
+    FEED,
+    PSK,
+    TRACE,
+    HISTORY,
+    SUMS,
+    HELP
 };
 
-#define SHARED_OPTIONS                                                                                                              \
-    { "memory", required_argument, NULL, MEMORY }, { "threads", required_argument, NULL, THREADS },                                 \
-    { "seed", required_argument, NULL, SEED }, { "cold", required_argument, NULL, COLD_STORES },                                    \
-    { "given", required_argument, NULL, GIVEN_BACK }, { "batch", required_argument, NULL, BATCH },                                  \
-    { "pause", required_argument, NULL, PAUSE }, { "buffer", required_argument, NULL, BUFFER },                                     \
-    { "cut", required_argument, NULL, CUT }, { "progress", no_argument, NULL, PROGRESS },                                           \
-    { "trace", required_argument, NULL, TRACE },                                                                                    \
-    { "help", no_argument, NULL, HELP }
+#define SHARED_OPTIONS                                                                                        \
+    { "memory", required_argument, NULL, MEMORY }, { "threads", required_argument, NULL, THREADS },           \
+        { "seed", required_argument, NULL, SEED }, { "cold", required_argument, NULL, COLD_STORES },          \
+        { "given", required_argument, NULL, GIVEN_BACK }, { "shared", required_argument, NULL, SHARED },      \
+        { "batch", required_argument, NULL, BATCH },                                                          \
+        { "pause", required_argument, NULL, PAUSE }, { "buffer", required_argument, NULL, BUFFER },           \
+        { "cut", required_argument, NULL, CUT }, { "progress", no_argument, NULL, PROGRESS },                 \
+        { "trace", required_argument, NULL, TRACE }, { "sums", no_argument, NULL, SUMS },                     \
+        { "control", required_argument, NULL, CONTROL }, { "migration", required_argument, NULL, MIGRATION }, \
+        { "silence", required_argument, NULL, SILENCE }, { "no-priority", no_argument, NULL, NO_PRIORITY },   \
+    {                                                                                                         \
+        "help", no_argument, NULL, HELP                                                                       \
+    }
 
 static const struct option source_options[] = {
     SHARED_OPTIONS,
-    { "connect", required_argument, NULL, CONNECT }, { "rounds", required_argument, NULL, ROUNDS },
-    { "target", required_argument, NULL, TARGET }, { "no-urgent", no_argument, NULL, NO_URGENT },
-    { "push-rate", required_argument, NULL, PUSH_RATE }, { "before", required_argument, NULL, BEFORE },
-    { "patience", required_argument, NULL, PATIENCE }, { "feed", required_argument, NULL, FEED },
-    { "psk", required_argument, NULL, PSK }, { NULL, 0, NULL, 0 }
+    { "history", required_argument, NULL, HISTORY },
+    { "connect", required_argument, NULL, CONNECT },
+    { "rounds", required_argument, NULL, ROUNDS },
+    { "target", required_argument, NULL, TARGET },
+    { "no-urgent", no_argument, NULL, NO_URGENT },
+    { "rate", required_argument, NULL, RATE },
+    { "push-rate", required_argument, NULL, PUSH_RATE },
+    { "after", required_argument, NULL, AFTER },
+    { "before", required_argument, NULL, BEFORE },
+    { "patience", required_argument, NULL, PATIENCE },
+    { "feed", required_argument, NULL, FEED },
+    { "psk", required_argument, NULL, PSK },
+    { NULL, 0, NULL, 0 }
 };
 
 static const struct option dest_options[] = {
     SHARED_OPTIONS,
-    { "listen", required_argument, NULL, LISTEN }, { "after", required_argument, NULL, AFTER },
-    { "check-owed", no_argument, NULL, CHECK_OWED }, { "feed", required_argument, NULL, FEED },
-    { "psk", required_argument, NULL, PSK }, { NULL, 0, NULL, 0 }
+    { "history", required_argument, NULL, HISTORY },
+    { "listen", required_argument, NULL, LISTEN },
+    { "after", required_argument, NULL, AFTER },
+    { "check-owed", no_argument, NULL, CHECK_OWED },
+    { "feed", required_argument, NULL, FEED },
+    { "psk", required_argument, NULL, PSK },
+    { NULL, 0, NULL, 0 }
 };
 
 static const struct option handler_options[] = {
     SHARED_OPTIONS,
-    { "listen", required_argument, NULL, LISTEN }, { "after", required_argument, NULL, AFTER },
-    { "check-owed", no_argument, NULL, CHECK_OWED }, { "monitor", required_argument, NULL, MONITOR },
-    { "psk", required_argument, NULL, PSK }, { NULL, 0, NULL, 0 }
+    { "listen", required_argument, NULL, LISTEN },
+    { "after", required_argument, NULL, AFTER },
+    { "check-owed", no_argument, NULL, CHECK_OWED },
+    { "monitor", required_argument, NULL, MONITOR },
+    { "feed", required_argument, NULL, FEED },
+    { "psk", required_argument, NULL, PSK },
+    { NULL, 0, NULL, 0 }
 };
 
 static const struct option monitor_options[] = {
     SHARED_OPTIONS,
-    { "connect", required_argument, NULL, CONNECT }, { "patience", required_argument, NULL, PATIENCE }, { NULL, 0, NULL, 0 }
+    { "history", required_argument, NULL, HISTORY },
+    { "connect", required_argument, NULL, CONNECT },
+    { "patience", required_argument, NULL, PATIENCE },
+    { NULL, 0, NULL, 0 }
 };
 
 static const struct option bare_options[] = {
-    { "memory", required_argument, NULL, MEMORY }, { "buffer", required_argument, NULL, BUFFER }, { NULL, 0, NULL, 0 }
+    { "memory", required_argument, NULL, MEMORY }, { "buffer", required_argument, NULL, BUFFER }, { "threads", required_argument, NULL, THREADS }, { "seed", required_argument, NULL, SEED }, { "cold", required_argument, NULL, COLD_STORES }, { "batch", required_argument, NULL, BATCH }, { "pause", required_argument, NULL, PAUSE }, { "no-urgent", no_argument, NULL, NO_URGENT }, { "no-priority", no_argument, NULL, NO_PRIORITY }, { NULL, 0, NULL, 0 }
 };
 
 static void set_number(struct options *options, int option, const char *name, const char *text)
@@ -211,12 +242,21 @@ static void set_number(struct options *options, int option, const char *name, co
         int option;
         uint32_t *value, least, most;
     } numbers[] = {
-        { THREADS, &options->plan.threads, 1, MOST_THREADS }, { SEED, &options->plan.seed, 0, UINT32_MAX },
-        { COLD_STORES, &options->plan.cold, 0, 48 },          { GIVEN_BACK, &options->plan.given, 0, 4 },
-        { BATCH, &options->pace.batch, 1, UINT32_MAX },       { PAUSE, &options->pace.pause, 0, 1000000 },
-        { BUFFER, &options->buffer, 0, 1u << 30 },            { ROUNDS, &options->rounds, 0, 1000 },
-        { TARGET, &options->target, 0, MOST_PAGES },          { PUSH_RATE, &options->push_rate, 0, 100000000 },
-        { BEFORE, &options->before, 0, 3600000 },             { PATIENCE, &options->patience, 1, 86400 },
+        { THREADS, &options->plan.threads, 1, MOST_THREADS },
+        { SEED, &options->plan.seed, 0, UINT32_MAX },
+        { COLD_STORES, &options->plan.cold, 0, 48 },
+        { GIVEN_BACK, &options->plan.given, 0, 4 },
+        { SHARED, &options->plan.shared, 0, 4 },
+        { BATCH, &options->pace.batch, 1, UINT32_MAX },
+        { PAUSE, &options->pace.pause, 0, 1000000 },
+        { BUFFER, &options->buffer, 0, 1u << 30 },
+        { ROUNDS, &options->rounds, 0, 1000 },
+        { TARGET, &options->target, 0, MOST_PAGES },
+        { PUSH_RATE, &options->push_rate, 0, 100000000 },
+        { RATE, &options->rate, 0, 100000000 },
+        { SILENCE, &options->silence, 1, 3600 },
+        { BEFORE, &options->before, 0, 3600000 },
+        { PATIENCE, &options->patience, 1, 86400 },
         { AFTER, &options->after, 0, 3600000 },
     };
 
@@ -229,7 +269,46 @@ static void read_unix_address(struct address *address, const char *text)
 {
     address_read(address, text);
     if (!address_is_unix(address))
-        refuse("%s: a descriptor goes over a Unix socket: unix:PATH", text);
+        refuse("%s: this goes over a Unix socket: unix:PATH", text);
+}
+
+static void read_name(char *name, const char *text)
+{
+    size_t length = strlen(text);
+
+    if (!length || length > MOST_OF_NAME)
+        refuse("--migration %s: a name of 1 to %u letters is needed", text, MOST_OF_NAME);
+    for (size_t i = 0; i < length; i++)
+        if (text[i] < '!' || text[i] > '~' || strchr("\"\\", text[i]))
+            refuse("--migration %s: a name has letters, digits and marks, and no blank, quotation mark or backslash", text);
+    memcpy(name, text, length + 1);
+}
+
+/* Of options that only set something. False for another one. */
+static bool set_flag(struct options *options, int option)
+{
+    switch (option) {
+    case PROGRESS:
+        options->shows_progress = true;
+        return true;
+    case NO_PRIORITY:
+        options->goes_first = false;
+        return true;
+    case NO_URGENT:
+        options->has_urgent = false;
+        return true;
+    case SUMS:
+        options->makes_sums = true;
+        return true;
+    case CHECK_OWED:
+        options->checks_owed = true;
+        return true;
+    case HELP:
+        fputs(USAGE, stdout);
+        exit(STATUS_OK);
+    default:
+        return false;
+    }
 }
 
 static void set_option(struct options *options, int option, const char *name, char *text)
@@ -252,26 +331,24 @@ static void set_option(struct options *options, int option, const char *name, ch
     case MEMORY:
         options->plan.pages = pages_of(text);
         break;
+    case CONTROL:
+        read_unix_address(&options->control, text);
+        break;
+    case MIGRATION:
+        read_name(options->migration, text);
+        break;
     case CUT:
         read_cuts(options, text);
         break;
     case TRACE:
         options->trace = text;
         break;
-    case PROGRESS:
-        options->shows_progress = true;
+    case HISTORY:
+        options->history = text;
         break;
-    case NO_URGENT:
-        options->has_urgent = false;
-        break;
-    case CHECK_OWED:
-        options->checks_owed = true;
-        break;
-    case HELP:
-        fputs(USAGE, stdout);
-        exit(STATUS_OK);
     default:
-        set_number(options, option, name, text);
+        if (!set_flag(options, option))
+            set_number(options, option, name, text);
     }
 }
 
@@ -291,9 +368,7 @@ static void read_options(struct options *options, const struct option *known, in
 {
     int option, index = 0;
 
-    *options = (struct options){ .plan = { .pages = 65536, .threads = 4, .seed = 1, .cold = 4 }, .pace = { .batch = 64, .pause = 200 },
-                                 .buffer = 65536, .patience = 10, .rounds = 3, .target = 1000, .has_urgent = true, .before = 20,
-                                 .after = 50 };
+    *options = (struct options){ .plan = { .pages = 65536, .threads = 4, .seed = 1, .cold = 4 }, .pace = { .batch = 64, .pause = 200 }, .buffer = 65536, .silence = 5, .goes_first = true, .rounds = 3, .target = 1000, .has_urgent = true, .before = 20, .after = known == source_options ? FOREVER : 50 };
     while ((option = getopt_long(count, words, "", known, &index)) != -1) {
         if (option == '?')
             exit(STATUS_REFUSED);
@@ -305,11 +380,31 @@ static void read_options(struct options *options, const struct option *known, in
         refuse("--feed takes no address: the command is the other side");
     if (!options->address.text && !options->feed && known != bare_options)
         refuse("an address is needed: --%s ADDRESS", known == source_options || known == monitor_options ? "connect" : "listen");
+    if (options->plan.cold + 3 * (options->plan.given + options->plan.shared) > MOST_PLANNED)
+        refuse("--cold, and three times --given and --shared, have more than %u of 64 operations", MOST_PLANNED);
+    if (options->history && options->plan.shared)
+        refuse("--history: a history has no pages that one thread gives back while another uses them, as those of --shared");
+    if (options->makes_sums && !options->trace)
+        refuse("--sums go to the end of a trace: --trace FILE");
     check_address(options);
     if (known == handler_options && !options->monitor.text)
         refuse("the place where a monitor hands over its memory is needed: --monitor unix:PATH");
     if (known == monitor_options && !address_is_unix(&options->address))
-        refuse("%s: a descriptor goes over a Unix socket: unix:PATH", options->address.text);
+        refuse("%s: this goes over a Unix socket: unix:PATH", options->address.text);
+}
+
+static int run(int (*role)(const struct options *), const struct options *options)
+{
+    int status;
+
+    log_open();
+    history_open(options->history);
+    status = role(options);
+    history_close();
+    if (log_dropped())
+        log_say("%" PRIu64 " lines were not written", log_dropped());
+    log_flush();
+    return status;
 }
 
 int main(int count, char **words)
@@ -319,17 +414,16 @@ int main(int count, char **words)
         const char *name;
         const struct option *known;
         int (*run)(const struct options *);
-    } roles[] = { { "source", source_options, source_run }, { "dest", dest_options, dest_run },
-                  { "handler", handler_options, dest_run }, { "monitor", monitor_options, monitor_run },
-                  { "bare", bare_options, bare_run } };
+    } roles[] = { { "source", source_options, source_run }, { "dest", dest_options, dest_run }, { "handler", handler_options, dest_run }, { "monitor", monitor_options, monitor_run }, { "bare", bare_options, bare_run } };
     const char *name = count > 1 ? words[1] : "";
 
+    live_begin();
     (void)signal(SIGPIPE, SIG_IGN); /* a reader of the progress may leave; it always succeeds */
     for (size_t i = 0; i < sizeof roles / sizeof *roles; i++)
         if (!strcmp(name, roles[i].name)) {
             words[1] = words[0];
             read_options(&options, roles[i].known, count - 1, words + 1);
-            return roles[i].run(&options);
+            return run(roles[i].run, &options);
         }
     fputs(USAGE, strcmp(name, "--help") ? stderr : stdout);
     return strcmp(name, "--help") ? STATUS_REFUSED : STATUS_OK;

@@ -1,10 +1,15 @@
 """Two traces, each the steps of one node in its own order, become one script of the whole world.
 
 A trace has a line `ORDER => ANSWER` for each step that its node has made, in the words of docs/SCRIPT.md, as postmig_node_trace_take gives
-them. Lines that begin with # are comments; two of them count:
+them. Lines that begin with # are comments; these count:
 
-    # cpus N     the first line: the processors of the guest
-    # epoch N    at the destination, between one `deliver => took resume` and the next: the epoch of that Resume
+    # cpus N             the first line: the processors of the guest
+    # epoch N            at the destination, between one `deliver => took resume` and the next: the epoch of that Resume
+    # sum sent N SUM     of the bytes of the next frame without pages that was sent in epoch N, or taken
+    # sum taken N SUM
+    # sum page ADDR SUM  of the bytes of a page: those that were sent last, or at the destination put last
+
+A SUM has 16 hexadecimal digits; how it is made is the driver's, at both sides alike.
 
 What an order must keep:
 
@@ -54,6 +59,9 @@ READ = {
     "dact": re.compile(r"(requested 0x[0-9a-f]+ for|zeroed|woke|forgot) 0x[0-9a-f]+$"),
 }
 SAID = re.compile(r"# (cpus|epoch) (\d{1,10})$")
+SUM = re.compile(r"# sum (sent|taken|page) (\d{1,10}|0x[0-9a-f]{1,8}) ([0-9a-f]{16})$")
+# Frames that have no pages, by the first words that a step says of them.
+NO_PAGES = {"advise", "discard", "package", "end", "resume", "recv", "request", "done"}
 DIFFERS = re.compile(r"-:(\d+): (expected .*|not a line of a test)")
 
 
@@ -70,6 +78,7 @@ class Trace:
 
     def __init__(self, name, side, text):
         self.name, self.side, self.cpus, self.steps, self.epochs = name, side, None, [], {}
+        self.sums = {"sent": {}, "taken": {}, "page": {}}
         orders, steps, most, resumes = ORDERS[side], self.steps, -1, 0
         for number, line in enumerate(text.split("\n"), 1):
             order, arrow, answer = line.partition(" => ")
@@ -100,7 +109,11 @@ class Trace:
     def read_comment(self, number, line, resumes):
         if line.strip() and line[0] != "#":
             raise Unreadable(f"{self.name}:{number}: not a line `ORDER => ANSWER`: {line}")
-        said = SAID.match(line)
+        said, summed = SAID.match(line), SUM.match(line)
+        if summed and summed[1] == "page":
+            self.sums["page"][int(summed[2], 16)] = summed[3]
+        elif summed:
+            self.sums[summed[1]].setdefault(int(summed[2]), []).append(summed[3])
         if said and said[1] == "epoch":
             self.epochs[resumes] = int(said[2])
         elif said and number == 1:
@@ -176,6 +189,87 @@ def epochs_of_source(trace):
         if kind in LINKED or kind in ("start", "resume"):
             epoch.end = index + 1
     return epochs
+
+
+WAITS = re.compile(r"cpu (\d+) (?:load|store) 0x([0-9a-f]+) .* => cpu \d+ asleep$")
+WAKES = re.compile(r"(?:unprotected|zeroed|woke|forgot|installed) 0x([0-9a-f]+)")
+EVENT = re.compile(r"read (?:remove|unmap|remap) 0x([0-9a-f]+) 0x([0-9a-f]+)")
+PAGE_BYTES = 4096
+ACTS = {"sact", "dact", "install"}
+
+
+def never_retried(trace):
+    """The first step of a trace that has woken a processor which makes its access never again, or, where that step is the read of an event, not
+    before the next fault is resolved or copy installed; as a text, or None. No step of either node needs that it does: its thread sleeps on."""
+    asleep, woken, by_event = {}, {}, set()
+    for index, (_, kind, answer, line) in enumerate(trace.steps):
+        if by_event and kind in ACTS:
+            cpu = min(by_event)
+            return f"{trace.at(woken[cpu])}: processor {cpu} is woken, and not retried before line {trace.steps[index][0]}"
+        waits, wakes, event = WAITS.match(line), WAKES.match(answer), EVENT.match(answer)
+        if waits:
+            asleep[waits[1]] = int(waits[2], 16) // PAGE_BYTES
+        elif kind == "retry":
+            cpu = line.split(" ")[1]
+            woken.pop(cpu, None)
+            by_event.discard(cpu)
+            if not answer.endswith(" asleep"):
+                asleep.pop(cpu, None)
+        elif wakes or event:
+            first = int((wakes or event)[1], 16) // PAGE_BYTES
+            last = first if wakes else int(event[2], 16) // PAGE_BYTES - 1
+            if event and answer.startswith("read remap"):
+                last = first + int(answer.split(" ")[4]) // PAGE_BYTES - 1
+            now = {cpu: index for cpu, page in asleep.items() if first <= page <= last and cpu not in woken}
+            woken.update(now)
+            by_event.update(now if event else ())
+    cpu, index = min(woken.items(), key=lambda one: one[1], default=(None, None))
+    return None if cpu is None else f"{trace.at(index)}: processor {cpu} is woken, and never retried"
+
+
+INSTALLED = re.compile(r"installed 0x([0-9a-f]+) from 0x([0-9a-f]+)$")
+
+
+class Sums:
+    """The sums of both sides, compared. differs: the first frame or page with other bytes than were sent, as a text, or
+    None. frames, pages: how many have the same."""
+
+    def __init__(self, source, dest):
+        self.frames = self.pages = 0
+        self.differs = self.frame_of(source, dest) or self.frame_of(dest, source) or self.page_of(source, dest)
+
+    def frame_of(self, sender, taker):
+        taken = [(epoch, place, its) for epoch, sums in taker.sums["taken"].items() for place, its in enumerate(sums)]
+        answers = [(index, answer.split(" ")) for index, (_, _, answer, _) in enumerate(taker.steps)]
+        steps = [index for index, words in answers if words[0] == "took" and words[1] in NO_PAGES]
+        if not taken or not sender.sums["sent"]:
+            return None
+        if len(taken) != len(steps):
+            return f"{taker.name}: it has sums of {len(taken)} frames, and {len(steps)} were taken"
+        for index, (epoch, place, its) in zip(steps, taken):
+            if sender.sums["sent"].get(epoch, ())[place:place + 1] != [its]:
+                return f"{taker.at(index)}: the bytes of this frame are not those that were sent"
+            self.frames += 1
+        return None
+
+    def page_of(self, source, dest):
+        sent, put = source.sums["page"], dest.sums["page"]
+        if not sent or not put:
+            return None
+        installs = [(INSTALLED.match(step[2]), index) for index, step in enumerate(dest.steps) if step[1] == "install"]
+        lines = {int(found[1], 16): (int(found[2], 16), index) for found, index in installs if found}
+        for page in sorted({*put, *lines}):
+            origin, index = lines.get(page, (page, None))
+            if page not in put or put[page] != sent.get(origin):
+                where = dest.at(index) if index is not None else f"{dest.name}: page 0x{page:x}, from before the switch"
+                return f"{where}: the bytes that were put are not those that were sent last"
+            self.pages += 1
+        return None
+
+    def __str__(self):
+        if not self.frames and not self.pages:
+            return ""
+        return f"; {self.frames} frames without pages and {self.pages} pages have the bytes that were sent"
 
 
 class Requests:
@@ -469,7 +563,8 @@ class Script:
     """The merged lines, and the line of a trace from which each comes: (its name, its number), or None."""
 
     def __init__(self, source, dest, seed=None, cpus=None):
-        merge = Merge(source, dest)
+        merge, self.sums = Merge(source, dest), Sums(source, dest)
+        self.traces = (merge.source, merge.dest)
         self.cpus = str(processors(source, dest, cpus))
         self.lines = [f"# cpus {self.cpus}", f"# {source.name} and {dest.name}, merged"]
         self.origins = [None] * HEAD
@@ -487,12 +582,13 @@ class Script:
         return "".join(itertools.chain.from_iterable((line, "\n") for line in lines))
 
     def judged(self, program):
-        """The first line that `postmig test` finds to be wrong, as a text, or None. OSError if it cannot judge, NoJudge without a proved
-        program."""
+        """The first line that `postmig test` finds to be wrong, or a step that has woken a processor which is never
+        retried, or bytes that are not those that were sent, as a text, or None. OSError if it cannot judge, NoJudge
+        without a proved program."""
         environment = {**os.environ, "POSTMIG_PROVED_ONLY": "1"}
         done = subprocess.run([program, "test", "--strict"], input=self.text(), capture_output=True, text=True, env=environment)
         if done.returncode == 0:
-            return None
+            return next(filter(None, map(never_retried, self.traces)), None) or self.sums.differs
         if "no proved build" in done.stderr:
             raise NoJudge(done.stderr.strip())
         found = DIFFERS.search(done.stdout) or DIFFERS.search(done.stderr)

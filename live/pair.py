@@ -1,16 +1,21 @@
 """A source and a destination of live: both are started here, and what they print is read."""
 
 import collections
+import contextlib
+import json
 import os
 import pathlib
 import shlex
 import shutil
+import signal
+import socket
 import subprocess
 import tempfile
 import threading
 import time
 
 import between
+import histories
 import merging
 
 FOLDER = pathlib.Path(__file__).resolve().parent
@@ -20,8 +25,22 @@ POSTMIG = FOLDER.parent / "postmig"
 DONE, LOST, REFUSED, WRONG = range(4)
 # A migration that makes progress may take so many times as long as one that makes none.
 MOST_PATIENT = 3
+# Of a source: a guest that is kept ends after a moment, and is checked. It is not kept only since the machine has much else to do.
+KEPT = ["--after", "100", "--patience", "600"]
+# Seconds in which a state is to come, and a process to end, on a machine that has much else to do.
+PATIENCE = 120
+# What a side says that does nothing more, and keeps what it has until it is abandoned: live.h.
+HELD = "all that is here is kept as it is"
 # The last lines of a side that are kept.
 MOST_LINES = 2000
+
+
+def wait_until(is_so, may_come=lambda: True):
+    """Whether it is so, in time: a test waits for a state, and not for a moment."""
+    until = time.monotonic() + PATIENCE
+    while not is_so() and may_come() and time.monotonic() < until:
+        time.sleep(0.005)
+    return bool(is_so())
 
 
 def figures_of(line):
@@ -29,17 +48,35 @@ def figures_of(line):
     return dict(word.split("=", 1) for word in line.split() if "=" in word)
 
 
-class Side:
-    """One of the two programs. Its lines are read by a thread: `lines` has the last of them, and `figures` the last of each kind, such as
-    `verdict`. `text` is its standard error, once it has ended."""
+# All that were started, for a case that leaves some.
+started = []
 
-    def __init__(self, words, on_progress=None):
+
+def end_started():
+    for side in started:
+        if side.is_running():
+            side.process.kill()
+            side.end()
+    started.clear()
+
+
+class Side:
+    """One of the two programs. Threads read its lines: `lines` has the last of its standard output, `figures` the last of each kind, such as
+    `verdict`, and `said` those of its standard error. `text` is all of that, once it has ended. `before` runs in the new process."""
+
+    def __init__(self, words, on_progress=None, before=None):
         self.words, self.figures, self.on_progress = words, {}, on_progress
-        self.lines, self.text = collections.deque(maxlen=MOST_LINES), ""
-        self.process = subprocess.Popen(words, stdin=subprocess.PIPE, stdout=subprocess.PIPE, stderr=subprocess.PIPE, text=True)
+        self.lines, self.said, self.text = collections.deque(maxlen=MOST_LINES), [], ""
+        self.process = subprocess.Popen(words, stdin=subprocess.DEVNULL, stdout=subprocess.PIPE, stderr=subprocess.PIPE, text=True, preexec_fn=before)
         self.listening = threading.Event()
-        self.reader = threading.Thread(target=self.read, daemon=True)
-        self.reader.start()
+        self.readers = [threading.Thread(target=read, daemon=True) for read in (self.read, self.hear)]
+        for reader in self.readers:
+            reader.start()
+        started.append(self)
+
+    def hear(self):
+        for line in self.process.stderr:
+            self.said.append(line)
 
     def read(self):
         for line in self.process.stdout:
@@ -55,16 +92,34 @@ class Side:
     def number(self, kind, key):
         return int(self.figures.get(kind, {}).get(key, 0))
 
+    def says(self, text):
+        """Whether a line of its standard error has this text before it ends."""
+        return wait_until(lambda: any(text in line for line in self.said), self.readers[1].is_alive)
+
+    def is_held(self):
+        return any(HELD in line for line in self.said)
+
+    def status(self, key):
+        return self.order("status").get(key)
+
     def is_running(self):
         return self.process.poll() is None
 
-    def close_input(self):
-        try:
-            self.process.stdin.close()
-        except OSError:
-            pass
+    def ask_end(self):
+        """It ends once nothing is lost by that."""
+        if self.is_running():
+            self.process.send_signal(signal.SIGTERM)
 
-    def end(self, patience):
+    def order(self, line):
+        """The answer to a line at its control socket."""
+        place = self.words[self.words.index("--control") + 1].removeprefix("unix:")
+        with socket.socket(socket.AF_UNIX) as control:
+            control.settimeout(PATIENCE)
+            control.connect(place)
+            control.sendall(f"{line}\n".encode())
+            return json.loads(control.makefile().readline())
+
+    def end(self, patience=PATIENCE):
         """The status, and the text of the standard error; a program that does not end is killed, and has status None: the text says then
         what it was doing."""
         status, stuck = None, ""
@@ -74,10 +129,10 @@ class Side:
             stuck = f"(killed after {patience} s: {self.state()}) "
             self.process.kill()
             self.process.wait()
-        self.reader.join()
-        self.text = stuck + self.process.stderr.read().strip()
+        for reader in self.readers:
+            reader.join()
+        self.text = stuck + "".join(self.said).strip()
         self.process.stderr.close()
-        self.close_input()
         return status, self.text
 
     def state(self):
@@ -113,27 +168,36 @@ def has_tls(program):
 
 class Migration:
     """shared, source, dest: words of the command lines. With is_unix the two talk over a Unix socket; with is_handed the guest's memory at the
-    destination is that of a third process, the monitor. With cuts their connections, of TCP, go by a relay that has these. With is_traced both
-    write their steps, to files in the folder `kept` if there is one, and `judged` is what is wrong with them."""
+    destination is that of a third process, the monitor. With cuts or a delay (seconds) their connections, of TCP, go by a relay that has these. With is_traced both
+    write their steps, to files in the folder `kept` if there is one, and `judged` is what is wrong with them. With
+    has_history the guest's accesses are written at both places, and `history` is the verdict on them. around: words
+    in front of those of a side, "source" or "dest"."""
 
     def __init__(self, shared, source, dest, program=PROGRAM, is_unix=False, on_progress=None, is_handed=False, cuts=None, is_traced=False,
-                 kept=None):
+                 kept=None, delay=0.0, around=None, has_history=False):
         self.folder = tempfile.TemporaryDirectory(prefix="live-")
         self.traces = [f"{kept or self.folder.name}/{side}.trace" for side in ("source", "dest")] if is_traced else None
-        self.script = self.judged = self.no_judge = None
+        kept = kept or self.folder.name
+        self.accesses = [f"{kept}/{side}.history" for side in ("source", "dest")] if has_history else None
+        self.script = self.judged = self.no_judge = self.history = None
         if is_traced:
-            source, dest = [*source, "--trace", self.traces[0]], [*dest, "--trace", self.traces[1]]
+            source, dest = [*source, "--trace", self.traces[0], "--sums"], [*dest, "--trace", self.traces[1], "--sums"]
+        recorded = [["--history", name] for name in self.accesses or ()] or [[], []]
+        source, dest = [*source, *recorded[0]], [*dest, *([] if is_handed else recorded[1])]
         address = f"unix:{self.folder.name}/socket" if is_unix else "127.0.0.1:0"
         place = f"unix:{self.folder.name}/monitor"
         role = ["handler", "--monitor", place] if is_handed else ["dest"]
-        self.dest = Side([str(program), *role, "--listen", address, *shared, *dest], on_progress)
-        self.monitor = Side([str(program), "monitor", "--connect", place, *without_key(shared)]) if is_handed else None
-        self.dest.listening.wait(30)
+        control = [["--control", f"unix:{self.folder.name}/{side}.control"] for side in ("source", "dest")]
+        around = around or {}
+        self.dest = Side([*around.get("dest", ()), str(program), *role, "--listen", address, *shared, *dest, *control[1]], on_progress)
+        monitor = [str(program), "monitor", "--connect", place, *without_key(shared), *recorded[1]]
+        self.monitor = Side(monitor) if is_handed else None
+        self.dest.listening.wait(PATIENCE)
         if not is_unix:
             address = f"127.0.0.1:{self.dest.number('listening', 'port')}"
-        self.relay = between.Relay(between.place(address), cuts=cuts) if cuts else None
-        address = self.relay.address if cuts else address
-        self.source = Side([str(program), "source", "--connect", address, *shared, *source], on_progress)
+        self.relay = between.Relay(between.place(address), cuts=cuts or (), delay=delay) if cuts or delay else None
+        address = self.relay.address if self.relay else address
+        self.source = Side([*around.get("source", ()), str(program), "source", "--connect", address, *shared, *KEPT, *source, *control[0]], on_progress)
 
     def wait(self, patience):
         """Until one side has ended, or nothing that they say of their progress has changed for this time; MOST_PATIENT times as long at most."""
@@ -142,12 +206,12 @@ class Migration:
             now, saying = time.time(), (self.source.figures.get("progress"), self.dest.figures.get("progress"))
             if saying != said:
                 last, said = now, saying
-            if now - last > patience or now - begun > MOST_PATIENT * patience:
+            if now - last > patience or now - begun > MOST_PATIENT * patience or any(side.is_held() for side in self.sides().values()):
                 return
             time.sleep(0.002)
 
-    def finish(self, patience=60, keep=None, look=None):
-        """What is wrong, or None; `look` may find more. The destination hears that the source is gone once it is; one that gives up ends both.
+    def finish(self, patience=PATIENCE, keep=None, look=None):
+        """What is wrong, or None; `look` may find more. The destination is asked to end once the source is gone; one that gives up ends both.
         What is left of a migration that is wrong goes to the folder `keep`, if there is one."""
         wrong = None
         try:
@@ -167,6 +231,7 @@ class Migration:
     def end_all(self, patience):
         begun, hang = time.time(), None
         self.wait(patience)
+        self.let_go()
         if self.source.is_running() and self.dest.is_running():
             hang = f"no end after {time.time() - begun:.0f} s: source {self.source.state()}; destination {self.dest.state()}"
         if self.source.is_running() and not hang:
@@ -174,16 +239,41 @@ class Migration:
         is_killed = self.source.is_running()
         if is_killed:
             self.source.process.kill()
-        self.source_status, self.source_text = self.source.end(10)
-        self.dest.close_input()
-        self.dest_status, self.dest_text = self.dest.end(60)
+        self.source_status, self.source_text = self.source.end()
+        self.end_dest(hang)
+        self.dest_status, self.dest_text = self.dest.end(2 * PATIENCE)  # (it waits for its guest's threads itself)
         if self.monitor:
             self.end_monitor()
         if self.relay:
             self.relay.close()
         if self.traces and not hang and not is_killed:
             self.judge()
-        return hang or self.wrong() or self.judged
+        if self.accesses and not hang and not is_killed:
+            self.judge_history()
+        return hang or self.wrong() or self.judged or (self.history and self.history.wrong())
+
+    def let_go(self):
+        """Sides that keep what they have."""
+        for side in self.sides().values():
+            if side.is_held():
+                with contextlib.suppress(OSError, ValueError):
+                    side.order("abandon")
+                side.process.wait(PATIENCE)
+
+    def number_of(self, option):
+        """A number of both sides' command lines, or 0."""
+        words = self.source.words
+        return int(words[words.index(f"--{option}") + 1]) if f"--{option}" in words else 0
+
+    def end_dest(self, hang):
+        """It has all, or the source is gone for good."""
+        if hang:
+            self.dest.process.kill()
+        elif self.source_status == DONE:
+            self.dest.ask_end()
+        else:
+            with contextlib.suppress(OSError, ValueError):
+                self.dest.order("abandon")
 
     def sides(self):
         return {name: side for name, side in (("source", self.source), ("dest", self.dest), ("monitor", self.monitor)) if side}
@@ -197,8 +287,8 @@ class Migration:
             report.append(f"{name}, status {side.process.poll()}: {shlex.join(side.words)}")
             (folder / f"{name}.out").write_text("".join(side.lines))
             (folder / f"{name}.err").write_text(side.text)
-        for trace in filter(os.path.exists, self.traces or ()):
-            shutil.copy(trace, folder)
+        for file in filter(os.path.exists, (*(self.traces or ()), *(self.accesses or ()))):
+            shutil.copy(file, folder)
         if self.script:
             (folder / "merged.test").write_text(self.script.text())
         (folder / "wrong").write_text("\n".join(report) + "\n")
@@ -216,9 +306,18 @@ class Migration:
         if differs:
             self.judged = f"no run of the machine: {differs.replace(f'{self.folder.name}/', '').replace(f'{FOLDER.parent}/', '')}"
 
+    def judge_history(self):
+        """Both files in one history, which `postmig history` judges if there is a proved program."""
+        try:
+            self.history = histories.Verdict(POSTMIG, histories.join(*self.accesses))
+        except merging.NoJudge as none:
+            self.no_judge = str(none)
+        except histories.Unreadable as fault:
+            self.judged = self.judged or str(fault)
+
     def end_monitor(self):
         """Its verdict, and the first operation of the guest, are taken for those of the destination."""
-        status, text = self.monitor.end(30)
+        status, text = self.monitor.end()
         self.dest.figures["verdict"] = self.monitor.figures.get("verdict", {})
         self.dest.figures.setdefault("destination", {})["first"] = self.monitor.number("monitor", "first")
         if self.dest_status == DONE:
@@ -235,5 +334,8 @@ def missing():
     """Why this machine cannot run it, or None."""
     if not PROGRAM.exists():
         return "live/out/live is not built"
-    done = subprocess.run([PROGRAM, "dest", "--listen", "127.0.0.1:0", "--memory", "1M"], stdin=subprocess.DEVNULL, capture_output=True, text=True)
-    return done.stderr.strip() if done.returncode == REFUSED else None
+    dest = Side([str(PROGRAM), "dest", "--listen", "127.0.0.1:0", "--memory", "1M"])
+    dest.listening.wait(PATIENCE)
+    dest.ask_end()
+    status, text = dest.end()
+    return text if status == REFUSED else None

@@ -12,8 +12,8 @@ import page  # noqa: E402 (it is in that folder)
 
 def show(name, runs):
     print(name)
-    for key in runs[0]:
-        values = [run[key] for run in runs]
+    for key in dict.fromkeys(key for run in runs for key in run):
+        values = [run[key] for run in runs if key in run]
         print(f"    {key:22} {statistics.median(values):12,.2f}  ({min(values):,.2f} to {max(values):,.2f})")
     sys.stdout.flush()
 

@@ -134,31 +134,39 @@ void tls_read_key(const char *file)
 
 /* SESSIONS */
 
-struct tls *tls_new(int file, enum tls_side side)
+/* A session of which only the memory is there. */
+static bool set_up(struct tls *tls, int file, enum tls_side side)
 {
     const unsigned flags = GNUTLS_NONBLOCK | GNUTLS_NO_SIGNAL | GNUTLS_NO_TICKETS | (side == TLS_LISTENS ? GNUTLS_SERVER : GNUTLS_CLIENT);
-    struct tls *tls;
 
-    if (!key.is_there)
-        return NULL;
-    tls = calloc(1, sizeof *tls);
-    if (!tls)
-        refuse("no memory for a session of TLS");
-    expect(gnutls_init(&tls->session, flags), "a session of TLS");
-    expect(gnutls_priority_set(tls->session, key.priority), "the priorities of TLS");
-    expect(gnutls_credentials_set(tls->session, GNUTLS_CRD_PSK, side == TLS_LISTENS ? (void *)key.of_listener : (void *)key.of_client),
-           "the key of TLS");
+    if (gnutls_init(&tls->session, flags) < 0 || gnutls_priority_set(tls->session, key.priority) < 0 ||
+        gnutls_credentials_set(tls->session, GNUTLS_CRD_PSK, side == TLS_LISTENS ? (void *)key.of_listener : (void *)key.of_client) < 0)
+        return false;
     gnutls_handshake_set_max_packet_length(tls->session, MOST_HANDSHAKE);
     gnutls_handshake_set_timeout(tls->session, 0); /* the caller has its own */
     gnutls_transport_set_int(tls->session, file);
-    return tls;
+    return true;
+}
+
+bool tls_new(struct tls **made, int file, enum tls_side side)
+{
+    struct tls *tls = key.is_there ? calloc(1, sizeof *tls) : NULL;
+
+    *made = tls;
+    if (!key.is_there || (tls && set_up(tls, file, side)))
+        return true;
+    tls_free(tls);
+    *made = NULL;
+    errno = ENOMEM;
+    return false;
 }
 
 void tls_free(struct tls *tls)
 {
     if (!tls)
         return;
-    gnutls_deinit(tls->session);
+    if (tls->session)
+        gnutls_deinit(tls->session);
     free(tls);
 }
 
@@ -243,11 +251,12 @@ void tls_read_key(const char *file)
     refuse("--psk %s: TLS is not built in: build live where pkg-config finds gnutls", file);
 }
 
-struct tls *tls_new(int file, enum tls_side side)
+bool tls_new(struct tls **made, int file, enum tls_side side)
 {
     (void)file; /* it stays plain, */
     (void)side; /* on both sides */
-    return NULL;
+    *made = NULL;
+    return true;
 }
 
 void tls_free(struct tls *tls)

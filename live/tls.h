@@ -8,7 +8,8 @@
 
 struct tls; /* the session of one connection */
 
-enum tls_side { TLS_LISTENS, TLS_CONNECTS };
+enum tls_side { TLS_LISTENS,
+                TLS_CONNECTS };
 
 bool tls_is_built_in(void);
 
@@ -16,8 +17,8 @@ bool tls_is_built_in(void);
    cannot be read, that others can read, or that has no such line is refused. */
 void tls_read_key(const char *file);
 
-/* Begins a session over a connection. NULL where no key was read: the connection is plain. */
-struct tls *tls_new(int file, enum tls_side side);
+/* Begins a session over a connection: NULL where no key was read, and the connection is plain. False, with errno, where there is no memory. */
+bool tls_new(struct tls **made, int file, enum tls_side side);
 void tls_free(struct tls *tls);
 
 /* As send(2) and recv(2) of a socket that does not block: -1 with EAGAIN while the handshake is under way too, and with EPROTO where the

@@ -7,6 +7,9 @@
 /* From now on the steps of this node are traced; path NULL: none are, and the calls below do nothing. */
 void trace_begin(const char *path, struct node *node, uint32_t processors);
 
+/* The node is a new one: what was traced is dropped. */
+void trace_begin_again(struct node *node, uint32_t processors);
+
 /* The node, a destination, has just taken a Resume of this epoch. No line says that, and a merge has to know which one it was. */
 void trace_resumed(uint32_t epoch);
 

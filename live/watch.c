@@ -6,6 +6,7 @@
 #include <string.h>
 
 #include "kernel.h"
+#include "log.h"
 
 #define MOST_MESSAGES 16u
 #define MOST_READS 64u
@@ -38,15 +39,32 @@ uint64_t watch_asked_at(struct watch *watch, uint64_t origin)
     return then;
 }
 
-static void note_request(struct watch *watch, uint64_t origin)
+/* When the first of those who wait for the page has begun its access. (In another process that is not known.) */
+static uint64_t waited_since(const struct watch *watch, uint64_t address)
+{
+    uint64_t since = kernel_now();
+
+    for (uint32_t i = 0; i < watch->guest->plan.threads && !watch->handed; i++)
+        if (watch->asleep[i] == address && guest_access_begun(watch->guest, i) < since)
+            since = guest_access_begun(watch->guest, i);
+    return since;
+}
+
+static void note_request(struct watch *watch, uint64_t address, uint64_t origin)
 {
     uint64_t *asked = &watch->asked_at[origin / PAGE_BYTES - LOW_PAGE];
 
     if (*asked)
         return; /* another thread has asked for it */
-    *asked = kernel_now();
+    *asked = waited_since(watch, address);
     watch->unanswered++;
     watch->requests++;
+}
+
+void watch_go_first(const char *side, bool is_wanted)
+{
+    if (is_wanted)
+        log_event("%s: priority over the guest's threads: %s", side, kernel_go_first());
 }
 
 char *watch_page(const struct watch *watch, uint64_t address)
@@ -100,7 +118,7 @@ void watch_wake(struct watch *watch, uint64_t address)
 
         if (watch->asleep[i] != address)
             continue;
-        node_expect(node_retry(watch->node, i, &effect), "retry of a woken processor");
+        node_do(node_retry(watch->node, i, &effect));
         if (effect.kind != POSTMIG_DID_ANSWER)
             refuse("a processor sleeps again on page 0x%llx", (unsigned long long)(address / PAGE_BYTES));
         watch->asleep[i] = 0;
@@ -133,6 +151,13 @@ static uint32_t idle_processor(const struct watch *watch)
 
 /* FAULTS */
 
+/* A page that one thread gives back while another uses it: from the read of the event until the first one continues the kernel still has what
+   was there, and its faults are those of that. */
+static bool is_shared(const struct watch *watch, uint64_t address)
+{
+    return guest_shares(watch->guest, (uint32_t)(address / PAGE_BYTES), 1);
+}
+
 /* Whether an event that was read by the same call, and after the fault, removes its page. */
 static bool is_removed_after(const struct uffd_msg *fault, const struct uffd_msg *end)
 {
@@ -144,13 +169,52 @@ static bool is_removed_after(const struct uffd_msg *fault, const struct uffd_msg
     return false;
 }
 
+static void read_fault(struct watch *watch, uint32_t cpu, uint64_t address, bool is_protection)
+{
+    postmig_effect effect;
+
+    node_do(node_read(watch->node, &effect));
+    if (effect.kind != POSTMIG_DID_READ_FAULT || effect.addr != address ||
+        (effect.number != is_protection && !is_shared(watch, address)))
+        refuse("page 0x%llx: the kernel reports a fault of a %s page, and the node does not", (unsigned long long)(address / PAGE_BYTES),
+               is_protection ? "protected" : "missing");
+    watch->asleep[cpu] = address;
+}
+
+/* At the source a page that was cleared late is zeros now, and the copy that was sent of it is not: for the node a store has changed it. Its
+   thread sleeps until that is done. */
+static void take_cleared(struct watch *watch, uint32_t cpu, uint64_t address)
+{
+    postmig_command store = { .kind = POSTMIG_STORE, .width = 8, .addr = address };
+    postmig_effect effect;
+    int error = kernel_zero_asleep(watch->userfault, watch_page(watch, address));
+    bool is_cleared = !error;
+
+    watch->cleared += is_cleared;
+    if (is_cleared)
+        node_do(node_issue(watch->node, cpu, &store, &effect));
+    if (is_cleared && effect.kind == POSTMIG_DID_SLEEP) {
+        read_fault(watch, cpu, address, true);
+        return;
+    }
+    if (!error || error == EEXIST || error == EAGAIN)
+        error = kernel_wake(watch->userfault, watch_page(watch, address));
+    if (error)
+        watch_unexpected(error, "UFFDIO_ZEROPAGE", address);
+}
+
 /* A fault that the node does not have: by its table the page is there. With a REMOVE of it that was read too the kernel may have cleared it
    by now, and a page that were put would be there when the node takes the REMOVE. */
-static void take_needless_fault(struct watch *watch, uint64_t address, bool is_removed)
+static void take_needless_fault(struct watch *watch, uint32_t cpu, uint64_t address, bool is_removed)
 {
     int error;
 
-    watch->needless += kept_at(watch, address) == NOT_KEPT; /* (two threads may wait for one copy) */
+    watch->needless += kept_at(watch, address) == NOT_KEPT && watch->woken[cpu] != address; /* (two threads may wait for one copy) */
+    watch->woken[cpu] = 0;
+    if (watch->node->is_source && is_shared(watch, address) && !is_removed) {
+        take_cleared(watch, cpu, address);
+        return;
+    }
     error = is_removed ? EAGAIN : wake_present(watch, address);
     if (error == EAGAIN) /* the thread is woken, and faults again if the page is still missing */
         error = kernel_wake(watch->userfault, watch_page(watch, address));
@@ -158,21 +222,10 @@ static void take_needless_fault(struct watch *watch, uint64_t address, bool is_r
         watch_unexpected(error, "UFFDIO_WAKE", address);
 }
 
-static void read_fault(struct watch *watch, uint32_t cpu, uint64_t address, bool is_protection)
-{
-    postmig_effect effect;
-
-    node_expect(node_read(watch->node, &effect), "read of a fault");
-    if (effect.kind != POSTMIG_DID_READ_FAULT || effect.addr != address || effect.number != is_protection)
-        refuse("page 0x%llx: the kernel reports a fault of a %s page, and the node does not", (unsigned long long)(address / PAGE_BYTES),
-               is_protection ? "protected" : "missing");
-    watch->asleep[cpu] = address;
-}
-
 /* The thread of a fault. Those of another process are unknown: it may be who waits for this page, or any that does not wait. */
 static uint32_t thread_of(const struct watch *watch, const struct uffd_msg *message, uint64_t address)
 {
-    if (!watch->handed)
+    if (!watch->handed && !watch->has_own_threads)
         return guest_thread_of(watch->guest, message->arg.pagefault.feat.ptid);
     for (uint32_t i = 0; i < watch->guest->plan.threads; i++)
         if (watch->asleep[i] == address)
@@ -193,14 +246,37 @@ static void take_fault(struct watch *watch, const struct uffd_msg *message, cons
     if (watch->asleep[cpu])
         refuse("thread %u waits for page 0x%llx, and faults at page 0x%llx", cpu, (unsigned long long)(watch->asleep[cpu] / PAGE_BYTES),
                (unsigned long long)(address / PAGE_BYTES));
-    node_expect(node_issue(watch->node, cpu, &command, &effect), "issue of an access");
+    node_do(node_issue(watch->node, cpu, &command, &effect));
     if (effect.kind == POSTMIG_DID_SLEEP)
         read_fault(watch, cpu, address, flags & UFFD_PAGEFAULT_FLAG_WP);
     else
-        take_needless_fault(watch, address, is_removed_after(message, end));
+        take_needless_fault(watch, cpu, address, is_removed_after(message, end));
 }
 
 /* EVENTS */
+
+/* At the node the event wakes all who wait for a page of the range; in the kernel it wakes nobody. Each makes its access again, and sleeps
+   again: what the node says of the page now is then done for it. */
+static void wake_range(struct watch *watch, uint64_t start, uint64_t end)
+{
+    for (uint32_t i = 0; i < watch->guest->plan.threads; i++) {
+        uint64_t address = watch->asleep[i];
+        postmig_effect effect;
+        int error;
+
+        if (address < start || address >= end || !address)
+            continue;
+        error = kernel_wake(watch->userfault, watch_page(watch, address));
+        if (error)
+            watch_unexpected(error, "UFFDIO_WAKE", address);
+        node_do(node_retry(watch->node, i, &effect));
+        if (effect.kind != POSTMIG_DID_SLEEP)
+            refuse("a processor does not sleep on page 0x%llx, which was given back", (unsigned long long)(address / PAGE_BYTES));
+        read_fault(watch, i, address, false);
+        watch->woken[i] = address;
+        watch->roused++;
+    }
+}
 
 static void take_remove(struct watch *watch, const struct uffd_msg *message)
 {
@@ -208,15 +284,16 @@ static void take_remove(struct watch *watch, const struct uffd_msg *message)
     postmig_command command = { .kind = POSTMIG_DONTNEED, .addr = start, .length = end - start };
     postmig_effect effect;
 
-    node_expect(node_issue(watch->node, idle_processor(watch), &command, &effect), "issue of a dontneed");
+    node_do(node_issue(watch->node, idle_processor(watch), &command, &effect));
     if (effect.kind != POSTMIG_DID_ENTER_CALL || effect.count != 1)
         refuse("page 0x%llx: the kernel has an event, and the node has none", (unsigned long long)(start / PAGE_BYTES));
-    node_expect(node_read(watch->node, &effect), "read of an event");
+    node_do(node_read(watch->node, &effect));
     if (effect.kind != POSTMIG_DID_READ_LAST || effect.number != UFFD_EVENT_REMOVE || effect.addr != start || effect.other != end)
         refuse("page 0x%llx: the node has another event than the kernel", (unsigned long long)(start / PAGE_BYTES));
     if (watch->handed)
         handed_forget(watch->handed, start / PAGE_BYTES - LOW_PAGE, (end - start) / PAGE_BYTES);
     watch->events++;
+    wake_range(watch, start, end);
 }
 
 /* One of the messages that one call has read, up to `end`. */
@@ -232,6 +309,14 @@ static void take_message(struct watch *watch, const struct uffd_msg *message, co
 
 /* ACTS */
 
+/* Returns 0 or an errno: EAGAIN too where the thread that gives the page back has not cleared it yet. */
+static int zero_missing(struct watch *watch, uint64_t address)
+{
+    int error = kernel_zero(watch->userfault, watch_page(watch, address));
+
+    return error == EEXIST && is_shared(watch, address) ? EAGAIN : error;
+}
+
 /* Does what the node says. Returns 0 or an errno. */
 static int carry_out(struct watch *watch, const postmig_effect *effect)
 {
@@ -239,9 +324,9 @@ static int carry_out(struct watch *watch, const postmig_effect *effect)
 
     switch (effect->kind) {
     case POSTMIG_DID_UNPROTECT:
-        return kernel_unprotect(watch->userfault, at);
+        return kernel_unprotect(watch->userfault, at, PAGE_BYTES);
     case POSTMIG_DID_ZERO:
-        return kernel_zero(watch->userfault, at);
+        return zero_missing(watch, effect->addr);
     case POSTMIG_DID_WAKE:
         return wake_present(watch, effect->addr);
     case POSTMIG_DID_FORGET:
@@ -263,9 +348,10 @@ static void note_again(struct watch *watch)
 static bool act(struct watch *watch)
 {
     postmig_effect next, effect;
-    uint32_t status = node_next_act(watch->node, &next);
+    uint32_t status;
     int error;
 
+    node_try(status, node_next_act(watch->node, &next));
     if (status == POSTMIG_REFUSED_NOTHING_THERE)
         return false;
     node_expect(status, "next_act");
@@ -277,11 +363,11 @@ static bool act(struct watch *watch)
     if (error)
         watch_unexpected(error, "a call for a fault", next.addr);
     watch->again_in_a_row = 0;
-    node_expect(node_act(watch->node, &effect), "act");
+    node_do(node_act(watch->node, &effect));
     if (!is_same_effect(&next, &effect))
         refuse("the node acts by an effect of kind %u, and has announced kind %u", effect.kind, next.kind);
     if (next.kind == POSTMIG_DID_REQUEST)
-        note_request(watch, next.other);
+        note_request(watch, next.addr, next.other);
     else
         watch_wake(watch, next.addr);
     return true;
@@ -321,6 +407,43 @@ void watch_handle(struct watch *watch)
     watch->is_behind = true;
     for (uint32_t reads = 0; watch->is_behind && reads < MOST_READS; reads++)
         watch->is_behind = handle_some(watch);
+}
+
+/* It is registered before the kernel is asked what is present: afterwards pages become present by the node alone. */
+void watch_enter_memory(struct watch *watch)
+{
+    const uint64_t low = (uint64_t)LOW_PAGE * PAGE_BYTES, pages = watch->guest->plan.pages;
+    postmig_command map = { .kind = POSTMIG_MMAP, .length = pages * PAGE_BYTES, .prot = POSTMIG_PROT_READ_WRITE, .place = POSTMIG_FIXED, .target = low };
+    uint64_t *entries = calloc(pages, sizeof *entries);
+    postmig_effect effect;
+
+    if (!entries)
+        refuse("no memory for the pages' entries");
+    kernel_register(watch->userfault, watch->guest->memory, pages * PAGE_BYTES, true);
+    kernel_pagemap(watch->guest->memory, pages, entries);
+    node_do(node_issue(watch->node, 0, &map, &effect));
+    for (uint64_t i = 0; i < pages; i++) {
+        postmig_command store = { .kind = POSTMIG_STORE, .width = 8, .addr = low + i * PAGE_BYTES };
+
+        if (entry_is_present(entries[i]))
+            node_do(node_issue(watch->node, 0, &store, &effect));
+    }
+    free(entries);
+}
+
+void watch_take_over(struct watch *watch)
+{
+    for (uint32_t i = 0; i < watch->guest->plan.threads; i++) {
+        postmig_processor processor;
+        postmig_effect effect;
+
+        node_do(postmig_node_processor(&watch->node->handle, (uint8_t)i, &processor));
+        if (processor.state != POSTMIG_PROCESSOR_WOKEN)
+            continue;
+        node_do(node_retry(watch->node, i, &effect));
+        if (effect.kind == POSTMIG_DID_SLEEP)
+            read_fault(watch, i, processor.command.addr / PAGE_BYTES * PAGE_BYTES, false);
+    }
 }
 
 void watch_finish(struct watch *watch)

@@ -10,28 +10,40 @@ struct watch {
     struct node *node;
     struct guest *guest;
     struct handed *handed; /* whose memory it is, or NULL: this process's */
+    bool has_own_threads;  /* the threads are not the guest's of guest.h, and may be any: set by the caller */
     int userfault;
     uint64_t asleep[MOST_THREADS]; /* the address of the page that a thread waits for, as the node has it; 0: none */
+    uint64_t woken[MOST_THREADS];  /* the page on which an event has woken a thread, whose own fault of it may still come; 0: none */
     uint64_t faults, events;       /* that were read */
+    uint64_t roused;               /* processors that an event has woken */
     bool is_behind;                /* there may be messages that are not read, or of which what the node says is not done */
     uint64_t again;                /* calls of the kernel that returned EAGAIN, */
     uint32_t again_in_a_row;       /* and those since another result */
     uint64_t needless;             /* faults of pages that were there by the time they were read */
     uint64_t cleared;              /* pages that the node calls present, and the kernel did not have */
     uint64_t requests;
-    uint64_t *asked_at;            /* when each page of the source was asked for, or 0; NULL: that is not kept; */
-    uint64_t unanswered;           /* and how many of these are not 0 */
+    uint64_t *asked_at;  /* since when somebody waits for each page of the source that was asked for, or 0; NULL: that is not kept; */
+    uint64_t unanswered; /* and how many of these are not 0 */
 };
 
 void watch_open(struct watch *watch, struct node *node, struct guest *guest, struct handed *handed);
 
-/* From now on the time of each request is kept; and when the page was asked for first that is at this address at the source, or 0. That is
+/* From now on the time of each wait is kept; and since when somebody waits for the page that is at this address at the source, or 0. That is
    forgotten then. */
 void watch_keep_times(struct watch *watch);
 uint64_t watch_asked_at(struct watch *watch, uint64_t origin);
 
+/* The calling thread, which handles faults, runs before the guest's if that is wanted and allowed. How it runs is said. */
+void watch_go_first(const char *side, bool is_wanted);
+
 /* The guest's page at an address of the node, where the two number them differently. */
 char *watch_page(const struct watch *watch, uint64_t address);
+
+/* At the source, before its start: all memory is registered, and the node is issued the mmap, and a store to each page that is present. */
+void watch_enter_memory(struct watch *watch);
+
+/* After the Package: the processors that waited at the source make their accesses again. */
+void watch_take_over(struct watch *watch);
 
 /* Reads messages, and does what the node says of each. Where threads fault faster than that is done, some are left (is_behind). */
 void watch_handle(struct watch *watch);

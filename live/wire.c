@@ -12,7 +12,6 @@
 #include <stdlib.h>
 #include <string.h>
 #include <sys/ioctl.h>
-#include <sys/random.h>
 #include <sys/un.h>
 #include <unistd.h>
 
@@ -22,7 +21,7 @@
 #define MOST_RECEIVED (128u << 10) /* by one call, so that faults are read in between */
 #define LEAST_SEGMENT 1024u
 #define MOST_SEGMENT 16384u
-#define DEAD_AFTER_MS 5000         /* a peer that acknowledges nothing for so long is gone */
+#define DEAD_AFTER_MS 5000 /* a peer that acknowledges nothing for so long is gone */
 
 /* ADDRESSES */
 
@@ -89,60 +88,11 @@ bool address_is_unix(const struct address *address)
     return address->name.ss_family == AF_UNIX;
 }
 
-/* THE HELLO */
-
-static const uint8_t GREETING[6] = { 'p', 'm', 'l', 'i', 'v', 'e' };
-#define HELLO_VERSION 1
-
-uint64_t hello_new_instance(void)
-{
-    uint64_t instance;
-
-    if (getrandom(&instance, sizeof instance, 0) != (ssize_t)sizeof instance)
-        refuse_errno(errno, "getrandom");
-    return instance;
-}
-
-static void write_number(uint8_t *bytes, uint64_t number, int length)
-{
-    for (int i = 0; i < length; i++)
-        bytes[i] = (uint8_t)(number >> 8 * (length - 1 - i));
-}
-
-static uint64_t read_number(const uint8_t *bytes, int length)
-{
-    uint64_t number = 0;
-
-    for (int i = 0; i < length; i++)
-        number = number << 8 | bytes[i];
-    return number;
-}
-
-void hello_write(const struct hello *hello, uint8_t *bytes)
-{
-    memcpy(bytes, GREETING, sizeof GREETING);
-    bytes[6] = HELLO_VERSION;
-    bytes[7] = (uint8_t)hello->channel;
-    write_number(bytes + 8, hello->epoch, 4);
-    write_number(bytes + 12, hello->instance, 8);
-}
-
-bool hello_read(struct hello *hello, const uint8_t *bytes)
-{
-    if (memcmp(bytes, GREETING, sizeof GREETING) || bytes[6] != HELLO_VERSION || bytes[7] > URGENT)
-        return false;
-    hello->channel = (enum channel)bytes[7];
-    hello->epoch = (uint32_t)read_number(bytes + 8, 4);
-    hello->instance = read_number(bytes + 12, 8);
-    return true;
-}
-
 /* SOCKETS */
 
-static void set_option(int file, int level, int name, int value)
+static bool set_option(int file, int level, int name, int value)
 {
-    if (setsockopt(file, level, name, &value, sizeof value))
-        refuse_errno(errno, "an option of a socket");
+    return !setsockopt(file, level, name, &value, sizeof value);
 }
 
 /* A window of less than a segment stalls, and a segment of loopback has 64 KiB: small buffers need small segments. */
@@ -150,34 +100,27 @@ static int segment_of(uint32_t buffer)
 {
     uint32_t part = buffer / 4;
 
-    return (int)(part < LEAST_SEGMENT ? LEAST_SEGMENT : part > MOST_SEGMENT ? MOST_SEGMENT : part);
+    return (int)(part < LEAST_SEGMENT ? LEAST_SEGMENT : part > MOST_SEGMENT ? MOST_SEGMENT
+                                                                            : part);
 }
 
-static void set_tcp_options(int file)
+static bool set_tcp_options(int file)
 {
-    set_option(file, IPPROTO_TCP, TCP_NODELAY, 1);
-    set_option(file, IPPROTO_TCP, TCP_USER_TIMEOUT, DEAD_AFTER_MS);
-    set_option(file, SOL_SOCKET, SO_KEEPALIVE, 1);
-    set_option(file, IPPROTO_TCP, TCP_KEEPIDLE, 2);
-    set_option(file, IPPROTO_TCP, TCP_KEEPINTVL, 1);
-    set_option(file, IPPROTO_TCP, TCP_KEEPCNT, 3);
+    return set_option(file, IPPROTO_TCP, TCP_NODELAY, 1) && set_option(file, IPPROTO_TCP, TCP_USER_TIMEOUT, DEAD_AFTER_MS) &&
+        set_option(file, SOL_SOCKET, SO_KEEPALIVE, 1) && set_option(file, IPPROTO_TCP, TCP_KEEPIDLE, 2) &&
+        set_option(file, IPPROTO_TCP, TCP_KEEPINTVL, 1) && set_option(file, IPPROTO_TCP, TCP_KEEPCNT, 3);
 }
 
-void socket_set_up(int file, uint32_t buffer)
+bool socket_set_up(int file, uint32_t buffer)
 {
     int family = 0;
     socklen_t length = sizeof family;
 
     if (getsockopt(file, SOL_SOCKET, SO_DOMAIN, &family, &length))
-        refuse_errno(errno, "an option of a socket");
-    if (family != AF_UNIX)
-        set_tcp_options(file);
-    if (buffer && family != AF_UNIX)
-        set_option(file, IPPROTO_TCP, TCP_MAXSEG, segment_of(buffer));
-    if (buffer) {
-        set_option(file, SOL_SOCKET, SO_SNDBUF, (int)buffer);
-        set_option(file, SOL_SOCKET, SO_RCVBUF, (int)buffer);
-    }
+        return false;
+    if (family != AF_UNIX && (!set_tcp_options(file) || (buffer && !set_option(file, IPPROTO_TCP, TCP_MAXSEG, segment_of(buffer)))))
+        return false;
+    return !buffer || (set_option(file, SOL_SOCKET, SO_SNDBUF, (int)buffer) && set_option(file, SOL_SOCKET, SO_RCVBUF, (int)buffer));
 }
 
 int wire_connect(const struct address *address, uint32_t buffer)
@@ -185,9 +128,8 @@ int wire_connect(const struct address *address, uint32_t buffer)
     int file = socket(address->name.ss_family, SOCK_STREAM | SOCK_NONBLOCK | SOCK_CLOEXEC, 0), error;
 
     if (file < 0)
-        refuse_errno(errno, "a socket");
-    socket_set_up(file, buffer);
-    if (!connect(file, (const struct sockaddr *)&address->name, address->length) || errno == EINPROGRESS)
+        return -1;
+    if (socket_set_up(file, buffer) && (!connect(file, (const struct sockaddr *)&address->name, address->length) || errno == EINPROGRESS))
         return file;
     error = errno;
     (void)close(file); /* nothing was written */
@@ -196,6 +138,16 @@ int wire_connect(const struct address *address, uint32_t buffer)
 }
 
 /* BYTES */
+
+static void grow(struct bytes *bytes, size_t room)
+{
+    uint8_t *at;
+
+    while (!(at = realloc(bytes->at, room)))
+        lack(0, "no memory for %zu bytes", room);
+    bytes->at = at;
+    bytes->room = room;
+}
 
 /* Room for `length` bytes at the end. */
 static uint8_t *bytes_room(struct bytes *bytes, size_t length)
@@ -206,9 +158,8 @@ static uint8_t *bytes_room(struct bytes *bytes, size_t length)
         return bytes->at + bytes->end;
     while (room - there < length)
         room *= 2;
-    if (room > bytes->room && !(bytes->at = realloc(bytes->at, room)))
-        refuse("no memory for %zu bytes", room);
-    bytes->room = room;
+    if (room > bytes->room)
+        grow(bytes, room);
     memmove(bytes->at, bytes->at + bytes->begin, there);
     bytes->begin = 0;
     bytes->end = there;
@@ -230,7 +181,9 @@ void stream_open(struct stream *stream, int file, struct tls *tls, const struct 
     stream->tls = tls;
     stream->is_ready = file >= 0;
     stream->cut = *cut;
-    stream->sent = 0;
+    stream->error = 0;
+    stream->sent = stream->received = stream->sent_before = stream->received_before = stream->next_beat = stream->silent = 0;
+    stream->beats = false;
     stream->in.begin = stream->in.end = 0;
     stream->out.begin = stream->out.end = 0;
 }
@@ -284,9 +237,14 @@ static bool cut_off(const struct stream *stream)
     return false;
 }
 
-static bool is_wait(int error)
+/* Else the connection is broken, by the first error. */
+static bool is_wait(struct stream *stream, int error)
 {
-    return error == EAGAIN || error == EINTR;
+    bool is_so = error == EAGAIN || error == EINTR;
+
+    if (!is_so && !stream->error)
+        stream->error = error;
+    return is_so;
 }
 
 /* (a record of TLS that was begun before a cut was set may go over it) */
@@ -309,7 +267,7 @@ bool stream_send(struct stream *stream)
         sent = stream->tls ? tls_send(stream->tls, stream->out.at + stream->out.begin, length)
                            : send(stream->file, stream->out.at + stream->out.begin, length, MSG_NOSIGNAL);
         if (sent < 0)
-            return is_wait(errno);
+            return is_wait(stream, errno);
         bytes_drop(&stream->out, (size_t)sent);
         stream->sent += (size_t)sent;
         count_cut(&stream->cut.out, (size_t)sent);
@@ -355,8 +313,9 @@ bool stream_receive_parts(struct stream *stream, struct iovec *parts, size_t cou
     received = stream->tls ? decrypt(stream->tls, parts, message.msg_iovlen) : recvmsg(stream->file, &message, MSG_DONTWAIT);
     stream->is_ready = tls_has_bytes(stream->tls);
     if (received < 0)
-        return is_wait(errno);
+        return is_wait(stream, errno);
     *got = (size_t)received;
+    stream->received += *got;
     count_cut(&stream->cut.in, *got);
     return received > 0;
 }
@@ -396,11 +355,9 @@ void stream_take(struct stream *stream, size_t length)
     bytes_drop(&stream->in, length);
 }
 
-short stream_events(const struct stream *stream)
+struct pollfd stream_waits(const struct stream *stream)
 {
-    short handshake = tls_waits_for(stream->tls);
+    short handshake = tls_waits_for(stream->tls), usual = stream_unsent(stream) ? POLLIN | POLLOUT : POLLIN;
 
-    if (handshake)
-        return handshake;
-    return stream_unsent(stream) ? POLLIN | POLLOUT : POLLIN;
+    return (struct pollfd){ .fd = stream->file, .events = handshake ? handshake : usual };
 }

@@ -1,15 +1,17 @@
-/* Connections between the two hosts: TCP, plain on loopback alone and else by TLS, and Unix sockets. Each begins with a hello of the source, of HELLO_BYTES, that tells
-   its channel, its epoch, and which source it is; frames follow it. On the main connection the destination says first, in the same form,
-   which destination it is. */
+/* Connections between the two hosts: TCP, plain on loopback alone and else by TLS, and Unix sockets. Each begins with a hello of the source,
+   frames follow it. On the main connection the destination says its own hello first. Between frames there may be beats. */
 #ifndef WIRE_H
 #define WIRE_H
 
+#include <poll.h>
 #include <stdbool.h>
 #include <stddef.h>
 #include <stdint.h>
 #include <sys/socket.h>
 #include <sys/uio.h>
 
+#include "hello.h"
+#include "local.h"
 #include "tls.h"
 
 struct address {
@@ -26,26 +28,16 @@ bool address_is_unix(const struct address *address);
 /* Whether only processes of this host are there: on loopback, or at a Unix socket. */
 bool address_is_local(const struct address *address);
 
-enum channel { MAIN, URGENT };
-
-struct hello {
-    enum channel channel;
-    uint32_t epoch;
-    uint64_t instance; /* a number of this process, made at random */
-};
-
-#define HELLO_BYTES 20u
-uint64_t hello_new_instance(void);
-void hello_write(const struct hello *hello, uint8_t *bytes);
-bool hello_read(struct hello *hello, const uint8_t *bytes); /* false where the bytes are a stranger's */
-
 /* After how many bytes, in or out, a connection is cut, for tests: what is under way is lost, and the other side gets a reset. Those of
    `post` go out after the switch, of a source, or after the End, of a destination. */
 #define NEVER UINT64_MAX
 struct cut {
     uint64_t in, out, post;
 };
-#define NO_CUT { NEVER, NEVER, NEVER }
+#define NO_CUT              \
+    {                       \
+        NEVER, NEVER, NEVER \
+    }
 
 struct bytes {
     uint8_t *at;
@@ -56,16 +48,22 @@ struct bytes {
 struct stream {
     int file;
     struct tls *tls; /* NULL: it is plain */
-    bool is_ready; /* something may have come since the last receive: the caller sets it too, after poll(2) */
+    bool is_ready;   /* something may have come since the last receive: the caller sets it too, after poll(2) */
     struct bytes in, out;
     struct cut cut;
-    uint64_t sent; /* bytes that the kernel has taken: the connection is made */
+    int error;                                                /* of what has broken the connection; 0: its end */
+    uint64_t sent, received;                                  /* bytes that the kernel has taken: the connection is made; and given */
+    bool beats;                                               /* both sides beat; */
+    uint64_t sent_before, received_before, next_beat, silent; /* which beat.c counts */
 };
-#define NO_STREAM { .file = -1 }
+#define NO_STREAM  \
+    {              \
+        .file = -1 \
+    }
 
 /* Options of a socket that carries frames, or that listens for such: those it accepts have the same. `buffer` is the size of its buffers in
-   the kernel, 0 for the kernel's own choice. */
-void socket_set_up(int file, uint32_t buffer);
+   the kernel, 0 for the kernel's own choice. False with errno. */
+bool socket_set_up(int file, uint32_t buffer);
 
 /* Begins to connect. Returns -1 where nobody listens, with errno. */
 int wire_connect(const struct address *address, uint32_t buffer);
@@ -102,6 +100,6 @@ const uint8_t *stream_front(const struct stream *stream);
 void stream_take(struct stream *stream, size_t length);
 
 /* For poll(2): what this stream waits for. Where is_ready is set, poll(2) is not to wait. */
-short stream_events(const struct stream *stream);
+struct pollfd stream_waits(const struct stream *stream);
 
 #endif

@@ -31,9 +31,9 @@ long log_last_thread(void);
  * Each writes a line of which `rest` is the part after the words that it puts itself. A line that is cut, or that cannot be written, is
  * counted, and a line `lost N` follows as soon as one can be written.
  */
-struct call log_begin(struct text *rest);                                      /* TIME PID TID begin N rest, with a new N */
+struct call log_begin(struct text *rest);                                       /* TIME PID TID begin N rest, with a new N */
 void log_of_call(const struct call *call, const char *kind, struct text *rest); /* TIME PID TID kind N rest */
-void log_note(const char *kind, struct text *rest);                            /* TIME PID TID kind rest */
+void log_note(const char *kind, struct text *rest);                             /* TIME PID TID kind rest */
 
 /* Lines that the recorder knows it cannot write. */
 void log_count_lost(uint64_t lines);

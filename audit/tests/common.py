@@ -18,6 +18,12 @@ def run(program, *words, **more):
     return subprocess.run([sys.executable, AUDIT / program, *map(str, words)], capture_output=True, text=True, timeout=60, **more)
 
 
+def audit(log):
+    """What the program says of a log."""
+    program = os.environ.get("AUDIT_PROGRAM", AUDIT.parent / "postmig")
+    return subprocess.run([program, "audit", log], capture_output=True, text=True, timeout=600)
+
+
 def compiled(name):
     """A program of tests/, compiled where it is older than its source."""
     done = subprocess.run(["make", "-s", "-C", AUDIT / "recorder", f"../out/{name}"], capture_output=True, text=True)

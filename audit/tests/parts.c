@@ -24,12 +24,12 @@
 
 static int failures;
 
-#define CHECK(holds)                                                     \
-    do {                                                                 \
-        if (!(holds)) {                                                  \
-            fprintf(stderr, "%s:%d: %s\n", __FILE__, __LINE__, #holds);  \
-            failures++;                                                  \
-        }                                                                \
+#define CHECK(holds)                                                    \
+    do {                                                                \
+        if (!(holds)) {                                                 \
+            fprintf(stderr, "%s:%d: %s\n", __FILE__, __LINE__, #holds); \
+            failures++;                                                 \
+        }                                                               \
     } while (0)
 
 static bool is_text(const struct text *text, const char *wanted)

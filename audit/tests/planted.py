@@ -2,40 +2,15 @@
 
 import copy
 
-from judge import Call, Log
+from calls import Call
 
 INSTALLS = ("copy", "zeropage")
 
 
-def calls_of(log):
-    """Copies of a log's calls, with room between their lines."""
-    calls = []
-    for call in log.calls:
-        it = copy.copy(call)
-        it.arguments, it.values = dict(call.arguments), dict(call.values)
-        it.messages = [(kind, dict(values)) for kind, values in call.messages]
-        it.begin, it.end, it.done, it.node = 10 * call.begin, call.end and 10 * call.end, False, None
-        calls.append(it)
-    return calls
-
-
-def log_of(calls, page=4096):
-    """A log of calls, whose lines are numbered anew in their order."""
-    log = Log.__new__(Log)
-    log.page, log.wrong, log.own, log.lines, log.calls = page, [], set(), [], sorted(calls, key=lambda call: call.begin)
-    ends = [(call.end, 1, "end", call) for call in calls if call.end is not None]
-    lines = sorted([(call.begin, 0, "begin", call) for call in calls] + ends, key=lambda line: line[:2])
-    for key, call in enumerate(log.calls):
-        call.key = key
-    for number, (_, _, what, call) in enumerate(lines, 1):
-        setattr(call, what, number)
-        log.lines.append((number, what, call))
-    log.set_unjudged()
-    return log
-
-
 def start(call):
-    return call.range()[0]
+    """The first byte that a call is of."""
+    arguments = call.arguments
+    return arguments.get("START", arguments.get("DESTINATION", arguments.get("ADDRESS")))
 
 
 def installs(calls):
@@ -165,14 +140,14 @@ def event_not_asked_for(calls, rng):
 def installed_page_discarded(calls, rng):
     call = rng.choice(installs(calls))
     arguments = {"ADDRESS": start(call), "LENGTH": 4096, "ADVICE": 4}
-    calls.append(Call(0, "madvise", arguments, call.end + 1, call.space, call.tid, call.end + 2, "ok"))
+    calls.append(Call("madvise", arguments, call.end + 1, call.space, call.tid, call.end + 2, "ok"))
 
 
 def message_that_nobody_read(calls, rng):
     call = [call for call in calls if call.word == "unregister"][-6]
     where = {"O": call.arguments["O"]}
-    calls.append(Call(0, "poll", where, call.begin - 8, call.space, 9, call.begin - 7, "ok", {"EVENTS": 1}))
-    calls.append(Call(0, "read", {**where, "ROOM": 32}, call.begin - 6, call.space, 9, call.begin - 5, "EAGAIN"))
+    calls.append(Call("poll", where, call.begin - 8, call.space, 9, call.begin - 7, "ok", {"EVENTS": 1}))
+    calls.append(Call("read", {**where, "ROOM": 32}, call.begin - 6, call.space, 9, call.begin - 5, "EAGAIN"))
 
 
 def fault_of_an_unprotected_page(calls, rng):
@@ -204,33 +179,30 @@ def map_call_for_ever(calls, rng):
     call.end, call.answer = None, None
 
 
-def installed_where_unmap_was_read(calls, rng):
-    read = rng.choice(event_reads(calls, "unmap"))
-    ends = [it.end for it in calls if it.word in ("munmap", "mmap") and it.end and it.begin < read.end <= it.end + 1000]
-    like = next(it for it in installs(calls) if it.object == read.object and it.word == "copy")
-    it = after(read, like)
-    it.begin, it.end = max([read.end, *ends]) + 1, max([read.end, *ends]) + 2
-    it.arguments["DESTINATION"], it.arguments["LENGTH"], it.values = read.messages[0][1]["START"], 4096, {"BYTES": 4096}
-    calls.append(it)
-
-
-def unprotection_left_out(calls, rng):
-    """Of a page that has faulted: only what unprotects all at the end is left."""
-    pages = faulted(calls)
-    place = rng.choice([start(it) for it in calls if it.word == "writeprotect" and it.arguments["MODE"] == 0 and start(it) in pages])
-    calls[:] = [it for it in calls if it.word != "writeprotect" or it.arguments["MODE"] or it.arguments["LENGTH"] != 4096 or start(it) != place]
-
-
-# Each with the log that it is planted in, and what the judge has to name.
+# Each with the log that it is planted in, and the rule that the audit has to name.
 PLANTED = (
-    ("qemu-strace", touched_before, "there before"), ("qemu-push", install_left_out, "unanswered"), ("qemu-push", no_wake, "unanswered"),
-    ("qemu-push", ok_on_a_present_page, "impossible"), ("qemu-push", installed_twice, "twice"), ("qemu-push", wrong_length, "impossible"),
-    ("qemu-push", exists_on_a_missing_page, "impossible"), ("qemu-push", not_registered, "impossible"),
-    ("qemu-push", changing_for_no_reason, "impossible"), ("qemu-push", registered_late, "impossible"), ("qemu-push", touched_before, "impossible"),
-    ("qemu-push", outside, "impossible"), ("qemu-push", refused_outside, "outside"), ("qemu-push", never_installed, "owed"),
-    ("qemu-push", two_stale_faults, "impossible"), ("qemu-push", fault_outside, "impossible"), ("qemu-push", event_not_asked_for, "impossible"),
-    ("qemu-push", installed_page_discarded, "owed"), ("qemu-push", unregistered_early, "owed"),
-    ("qemu-push", message_that_nobody_read, "impossible"), ("qemu-snapshot", fault_of_an_unprotected_page, "impossible"),
-    ("live-handler", event_never_read, "impossible"), ("live-handler", event_of_another_range, "impossible"),
-    ("live-handler", map_call_for_ever, "impossible"),
+    ("qemu-strace", touched_before, "present-before"),
+    ("qemu-push", install_left_out, "fault-not-resolved"),
+    ("qemu-push", no_wake, "fault-not-resolved"),
+    ("qemu-push", ok_on_a_present_page, "unexplained-answer"),
+    ("qemu-push", installed_twice, "put-twice"),
+    ("qemu-push", wrong_length, "unexplained-answer"),
+    ("qemu-push", exists_on_a_missing_page, "unexplained-answer"),
+    ("qemu-push", not_registered, "unexplained-answer"),
+    ("qemu-push", changing_for_no_reason, "unexplained-answer"),
+    ("qemu-push", registered_late, "unexplained-answer"),
+    ("qemu-push", touched_before, "unexplained-answer"),
+    ("qemu-push", outside, "unexplained-answer"),
+    ("qemu-push", refused_outside, "not-registered"),
+    ("qemu-push", never_installed, "page-owed"),
+    ("qemu-push", two_stale_faults, "unexplained-answer"),
+    ("qemu-push", fault_outside, "unexplained-answer"),
+    ("qemu-push", event_not_asked_for, "unexplained-answer"),
+    ("qemu-push", installed_page_discarded, "page-owed"),
+    ("qemu-push", unregistered_early, "page-owed"),
+    ("qemu-push", message_that_nobody_read, "unexplained-answer"),
+    ("qemu-snapshot", fault_of_an_unprotected_page, "unexplained-answer"),
+    ("live-handler", event_never_read, "unexplained-answer"),
+    ("live-handler", event_of_another_range, "unexplained-answer"),
+    ("live-handler", map_call_for_ever, "unexplained-answer"),
 )

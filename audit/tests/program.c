@@ -33,7 +33,7 @@
 #define EVENTS (UFFD_FEATURE_EVENT_FORK | UFFD_FEATURE_EVENT_REMAP | UFFD_FEATURE_EVENT_REMOVE | UFFD_FEATURE_EVENT_UNMAP)
 #define FEATURES (UFFD_FEATURE_PAGEFAULT_FLAG_WP | UFFD_FEATURE_THREAD_ID | EVENTS)
 
-static int object = -1;          /* the object under test */
+static int object = -1;               /* the object under test */
 static _Atomic int child_object = -1; /* that of a forked child, once its message was read */
 static char *area;
 static atomic_bool handler_stops;

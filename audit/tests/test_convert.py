@@ -128,11 +128,11 @@ def converted(trace, process=None):
 
 
 def verdict(text):
-    """The status of audit/judge for a log."""
+    """The status of `postmig audit` for a log."""
     with tempfile.TemporaryDirectory() as folder:
         with open(f"{folder}/log", "w") as file:
             file.write(HEAD + text)
-        return common.run("judge", f"{folder}/log").returncode
+        return common.audit(f"{folder}/log").returncode
 
 
 def is_log(test, text):

@@ -50,7 +50,7 @@ static bool is_chosen(int fd, const struct uffdio_copy *copy)
     bool expected = false;
 
     return first >= 0 && fd == atomic_load(&object) && atomic_fetch_add(&copies, 1) >= first && copy->dst == atomic_load(&asked) &&
-           atomic_compare_exchange_strong(&is_done, &expected, true);
+        atomic_compare_exchange_strong(&is_done, &expected, true);
 }
 
 static int wrong_copy(int fd, struct uffdio_copy *copy)

@@ -21,7 +21,7 @@ ROWS = (
     (52, ("the program", "postmig console command_line", 9), ("the library for C", "postmig_c", 3)),
     (
         148,
-        ("tools over scripts and frames", "wiretap host_calls frames expected explore finishing", 4),
+        ("tools over scripts and frames", "wiretap host_calls frames expected explore finishing history history_order history_search history_judge", 4),
         ("threads", "threads rig pusher", 2),
         ("logs of calls", "trace_audit audit call_log strace_text log_entries kernel_rules uffd_log", 2),
         ("looking inside", "draw diagram show lint explain", 2),

@@ -22,6 +22,7 @@ import tempfile
 import shared  # noqa: F401
 
 import page
+from program import file_at
 
 PAGES = ["README.md", "docs/*.md", "conformance/README.md"]
 PROGRAMS = re.compile(r"(postmig|\./postmig|python3|cc|rustc|cd|seq|cat|gzip|rt|conformance/\w+|PKG_CONFIG_PATH=\S+) ")
@@ -106,7 +107,7 @@ def faults_of(lines, folder, path):
 
 def room(folder):
     """Makes a folder look like the top of the repository, with the launcher as 'postmig'. Returns the PATH for it."""
-    for name in ("examples", "docs", "conformance", "release", "crates", "bench", "dist"):
+    for name in ("examples", "docs", "conformance", "release", "crates", "bench", "dist", "python"):
         (folder / name).symlink_to(page.TOP / name)
     launcher = folder / "postmig"
     launcher.write_text(f'#!/bin/sh\nexec "{page.TOP}/postmig" "$@"\n')
@@ -126,7 +127,7 @@ def to_run(lines):
 
 
 def main():
-    named = [pathlib.Path(it).resolve() for it in sys.argv[1:]]
+    named = [file_at(it).resolve() for it in sys.argv[1:]]
     count = faults = 0
     for file in named or [it for pattern in PAGES for it in sorted(page.TOP.glob(pattern))]:
         with tempfile.TemporaryDirectory() as name:

@@ -3,9 +3,10 @@
 
 python3 bench/check/definitions.py [--write | --check | --list PROMISE]
 
-All other definitions serve proofs. Lines are those of the definitions, without comments. With --write the table goes to docs/DESIGN.md, with
+All other definitions serve proofs. So does the table with the enums and structs of the code that these definitions name. Lines are without
+comments. With --write the table goes to docs/DESIGN.md, with
 --check the status is 1 where that page has another table. --list prints the definitions of one promise, by its first word, in the order in
-which to read them.
+which to read them, and then the enums and structs.
 """
 
 import collections
@@ -20,6 +21,8 @@ from tower import product
 
 CRATES = page.TOP / "crates"
 DESIGN = page.TOP / "docs" / "DESIGN.md"
+DECLARED = re.compile(r"^\s*(?:ghost )?use Rattle\.(\w+)\.specs\.declared\.([\w.]+?)(?:\.\{([^}]*)\}| as (\w+));?\s*$")
+TYPE = re.compile(r"^pub (?:enum|struct) (\w+)[^;{]*(?:;|\{\n(?:.*\n)*?\}$)", re.M)
 USE = re.compile(r"^\s*(?:ghost )?use Rattle\.(\w+)\.specs\.(\w+)(?:\.\{([^}]*)\}| as (\w+))?;?\s*$")
 STARTS = ("abbrev ", "unfoldable ", "record ", "data ", "pub record ", "pub data ", "pub ")
 
@@ -29,7 +32,7 @@ MOST_FILES = 24
 # What each row of the table promises, and the definitions or the public calls by which it does so.
 PROMISES = (
     ("`Core`: the transcript of a world is the run of one flat memory, and completion means that the destination alone holds it", ["world/Core/Core"]),
-    ("`CoreStep`: the same after each step; a processor gets the reply of its entry; nothing is installed over a present page; complete stays complete", ["world/Core/CoreStep"]),
+    ("`CoreFirst` and `CoreStep`: the same of a new world and after each step; a processor gets the reply of its entry; nothing is installed over a present page; complete stays complete", ["world/Core/CoreFirst", "world/Core/CoreStep"]),
     ("`Headline`: all promises for every world, owed pages on their way among them", ["world/Headline/Headline"]),
     ("`World::step`, with all that the machine says of a step", ["world::step"]),
     ("`check_script`: `postmig check`", ["engine::check_script"]),
@@ -37,6 +40,7 @@ PROMISES = (
     ("`finish`: `postmig finish` completes a migration", ["finish::finish"]),
     ("`Decoder::feed`: the bytes of frames", ["frame_decoder::feed"]),
     ("`run_threads`: `postmig threads`", ["threads::run_threads"]),
+    ("`two_drivers_are_a_world`: the headline of a driver", ["mig_laws::two_drivers_are_a_world"]),
     ("`certify`: a run of a log is one by the rules of a kernel", ["kernel_rules::certify"]),
 )
 
@@ -127,6 +131,38 @@ def closure(waiting):
     return seen
 
 
+@functools.cache
+def types_in(crate):
+    """The enums and structs of a crate's code that others see: the text of each without comments and attributes, by its name."""
+    texts = (file.read_text() for file in sorted((CRATES / crate / "src").rglob("*.rt")))
+    found = [it for text in texts for it in TYPE.finditer(text)]
+    return {it[1]: "\n".join(line for line in it[0].splitlines() if not line.lstrip().startswith(("//", "#"))) for it in found}
+
+
+def declared(text):
+    """The words that a file uses of types of the code: (word as it is written here, crate, type)."""
+    for line in text.splitlines():
+        if found := DECLARED.match(line):
+            path = [it for it in found[2].split(".") if it != "TheVariants"]
+            for word in filter(None, map(str.strip, (found[3] or "").split(","))):
+                yield word.rpartition(" as ")[2], found[1], path[-1]
+            if found[4]:
+                yield found[4], found[1], path[-1]
+
+
+def types_of(found):
+    """The enums and structs of the code that definitions name, and those that these name in turn, each as (crate, type)."""
+    waiting = [it[1:] for crate, file, name in found for it in declared(file_of(crate, file)) if names(it[0], definitions_of(crate, file)[name])]
+    seen = set()
+    while waiting:
+        crate, name = at = waiting.pop()
+        own = types_in(crate)
+        if at not in seen and name in own:
+            seen.add(at)
+            waiting += [(crate, other) for other in own if other != name and names(other, own[name])]
+    return seen
+
+
 def lines_in(found):
     return sum(len(definitions_of(crate, file)[name].splitlines()) for crate, file, name in found)
 
@@ -143,7 +179,9 @@ def row(label, found):
         order = "; ".join(f"{crate}: " + ", ".join(f"{file} {count}" for file, count in files) for crate, files in files_in)
     else:
         order = ", ".join(f"{crate} {sum(count for _, count in files)}" for crate, files in files_in)
-    return f"| {label} | {len(found):,} | {lines_in(found):,} | {order} |"
+    types = types_of(found)
+    type_lines = sum(len(types_in(crate)[name].splitlines()) for crate, name in types)
+    return f"| {label} | {len(found):,} | {lines_in(found):,} | {len(types):,} | {type_lines:,} | {order} |"
 
 
 def everything():
@@ -151,10 +189,13 @@ def everything():
 
 
 def table():
-    rows = ["| Promise | Definitions | Lines | `specs/` to read, in this order, by crate and file, or by crate where the files are many |", "|---|---|---|---|"]
+    rows = [
+        "| Promise | Definitions | Lines | Enums and structs of the code | Lines | `specs/` to read, in this order, by crate and file, or by crate where the files are many |",
+        "|---|---|---|---|---|---|",
+    ]
     rows += [row(label, closure(it for promise in promises for it in roots(promise))) for label, promises in PROMISES]
     whole = everything()
-    rows.append(f"| all public calls of all crates | {len(whole):,} | {lines_in(whole):,} | all |")
+    rows.append(row("all public calls of all crates", whole).rpartition(" | ")[0] + " | all |")
     return "\n".join(rows)
 
 
@@ -165,6 +206,9 @@ def list_one(word):
             for crate, files in in_order(found):
                 for file, _ in files:
                     print(f"crates/{crate}/specs/{file}.antt: " + ", ".join(name for name in definitions_of(crate, file) if (crate, file, name) in found))
+            for crate in product():
+                if types := sorted(name for at, name in types_of(found) if at == crate):
+                    print(f"crates/{crate}/src: " + ", ".join(types))
             return
     sys.exit(f"definitions: no promise {word}")
 

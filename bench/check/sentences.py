@@ -33,6 +33,9 @@ def unsaid(text, pattern, comment, skipped):
 
 def main():
     faults, product = [], tower.product()
+    unknown = [it for it in sys.argv[1:] if not (CRATES / it).is_dir()]
+    if unknown:
+        sys.exit(f"sentences: there is no crate {unknown[0]}")
     for crate in sys.argv[1:] or sorted(path.name for path in CRATES.iterdir()):
         looked_at = [(file, DEFINITION, "--", "{-#") for file in sorted((CRATES / crate / "specs").glob("*.antt"))]
         if crate in product:

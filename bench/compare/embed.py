@@ -120,7 +120,7 @@ def compared(words, others, given=None):
 
 
 def in_python(loads):
-    sys.path.insert(0, str(EMBED))
+    sys.path[:0] = [str(EMBED), str(TOP / "python")]
     import compare
     import postmig
 
@@ -142,7 +142,7 @@ def in_python(loads):
         asked += [copy.show(postmig.WIRES).splitlines()[1], copy.show(postmig.PAGES, 0, 4096).splitlines()[1:]]
     asked += [postmig.reason(b"start"), postmig.reason(b"strat"), postmig.reason(b"start", transcript=True)[0], postmig.lint(b"start\nround 1\n")]
     asked += [postmig.explain(b"0 load 0x0 8 => value 0x0\n"), postmig.explain(b"0 load 0x0 8 => done\n", every=True)[0]]
-    wanted = [b"Phase", None, b"channel lost, epoch 1", [b"pages source 0 dest 0"], None, NEAR, 1, EXTRA, (False, UNMAPPED), False]
+    wanted = ["Phase", None, b"channel lost, epoch 1", [b"pages source 0 dest 0"], None, NEAR, 1, EXTRA, (False, UNMAPPED), False]
     if asked != wanted:
         sys.exit(f"embed: Python: asked: {asked}")
     with postmig.World() as world:
@@ -191,7 +191,7 @@ def programs(work):
         if said != ["destination: 16 pages as the source stored them", "source: 8 pages owed, 8 discarded", "source: released"]:
             sys.exit(f"embed: two_nodes.c: {said}")
     said = run(sys.executable, EMBED / "compare.py", *SCRIPTS[0]).decode()
-    if said != "all answers agree\n":
+    if said != f"all {len(SCRIPTS[0][1].read_text().splitlines())} answers agree\n":
         sys.exit("embed: compare.py: " + said)
     print("drive.c, two_nodes.c and compare.py say what docs/USING.md says")
 

@@ -21,7 +21,7 @@ import shared  # noqa: F401
 
 import clock
 import page
-from program import PROGRAM, run, stored, written
+from program import PROGRAM, file_at, require, run, stored, written
 
 CPUS = re.compile(r"\.cpus(\d+)\.")
 
@@ -95,8 +95,9 @@ def main():
     parser.add_argument("--cases", type=pathlib.Path)
     parser.add_argument("--pages", type=int)
     parser.add_argument("--runs", type=int, default=3)
-    parser.add_argument("scripts", nargs="*", type=pathlib.Path)
+    parser.add_argument("scripts", nargs="*", type=file_at)
     words = parser.parse_args()
+    require(words.program)
     if words.pages:
         time_pages(words.program, words.pages, words.runs)
         return

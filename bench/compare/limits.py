@@ -23,7 +23,7 @@ import shared  # noqa: F401
 
 import page
 from model.frames import encode
-from program import PROGRAM, pushed
+from program import PROGRAM, pushed, require
 
 GIB = 1 << 30
 MIB = 1 << 20
@@ -294,6 +294,7 @@ def little_memory(folder, rows, failed):
 
 
 def main():
+    require(PROGRAM)
     has_frames = b"frames" in subprocess.run([PROGRAM, "--help"], capture_output=True, check=True).stdout
     rows, failed = [f"Tried on {page.machine()}.\n"], []
     with tempfile.TemporaryDirectory() as folder:

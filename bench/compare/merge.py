@@ -223,6 +223,38 @@ def mutate_all(kept, count):
     print(", ".join(f"{value:,} {name}" for name, value in counts.items()) + " of traces that are changed anywhere")
 
 
+# PROCESSORS THAT ARE WOKEN
+
+WOKEN = """cpu 0 load 0x11000 8 => cpu 0 asleep
+sread => read fault 0x11000 missing
+cpu 1 load 0x11000 8 => cpu 1 asleep
+sread => read fault 0x11000 missing
+cpu 2 dontneed 0x11000 4096 => cpu 2 in call 1
+sread => read remove 0x11000 0x12000, cpu 2 done
+retry 0 => cpu 0 asleep
+sread => read fault 0x11000 missing
+retry 1 => cpu 1 asleep
+sread => read fault 0x11000 missing
+sact => zeroed 0x11000
+retry 0 => cpu 0 value 0x0
+retry 1 => cpu 1 value 0x0
+sact => woke 0x11000
+""".splitlines()
+
+
+def retries():
+    """What is wrong with what is said of a trace in which two processors wait for a page, and of those that lack some of its lines."""
+    wrong = []
+    for missing, text in (((), None), ((8, 9), "trace:6: sread => read remove 0x11000 0x12000, cpu 2 done: processor 1 is woken, and not retried before line 9"),
+                          ((6, 7, 11), "trace:6: sread => read remove 0x11000 0x12000, cpu 2 done: processor 0 is woken, and not retried before line 9"),
+                          ((12,), "trace:11: sact => zeroed 0x11000: processor 1 is woken, and never retried")):
+        lines = [line for number, line in enumerate(WOKEN) if number not in missing]
+        found = merging.never_retried(merging.Trace("trace", merging.SOURCE, "\n".join(lines)))
+        if found != text:
+            wrong.append(f"without the lines {missing}: {found}, and not {text}")
+    return wrong
+
+
 # THE COMMAND LINE
 
 
@@ -266,7 +298,7 @@ def main():
     for line in wrong[:20]:
         print(line)
     mutate_all(kept, 300 if arguments.quick else 5000)
-    wrong_uses = command_line(dict(kept)["lost-before-switch"])
+    wrong_uses = command_line(dict(kept)["lost-before-switch"]) + retries()
     print(*wrong_uses, sep="\n", end="\n" if wrong_uses else "")
     missed = plant_all(arguments.program, kept, 1 if arguments.quick else 10) + len(wrong_uses)
     return 1 if wrong or missed else 0

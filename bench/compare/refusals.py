@@ -24,7 +24,7 @@ import tempfile
 import shared  # noqa: F401
 
 import page
-from program import PROGRAM
+from program import PROGRAM, require
 
 SHIM = page.TOP / "bench" / "sources" / "refuse_growth.c"
 TESTS = ("migration_tests", "guest_tests")
@@ -128,10 +128,12 @@ def try_tests(refuser, pool, crate):
 
 
 def main():
+    crates = sys.argv[1:] or TESTS
+    require(PROGRAM, *(page.TOP / "crates" / it / "out" / f"{it}_tests" for it in crates))
     with tempfile.TemporaryDirectory() as folder, concurrent.futures.ThreadPoolExecutor(2) as pool:
         refuser = Refuser(folder)
         failed = try_scripts(refuser, pool)
-        for crate in sys.argv[1:] or TESTS:
+        for crate in crates:
             failed += try_tests(refuser, pool, crate)
     if failed:
         raise SystemExit(f"{failed} runs went wrong")

@@ -10,6 +10,9 @@ each call behind it, and the transcript is checked. Besides, a run says how ofte
 - `scenes_with_refusals` of migration_tests plays six scenes, from loads and stores to a channel that is lost with three pages in flight.
   Whichever of their growths is refused, exactly one call must answer NoMemory. Only a step that is refused for another reason, which comes
   first, answers that: two steps here grow something before they are refused (PASSED_OVER).
+- `rigs::refusals::each_scene` of thread_tests plays scenes of a rig in one thread: calls, a store that slept, and each worker. Whichever of
+  their growths is refused, each scene ends as it does with enough memory: a call that answered NoMemory has entered nothing, and is made
+  again; a command that slept waits as before, and is finished; a push that was refused is made at the worker's next turn.
 - `a_copy_that_wants_memory` of guest_tests copies two pages. All of the copy is put, or its first page alone, or nothing, each in some run.
 """
 
@@ -25,6 +28,7 @@ import page
 from refusals import Refuser
 
 SCENES = ("migration_tests", "refusals::scenes_with_refusals")
+RIG = ("thread_tests", "rigs::refusals::each_scene")
 COPY = ("guest_tests", "objects::a_copy_that_wants_memory")
 # The growths of the scenes after which no call answers NoMemory: of the transcript, for a load of a processor that there is not, and of the
 # wire back, for an act while an event is unread.
@@ -88,6 +92,7 @@ def main():
     with tempfile.TemporaryDirectory() as folder:
         refuser = Refuser(folder)
         look_at_scenes(each_refused(refuser, *SCENES))
+        print(f"refused: {len(each_refused(refuser, *RIG))} growths of scenes of a rig, each once")
         look_at_copies(each_refused(refuser, *COPY))
 
 

@@ -30,7 +30,7 @@ import shared  # noqa: F401
 from drawing import Drawing
 from model.frames import HEADER, HIGH, LOW, MOST, PAGE, TAGS, encode, header, page_frame, read
 from model.nodes import Destination, Refused
-from program import run
+from program import require, run
 
 SLACK = 16 * 2**20
 
@@ -271,6 +271,7 @@ def main():
     parser.add_argument("--no-memory", action="store_true")
     options = parser.parse_args()
     program = os.path.abspath(options.program)
+    require(program)
     numbers = range(options.streams)
     jobs = [(program, options.seed, numbers[at : at + 500]) for at in range(0, len(numbers), 500)]
     seen = Seen()

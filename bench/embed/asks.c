@@ -7,10 +7,10 @@
 #include <string.h>
 #include "postmig.h"
 
-#define WANT(holds) \
-    if (!(holds)) { \
+#define WANT(holds)                                                         \
+    if (!(holds)) {                                                         \
         fprintf(stderr, "%s:%d: not so: %s\n", __FILE__, __LINE__, #holds); \
-        exit(1); \
+        exit(1);                                                            \
     }
 #define TEXT(text) (const uint8_t *)(text), strlen(text)
 
@@ -18,9 +18,13 @@ enum { ROOM = 1 << 20 };
 static uint8_t out[ROOM], other[ROOM], before[ROOM];
 static size_t written, more, was;
 
-static bool is(const uint8_t *bytes, size_t count, const char *text) { return count == strlen(text) && !memcmp(bytes, text, count); }
+static bool is(const uint8_t *bytes, size_t count, const char *text)
+{
+    return count == strlen(text) && !memcmp(bytes, text, count);
+}
 
-static uint8_t *bytes_of(const char *path, size_t *length) {
+static uint8_t *bytes_of(const char *path, size_t *length)
+{
     FILE *file = fopen(path, "rb");
     WANT(file);
     fseek(file, 0, SEEK_END);
@@ -33,7 +37,8 @@ static uint8_t *bytes_of(const char *path, size_t *length) {
 }
 
 /* the length of the line at a place, in memory of its own, so that the sanitizer sees a read past its end */
-static size_t line_at(const uint8_t *script, size_t length, size_t at, uint8_t **line) {
+static size_t line_at(const uint8_t *script, size_t length, size_t at, uint8_t **line)
+{
     const uint8_t *end = memchr(script + at, '\n', length - at);
     size_t count = end ? (size_t)(end - (script + at)) : length - at;
     *line = malloc(count ? count : 1);
@@ -43,7 +48,8 @@ static size_t line_at(const uint8_t *script, size_t length, size_t at, uint8_t *
 }
 
 /* the answer to a line that would have this status begins so */
-static void agree(uint32_t status, const uint8_t *answer, size_t count) {
+static void agree(uint32_t status, const uint8_t *answer, size_t count)
+{
     uint8_t name[32], wanted[64];
     size_t length;
     if (status == POSTMIG_OK) {
@@ -57,7 +63,8 @@ static void agree(uint32_t status, const uint8_t *answer, size_t count) {
 
 /* Before each line of a script: a question changes nothing, and the line has the same answer in the world and in a copy of it, which is that
    of the question. Returns how many lines were refused. */
-static int each_line(const char *path) {
+static int each_line(const char *path)
+{
     size_t length;
     uint8_t *script = bytes_of(path, &length), *line;
     int refused = 0;
@@ -87,7 +94,8 @@ static int each_line(const char *path) {
     return refused;
 }
 
-static void worlds(void) {
+static void worlds(void)
+{
     postmig_handle world = POSTMIG_NONE, copy = POSTMIG_NONE;
     postmig_frame frame;
     WANT(postmig_world_copy(&world, false, &copy) == POSTMIG_NOT_OPEN && !copy.at && postmig_world_would(&world, TEXT("start")) == POSTMIG_NOT_OPEN);
@@ -113,10 +121,12 @@ static void worlds(void) {
     postmig_free(&copy);
 }
 
-int main(int argc, char **argv) {
+int main(int argc, char **argv)
+{
     int refused = 0;
     worlds();
-    for (int i = 1; i < argc; i++) refused += each_line(argv[i]);
+    for (int i = 1; i < argc; i++)
+        refused += each_line(argv[i]);
     printf("%d scripts: each line has the answer that was asked for before it, and the same in a copy of its world; %d are refused\n", argc - 1, refused);
     return 0;
 }

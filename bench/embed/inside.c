@@ -10,10 +10,10 @@
 #include <string.h>
 #include "postmig.h"
 
-#define WANT(holds) \
-    if (!(holds)) { \
+#define WANT(holds)                                                         \
+    if (!(holds)) {                                                         \
         fprintf(stderr, "%s:%d: not so: %s\n", __FILE__, __LINE__, #holds); \
-        exit(1); \
+        exit(1);                                                            \
     }
 #define TEXT(text) (const uint8_t *)(text), strlen(text)
 
@@ -22,10 +22,14 @@ static uint8_t out[ROOM], other[ROOM];
 static size_t written, more, column;
 static bool clean, flat;
 
-static bool is(const char *text) { return written == strlen(text) && !memcmp(out, text, written); }
+static bool is(const char *text)
+{
+    return written == strlen(text) && !memcmp(out, text, written);
+}
 
 /* the bytes of a file, in memory of their own, so that the sanitizer sees a read past their end */
-static uint8_t *bytes_of(const char *path, size_t *length) {
+static uint8_t *bytes_of(const char *path, size_t *length)
+{
     FILE *file = fopen(path, "rb");
     WANT(file);
     fseek(file, 0, SEEK_END);
@@ -37,16 +41,19 @@ static uint8_t *bytes_of(const char *path, size_t *length) {
     return bytes;
 }
 
-static size_t line_length(const uint8_t *script, size_t length, size_t at) {
+static size_t line_length(const uint8_t *script, size_t length, size_t at)
+{
     const uint8_t *end = memchr(script + at, '\n', length - at);
     return end ? (size_t)(end - (script + at)) : length - at;
 }
 
 /* A line that is wrong has its reason in the listing of it as a whole text; of one that is right nothing is listed. Returns whether it is wrong. */
-static bool one_line(bool transcript, const uint8_t *bytes, size_t length) {
+static bool one_line(bool transcript, const uint8_t *bytes, size_t length)
+{
     uint8_t *line = malloc(length + !length);
     WANT(line);
-    if (length) memcpy(line, bytes, length);
+    if (length)
+        memcpy(line, bytes, length);
     column = 0;
     uint32_t status = postmig_line_reason(transcript, line, length, &column, out, ROOM, &written);
     WANT(postmig_lint(transcript, line, length, &clean, other, ROOM, &more) == POSTMIG_OK);
@@ -69,7 +76,8 @@ static bool one_line(bool transcript, const uint8_t *bytes, size_t length) {
     return status != POSTMIG_OK;
 }
 
-static void lines(void) {
+static void lines(void)
+{
     char longest[257];
     memset(longest, ' ', sizeof longest);
     memcpy(longest, "start", 5);
@@ -89,7 +97,8 @@ static void lines(void) {
     WANT(postmig_lint(false, NULL, 0, &clean, NULL, 0, &written) == POSTMIG_OK && clean && !written);
 }
 
-static void worlds(void) {
+static void worlds(void)
+{
     postmig_handle world = POSTMIG_NONE;
     WANT(postmig_world_show(&world, POSTMIG_ALL, 0, UINT64_MAX, out, ROOM, &written) == POSTMIG_NOT_OPEN && !world.at);
     WANT(postmig_frames_new(&world) == POSTMIG_OK);
@@ -107,7 +116,8 @@ static void worlds(void) {
 }
 
 /* A world's texts begin with its progress, and that of all is the others, one after the other. Nothing of the world changes. */
-static void shown(postmig_handle *world) {
+static void shown(postmig_handle *world)
+{
     static uint8_t progress[256], answer[ROOM];
     postmig_handle copy = POSTMIG_NONE;
     postmig_counts counts, after;
@@ -129,7 +139,8 @@ static void shown(postmig_handle *world) {
 
 /* Each line of a script is right, and what is left of it when its end is cut off is right or has a reason; its world is looked at after each.
    Returns how many such parts are wrong. */
-static int each_line(const uint8_t *script, size_t length) {
+static int each_line(const uint8_t *script, size_t length)
+{
     postmig_handle world = POSTMIG_NONE;
     int wrong = 0;
     WANT(postmig_lint(false, script, length, &clean, out, ROOM, &written) == POSTMIG_OK && clean && !written);
@@ -137,7 +148,8 @@ static int each_line(const uint8_t *script, size_t length) {
     for (size_t at = 0, count; at < length; at += count + 1) {
         count = line_length(script, length, at);
         WANT(!one_line(false, script + at, count));
-        for (size_t part = 1; part < count; part++) wrong += one_line(false, script + at, part);
+        for (size_t part = 1; part < count; part++)
+            wrong += one_line(false, script + at, part);
         WANT(postmig_world_line(&world, script + at, count, out, ROOM, &written) == POSTMIG_OK);
         shown(&world);
     }
@@ -146,7 +158,8 @@ static int each_line(const uint8_t *script, size_t length) {
 }
 
 /* The first line of an explanation is the verdict, and of each other line it is known what it belongs to. */
-static void explained(bool all, const uint8_t *transcript, size_t length) {
+static void explained(bool all, const uint8_t *transcript, size_t length)
+{
     bool checked;
     WANT(postmig_check(transcript, length, &checked, other, ROOM, &more) == POSTMIG_OK);
     WANT(postmig_explain(all, transcript, length, &flat, out, ROOM, &written) == POSTMIG_OK && flat == checked);
@@ -163,20 +176,23 @@ static void explained(bool all, const uint8_t *transcript, size_t length) {
 }
 
 /* The transcript of a script is flat, and with another reply to one load it is not. Returns how many loads there are. */
-static int replies(const uint8_t *script, size_t length) {
+static int replies(const uint8_t *script, size_t length)
+{
     static uint8_t text[ROOM];
     size_t count;
     int loads = 0;
     WANT(postmig_run(2, true, script, length, text, ROOM, &count) == POSTMIG_OK);
     uint8_t *transcript = malloc(count + !count);
     WANT(transcript);
-    if (count) memcpy(transcript, text, count);
+    if (count)
+        memcpy(transcript, text, count);
     explained(false, transcript, count);
     WANT(flat);
     for (size_t at = 0, part; at < count; at += part + 1) {
         part = line_length(transcript, count, at);
         uint8_t *last = transcript + at + part - 1;
-        if (!part || !memmem(transcript + at, part, "=> value", 8)) continue;
+        if (!part || !memmem(transcript + at, part, "=> value", 8))
+            continue;
         uint8_t had = *last;
         *last = had == '0' ? '1' : '0';
         explained(false, transcript, count);
@@ -196,7 +212,8 @@ static int replies(const uint8_t *script, size_t length) {
 }
 
 /* Writes what the program would. */
-static void show(size_t count, uint32_t what, const uint8_t *script, size_t length) {
+static void show(size_t count, uint32_t what, const uint8_t *script, size_t length)
+{
     postmig_handle world = POSTMIG_NONE;
     WANT(postmig_world_new(2, false, &world) == POSTMIG_OK);
     for (size_t at = 0, part; count && at < length; at += part + 1, count--) {
@@ -207,7 +224,8 @@ static void show(size_t count, uint32_t what, const uint8_t *script, size_t leng
     postmig_free(&world);
 }
 
-static bool asked(char **words) {
+static bool asked(char **words)
+{
     size_t length;
     uint8_t *bytes;
     if (!strcmp(words[0], "show")) {
@@ -227,9 +245,11 @@ static bool asked(char **words) {
     return true;
 }
 
-int main(int argc, char **argv) {
+int main(int argc, char **argv)
+{
     int wrong = 0, loads = 0;
-    if (argc > 2 && asked(argv + 1)) return 0;
+    if (argc > 2 && asked(argv + 1))
+        return 0;
     lines();
     worlds();
     for (int i = 1; i < argc; i++) {

@@ -8,14 +8,15 @@
 #include <time.h>
 #include "postmig.h"
 
-#define WANT(holds) \
-    if (!(holds)) { \
+#define WANT(holds)                                                         \
+    if (!(holds)) {                                                         \
         fprintf(stderr, "%s:%d: not so: %s\n", __FILE__, __LINE__, #holds); \
-        exit(1); \
+        exit(1);                                                            \
     }
 #define TEXT(text) (const uint8_t *)(text), strlen(text)
 
-static uint8_t *bytes_of(const char *path, size_t *length) {
+static uint8_t *bytes_of(const char *path, size_t *length)
+{
     FILE *file = fopen(path, "rb");
     WANT(file);
     fseek(file, 0, SEEK_END);
@@ -27,7 +28,8 @@ static uint8_t *bytes_of(const char *path, size_t *length) {
     return bytes;
 }
 
-static void one_script(const char *path, const char *stored) {
+static void one_script(const char *path, const char *stored)
+{
     size_t length, wanted, got = 0, written = 0;
     uint8_t *script = bytes_of(path, &length), *answers = bytes_of(stored, &wanted), out[8192];
     postmig_handle world = POSTMIG_NONE;
@@ -60,7 +62,8 @@ static void one_script(const char *path, const char *stored) {
     free(transcript);
 }
 
-static void worlds(void) {
+static void worlds(void)
+{
     uint8_t out[256];
     size_t written = 99;
     bool is_flat = true;
@@ -98,26 +101,29 @@ static void worlds(void) {
 }
 
 /* Advise; Zero of page 0x10; Run of the pages 0x10 and 0x11; End with 0x01020304 urgent frames */
-static size_t stream(uint8_t *bytes) {
+static size_t stream(uint8_t *bytes)
+{
     static const uint8_t heads[][20] = {
-        {2, 1, 0, 0, 0, 0, 0, 1, 0, 0, 0, 0},
-        {2, 3, 0, 0, 0, 0, 0, 1, 0, 0, 0, 4, 0, 0, 0, 16},
-        {2, 8, 0, 0, 0, 0, 0, 1, 0, 0, 0x20, 8, 0, 0, 0, 16, 0, 0, 0, 2},
-        {2, 6, 0, 0, 10, 11, 12, 13, 0, 0, 0, 4, 1, 2, 3, 4},
+        { 2, 1, 0, 0, 0, 0, 0, 1, 0, 0, 0, 0 },
+        { 2, 3, 0, 0, 0, 0, 0, 1, 0, 0, 0, 4, 0, 0, 0, 16 },
+        { 2, 8, 0, 0, 0, 0, 0, 1, 0, 0, 0x20, 8, 0, 0, 0, 16, 0, 0, 0, 2 },
+        { 2, 6, 0, 0, 10, 11, 12, 13, 0, 0, 0, 4, 1, 2, 3, 4 },
     };
-    static const size_t heads_len[] = {12, 16, 20, 16}, bodies[] = {0, 0, 8192, 0};
+    static const size_t heads_len[] = { 12, 16, 20, 16 }, bodies[] = { 0, 0, 8192, 0 };
     size_t length = 0;
     for (int i = 0; i < 4; i++) {
         memcpy(bytes + length, heads[i], heads_len[i]);
         length += heads_len[i];
-        for (size_t k = 0; k < bodies[i]; k++) bytes[length++] = (uint8_t)(k * 7 + k / 256);
+        for (size_t k = 0; k < bodies[i]; k++)
+            bytes[length++] = (uint8_t)(k * 7 + k / 256);
     }
     return length;
 }
 
-static void frames(void) {
+static void frames(void)
+{
     static uint8_t bytes[16384], got[16384], out[16384];
-    static const postmig_frame wanted[] = {{1, 1, 0, 0}, {3, 1, 0x10000, 1}, {8, 1, 0x10000, 2}, {6, 0x0a0b0c0d, 0, 0x01020304}};
+    static const postmig_frame wanted[] = { { 1, 1, 0, 0 }, { 3, 1, 0x10000, 1 }, { 8, 1, 0x10000, 2 }, { 6, 0x0a0b0c0d, 0, 0x01020304 } };
     size_t length = stream(bytes), written;
     postmig_frame frame;
     postmig_counts counts;
@@ -157,8 +163,12 @@ static void frames(void) {
         WANT(postmig_frames_next(&open, &frame, got, sizeof got, &written) == POSTMIG_BAD_LENGTH);
         WANT(postmig_frames_feed(&open, bytes, 12) == POSTMIG_OK);
     }
-    static const struct { const char *bytes; uint32_t fault; } faulty[] = {
-        {"\1\10\0\0\0\0\0\1\0\0\20\10", POSTMIG_BAD_TAG}, {"\2\1\0\1\0\0\0\1\0\0\0\0", POSTMIG_BAD_FIELD}};
+    static const struct {
+        const char *bytes;
+        uint32_t fault;
+    } faulty[] = {
+        { "\1\10\0\0\0\0\0\1\0\0\20\10", POSTMIG_BAD_TAG }, { "\2\1\0\1\0\0\0\1\0\0\0\0", POSTMIG_BAD_FIELD }
+    };
     for (int i = 0; i < 2; i++) {
         WANT(postmig_frames_new(&open) == POSTMIG_OK && postmig_frames_feed(&open, (const uint8_t *)faulty[i].bytes, 12) == POSTMIG_OK);
         WANT(postmig_frames_next(&open, &frame, got, sizeof got, &written) == faulty[i].fault);
@@ -168,28 +178,33 @@ static void frames(void) {
     postmig_free(&open);
 }
 
-static double now(void) {
+static double now(void)
+{
     struct timespec time;
     clock_gettime(CLOCK_MONOTONIC, &time);
     return (double)time.tv_sec + (double)time.tv_nsec * 1e-9;
 }
 
-static void loads(size_t count) {
+static void loads(size_t count)
+{
     uint8_t out[256];
     size_t written = 0;
     postmig_handle world = POSTMIG_NONE;
     WANT(postmig_world_new(2, false, &world) == POSTMIG_OK);
     WANT(postmig_world_line(&world, TEXT("cpu 0 mmap 65536 rw"), out, sizeof out, &written) == POSTMIG_OK);
     double begun = now();
-    for (size_t i = 0; i < count; i++) WANT(postmig_world_line(&world, TEXT("cpu 0 load 0x10000 8"), out, sizeof out, &written) == POSTMIG_OK);
+    for (size_t i = 0; i < count; i++)
+        WANT(postmig_world_line(&world, TEXT("cpu 0 load 0x10000 8"), out, sizeof out, &written) == POSTMIG_OK);
     printf("%zu loads: %.3f s\n", count, now() - begun);
     postmig_free(&world);
 }
 
-int main(int argc, char **argv) {
+int main(int argc, char **argv)
+{
     worlds();
     frames();
-    for (int i = 2; i + 1 < argc; i += 2) one_script(argv[i], argv[i + 1]);
+    for (int i = 2; i + 1 < argc; i += 2)
+        one_script(argv[i], argv[i + 1]);
     printf("%d scripts agree\n", (argc - 2) / 2);
     loads(argc > 1 ? strtoul(argv[1], NULL, 10) : 0);
     return 0;

@@ -10,25 +10,28 @@
 #include <string.h>
 #include "postmig_node.h"
 
-#define WANT(holds) \
-    if (!(holds)) { \
+#define WANT(holds)                                                                                 \
+    if (!(holds)) {                                                                                 \
         fprintf(stderr, "%s:%d: not so at allocation %ld: %s\n", __FILE__, __LINE__, turn, #holds); \
-        exit(1); \
+        exit(1);                                                                                    \
     }
 /* the call is made again where memory is refused, and then does what it says */
-#define DO(call) \
-    do { \
-        uint32_t status_; \
-        while ((status_ = (call)) == POSTMIG_NO_MEMORY) WANT(refused); \
-        if (status_ != POSTMIG_OK) fprintf(stderr, "status %u\n", status_); \
-        WANT(status_ == POSTMIG_OK); \
-        take_lines(); \
+#define DO(call)                                        \
+    do {                                                \
+        uint32_t status_;                               \
+        while ((status_ = (call)) == POSTMIG_NO_MEMORY) \
+            WANT(refused);                              \
+        if (status_ != POSTMIG_OK)                      \
+            fprintf(stderr, "status %u\n", status_);    \
+        WANT(status_ == POSTMIG_OK);                    \
+        take_lines();                                   \
     } while (0)
-#define SAYS(call, status) \
-    do { \
-        uint32_t status_; \
-        while ((status_ = (call)) == POSTMIG_NO_MEMORY) WANT(refused); \
-        WANT(status_ == (status)); \
+#define SAYS(call, status)                              \
+    do {                                                \
+        uint32_t status_;                               \
+        while ((status_ = (call)) == POSTMIG_NO_MEMORY) \
+            WANT(refused);                              \
+        WANT(status_ == (status));                      \
     } while (0)
 
 /* the allocations before the one that is refused, -1 for none; whether it was; the blocks that are not freed */
@@ -38,23 +41,34 @@ void *__real_malloc(size_t size);
 void *__real_realloc(void *block, size_t size);
 void __real_free(void *block);
 
-static bool refuses(void) {
-    if (left < 0 || left-- > 0) return false;
+static bool refuses(void)
+{
+    if (left < 0 || left-- > 0)
+        return false;
     refused = true;
     return true;
 }
-void *__wrap_malloc(size_t size) {
-    if (refuses()) return NULL;
+void *__wrap_malloc(size_t size)
+{
+    if (refuses())
+        return NULL;
     live++;
     return __real_malloc(size);
 }
-void *__wrap_realloc(void *block, size_t size) { return refuses() ? NULL : __real_realloc(block, size); }
-void __wrap_free(void *block) {
-    if (block) live--;
+void *__wrap_realloc(void *block, size_t size)
+{
+    return refuses() ? NULL : __real_realloc(block, size);
+}
+void __wrap_free(void *block)
+{
+    if (block)
+        live--;
     __real_free(block);
 }
 
-enum { BASE = 0x100000, PAGES = 8, ROOM = 4096 };
+enum { BASE = 0x100000,
+       PAGES = 8,
+       ROOM = 4096 };
 static postmig_handle source, destination;
 static postmig_effect effect;
 static uint8_t text[ROOM];
@@ -65,27 +79,38 @@ static size_t script_length;
 static bool traced;
 
 /* Takes the lines that wait in the trace of a node. */
-static void take_lines_of(postmig_handle *node) {
+static void take_lines_of(postmig_handle *node)
+{
     size_t taken;
     do {
         uint32_t status;
-        while ((status = postmig_node_trace_take(node, script + script_length, sizeof script - script_length, &taken)) == POSTMIG_NO_MEMORY) WANT(refused);
+        while ((status = postmig_node_trace_take(node, script + script_length, sizeof script - script_length, &taken)) == POSTMIG_NO_MEMORY)
+            WANT(refused);
         WANT(status == POSTMIG_OK);
         script_length += taken;
     } while (taken);
 }
 
-static void take_lines(void) {
-    if (!traced) return;
+static void take_lines(void)
+{
+    if (!traced)
+        return;
     take_lines_of(&source);
     take_lines_of(&destination);
 }
 
-static postmig_command load(uint64_t addr) { return (postmig_command){.kind = POSTMIG_LOAD, .width = 8, .addr = addr}; }
-static postmig_command store(uint64_t addr) { return (postmig_command){.kind = POSTMIG_STORE, .width = 8, .addr = addr}; }
+static postmig_command load(uint64_t addr)
+{
+    return (postmig_command){ .kind = POSTMIG_LOAD, .width = 8, .addr = addr };
+}
+static postmig_command store(uint64_t addr)
+{
+    return (postmig_command){ .kind = POSTMIG_STORE, .width = 8, .addr = addr };
+}
 
 /* The frames that the source sent come to the destination. */
-static void deliver(void) {
+static void deliver(void)
+{
     DO(postmig_node_frame(&source, text, sizeof text, &length));
     for (size_t at = 0; at < length; at += head) {
         DO(postmig_frame_lengths(text + at, length - at, &head, &pages));
@@ -99,7 +124,8 @@ static void deliver(void) {
 }
 
 /* The frames that the destination sent come back. */
-static void deliver_back(void) {
+static void deliver_back(void)
+{
     DO(postmig_node_frame(&destination, text, sizeof text, &length));
     for (size_t at = 0; at < length; at += head) {
         DO(postmig_frame_lengths(text + at, length - at, &head, &pages));
@@ -107,18 +133,36 @@ static void deliver_back(void) {
     }
 }
 
-static void not_open(void) {
+static void not_open(void)
+{
     uint32_t number, other;
+    postmig_pages like;
+    postmig_processor processor;
     postmig_source_state from;
     postmig_destination_state to;
     postmig_command command = load(BASE);
     postmig_handle *it = &source;
     uint32_t (*steps[])(postmig_handle *, postmig_effect *) = {
-        postmig_source_start, postmig_source_round, postmig_source_send, postmig_source_read, postmig_source_act, postmig_source_switch, postmig_source_serve,
-        postmig_source_end, postmig_source_notice, postmig_source_resume, postmig_destination_read, postmig_destination_act, postmig_destination_install,
-        postmig_destination_notice, postmig_source_next_act, postmig_destination_next_act, postmig_destination_next_install,
+        postmig_source_start,
+        postmig_source_round,
+        postmig_source_send,
+        postmig_source_read,
+        postmig_source_act,
+        postmig_source_switch,
+        postmig_source_serve,
+        postmig_source_end,
+        postmig_source_notice,
+        postmig_source_resume,
+        postmig_destination_read,
+        postmig_destination_act,
+        postmig_destination_install,
+        postmig_destination_notice,
+        postmig_source_next_act,
+        postmig_destination_next_act,
+        postmig_destination_next_install,
     };
-    for (size_t i = 0; i < sizeof steps / sizeof *steps; i++) WANT(steps[i](it, &effect) == POSTMIG_NOT_OPEN);
+    for (size_t i = 0; i < sizeof steps / sizeof *steps; i++)
+        WANT(steps[i](it, &effect) == POSTMIG_NOT_OPEN);
     WANT(postmig_source_issue(it, 0, &command, &effect) == POSTMIG_NOT_OPEN && postmig_destination_issue(it, 0, &command, &effect) == POSTMIG_NOT_OPEN);
     WANT(postmig_source_retry(it, 0, &effect) == POSTMIG_NOT_OPEN && postmig_destination_retry(it, 0, &effect) == POSTMIG_NOT_OPEN);
     WANT(postmig_source_run_sent(it, 1, &effect) == POSTMIG_NOT_OPEN && postmig_source_next_run(it, 1, &number, &other) == POSTMIG_NOT_OPEN);
@@ -128,14 +172,37 @@ static void not_open(void) {
     WANT(postmig_destination_take(it, text, 12, &effect) == POSTMIG_NOT_OPEN && postmig_destination_take_urgent(it, text, 16, &effect) == POSTMIG_NOT_OPEN);
     WANT(postmig_destination_counts(it, &to) == POSTMIG_NOT_OPEN && postmig_destination_home(it, 16, &number) == POSTMIG_NOT_OPEN);
     WANT(postmig_destination_install_run(it, 1, &effect, &number) == POSTMIG_NOT_OPEN);
+    WANT(postmig_destination_pages(it, 16, &like) == POSTMIG_NOT_OPEN && postmig_node_processor(it, 0, &processor) == POSTMIG_NOT_OPEN);
     WANT(postmig_node_frame(it, text, sizeof text, &length) == POSTMIG_NOT_OPEN);
     WANT(postmig_node_trace_count(it, &length) == POSTMIG_NOT_OPEN);
     WANT(postmig_node_trace(it, true) == POSTMIG_NOT_OPEN && postmig_node_trace_take(it, text, sizeof text, &length) == POSTMIG_NOT_OPEN);
 }
 
+/* What a processor of a node does. */
+static void does(postmig_handle *node, uint8_t cpu, uint32_t state, uint32_t messages, uint32_t kind, uint64_t addr)
+{
+    postmig_processor now;
+    DO(postmig_node_processor(node, cpu, &now));
+    WANT(now.state == state && now.messages == messages && now.command.kind == kind && now.command.addr == addr && now.command.width == (kind ? 8 : 0));
+}
+
+/* The runs of pages that the destination has, from the first one on. */
+static void has(const uint32_t (*runs)[3], size_t count)
+{
+    uint32_t from = 0;
+    postmig_pages like;
+    for (size_t i = 0; i < count; i++, from += like.count) {
+        DO(postmig_destination_pages(&destination, from, &like));
+        WANT(like.count == runs[i][0] && like.prot == runs[i][1] && like.state == runs[i][2]);
+    }
+    WANT(from == 0x100000);
+    SAYS(postmig_destination_pages(&destination, from, &like), POSTMIG_NO_PAGE);
+}
+
 /* A trace that is off, on without a line, on with one, on twice, and off again. */
-static void traces(void) {
-    postmig_command map = {.kind = POSTMIG_MMAP, .length = 4096, .prot = POSTMIG_PROT_READ, .place = POSTMIG_ANYWHERE};
+static void traces(void)
+{
+    postmig_command map = { .kind = POSTMIG_MMAP, .length = 4096, .prot = POSTMIG_PROT_READ, .place = POSTMIG_ANYWHERE };
     const char line[] = "cpu 1 mmap 4096 r => cpu 1 at 0x10000\n";
     size_t waiting = 1;
     DO(postmig_source_new(2, 0, 0, &source));
@@ -166,7 +233,8 @@ static void traces(void) {
     postmig_free(&source);
 }
 
-static void start(void) {
+static void start(void)
+{
     SAYS(postmig_source_new(0, 0, 0, &source), POSTMIG_NO_CPU);
     SAYS(postmig_destination_new(17, &destination), POSTMIG_NO_CPU);
     DO(postmig_source_new(2, 0, 0, &source));
@@ -174,7 +242,7 @@ static void start(void) {
     DO(postmig_node_trace(&source, true));
     DO(postmig_node_trace(&destination, true));
     traced = true;
-    postmig_command map = {.kind = POSTMIG_MMAP, .length = 2 * PAGES * 4096, .prot = POSTMIG_PROT_READ_WRITE, .place = POSTMIG_FIXED, .target = BASE};
+    postmig_command map = { .kind = POSTMIG_MMAP, .length = 2 * PAGES * 4096, .prot = POSTMIG_PROT_READ_WRITE, .place = POSTMIG_FIXED, .target = BASE };
     DO(postmig_source_issue(&source, 0, &map, &effect));
     WANT(effect.kind == POSTMIG_DID_ANSWER && effect.reply == POSTMIG_REPLY_AT && effect.value == BASE);
     map.kind = 7;
@@ -199,7 +267,8 @@ static void start(void) {
     SAYS(postmig_node_frame(&destination, text, sizeof text, &length), POSTMIG_NO_FRAME);
 }
 
-static void precopy(void) {
+static void precopy(void)
+{
     uint32_t first, count;
     DO(postmig_source_round(&source, &effect));
     WANT(effect.kind == POSTMIG_DID_ROUND && effect.number == 1 && effect.count == PAGES);
@@ -239,25 +308,43 @@ static void precopy(void) {
     WANT(effect.kind == POSTMIG_DID_ANSWER && effect.cpu == 1 && effect.reply == POSTMIG_REPLY_DONE);
     SAYS(postmig_source_act(&source, &effect), POSTMIG_REFUSED_NOTHING_THERE);
     /* an event */
-    postmig_command clear = {.kind = POSTMIG_DONTNEED, .addr = BASE + 7 * 4096, .length = 4096};
+    postmig_command clear = { .kind = POSTMIG_DONTNEED, .addr = BASE + 7 * 4096, .length = 4096 };
     DO(postmig_source_issue(&source, 0, &clear, &effect));
     WANT(effect.kind == POSTMIG_DID_ENTER_CALL && effect.count == 1);
+    does(&source, 0, POSTMIG_PROCESSOR_IN_CALL, 1, 0, 0);
     SAYS(postmig_source_next_run(&source, 4, &first, &count), POSTMIG_REFUSED_CHANGING);
     SAYS(postmig_source_switch(&source, &effect), POSTMIG_REFUSED_CHANGING);
     DO(postmig_source_read(&source, &effect));
     WANT(effect.kind == POSTMIG_DID_READ_LAST && effect.number == POSTMIG_EVENT_REMOVE && effect.addr == BASE + 7 * 4096 && effect.other == BASE + 8 * 4096 && effect.reply == POSTMIG_REPLY_DONE);
 }
 
-static void switched(void) {
+static void switched(void)
+{
+    static const uint32_t none[][3] = { { 0x100000, 0, POSTMIG_PAGE_UNMAPPED } };
+    static const uint32_t runs[][3] = {
+        { BASE / 4096, 0, POSTMIG_PAGE_UNMAPPED },
+        { 1, POSTMIG_PROT_READ_WRITE, POSTMIG_PAGE_PRESENT },
+        { 1, POSTMIG_PROT_READ_WRITE, POSTMIG_PAGE_OWED },
+        { 3, POSTMIG_PROT_READ_WRITE, POSTMIG_PAGE_PRESENT },
+        { 2, POSTMIG_PROT_READ_WRITE, POSTMIG_PAGE_OWED },
+        { 9, POSTMIG_PROT_READ_WRITE, POSTMIG_PAGE_MISSING },
+        { 0x100000 - BASE / 4096 - 16, 0, POSTMIG_PAGE_UNMAPPED },
+    };
+    postmig_processor other;
     DO(postmig_source_switch(&source, &effect));
     WANT(effect.kind == POSTMIG_DID_SWITCH && effect.count == 3 && effect.number == 1);
+    has(none, 1);
     deliver();
     WANT(effect.kind == POSTMIG_DID_TAKE_PACKAGE && effect.count == 3);
+    has(runs, sizeof runs / sizeof *runs);
+    does(&destination, 0, POSTMIG_PROCESSOR_IDLE, 0, 0, 0);
+    SAYS(postmig_node_processor(&destination, 2, &other), POSTMIG_REFUSED_NO_CPU);
     /* a fault on an owed page */
     postmig_command write = store(BASE + 4096);
     uint32_t page;
     DO(postmig_destination_issue(&destination, 0, &write, &effect));
     WANT(effect.kind == POSTMIG_DID_SLEEP);
+    does(&destination, 0, POSTMIG_PROCESSOR_ASLEEP, 0, POSTMIG_STORE, BASE + 4096);
     DO(postmig_destination_read(&destination, &effect));
     DO(postmig_destination_next_act(&destination, &effect));
     WANT(effect.kind == POSTMIG_DID_REQUEST && effect.addr == BASE + 4096 && effect.other == BASE + 4096);
@@ -278,13 +365,15 @@ static void switched(void) {
     DO(postmig_destination_next_install(&destination, &effect));
     WANT(effect.kind == POSTMIG_DID_INSTALL && effect.addr == BASE + 4096 && effect.other == BASE + 4096);
     DO(postmig_destination_install(&destination, &effect));
+    does(&destination, 0, POSTMIG_PROCESSOR_WOKEN, 0, POSTMIG_STORE, BASE + 4096);
     DO(postmig_destination_retry(&destination, 0, &effect));
     WANT(effect.kind == POSTMIG_DID_ANSWER && effect.reply == POSTMIG_REPLY_DONE);
     SAYS(postmig_destination_next_install(&destination, &effect), POSTMIG_REFUSED_NOTHING_THERE);
 }
 
 /* Installs the copies that wait, and one more: where memory is refused the call has made those before. Returns their number. */
-static uint32_t install_all(uint32_t waiting) {
+static uint32_t install_all(uint32_t waiting)
+{
     uint32_t made = 0, sum = 0, status = POSTMIG_NO_MEMORY;
     for (; status == POSTMIG_NO_MEMORY; sum += made) {
         WANT(!sum || refused);
@@ -295,7 +384,8 @@ static uint32_t install_all(uint32_t waiting) {
     return sum;
 }
 
-static void resumed(void) {
+static void resumed(void)
+{
     uint32_t page = 0, count = 0;
     memcpy(script + script_length, "break\n", 6);
     script_length += 6;
@@ -326,7 +416,8 @@ static void resumed(void) {
     WANT(effect.kind == POSTMIG_DID_TAKE_DONE);
 }
 
-static void last(void) {
+static void last(void)
+{
     postmig_source_state from;
     postmig_destination_state to;
     DO(postmig_source_counts(&source, &from));
@@ -334,7 +425,8 @@ static void last(void) {
     WANT(from.phase == POSTMIG_SOURCE_RELEASED && from.switched == 1 && from.epoch == 2 && from.rounds == 1 && from.remaining == 0 && from.pages_sent == 8 && from.faults == 1);
     WANT(to.phase == POSTMIG_DESTINATION_ENDED && to.has_run == 1 && to.epoch == 2 && to.owed == 0 && to.arrivals == 0 && to.installed == 3 && to.faults == 1);
     uint32_t status;
-    while ((status = postmig_source_push(&source, 2, 16, &effect)) == POSTMIG_NO_MEMORY) WANT(refused); /* room for a line comes first */
+    while ((status = postmig_source_push(&source, 2, 16, &effect)) == POSTMIG_NO_MEMORY)
+        WANT(refused); /* room for a line comes first */
     DO(postmig_refusal_name(status, text, sizeof text, &length));
     WANT(length == 5 && !memcmp(text, "Phase", 5));
     SAYS(postmig_refusal_name(POSTMIG_NO_MEMORY, text, sizeof text, &length), POSTMIG_NOT_A_LINE);
@@ -344,7 +436,8 @@ static void last(void) {
     postmig_free(&destination);
 }
 
-static void migrate(void) {
+static void migrate(void)
+{
     script_length = 0;
     not_open();
     traces();
@@ -356,7 +449,8 @@ static void migrate(void) {
     not_open();
 }
 
-int main(int argc, char **argv) {
+int main(int argc, char **argv)
+{
     (void)argv;
     migrate();
     WANT(!refused && live == 0);
@@ -375,7 +469,8 @@ int main(int argc, char **argv) {
         left = -1;
         WANT(live == 0);
         WANT(script_length == first_length && !memcmp(script, first, first_length));
-        if (!refused) break;
+        if (!refused)
+            break;
     }
     printf("nodes of their own: each call, and %ld allocations refused, one at a time: no other answer, no other trace, no leak\n", turn);
     return 0;

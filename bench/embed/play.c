@@ -11,7 +11,9 @@
 
 #include <postmig_node.h>
 
-enum { PAGE = 4096, MOST_WORDS = 12, ROOM = 8 << 20 };
+enum { PAGE = 4096,
+       MOST_WORDS = 12,
+       ROOM = 8 << 20 };
 
 static postmig_handle node;
 static postmig_effect effect;
@@ -78,7 +80,8 @@ static bool is(const char *word, const char *other)
 
 static uint32_t protection(const char *word)
 {
-    return is(word, "none") ? POSTMIG_PROT_NONE : is(word, "r") ? POSTMIG_PROT_READ : POSTMIG_PROT_READ_WRITE;
+    return is(word, "none") ? POSTMIG_PROT_NONE : is(word, "r") ? POSTMIG_PROT_READ
+                                                                : POSTMIG_PROT_READ_WRITE;
 }
 
 /* `words` are those from the name of the command on; after them comes a NULL. */
@@ -179,10 +182,7 @@ static uint32_t source_step(char **words, struct wire *back)
     static const struct {
         const char *name;
         uint32_t (*step)(postmig_handle *, postmig_effect *);
-    } steps[] = { { "start", postmig_source_start }, { "round", postmig_source_round }, { "send", postmig_source_send },
-                  { "sread", postmig_source_read },  { "sact", postmig_source_act },    { "switch", postmig_source_switch },
-                  { "serve", postmig_source_serve }, { "end", postmig_source_end },     { "notice", postmig_source_notice },
-                  { "resume", postmig_source_resume } };
+    } steps[] = { { "start", postmig_source_start }, { "round", postmig_source_round }, { "send", postmig_source_send }, { "sread", postmig_source_read }, { "sact", postmig_source_act }, { "switch", postmig_source_switch }, { "serve", postmig_source_serve }, { "end", postmig_source_end }, { "notice", postmig_source_notice }, { "resume", postmig_source_resume } };
 
     for (size_t i = 0; i < sizeof steps / sizeof *steps; i++)
         if (is(words[0], steps[i].name))

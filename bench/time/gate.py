@@ -13,6 +13,7 @@ processes five times a second, so that the end of each process is missing.
 import collections
 import os
 import resource
+import shutil
 import subprocess
 import sys
 import threading
@@ -180,6 +181,8 @@ def main():
         return
     writes = words[:1] == ["--write"]
     command = words[writes:] or ["rt", "ci"]
+    if not shutil.which(command[0]):
+        sys.exit(f"gate: there is no program {command[0]}")
     status, clock, user, seen = watched(command)
     text = "\n".join(ledger(" ".join(command), clock, user, seen)) + "\n"
     print(text, end="")

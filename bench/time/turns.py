@@ -28,6 +28,7 @@ import shared  # noqa: F401
 
 import clock
 import page
+from program import file_at
 from bench import CASES
 from migration import WORK
 
@@ -194,8 +195,8 @@ def copied(folder, programs):
 
 def asked():
     parser = argparse.ArgumentParser(description="Compares two builds of a program on the same scripts, in turns.")
-    parser.add_argument("programs", nargs="*", metavar="PROGRAM", help="two postmig programs, before and after")
-    parser.add_argument("--bench", nargs=2, metavar=("BEFORE", "AFTER"), help="two programs that time the codec")
+    parser.add_argument("programs", nargs="*", type=file_at, metavar="PROGRAM", help="two postmig programs, before and after")
+    parser.add_argument("--bench", nargs=2, type=file_at, metavar=("BEFORE", "AFTER"), help="two programs that time the codec")
     parser.add_argument("--runs", type=int, default=20, metavar="N", help="the runs of each script")
     arguments = parser.parse_args()
     if len(arguments.programs) not in (0, 2) or not (arguments.programs or arguments.bench) or arguments.runs < 1:

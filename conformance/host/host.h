@@ -18,15 +18,20 @@ _Noreturn void die(const char *format, ...) __attribute__((format(printf, 1, 2))
 void answer(const char *format, ...) __attribute__((format(printf, 1, 2)));
 void answer_result(int result); // of a system call: ok, or refused with the name of errno
 uint64_t number(const char *word);
-double now(void); // milliseconds
+double now(void);    // milliseconds
 extern int patience; // milliseconds that a thread may take to end or to fall asleep
 
 // calls.c: the commands of a processor, spelled as in a script
-enum kind { LOAD, STORE, MMAP, MUNMAP, MREMAP, DONTNEED };
+enum kind { LOAD,
+            STORE,
+            MMAP,
+            MUNMAP,
+            MREMAP,
+            DONTNEED };
 struct call {
-  enum kind kind;
-  uint64_t addr, length, width, value, new_length, target;
-  int protection, flags;
+    enum kind kind;
+    uint64_t addr, length, width, value, new_length, target;
+    int protection, flags;
 };
 int parse_call(char **words, int count, struct call *call); // 0 where it is not a command
 long map_call(const struct call *call);                     // its value, or minus its errno

@@ -18,7 +18,7 @@ import time
 from model import frames
 
 from .duties import FRAMES, RESOLVE
-from .errors import Finding, Wrong
+from .errors import Wrong
 from .guest import Event
 from .handling import MOST_SLEEPS, Handling
 from .host import number_range

@@ -2,6 +2,8 @@
 
 single-calls has a block for each: its sentence, and the commands of the host protocol with the answers that show it."""
 
+import time
+
 from .host import Host
 from .pages import PAGE
 from .settings import FOLDER, Record
@@ -36,6 +38,18 @@ def wrong_answer(settings, commands):
     return None
 
 
+def messages_of(host, count, patience):
+    """Up to `count` messages, those that come within some seconds: a thread queues its second one once its first was read."""
+    found, end = [], time.monotonic() + patience
+    while len(found) < count and time.monotonic() < end:
+        said = host.ask("read")
+        if said == "none":
+            time.sleep(0.001)
+        else:
+            found.append(said)
+    return found
+
+
 def two_blocks_grow(settings):
     """Two processors grow a block each by mremap, which names no address: the second block goes where the first one was, and UNMAP of that
     place is read behind the REMAP to it."""
@@ -49,15 +63,15 @@ def two_blocks_grow(settings):
             host.must(f"register 0x{addr:x} {pages * PAGE} 1")
         host.ask(f"cpu 0 mremap 0x{first:x} {64 * PAGE} {128 * PAGE} maymove")
         host.ask(f"cpu 1 mremap 0x{second:x} {32 * PAGE} {64 * PAGE} maymove")
-        messages = [host.ask("read") for _ in range(4)]
+        messages = messages_of(host, 4, settings.patience)
         host.ask("await 0")
-        moved = int(host.ask("await 1").split()[1])
+        moved = host.ask("await 1")
     finally:
         host.close()
     old_place, new_place = f"unmap 0x{first:x} 0x{first + 64 * PAGE:x}", f"remap 0x{second:x} 0x{first:x} {32 * PAGE}"
-    if moved != first:
-        return f"the second block went to 0x{moved:x}, and the first was at 0x{first:x}"
-    if messages.index(old_place) < messages.index(new_place):
+    if moved != f"ret {first}":
+        return f"the second mremap: {moved}, and the first block was at 0x{first:x}"
+    if old_place not in messages or new_place not in messages or messages.index(old_place) < messages.index(new_place):
         return f"messages in this order: {messages}"
     return None
 

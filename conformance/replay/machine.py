@@ -59,7 +59,7 @@ def build_host():
 def refused_userfault(host):
     """Whether a host can watch a page for both kinds of faults with the three events; else what it answered."""
     lines = ("open 0x14d", "cpu 0 mmap 4096 rw fixed 0x10000", "register 0x10000 4096 3", "quit")
-    done = subprocess.run(host + ["1"], input="\n".join(lines) + "\n", capture_output=True, text=True)
+    done = subprocess.run(host + ["1"], input="\n".join(lines) + "\n", capture_output=True, text=True, errors="replace")
     said = done.stdout.split("\n")
     if said[:3] == ["ok", "ret 65536", "ok"]:
         return None

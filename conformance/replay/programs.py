@@ -1,7 +1,7 @@
 """The programs of the command line: their options, and runs of many scripts."""
 
-import argparse
 import functools
+import json
 import multiprocessing
 import os
 import pathlib
@@ -13,7 +13,7 @@ import time
 
 import page
 
-from . import machine, table
+from . import arguments as read, machine, table
 from .comparison import Job, Result, answers_of, compare, cpus_of
 from .generator import PROFILES, generate
 from .minimise import minimise
@@ -30,23 +30,24 @@ CPUS = (2, 1, 3, 4, 2, 16, 2, 8)
 
 def options(description, tested=None):
     """tested: what the first argument says of a program under test, if there is one."""
-    parser = argparse.ArgumentParser(description=description)
+    parser = read.Parser(description)
     if tested:
-        parser.add_argument("tested", metavar="PROGRAM", help=tested)
-    parser.add_argument("scripts", nargs="*", metavar="SCRIPT", type=pathlib.Path)
-    parser.add_argument("--program", metavar="PATH", help="the postmig that answers (the launcher, once ./postmig prove has built it)")
-    parser.add_argument("--host", metavar="PROGRAM", help="a program that takes the host protocol, instead of the one of this folder")
-    parser.add_argument("--cpus", type=int, metavar="N", help="processors of a guest (by the script's name, NAME.cpusN.script, else 2)")
-    parser.add_argument("--jobs", type=int, default=min(4, os.cpu_count() or 1), metavar="N", help="scripts at a time")
+        parser.add_argument("tested", metavar="PROGRAM", type=read.command, help=tested)
+    parser.add_argument("scripts", nargs="*", default=[], metavar="SCRIPT", type=pathlib.Path)
+    parser.add_argument("--program", metavar="PATH", type=read.command, help="the postmig that answers (the launcher, once ./postmig prove has built it)")
+    parser.add_argument("--host", metavar="PROGRAM", type=read.command, help="a program that takes the host protocol, instead of the one of this folder")
+    parser.add_argument("--cpus", type=read.number(1, 16), metavar="N", help="processors of a guest (by the script's name, NAME.cpusN.script, else 2)")
+    parser.add_argument("--jobs", type=read.number(1, 256), default=min(4, os.cpu_count() or 1), metavar="N", help="scripts at a time")
     parser.add_argument("--any-kernel", action="store_true", help="also on a kernel before 6.17")
     parser.add_argument("--minimise", action="store_true", help="leaves out lines of a script with something unexpected")
     parser.add_argument("--trace", action="store_true", help="prints each line, and the host's commands for it")
+    parser.add_argument("--json", action="store_true", help="prints each finding, and then the counts, as a JSON object in a line of its own")
     return parser
 
 
 def comparing_options(description):
     parser = options(description)
-    parser.add_argument("--impl", metavar="PROGRAM", help="compares this program, which reads a script and writes its lines")
+    parser.add_argument("--impl", metavar="PROGRAM", type=read.command, help="compares this program, which reads a script and writes its lines")
     parser.add_argument("--eager", action="store_true", help="reads each fault as soon as its thread sleeps")
     parser.add_argument("--late", action="store_true", help="leaves a dontneed asleep on its message, as a kernel does")
     parser.add_argument("--show", action="store_true", help="prints the known differences too")
@@ -61,10 +62,12 @@ def has_proved():
 
 
 def program_of(arguments):
-    """The words that start the postmig that answers, or None."""
-    if arguments.program:
-        return shlex.split(arguments.program)
-    return [str(LAUNCHER)] if has_proved() else None
+    """The words that start the postmig that answers, or None. A program that is named and is none ends this one with status 1."""
+    if not arguments.program:
+        return [str(LAUNCHER)] if has_proved() else None
+    if not is_postmig(arguments.program):
+        sys.exit(f"{arguments.program} is no postmig: it does not answer `progress`")
+    return shlex.split(arguments.program)
 
 
 def started_by(program):
@@ -74,6 +77,16 @@ def started_by(program):
         process.stdin.flush()
         process.stdout.readline()
         return [os.readlink(f"/proc/{process.pid}/exe")]
+
+
+@functools.cache
+def is_postmig(program):
+    """Whether a command answers a line as `postmig run` does."""
+    try:
+        ran = subprocess.run([*shlex.split(program), "run"], input=b"progress\n", capture_output=True, timeout=20)
+    except (OSError, subprocess.TimeoutExpired):
+        return False
+    return ran.stdout.startswith(b"progress phase idle ")
 
 
 def require_program(arguments):
@@ -91,15 +104,15 @@ def settings_of(arguments, cpus):
     return settings
 
 
-def require_machine(arguments, status=2):
-    """Ends the program with one line where this machine cannot replay."""
+def require_machine(arguments):
+    """Ends the program with one line and status 2 where this machine cannot replay."""
     if getattr(arguments, "impl", None):
         return
     host = shlex.split(arguments.host) if arguments.host else [str(HOST)]
     missing = machine.missing(host, arguments.any_kernel)
     if missing:
         print(f"conformance: not run: {missing}")
-        sys.exit(status)
+        sys.exit(2)
 
 
 def stored_scripts(quick=False):
@@ -118,13 +131,13 @@ def script_at(path):
 
 def job_of(arguments, path):
     """A script with its answers: those beside it, else the program's."""
+    data, settings = script_at(path), settings_of(arguments, cpus_of(path))
     beside = path.with_suffix(".out")
-    settings = settings_of(arguments, cpus_of(path))
     program = program_of(arguments)
     if not beside.exists() and not program:
         require_program(arguments)
     answers = beside.read_text().splitlines() if beside.exists() else None
-    return Job(str(path), script_at(path), settings, answers, None, program, implementation_of(arguments), is_stored=beside.exists())
+    return Job(str(path), data, settings, answers, None, program, implementation_of(arguments), is_stored=beside.exists())
 
 
 def implementation_of(arguments):
@@ -147,10 +160,22 @@ def add(total, result):
         total.examples.setdefault(tag, example.replace(f"{TOP}/", ""))
 
 
-def show(result, kinds):
+def show(arguments, result, kinds, fields=("where", "line", "model", "other")):
+    """Prints what was found. fields: what the parts of a finding are."""
+    name = result.name.replace(f"{TOP}/", "")
     for kind, found in kinds:
         for entry in found:
-            print(kind, result.name.replace(f"{TOP}/", ""), *entry, sep=" | ", flush=True)
+            if arguments.json:
+                print(json.dumps({"finding": kind.lower(), "script": name, **dict(zip(fields, map(str, entry)))}), flush=True)
+            else:
+                print(kind, name, *entry, sep=" | ", flush=True)
+
+
+def counts_of(total, differing):
+    """The last line of --json."""
+    lines, found = total.totals["lines"], dict(table.figures_of(total))
+    kinds = {kind: total.totals[kind] for kind in table.KINDS if kind in total.totals}
+    return json.dumps({"system": headline(), "lines": lines, "scripts with findings": len(differing), "kinds": kinds, "looked at": found})
 
 
 def compare_all(arguments, jobs):
@@ -158,16 +183,19 @@ def compare_all(arguments, jobs):
     begun, total, differing = time.time(), Result("all"), []
     for result in in_processes(arguments.jobs, compare_written, jobs):
         add(total, result)
-        show(result, [("UNEXPECTED", result.differing), ("known", result.shown if arguments.show else [])])
+        show(arguments, result, [("UNEXPECTED", result.differing), ("known", result.shown if arguments.show else [])])
         if result.differing:
             differing.append(result.name)
-    print(headline())
-    print(*table.lines(total), "", *table.beside(total), sep="\n")
-    print(f"{total.totals['lines']:,} lines in {time.time() - begun:.0f} s, {len(differing)} scripts with something unexpected")
+    if arguments.json:
+        print(counts_of(total, differing))
+    else:
+        print(headline())
+        print(*table.lines(total), "", *table.beside(total), sep="\n")
+        print(f"{total.totals['lines']:,} lines in {time.time() - begun:.0f} s, {len(differing)} scripts with something unexpected")
     if getattr(arguments, "write", False):
         write_page(total)
     if not total.totals["lines"]:
-        print("conformance: no line was replayed")
+        print("conformance: no line was replayed", file=sys.stderr if arguments.json else sys.stdout)
         return 1, differing
     return 3 if differing else 0, differing
 
@@ -209,9 +237,9 @@ def minimise_all(arguments, jobs, differing):
 
 
 def generating_options(parser):
-    parser.add_argument("--profiles", metavar="A,B", help=f"random scripts of these profiles: {', '.join(PROFILES)}; or `every`")
-    parser.add_argument("--seeds", metavar="FIRST:LAST", default="1:20", help="with these seeds (1:20)")
-    parser.add_argument("--lines", "--steps", type=int, default=200, metavar="N", help="of at most N lines (200)")
+    parser.add_argument("--profiles", metavar="A,B", type=read.profiles(PROFILES), help=f"random scripts of these profiles: {', '.join(PROFILES)}; or `every`")
+    parser.add_argument("--seeds", metavar="FIRST:LAST", type=read.seeds, default="1:20", help="with these seeds (1:20)")
+    parser.add_argument("--lines", "--steps", type=read.number(1, 1_000_000), default=200, metavar="N", help="of at most N lines (200)")
     return parser
 
 
@@ -223,11 +251,9 @@ def random_jobs(arguments):
     """Random scripts that are yet to be made: a worker makes each with its answers."""
     if not arguments.profiles:
         return
-    first, _, last = arguments.seeds.partition(":")
-    profiles = list(PROFILES) if arguments.profiles == "every" else arguments.profiles.split(",")
     program = require_program(arguments)
-    for profile in profiles:
-        for seed in range(int(first), int(last or first) + 1):
+    for profile in arguments.profiles:
+        for seed in arguments.seeds:
             settings = settings_of(arguments, cpus_of_seed(seed))
             name = f"{profile}/{seed}.cpus{settings.cpus}.script"
             yield Job(name, None, settings, None, None, program, implementation_of(arguments), (seed, profile, arguments.lines))

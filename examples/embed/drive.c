@@ -9,45 +9,55 @@
 enum { PAGES = 16 };
 static postmig_handle world = POSTMIG_NONE;
 
-static void stop(const char *what, uint32_t status) {
+static void stop(const char *what, uint32_t status)
+{
     fprintf(stderr, "%s: status %" PRIu32 "\n", what, status);
     postmig_free(&world);
     exit(1);
 }
 
 /* Does a line, and returns what it printed, without its line feed. */
-static const char *say(const char *line) {
+static const char *say(const char *line)
+{
     static char out[4096];
     size_t written = 0;
     uint32_t status = postmig_world_line(&world, (const uint8_t *)line, strlen(line), (uint8_t *)out, sizeof out, &written);
-    if (status != POSTMIG_OK) stop(line, status);
+    if (status != POSTMIG_OK)
+        stop(line, status);
     out[written ? written - 1 : 0] = 0;
     return out;
 }
 
-static const char *say_of_page(const char *form, unsigned page) {
+static const char *say_of_page(const char *form, unsigned page)
+{
     char line[64];
     snprintf(line, sizeof line, form, 0x10000 + 4096 * page);
     return say(line);
 }
 
-static postmig_counts counts(void) {
+static postmig_counts counts(void)
+{
     postmig_counts now;
     uint32_t status = postmig_world_counts(&world, &now);
-    if (status != POSTMIG_OK) stop("counts", status);
+    if (status != POSTMIG_OK)
+        stop("counts", status);
     return now;
 }
 
-int main(void) {
+int main(void)
+{
     uint32_t status = postmig_world_new(2, false, &world);
-    if (status != POSTMIG_OK) stop("new", status);
+    if (status != POSTMIG_OK)
+        stop("new", status);
     char line[64];
     snprintf(line, sizeof line, "cpu 0 mmap %d rw", 4096 * PAGES);
     say(line);
-    for (unsigned page = 0; page < PAGES; page++) say_of_page("cpu 0 store 0x%x 8 7", page);
+    for (unsigned page = 0; page < PAGES; page++)
+        say_of_page("cpu 0 store 0x%x 8 7", page);
     say("start");
     say("switch");
-    while (counts().phase != POSTMIG_POSTCOPY) say("deliver");
+    while (counts().phase != POSTMIG_POSTCOPY)
+        say("deliver");
 
     /* Processor 1 loads every fifth page, and faults where it is still owed. The others are pushed in between. */
     unsigned next = 0;
@@ -64,7 +74,8 @@ int main(void) {
         }
         /* A page that was sent is not sent again: the push is refused, and no frame is on the wire. */
         for (unsigned count = 0; count < 2 && next < PAGES; next++) {
-            if (strncmp(say_of_page("push 0x%x", next), "sent ", 5)) continue;
+            if (strncmp(say_of_page("push 0x%x", next), "sent ", 5))
+                continue;
             say("deliver");
             say("install");
             count++;

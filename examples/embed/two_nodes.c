@@ -11,7 +11,11 @@
 
 #include "postmig_node.h"
 
-enum { PAGE = 4096, PAGES = 16, LOW = 0x10, MOST = 64, EPOCH = 1 };
+enum { PAGE = 4096,
+       PAGES = 16,
+       LOW = 0x10,
+       MOST = 64,
+       EPOCH = 1 };
 
 static unsigned char memory[PAGES][PAGE]; /* page LOW of the node is the first */
 static unsigned char head[1 << 16], pages[MOST * PAGE];
@@ -31,9 +35,15 @@ static void check(bool holds, const char *what)
 
 #define DO(call) check((call) == POSTMIG_OK, #call)
 
-static unsigned char *page_at(uint64_t address) { return memory[address / PAGE - LOW]; }
+static unsigned char *page_at(uint64_t address)
+{
+    return memory[address / PAGE - LOW];
+}
 
-static uint64_t address_of(uint32_t page) { return (uint64_t)(LOW + page) * PAGE; }
+static uint64_t address_of(uint32_t page)
+{
+    return (uint64_t)(LOW + page) * PAGE;
+}
 
 static postmig_command access_of(uint32_t kind, uint32_t page)
 {
@@ -90,8 +100,7 @@ static void put_pages(uint64_t address, uint32_t count)
 /* What the guest has before the migration: the node hears of each page that has contents, and of none of the bytes. */
 static void enter_memory(void)
 {
-    postmig_command map = { .kind = POSTMIG_MMAP, .length = sizeof memory, .prot = POSTMIG_PROT_READ_WRITE, .place = POSTMIG_FIXED,
-                            .target = address_of(0) };
+    postmig_command map = { .kind = POSTMIG_MMAP, .length = sizeof memory, .prot = POSTMIG_PROT_READ_WRITE, .place = POSTMIG_FIXED, .target = address_of(0) };
 
     DO(postmig_source_issue(&node, 0, &map, &effect));
     for (uint32_t i = 0; i < PAGES; i++) {

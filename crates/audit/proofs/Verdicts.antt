@@ -1,6 +1,6 @@
 -- What is written of a log, from its parts.
 use Rattle.std.proofs.Common.{◌≡◌, ℕ, ◌+◌, ◌<◌, Bool, true, false, List, [], ◌∷◌, ◌++◌, length, Option, Some, None, refl, sym, ap, subst, ◌∙◌, length-append, arith}
-use Rattle.std.specs.Prelude.{IfSome, IsSome}
+use Rattle.std.specs.Prelude.{if◌then◌else◌, IfSome, IsSome}
 use Rattle.std.specs.List.{concat}
 use Rattle.std.specs.Io.KnownBytes.{Appends}
 use Rattle.std.proofs.KnownBytes.{Appends-trans}
@@ -11,8 +11,9 @@ use Rattle.audit.specs.declared.audit.Verdict.TheVariants as verdict
 use Rattle.audit.specs.declared.certificate.Certificate.{Certificate}
 use Rattle.audit.specs.declared.certificate.Certificate.TheVariants.{Certified, Missing}
 use Rattle.audit.specs.declared.certificate.Totals.{Totals}
-use Rattle.audit.specs.Certificates.{IsCertificate, IsCertifiedInput, Shows}
-use Rattle.audit.specs.Verdicts.{IsFinding, AreFindings, HasVerdict, FitsLog, IsWhole, IsSure, GoesWith, IsJudged, Audits, Prints, IsReport, certified_verdict, is_certified}
+use Rattle.audit.specs.declared.work.Nothing.{Nothing}
+use Rattle.audit.specs.Certificates.{IsCertificate, IsCertifiedInput, NeedsWork, Shows}
+use Rattle.audit.specs.Verdicts.{IsFinding, AreFindings, HasVerdict, FitsLog, FitsWork, IsWhole, IsSure, GoesWith, IsJudged, Audits, Prints, IsReport, certified_verdict, is_certified, is_refused}
 use Rattle.call_log.specs.declared.complete.ReadLog.{ReadLog}
 use Rattle.call_log.specs.Listing.{IsLog, IsRead, ReadsEntries, ReadsLog}
 use Rattle.log_entries.specs.declared.entry_reader.EntryReader.{EntryReader}
@@ -45,15 +46,17 @@ fits_too : (v : Verdict) (made : Certificate) (n : ℕ) → HasVerdict v n → H
 fits_too verdict.Certified (Certified totals) n fits = fits
 fits_too verdict.Certified (Missing why) n fits = fits
 fits_too verdict.Clean (Certified totals) n fits = fits
-fits_too verdict.Clean (Missing why) n fits = fits
+fits_too verdict.Clean (Missing why) n fits = elim (is_refused why) as (λ b. HasVerdict (if b then verdict.Undecided else verdict.Clean) n) [ true ↦ fits | false ↦ fits ]
 fits_too verdict.Found (Certified totals) n fits = fits
 fits_too verdict.Found (Missing why) n fits = fits
-fits_too verdict.Impossible (Certified totals) n fits = fits
-fits_too verdict.Impossible (Missing why) n fits = fits
+fits_too verdict.Unexplained (Certified totals) n fits = fits
+fits_too verdict.Unexplained (Missing why) n fits = fits
 fits_too verdict.Doubtful (Certified totals) n fits = fits
 fits_too verdict.Doubtful (Missing why) n fits = fits
 fits_too verdict.Undecided (Certified totals) n fits = fits
 fits_too verdict.Undecided (Missing why) n fits = fits
+fits_too verdict.Nothing (Certified totals) n fits = fits
+fits_too verdict.Nothing (Missing why) n fits = fits
 fits_too verdict.Wrong (Certified totals) n fits = fits
 fits_too verdict.Wrong (Missing why) n fits = fits
 
@@ -61,33 +64,41 @@ whole_too : (v : Verdict) (made : Certificate) (whole : Bool) → FitsLog v whol
 whole_too verdict.Certified (Certified totals) whole fits = fits
 whole_too verdict.Certified (Missing why) whole fits = fits
 whole_too verdict.Clean (Certified totals) whole fits = fits
-whole_too verdict.Clean (Missing why) whole fits = fits
+whole_too verdict.Clean (Missing why) whole fits = elim (is_refused why) as (λ b. FitsLog (if b then verdict.Undecided else verdict.Clean) whole) [ true ↦ tt | false ↦ fits ]
 whole_too verdict.Found (Certified totals) whole fits = fits
 whole_too verdict.Found (Missing why) whole fits = fits
-whole_too verdict.Impossible (Certified totals) whole fits = fits
-whole_too verdict.Impossible (Missing why) whole fits = fits
+whole_too verdict.Unexplained (Certified totals) whole fits = fits
+whole_too verdict.Unexplained (Missing why) whole fits = fits
 whole_too verdict.Doubtful (Certified totals) whole fits = fits
 whole_too verdict.Doubtful (Missing why) whole fits = fits
 whole_too verdict.Undecided (Certified totals) whole fits = fits
 whole_too verdict.Undecided (Missing why) whole fits = fits
+whole_too verdict.Nothing (Certified totals) whole fits = fits
+whole_too verdict.Nothing (Missing why) whole fits = fits
 whole_too verdict.Wrong (Certified totals) whole fits = fits
 whole_too verdict.Wrong (Missing why) whole fits = fits
 
-goes_too : (v : Verdict) (made : Certificate) → is_certified v ≡ false → GoesWith made (certified_verdict v made)
-goes_too verdict.Certified (Certified totals) plain = tt
-goes_too verdict.Certified (Missing why) plain = absurd (cc)
-goes_too verdict.Clean (Certified totals) plain = tt
-goes_too verdict.Clean (Missing why) plain = tt
-goes_too verdict.Found (Certified totals) plain = tt
-goes_too verdict.Found (Missing why) plain = tt
-goes_too verdict.Impossible (Certified totals) plain = tt
-goes_too verdict.Impossible (Missing why) plain = tt
-goes_too verdict.Doubtful (Certified totals) plain = tt
-goes_too verdict.Doubtful (Missing why) plain = tt
-goes_too verdict.Undecided (Certified totals) plain = tt
-goes_too verdict.Undecided (Missing why) plain = tt
-goes_too verdict.Wrong (Certified totals) plain = tt
-goes_too verdict.Wrong (Missing why) plain = tt
+nothing_certified : (nothing : Option Nothing) → IsSome nothing → nothing ≡ None → ⊥
+nothing_certified None fits none = let e : false ≡ true = fits in absurd (cc)
+nothing_certified (Some why) fits none = absurd (cc)
+
+goes_too : (v : Verdict) (made : Certificate) (nothing : Option Nothing) → is_certified v ≡ false → FitsWork v nothing → NeedsWork made nothing → GoesWith made (certified_verdict v made)
+goes_too verdict.Certified (Certified totals) nothing plain fits needs = tt
+goes_too verdict.Certified (Missing why) nothing plain fits needs = absurd (cc)
+goes_too verdict.Clean (Certified totals) nothing plain fits needs = tt
+goes_too verdict.Clean (Missing why) nothing plain fits needs = elim (is_refused why) as (λ b. GoesWith (Missing why) (if b then verdict.Undecided else verdict.Clean)) [ true ↦ tt | false ↦ tt ]
+goes_too verdict.Found (Certified totals) nothing plain fits needs = tt
+goes_too verdict.Found (Missing why) nothing plain fits needs = tt
+goes_too verdict.Unexplained (Certified totals) nothing plain fits needs = tt
+goes_too verdict.Unexplained (Missing why) nothing plain fits needs = tt
+goes_too verdict.Doubtful (Certified totals) nothing plain fits needs = tt
+goes_too verdict.Doubtful (Missing why) nothing plain fits needs = tt
+goes_too verdict.Undecided (Certified totals) nothing plain fits needs = tt
+goes_too verdict.Undecided (Missing why) nothing plain fits needs = tt
+goes_too verdict.Nothing (Certified totals) nothing plain fits needs = nothing_certified nothing fits needs
+goes_too verdict.Nothing (Missing why) nothing plain fits needs = tt
+goes_too verdict.Wrong (Certified totals) nothing plain fits needs = tt
+goes_too verdict.Wrong (Missing why) nothing plain fits needs = tt
 
 pub certified_fits : (v said : Verdict) (made : Certificate) (n : ℕ) → said ≡ certified_verdict v made → HasVerdict v n → HasVerdict said n
 certified_fits v said made n by fits = subst (λ (k : Verdict). HasVerdict k n) (sym by) (fits_too v made n fits)
@@ -95,8 +106,8 @@ certified_fits v said made n by fits = subst (λ (k : Verdict). HasVerdict k n) 
 pub certified_whole : (v said : Verdict) (made : Certificate) (whole : Bool) → said ≡ certified_verdict v made → FitsLog v whole → FitsLog said whole
 certified_whole v said made whole by fits = subst (λ (k : Verdict). FitsLog k whole) (sym by) (whole_too v made whole fits)
 
-pub certified_goes : (v said : Verdict) (made : Certificate) → said ≡ certified_verdict v made → is_certified v ≡ false → GoesWith made said
-certified_goes v said made by plain = subst (λ (k : Verdict). GoesWith made k) (sym by) (goes_too v made plain)
+pub certified_goes : (v said : Verdict) (made : Certificate) (nothing : Option Nothing) → said ≡ certified_verdict v made → is_certified v ≡ false → FitsWork v nothing → NeedsWork made nothing → GoesWith made said
+certified_goes v said made nothing by plain fits needs = subst (λ (k : Verdict). GoesWith made k) (sym by) (goes_too v made nothing plain fits needs)
 
 shows_input : (entries : EntryReader) (made : Certificate) (input : List ℕ) (lines : List LogLine) → IsCertificate entries made → IsLog input lines → HasRead lines entries → Shows made input
 shows_input entries (Certified totals) input lines is log has = (lines, log, is lines has)
@@ -111,9 +122,10 @@ sure_of : (v : Verdict) (entries : EntryReader) (input : List ℕ) (lines : List
 sure_of verdict.Certified entries input lines log has fits = whole_input entries input lines log has fits
 sure_of verdict.Clean entries input lines log has fits = whole_input entries input lines log has fits
 sure_of verdict.Found entries input lines log has fits = whole_input entries input lines log has fits
-sure_of verdict.Impossible entries input lines log has fits = whole_input entries input lines log has fits
+sure_of verdict.Unexplained entries input lines log has fits = whole_input entries input lines log has fits
 sure_of verdict.Doubtful entries input lines log has fits = tt
 sure_of verdict.Undecided entries input lines log has fits = tt
+sure_of verdict.Nothing entries input lines log has fits = whole_input entries input lines log has fits
 sure_of verdict.Wrong entries input lines log has fits = whole_input entries input lines log has fits
 
 with_totals : (made : Certificate) (input : List ℕ) → GoesWith made verdict.Certified → Shows made input → (totals : Totals) × IsCertifiedInput input totals
@@ -143,9 +155,10 @@ said : (name input : List ℕ) (v : Verdict) (before after : Option (List ℕ)) 
 said name input verdict.Certified before after read j = (read, j, with_totals j.made input j.goes j.shows)
 said name input verdict.Clean before after read j = (read, j)
 said name input verdict.Found before after read j = (read, j)
-said name input verdict.Impossible before after read j = (read, j)
+said name input verdict.Unexplained before after read j = (read, j)
 said name input verdict.Doubtful before after read j = (read, j)
 said name input verdict.Undecided before after read j = (read, j)
+said name input verdict.Nothing before after read j = (read, j)
 said name input verdict.Wrong before after read j = absurd j.fits
 
 -- The report is written

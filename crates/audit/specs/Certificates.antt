@@ -11,6 +11,7 @@ use Rattle.audit.specs.declared.certificate.Certificate.{Certificate}
 use Rattle.audit.specs.declared.certificate.Certificate.TheVariants.{Certified, Missing}
 use Rattle.audit.specs.declared.certificate.Missing.TheVariants.{Refused, Differs}
 use Rattle.audit.specs.declared.certificate.Totals.{Totals}
+use Rattle.audit.specs.declared.work.Nothing.{Nothing}
 
 -- a kernel may have written a log with these events, and owes at its end and has put twice as many pages as this
 abbrev pub MayBe : List Event → Totals → Type 0
@@ -25,6 +26,11 @@ IsCertifiedLog lines totals = (events : List Event) × HasEvents lines events ×
 abbrev pub IsCertificate : EntryReader → Certificate → Type 0
 IsCertificate entries (Certified totals) = (lines : List LogLine) → HasRead lines entries → IsCertifiedLog lines totals
 IsCertificate entries (Missing why) = Unit {0}
+
+-- a run is certified only of a log that has something to judge
+abbrev pub NeedsWork : Certificate → Option Nothing → Type 0
+NeedsWork (Certified totals) nothing = nothing ≡ None
+NeedsWork (Missing why) nothing = Unit {0}
 
 -- a kernel may have written this input, and owes at its end and has put twice as many pages as this
 abbrev pub IsCertifiedInput : List ℕ → Totals → Type 0

@@ -1,5 +1,5 @@
 -- What is written of a log that was read, and what is said of it as a whole.
-use Rattle.std.specs.Prelude.{◌≡◌, ℕ, ◌<◌, List, [], ◌∷◌, ◌++◌, length, codes, Option, Bool, true, false}
+use Rattle.std.specs.Prelude.{◌≡◌, ℕ, ◌<◌, List, [], ◌∷◌, ◌++◌, length, codes, Option, Bool, true, false, if◌then◌else◌, IsSome}
 use Rattle.std.specs.List.{concat, AllByRecursion}
 use Rattle.std.specs.Fmt.{decimal}
 use Rattle.std.specs.Io.KnownBytes.{Appends}
@@ -7,8 +7,12 @@ use Rattle.audit.specs.declared.audit.Report.{Report}
 use Rattle.audit.specs.declared.audit.Verdict.{Verdict}
 use Rattle.audit.specs.declared.audit.Verdict.TheVariants as verdict
 use Rattle.audit.specs.declared.certificate.Certificate.{Certificate}
-use Rattle.audit.specs.declared.certificate.Certificate.TheVariants.{Certified, Missing}
+use Rattle.audit.specs.declared.certificate.Certificate.TheVariants.{Certified}
+use Rattle.audit.specs.declared.certificate.Certificate.TheVariants as certificate
+use Rattle.audit.specs.declared.certificate.Missing.{Missing}
+use Rattle.audit.specs.declared.certificate.Missing.TheVariants.{Refused, Differs}
 use Rattle.audit.specs.declared.certificate.Totals.{Totals}
+use Rattle.audit.specs.declared.work.Nothing.{Nothing}
 use Rattle.audit.specs.Certificates.{IsCertificate, IsCertifiedInput, Shows}
 use Rattle.kernel_rules.specs.Runs.{Event}
 use Rattle.log_entries.specs.declared.log_line.LogLine.{LogLine}
@@ -30,12 +34,12 @@ numbers_text totals = decimal totals.owed ++ (codes ", put twice " ++ decimal to
 
 -- the line of a run that is certified, with what its kernel owes at the end and has put twice
 abbrev pub certified_line : Totals → List ℕ
-certified_line totals = codes "certified: a kernel of the rules may have answered so; pages owed " ++ numbers_text totals
+certified_line totals = codes "certified: a kernel of the rules may have given these answers; pages known to be owed " ++ numbers_text totals
 
 -- the line that says whether a run is certified
 abbrev pub IsCertificateLine : Certificate → List ℕ → Type 0
 IsCertificateLine (Certified totals) line = line ≡ certified_line totals
-IsCertificateLine (Missing why) line = (reason : List ℕ) × HasNoFeed reason × (line ≡ codes "not certified: " ++ reason)
+IsCertificateLine (certificate.Missing why) line = (reason : List ℕ) × HasNoFeed reason × (line ≡ codes "not certified: " ++ reason)
 
 -- a summary: a line that begins with a number of calls, the line of a certificate, and what else is said
 pub record IsSummary (made : Certificate) (text : List ℕ) : Type 0 where
@@ -52,9 +56,10 @@ abbrev pub HasVerdict : Verdict → ℕ → Type 0
 HasVerdict verdict.Certified findings = findings ≡ 0
 HasVerdict verdict.Clean findings = findings ≡ 0
 HasVerdict verdict.Undecided findings = findings ≡ 0
+HasVerdict verdict.Nothing findings = findings ≡ 0
 HasVerdict verdict.Doubtful findings = 0 < findings
 HasVerdict verdict.Found findings = 0 < findings
-HasVerdict verdict.Impossible findings = 0 < findings
+HasVerdict verdict.Unexplained findings = 0 < findings
 HasVerdict verdict.Wrong findings = ⊥
 
 -- what is said fits whether the log is whole: only where lines were lost is it doubtful, and all but that and what is undecided is said of a whole log alone
@@ -62,6 +67,11 @@ abbrev pub FitsLog : Verdict → Bool → Type 0
 FitsLog verdict.Undecided whole = Unit {0}
 FitsLog verdict.Doubtful whole = whole ≡ false
 FitsLog said whole = whole ≡ true
+
+-- nothing is said to be judged only where nothing could be
+abbrev pub FitsWork : Verdict → Option Nothing → Type 0
+FitsWork verdict.Nothing nothing = IsSome nothing
+FitsWork said nothing = Unit {0}
 
 -- the input is a log of which no line was lost, and each call that ends has begun
 abbrev pub IsWhole : List ℕ → Type 0
@@ -78,15 +88,23 @@ abbrev pub is_certified : Verdict → Bool
 is_certified verdict.Certified = true
 is_certified said = false
 
--- a clean log with a run that is certified
+-- whether the checker does not take the run that was found
+abbrev pub is_refused : Missing → Bool
+is_refused Refused = true
+is_refused Differs = true
+is_refused _ = false
+
+-- a clean log with a run that is certified; one whose run the checker does not take is not decided
 abbrev pub certified_verdict : Verdict → Certificate → Verdict
 certified_verdict verdict.Clean (Certified totals) = verdict.Certified
+certified_verdict verdict.Clean (certificate.Missing why) = if is_refused why then verdict.Undecided else verdict.Clean
 certified_verdict said certificate = said
 
--- a log is not said to be certified without a certificate, nor clean with one
+-- a log is not said to be certified without a certificate, nor clean with one; and one of which nothing was judged has none
 abbrev pub GoesWith : Certificate → Verdict → Type 0
 GoesWith (Certified totals) verdict.Clean = ⊥
-GoesWith (Missing why) verdict.Certified = ⊥
+GoesWith (Certified totals) verdict.Nothing = ⊥
+GoesWith (certificate.Missing why) verdict.Certified = ⊥
 GoesWith made said = Unit {0}
 
 -- the findings of a log without a wrong line were written, and its summary with the line of a certificate, which this input has

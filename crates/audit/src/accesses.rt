@@ -1,16 +1,13 @@
 //! What reads say of threads and of map calls, and no line shows: a thread touches a page, or leaves its fault; an event is queued.
 
-use crate::kernel::Kernel;
 use crate::needs::{Wanted, wakers_of};
-use crate::rules::has_next;
-use crate::run::{Sight, Unseen};
 use crate::search::Search;
 use crate::tasks::{Task, others};
 use crate::threads::{is_unnamed, unnamed};
 use call_log::log_call::LogCall;
 use call_log::pages::Range;
 use kernel_rules::fault::{find, is_protection};
-use kernel_rules::{Fault, Phase};
+use kernel_rules::{Fault, Move, Phase};
 use mig_base::NoMemory;
 use uffd_log::{Errno, Message};
 
@@ -59,13 +56,13 @@ pub(crate) enum ThreadTask {
 }
 
 impl Access {
-    pub(crate) fn seen(self) -> Unseen {
-        Unseen::Sees(Sight {
+    pub(crate) fn seen(self) -> Move {
+        Move::Sees {
             thread: self.thread,
             object: self.object,
             page: self.page,
             flags: self.flags,
-        })
+        }
     }
 }
 
@@ -75,30 +72,6 @@ fn is_still(held: Fault, now: Fault) -> bool {
     let had_slept = matches!(held.phase, Phase::Asleep);
     let sleeps = matches!(now.phase, Phase::Asleep);
     is_same && (!had_slept || (sleeps && held.read_by == now.read_by))
-}
-
-/// The map call whose next event is this message, if that is not queued.
-fn teller(kernel: &Kernel, object: u64, message: Message) -> Option<u32> {
-    for calling in &kernel.calls {
-        if has_next(kernel, calling, object, message) {
-            return if calling.is_queued_for(object) {
-                None
-            } else {
-                Some(calling.key)
-            };
-        }
-    }
-    None
-}
-
-/// Whether a map call tells an object this next.
-fn has_teller(kernel: &Kernel, object: u64, message: Message) -> bool {
-    for calling in &kernel.calls {
-        if has_next(kernel, calling, object, message) {
-            return true;
-        }
-    }
-    false
 }
 
 impl Search {
@@ -166,7 +139,7 @@ impl Search {
     /// A thread without a name whose fault of a page was not read: the first that is queued, or else the first that has seen the page.
     fn unread_thread(&self, object: u64, page: u64, flags: u64, read: Option<u32>) -> Option<u64> {
         let mut seen = None;
-        for fault in &self.kernel.faults {
+        for fault in self.kernel.rules.faults() {
             let is_there = fault.object == object && fault.page == page && fault.flags == flags;
             if !is_there || !is_unnamed(fault.thread) || self.has_shown(read, fault.thread) {
                 continue;
@@ -267,7 +240,7 @@ impl Search {
     }
 
     fn in_the_way(&self, object: u64, thread: u64, read: u32) -> Option<Fault> {
-        for fault in &self.kernel.faults {
+        for fault in self.kernel.rules.faults() {
             let is_unread = fault.object == object && matches!(fault.phase, Phase::Unread);
             let is_other = fault.thread != thread && !self.has_shown(Some(read), fault.thread);
             if is_unread && is_other {
@@ -279,9 +252,9 @@ impl Search {
 
     fn leave_unread(&mut self, fault: Fault) -> Result<(), NoMemory> {
         let thread = fault.thread;
-        match find(&self.kernel.faults, thread) {
+        match find(self.kernel.rules.faults(), thread) {
             Some(now) if is_still(fault, now) && matches!(now.phase, Phase::Unread) => {
-                self.step(Unseen::Leaves { thread })?;
+                self.step(Move::Leaves { thread })?;
                 Ok(())
             }
             _ => Ok(()),
@@ -290,7 +263,7 @@ impl Search {
 
     /// The thread waits at another page, or anew: a call that is under way has woken it, or a signal came.
     fn wait_no_more(&mut self, access: Access) -> Result<(), NoMemory> {
-        let Some(held) = find(&self.kernel.faults, access.thread) else {
+        let Some(held) = find(self.kernel.rules.faults(), access.thread) else {
             return Ok(());
         };
         let is_elsewhere = held.page != access.page || held.object != access.object;
@@ -303,10 +276,10 @@ impl Search {
 
     fn leave(&mut self, held: Fault) -> Result<(), NoMemory> {
         let thread = held.thread;
-        if let Some(now) = find(&self.kernel.faults, thread)
+        if let Some(now) = find(self.kernel.rules.faults(), thread)
             && is_still(held, now)
         {
-            self.step(Unseen::Leaves { thread })?;
+            self.step(Move::Leaves { thread })?;
         }
         Ok(())
     }
@@ -316,7 +289,7 @@ impl Search {
         let Some(space) = self.kernel.space_of(access.object) else {
             return Ok(());
         };
-        if find(&self.kernel.faults, access.thread).is_some() {
+        if find(self.kernel.rules.faults(), access.thread).is_some() {
             return Ok(());
         }
         let (object, page) = (access.object, access.page);
@@ -330,7 +303,12 @@ impl Search {
             self.plan(Task::MakeMissing { space, range })?;
         }
         if self.kernel.page(space, page).is_none() {
+            let range = Range {
+                first: page,
+                count: 1,
+            };
             self.plan(others(Wanted::MovesTo { space, page }))?;
+            self.plan(others(Wanted::Registers { object, range }))?;
         }
         Ok(())
     }
@@ -338,19 +316,17 @@ impl Search {
     /// Whether a thread could see its page, or had seen it, and has queued its fault.
     pub(crate) fn queue(&mut self, access: Access) -> Result<bool, NoMemory> {
         let thread = access.thread;
-        if find(&self.kernel.faults, thread).is_none() && !self.step(access.seen())? {
+        if find(self.kernel.rules.faults(), thread).is_none() && !self.step(access.seen())? {
             return Ok(false);
         }
-        match find(&self.kernel.faults, thread) {
-            Some(fault) if matches!(fault.phase, Phase::Seen) => self.step(Unseen::Queues {
-                thread,
-            }),
+        match find(self.kernel.rules.faults(), thread) {
+            Some(fault) if matches!(fault.phase, Phase::Seen) => self.step(Move::Queues { thread }),
             _ => Ok(false),
         }
     }
 
     fn announce(&mut self, object: u64, message: Message) -> Result<(), NoMemory> {
-        if has_teller(&self.kernel, object, message) {
+        if self.kernel.teller(object, message).is_some() {
             return self.plan_thread(ThreadTask::Tell { object, message });
         }
         if let Some(call) = self.next_teller(object, message) {
@@ -362,8 +338,8 @@ impl Search {
     }
 
     fn tell(&mut self, object: u64, message: Message) -> Result<(), NoMemory> {
-        if let Some(key) = teller(&self.kernel, object, message) {
-            self.step(Unseen::Tells { key, object })?;
+        if let Some(key) = self.kernel.teller(object, message) {
+            self.step(Move::Tells { key })?;
         }
         Ok(())
     }

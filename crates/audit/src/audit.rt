@@ -4,6 +4,7 @@ ghost use Rattle.std.specs.Prelude.{◌≡◌, false, length, OnOk, IfOk, IfSome
 ghost use Rattle.audit.specs.Verdicts.{
   Audits,
   FitsLog,
+  FitsWork,
   HasVerdict,
   IsFinding,
   IsReport,
@@ -12,7 +13,7 @@ ghost use Rattle.audit.specs.Verdicts.{
   is_certified,
 };
 
-use crate::certificate::{Certificate, certificate_of};
+use crate::certificate::{Certificate, Missing, certificate_of};
 use crate::findings::{Finding, list_findings};
 use crate::judging::{Judged, judge};
 use crate::summary::{front_of, summary};
@@ -35,10 +36,12 @@ pub enum Verdict {
     Found,
     /// A line is wrong, and the log was not judged.
     Wrong,
-    /// An answer is impossible.
-    Impossible,
+    /// No run was found that gives some answer.
+    Unexplained,
     /// A call cannot be judged, or lines of the log were lost, and nothing was found.
     Undecided,
+    /// Nothing was found, since the log has nothing to judge.
+    Nothing,
     /// Something was found, and lines of the log were lost, which may explain it.
     Doubtful,
 }
@@ -144,6 +147,7 @@ fn verdict_of(judged: &Judged, found: &[Finding], whole: bool) -> Verdict
     ensures verdict { HasVerdict result (length found.now) }
     ensures log { FitsLog result whole }
     ensures plain { is_certified result ≡ false }
+    ensures work { FitsWork result judged.now.nothing }
 {
     if !whole {
         return if found.is_empty() {
@@ -153,25 +157,31 @@ fn verdict_of(judged: &Judged, found: &[Finding], whole: bool) -> Verdict
         };
     }
     if !found.is_empty() {
-        return if judged.impossible.is_empty() {
+        return if judged.unexplained.is_empty() {
             Verdict::Found
         } else {
-            Verdict::Impossible
+            Verdict::Unexplained
         };
     }
-    if judged.log.are_all_judged() && judged.impossible.is_empty() && judged.broken.is_none() {
+    if judged.nothing.is_some() {
+        return Verdict::Nothing;
+    }
+    if judged.log.are_all_judged() && judged.unexplained.is_empty() {
         Verdict::Clean
     } else {
         Verdict::Undecided
     }
 }
 
-/// The same, where a run of the log is certified.
+/// The same, where a run of the log is certified, or the checker does not take the run that was found.
 fn certified_verdict(verdict: Verdict, certificate: Certificate) -> Verdict
     ensures { result ≡ certified_verdict verdict certificate }
 {
     match (verdict, certificate) {
         (Verdict::Clean, Certificate::Certified(_)) => Verdict::Certified,
+        (Verdict::Clean, Certificate::Missing(Missing::Refused | Missing::Differs)) => {
+            Verdict::Undecided
+        }
         (verdict, _) => verdict,
     }
 }

@@ -1,14 +1,15 @@
 //! Certificates: a run that was found is handed to the checker of `kernel_rules`, which is proved.
 
-ghost use Rattle.std.specs.Prelude.{◌≡◌, true, option_map, List, IfNone, IfOk, IfSome};
+ghost use Rattle.std.specs.Prelude.{◌≡◌, true, option_map, List, None, IfNone, IfOk, IfSome};
 ghost use Rattle.kernel_rules.specs.Certified.{certified, fresh_place, moved_all, IsReached};
 ghost use Rattle.kernel_rules.specs.declared.run.Move.{Move as MoveOf};
 ghost use Rattle.kernel_rules.specs.Held.{AreTables};
 ghost use Rattle.kernel_rules.specs.Worlds.{if_made, place_of};
-ghost use Rattle.audit.specs.Certificates.{IsCertificate, MayBe, certificate_from, totals_at_end};
+ghost use Rattle.audit.specs.Certificates.{IsCertificate, MayBe, NeedsWork, certificate_from, totals_at_end};
 
 use crate::judging::Judged;
 use crate::moves::Moves;
+use crate::work::Nothing;
 use call_log::log::Log;
 use call_log::log_call::LogCall;
 use kernel_rules::certify::WorldTable;
@@ -38,6 +39,8 @@ pub(crate) enum Certificate {
 /// Why a run is not certified.
 #[derive(Clone, Copy)]
 pub(crate) enum Missing {
+    /// Nothing of the log could be judged.
+    Nothing(Nothing),
     /// No run was found.
     NoRun,
     /// Lines are missing in the log.
@@ -46,10 +49,6 @@ pub(crate) enum Missing {
     PageSize(u64),
     /// The call of this line is not followed.
     Call { line: u32, word: &'static str },
-    /// A map call has something to tell an object.
-    Told,
-    /// A protection of several pages has changed some of them before the others.
-    PageByPage,
     /// The checker takes no such run.
     Refused,
     /// The checker's kernel has other findings.
@@ -59,15 +58,11 @@ pub(crate) enum Missing {
 impl fmt::Display for Missing {
     fn fmt<W: fmt::Write>(&self, f: &mut fmt::Formatter<W>) -> fmt::Result {
         match *self {
+            Missing::Nothing(why) => write!(f, "nothing was judged: {why}"),
             Missing::NoRun => write!(f, "no run was found"),
             Missing::Lost => write!(f, "lines of the log were lost"),
             Missing::PageSize(size) => write!(f, "pages of {size} bytes are not followed"),
             Missing::Call { line, word } => write!(f, "line {line}: {word} is not followed"),
-            Missing::Told => write!(f, "a map call that tells an object is not followed"),
-            Missing::PageByPage => write!(
-                f,
-                "a protection that takes effect page by page is not followed"
-            ),
             Missing::Refused => write!(f, "the checker does not follow the run"),
             Missing::Differs => write!(f, "the checker finds other pages owed or put twice"),
         }
@@ -79,11 +74,9 @@ fn is_followed(call: &LogCall) -> bool {
     if call.answer == Some(Answer::Interrupted) {
         return true;
     }
-    match call.call {
-        Call::Mremap { .. } => call.answer.is_none(),
-        Call::Api { features, .. } => features & 2 == 0,
-        _ => call.answer.is_none() || call.has_effect(),
-    }
+    // Of an object that is not judged the registration says why.
+    let is_api = matches!(call.call, Call::Api { .. });
+    is_api || call.answer.is_none() || call.has_effect()
 }
 
 /// The first call that is not followed.
@@ -102,7 +95,8 @@ fn not_followed(log: &Log) -> Option<Missing> {
 
 /// Why a run cannot be certified, as far as the log alone shows.
 fn missing_of(judged: &Judged, entries: &EntryReader) -> Option<Missing>
-    ensures { IfNone result (entries.now.whole ≡ true) }
+    ensures whole { IfNone result (entries.now.whole ≡ true) }
+    ensures work { IfNone result (judged.now.nothing ≡ None) }
 {
     if !judged.has_run() {
         return Some(Missing::NoRun);
@@ -110,7 +104,10 @@ fn missing_of(judged: &Judged, entries: &EntryReader) -> Option<Missing>
     if !entries.whole {
         return Some(Missing::Lost);
     }
-    let size = judged.log.size.0;
+    if let Some(nothing) = judged.nothing {
+        return Some(Missing::Nothing(nothing));
+    }
+    let size = judged.size.0;
     if size != PAGE_SIZE {
         return Some(Missing::PageSize(size));
     }
@@ -120,18 +117,12 @@ fn missing_of(judged: &Judged, entries: &EntryReader) -> Option<Missing>
 /// What the search found.
 fn totals_of(judged: &Judged) -> Totals {
     let mut owed = 0u64;
-    for range in &judged.kernel.owed {
+    for range in &judged.notes.owed {
         owed = owed.saturating_add(range.range.count);
-    }
-    let mut twice = 0usize;
-    for there in &judged.kernel.there {
-        if there.put {
-            twice = twice.saturating_add(1);
-        }
     }
     Totals {
         owed: owed as usize,
-        twice,
+        twice: judged.notes.twice.len(),
     }
 }
 
@@ -199,16 +190,14 @@ pub(crate) fn certificate_of(
     judged: Judged,
     entries: &EntryReader,
 ) -> Result<Certificate, NoMemory>
-    ensures { IfOk result (IsCertificate entries.now) }
+    ensures is { IfOk result (IsCertificate entries.now) }
+    ensures work { IfOk result (λ made. NeedsWork made judged.nothing) }
 {
     if let Some(missing) = missing_of(&judged, entries) {
         return Ok(Certificate::Missing(missing));
     }
     let wanted = totals_of(&judged);
     let mut moves = Moves::new(alloc, judged, &entries.entries)?;
-    if !moves.are_known() {
-        return Ok(Certificate::Missing(moves.missing()));
-    }
     let found = check(alloc, &entries.entries, &mut moves)?;
     Ok(decide(found, wanted))
 }

@@ -1,13 +1,16 @@
 //! What was found: a list of lines of the log, each with a text.
 
 use crate::judging::Judged;
-use crate::kernel::{Again, Owed};
+use crate::notes::{Again, Owed};
 use crate::rule_names::Rule;
-use crate::search::Impossible;
+use crate::search::Unexplained;
 use crate::waits::{Microseconds, Wait, waits_of};
 use call_log::log::Log;
+use call_log::log_call::LogCall;
+use call_log::pages::PageSize;
 use mig_base::NoMemory;
 use std::alloc::Global;
+use uffd_log::{Answer, Errno};
 
 /// A finding, by its line.
 #[derive(PartialEq, Eq, PartialOrd, Ord, Drop)]
@@ -29,33 +32,29 @@ struct Findings {
 impl Findings {
     /// Adds what was found by a rule.
     fn push(&mut self, line: u32, rule: Rule, text: &str) -> Result<(), NoMemory> {
-        let whose = rule.whose();
+        let whose = rule.whose(self.whole);
         let name = rule.name();
-        let doubt = if self.whole { "" } else { " or a lost line" };
-        let text = format!(in self.alloc; "{whose}{doubt}: {text} [{name}]")?;
+        let text = format!(in self.alloc; "{whose}{text} [{name}]")?;
         self.list.push(Finding { line, text, rule })?;
         Ok(())
     }
 
-    /// A call whose answer no rule allows.
-    fn add_impossible(&mut self, log: &Log, found: &Impossible) -> Result<(), NoMemory> {
+    /// A call for whose answer no run was found.
+    fn add_unexplained(&mut self, log: &Log, found: &Unexplained) -> Result<(), NoMemory> {
         let Some(call) = log.call(found.call) else {
             return Ok(());
         };
         let word = call.word();
         let reason = found.reason;
-        let text = format!(in self.alloc; "{word}: no run of the rules has this answer: {reason}")?;
-        let rule = if self.whole {
-            Rule::Answer
-        } else {
-            Rule::Unexplained
-        };
-        self.push(call.begin, rule, text.as_str())
+        let text = format!(in self.alloc;
+            "{word}: no run was found that gives this answer: {reason}"
+        )?;
+        self.push(call.begin, Rule::Unexplained, text.as_str())
     }
 
     /// A call on a page that is not registered.
-    fn add_outside(&mut self, log: &Log, place: u32) -> Result<(), NoMemory> {
-        let Some(call) = log.call(place) else {
+    fn add_outside(&mut self, log: &Log, place: u64) -> Result<(), NoMemory> {
+        let Some(call) = call_at(log, place) else {
             return Ok(());
         };
         let word = call.word();
@@ -64,16 +63,16 @@ impl Findings {
     }
 
     /// A page that was there when a call was to put it.
-    fn add_there(&mut self, log: &Log, found: &crate::kernel::There) -> Result<(), NoMemory> {
-        let Some(call) = log.call(found.call) else {
+    fn add_there(&mut self, log: &Log, place: u64, rule: Rule) -> Result<(), NoMemory> {
+        let Some(call) = call_at(log, place) else {
             return Ok(());
         };
         let word = call.word();
-        let addr = log.size.address(found.page);
-        let (was, rule) = if found.put {
-            ("was installed before by this log", Rule::PutTwice)
+        let addr = log.size.address(stopped_at(log, &call));
+        let was = if rule == Rule::PutTwice {
+            "was installed before by this log"
         } else {
-            ("was present before", Rule::PresentBefore)
+            "was present before"
         };
         let text = format!(in self.alloc; "{word}: the page 0x{addr:x} {was}")?;
         self.push(call.begin, rule, text.as_str())
@@ -81,10 +80,7 @@ impl Findings {
 
     /// A fault that nobody has resolved.
     fn add_unanswered(&mut self, log: &Log, read: u64) -> Result<(), NoMemory> {
-        let Ok(place) = u32::try_from(read) else {
-            return Ok(());
-        };
-        let Some(call) = log.call(place) else {
+        let Some(call) = call_at(log, read) else {
             return Ok(());
         };
         let text = "read: the page fault that this call has read was not resolved";
@@ -102,8 +98,8 @@ impl Findings {
     }
 
     /// A map call an event of which nobody has read.
-    fn add_untold(&mut self, log: &Log, place: u32) -> Result<(), NoMemory> {
-        let Some(call) = log.call(place) else {
+    fn add_untold(&mut self, log: &Log, place: u64) -> Result<(), NoMemory> {
+        let Some(call) = call_at(log, place) else {
             return Ok(());
         };
         let word = call.word();
@@ -125,12 +121,12 @@ impl Findings {
     }
 
     /// Pages that were still missing when their registration ended.
-    fn add_owed(&mut self, log: &Log, owed: &Owed) -> Result<(), NoMemory> {
+    fn add_owed(&mut self, log: &Log, size: PageSize, owed: &Owed) -> Result<(), NoMemory> {
         let (line, word) = match owed.call.and_then(|place| log.call(place)) {
             Some(call) => (call.begin, call.word()),
             None => (log.last_line, "end of the log"),
         };
-        let count = owed.range.count;
+        let count = size.number(log.size.address(owed.range.count));
         let addr = log.size.address(owed.range.first);
         let text = format!(in self.alloc;
             "{word}: {count} registered pages from 0x{addr:x} on are still missing"
@@ -139,13 +135,34 @@ impl Findings {
     }
 }
 
+/// A call, by its place in the log.
+fn call_at(log: &Log, place: u64) -> Option<LogCall> {
+    log.call(u32::try_from(place).ok()?)
+}
+
+/// The page at which a call has stopped: its first one, or the one after those that it has put.
+fn stopped_at(log: &Log, call: &LogCall) -> u64 {
+    let Some(range) = log.pages_of(call) else {
+        return 0;
+    };
+    match call.answer {
+        Some(
+            Answer::Failed {
+                errno: Errno::Eagain,
+                bytes: Some(done),
+            },
+        ) => range.first.saturating_add(log.size.number(done)),
+        _ => range.first,
+    }
+}
+
 /// Whether the page of a call that was refused is among these, which are owed.
 fn is_owed(owed: &Owed, again: &Again) -> bool {
-    owed.space == again.space && owed.range.contains(again.page)
+    owed.space == u64::from(again.space) && owed.range.contains(again.page)
 }
 
 /// Where owed pages are among others.
-fn order_of(owed: &Owed) -> (u32, u32, u64) {
+fn order_of(owed: &Owed) -> (u32, u64, u64) {
     (owed.call.unwrap_or(u32::MAX), owed.space, owed.range.first)
 }
 
@@ -186,16 +203,19 @@ pub(crate) fn list_findings(
         list: Vec::new(alloc),
     };
     let log = &judged.log;
-    for impossible in &judged.impossible {
-        found.add_impossible(log, impossible)?;
+    for unexplained in &judged.unexplained {
+        found.add_unexplained(log, unexplained)?;
     }
-    for place in &judged.kernel.outside {
+    for place in &judged.notes.outside {
         found.add_outside(log, *place)?;
     }
-    for there in &judged.kernel.there {
-        found.add_there(log, there)?;
+    for place in &judged.notes.twice {
+        found.add_there(log, *place, Rule::PutTwice)?;
     }
-    for read in &judged.kernel.unanswered {
+    for place in &judged.notes.before {
+        found.add_there(log, *place, Rule::PresentBefore)?;
+    }
+    for read in &judged.notes.unanswered {
         found.add_unanswered(log, *read)?;
     }
     if let Some(limit) = late_after {
@@ -205,17 +225,17 @@ pub(crate) fn list_findings(
             }
         }
     }
-    for place in &judged.kernel.untold {
+    for place in &judged.notes.untold {
         found.add_untold(log, *place)?;
     }
-    let owed = joined(alloc, &judged.kernel.owed)?;
-    for again in &judged.kernel.again {
+    let owed = joined(alloc, &judged.notes.owed)?;
+    for again in &judged.notes.again {
         if owed.iter().any(|owed| is_owed(owed, again)) {
             found.add_again(log, again)?;
         }
     }
     for owed in &owed {
-        found.add_owed(log, owed)?;
+        found.add_owed(log, judged.size, owed)?;
     }
     let Findings { mut list, .. } = found;
     list.sort()?;

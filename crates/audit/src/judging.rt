@@ -1,63 +1,60 @@
-//! Judging a log: the search, and the replay of the run that it found.
+//! Judging a log: a run of it is looked for.
 
-use crate::kernel::Kernel;
-use crate::replay::{Broken, Replayed, replay_run};
+use crate::notes::Notes;
 use crate::run::Run;
-use crate::search::{Impossible, Search};
+use crate::search::{Search, Unexplained};
+use crate::work::{Nothing, nothing_in};
 use call_log::log::Log;
+use call_log::pages::PageSize;
 use mig_base::NoMemory;
 use std::alloc::Global;
+
+/// The size of a page of the rules.
+const PAGE: PageSize = PageSize(4096);
 
 /// A log that was judged.
 #[derive(Drop)]
 pub(crate) struct Judged {
     pub(crate) log: Log,
-    /// The kernel at the end: of the replay, or where there is none of the search.
-    pub(crate) kernel: Kernel,
-    pub(crate) impossible: Vec<Impossible>,
-    pub(crate) broken: Option<Broken>,
+    /// The size of its pages. They are judged as pages of 4,096 bytes.
+    pub(crate) size: PageSize,
+    pub(crate) notes: Notes,
+    pub(crate) unexplained: Vec<Unexplained>,
+    /// Why nothing of it could be judged.
+    pub(crate) nothing: Option<Nothing>,
     /// The run that was found.
     pub(crate) run: Run,
 }
 
 impl Judged {
-    /// Whether a run was found and replayed.
+    /// Whether a run was found.
     pub(crate) fn has_run(&self) -> bool {
-        self.impossible.is_empty() && self.broken.is_none()
+        self.unexplained.is_empty()
     }
 }
 
-/// Looks for a run of a log. What only the search needs is gone then, and its pages, since the replay has its own.
-fn found_in(alloc: Global, log: Log) -> Result<Judged, NoMemory> {
+/// Looks for a run of a log. What only the search needs is gone then, with its pages.
+pub(crate) fn judge(alloc: Global, log: Log) -> Result<Judged, NoMemory> {
+    let nothing = nothing_in(&log);
+    let size = log.size;
+    let mut log = log;
+    log.size = PAGE;
     let mut search = Search::new(alloc, log)?;
     search.search()?;
-    search.kernel.spaces.clear();
     let Search {
         log,
         kernel,
-        impossible,
+        unexplained,
         run,
         ..
     } = search;
+    let notes = kernel.finish()?;
     Ok(Judged {
         log,
-        kernel,
-        impossible,
-        broken: None,
+        size,
+        notes,
+        unexplained,
+        nothing,
         run,
-    })
-}
-
-/// Judges a log.
-pub(crate) fn judge(alloc: Global, log: Log) -> Result<Judged, NoMemory> {
-    let judged = found_in(alloc, log)?;
-    if !judged.impossible.is_empty() {
-        return Ok(judged);
-    }
-    let Replayed { kernel, broken } = replay_run(alloc, &judged.log, &judged.run)?;
-    Ok(if broken.is_some() {
-        Judged { broken, ..judged }
-    } else {
-        Judged { kernel, ..judged }
     })
 }

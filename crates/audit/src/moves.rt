@@ -1,9 +1,7 @@
 //! A run that was found, as the moves that the checker of `kernel_rules` takes, one after another.
 
-use crate::certificate::Missing;
 use crate::judging::Judged;
-use crate::replay::sorted_late;
-use crate::run::{Late, Run, Sight, Unseen, What};
+use crate::run::{Late, Run, What};
 use call_log::call_table::narrow;
 use call_log::log::Log;
 use kernel_rules::Move;
@@ -54,7 +52,7 @@ impl Moves {
         entries: &EntryStore,
     ) -> Result<Moves, NoMemory> {
         let (log, run) = parts_of(judged);
-        let late = sorted_late(alloc, &run)?;
+        let late = run.sorted_late(alloc)?;
         Ok(Moves {
             calls: lines_of(alloc, &log)?,
             run,
@@ -67,27 +65,6 @@ impl Moves {
             lines: 0,
             opening: Opening::Nothing,
         })
-    }
-
-    /// Whether each step is one that the checker knows: no map call has something to tell an object, and no protection takes effect page by page.
-    pub(crate) fn are_known(&self) -> bool {
-        self.run
-            .steps
-            .iter()
-            .all(|step| self.move_of(step.what).is_some())
-            && self
-                .late
-                .iter()
-                .all(|step| self.move_of(step.what).is_some())
-    }
-
-    /// Why the checker does not know some step.
-    pub(crate) fn missing(&self) -> Missing {
-        if self.run.has_protected_page_by_page() {
-            Missing::PageByPage
-        } else {
-            Missing::Told
-        }
     }
 
     /// No more moves than this are left.
@@ -169,10 +146,27 @@ impl Moves {
         }
     }
 
-    /// The move of a step, if the checker knows it.
+    /// The line where a call begins.
+    fn begin_of(&self, place: u32) -> Option<u32> {
+        Some(self.calls.get(place as usize)?.begin)
+    }
+
+    /// The move of a step, with calls by their lines.
     fn move_of(&self, what: What) -> Option<Move> {
         let What::Effect(place) = what else {
-            return move_unseen(self.run.unseen(what)?);
+            return Some(match self.run.unseen(what)? {
+                Move::Tells { key } => Move::Tells {
+                    key: self.begin_of(key)?,
+                },
+                Move::Clears { key } => Move::Clears {
+                    key: self.begin_of(key)?,
+                },
+                Move::Protects { key, page } => Move::Protects {
+                    key: self.begin_of(key)?,
+                    page,
+                },
+                other => other,
+            });
         };
         let call = self.calls.get(place as usize)?;
         let at = match call.ending {
@@ -183,28 +177,6 @@ impl Moves {
             key: call.begin,
             at,
         })
-    }
-}
-
-/// The move of what a log does not show, if the checker knows it.
-fn move_unseen(unseen: Unseen) -> Option<Move> {
-    match unseen {
-        Unseen::Sees(
-            Sight {
-                thread,
-                object,
-                page,
-                flags,
-            },
-        ) => Some(Move::Sees {
-            thread,
-            object,
-            page,
-            flags,
-        }),
-        Unseen::Queues { thread } => Some(Move::Queues { thread }),
-        Unseen::Leaves { thread } => Some(Move::Leaves { thread }),
-        Unseen::Tells { .. } | Unseen::Clears { .. } | Unseen::Protects { .. } => None,
     }
 }
 

@@ -1,12 +1,11 @@
 //! Open calls that take effect before another one, for its answer.
 
 use crate::kernel::{is_guarded, is_missing};
-use crate::rules::protects_several;
+use crate::search::Search;
 use crate::search::index::message_of;
-use crate::search::{Search, has_put};
 use crate::tellers::changes;
-use call_log::log_call::{COPY_PROTECTS, LogCall, PROTECTS, is_event};
-use call_log::pages::Range;
+use call_log::log_call::{COPY_PROTECTS, LogCall, PROTECTS, has_put, is_event};
+use call_log::pages::{PageSize, Range};
 use kernel_rules::fault::is_protection;
 use kernel_rules::{Fault, Phase};
 use uffd_log::{Call, Errno, Message};
@@ -59,8 +58,23 @@ pub(crate) enum Wanted {
     },
     /// Those on an object.
     OfObject(u64),
-    /// Those that put a page of an object.
+    /// Registrations with an object of a page of a range.
+    Registers {
+        object: u64,
+        range: Range,
+    },
+    /// Those that take the registration of a page of a range away.
+    Unregisters {
+        space: u32,
+        range: Range,
+    },
+    /// Those that put a page of an object, or were to.
     Installs {
+        object: u64,
+        page: u64,
+    },
+    /// Those that put all their pages, one of an object among them.
+    Puts {
         object: u64,
         page: u64,
     },
@@ -100,6 +114,19 @@ pub(crate) fn wakers_of(fault: Fault) -> Wanted {
     Wanted::Wakers {
         object: fault.object,
         page: fault.page,
+    }
+}
+
+/// Whether a call write-protects several pages.
+fn protects_several(size: PageSize, call: &LogCall) -> bool {
+    match call.call {
+        Call::WriteProtect {
+            start,
+            len,
+            mode,
+            ..
+        } => mode == PROTECTS && call.is_ok() && size.range(start, len).count > 1,
+        _ => false,
     }
 }
 
@@ -163,7 +190,7 @@ impl Search {
     /// Whether the call at a place of the log write-protects a page of an object, and has not changed it yet.
     fn may_protect(&self, place: u32, call: &LogCall, object: u64, page: u64) -> bool {
         let is_there = call.object() == Some(object) && call.covers(self.log.size, page);
-        protects(call) && is_there && !self.kernel.has_protected(place, page)
+        protects(call) && is_there && !self.kernel.rules.has_protected(u64::from(place), page)
     }
 
     /// Whether each fault of a write-protected page that a read returns waits already, or its page is protected.
@@ -185,7 +212,8 @@ impl Search {
         let size = self.log.size;
         match wanted {
             Wanted::Protecting { space, range } => {
-                self.kernel.has_begun(place) && self.has_page_in(call, space, range)
+                self.kernel.rules.has_begun(u64::from(place))
+                    && self.has_page_in(call, space, range)
             }
             Wanted::Wakers { object, page } => call.wakes(size, object, page),
             Wanted::Faults { object, range } => {
@@ -208,6 +236,10 @@ impl Search {
             Wanted::Clears { space, page } => self.may_clear(call, space, page),
             Wanted::MovesTo { space, page } => self.moves_to(call, space, page),
             Wanted::OfObject(object) => call.object() == Some(object),
+            Wanted::Registers { object, range } => {
+                call.object() == Some(object) && self.registers(call, range)
+            }
+            Wanted::Unregisters { space, range } => self.unregisters(call, space, range),
             Wanted::Protects { object, page } => {
                 let may_be = self.is_bare(object, page) && !protects_several(size, call);
                 may_be && self.may_protect(place, call, object, page)
@@ -232,12 +264,48 @@ impl Search {
             Wanted::Installs { object, page } => {
                 call.object() == Some(object) && call.covers(size, page)
             }
+            Wanted::Puts { object, page } => {
+                call.object() == Some(object) && call.is_ok() && call.covers(size, page)
+            }
             Wanted::PutIn { space, range } => self.is_put_in(call, space, range),
             Wanted::PutBefore { space, range, line } => {
                 self.is_put_in(call, space, range) && self.is_missing_after(call, space, line)
             }
             _ => false,
         }
+    }
+
+    /// Whether a call registers a page of a range.
+    fn registers(&self, call: &LogCall, range: Range) -> bool {
+        match self.log.pages_of(call) {
+            Some(pages) if matches!(call.call, Call::Register { .. }) => {
+                call.is_ok() && pages.common(range).count > 0
+            }
+            _ => false,
+        }
+    }
+
+    /// Whether a call takes the registration of a page of a range away.
+    fn unregisters(&self, call: &LogCall, space: u32, range: Range) -> bool {
+        let is_of = match call.call {
+            Call::Unregister { .. } => self.watches_space(call, space),
+            Call::Mmap { .. } | Call::Munmap { .. } | Call::Mremap { .. } => call.space == space,
+            _ => false,
+        };
+        match self.log.pages_of(call) {
+            Some(pages) => is_of && call.is_ok() && pages.common(range).count > 0,
+            None => false,
+        }
+    }
+
+    /// Whether each page of a range is registered.
+    pub(crate) fn are_registered(&self, space: u32, range: Range) -> bool {
+        for number in range.first..range.end() {
+            if self.kernel.page(space, number).is_none() {
+                return false;
+            }
+        }
+        true
     }
 
     /// Whether a page of a call is in a range of an address space.
@@ -293,7 +361,7 @@ impl Search {
 
     /// Whether a fault waits to be read.
     fn is_waiting(&self, object: u64, page: u64, flags: u64) -> bool {
-        for fault in &self.kernel.faults {
+        for fault in self.kernel.rules.faults() {
             let is_there = fault.object == object && fault.page == page && fault.flags == flags;
             if is_there && matches!(fault.phase, Phase::Unread) {
                 return true;
@@ -315,7 +383,8 @@ impl Search {
     /// Whether a call was refused with EAGAIN by an object which a map call has told.
     fn is_refused_during(&self, key: u32, call: &LogCall) -> bool {
         match call.object() {
-            Some(object) => is_refused_for_now(call) && self.kernel.has_told(key, object),
+            Some(object) => is_refused_for_now(call)
+                && self.kernel.rules.tells_object(u64::from(key), object),
             None => false,
         }
     }
@@ -359,7 +428,7 @@ impl Search {
         let is_of = call.object() == Some(object) && range.contains(pages.first);
         bares(call)
             && is_of
-            && !self.kernel.has_protected(by, pages.first)
+            && !self.kernel.rules.has_protected(u64::from(by), pages.first)
             && self.is_next_protected(object, pages.first, line) == Some(true)
     }
 

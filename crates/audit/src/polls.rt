@@ -3,14 +3,13 @@
 
 use crate::accesses::{Access, ThreadTask};
 use crate::needs::wakers_of;
-use crate::run::Unseen;
 use crate::search::{Put, Search};
 use crate::tasks::{Task, others};
 use crate::threads::stranger;
 use call_log::log_call::{DONTWAKE, Kind, LogCall, POLLIN};
 use call_log::pages::Range;
 use kernel_rules::fault::{find, stops};
-use kernel_rules::{Fault, Phase};
+use kernel_rules::{Fault, Move, Phase};
 use mig_base::NoMemory;
 use uffd_log::{Answer, Errno, Message};
 
@@ -60,7 +59,7 @@ impl Search {
             } => self.show_early(object, read, leaves),
             PollTask::EarlyLeave { held, page } => self.leave_early(held, page),
             PollTask::EarlyEvent(object) => {
-                self.touched = self.kernel.has_unread(object);
+                self.touched = self.kernel.rules.has_unread(object);
                 Ok(())
             }
             PollTask::Vanish { poll, read, next } => self.vanish(poll, read, next),
@@ -81,7 +80,7 @@ impl Search {
         if events == 0 {
             return self.drain(object, poll);
         }
-        if events != POLLIN || self.kernel.has_unread(object) {
+        if events != POLLIN || self.kernel.rules.has_unread(object) {
             return Ok(());
         }
         if self.was_read(poll, object)? {
@@ -183,7 +182,7 @@ impl Search {
         };
         let access = self.access_of(object, addr, flags, thread, None);
         self.plan_thread(ThreadTask::Touch(access))?;
-        let Some(held) = find(&self.kernel.faults, access.thread) else {
+        let Some(held) = find(self.kernel.rules.faults(), access.thread) else {
             return Ok(());
         };
         if leaves {
@@ -197,7 +196,7 @@ impl Search {
     }
 
     fn leave_early(&mut self, held: Fault, page: u64) -> Result<(), NoMemory> {
-        let is_read = match find(&self.kernel.faults, held.thread) {
+        let is_read = match find(self.kernel.rules.faults(), held.thread) {
             Some(now) => matches!(now.phase, Phase::Asleep),
             None => false,
         };
@@ -366,7 +365,7 @@ impl Search {
         };
         self.run.put_unseen_before(put.step, access.seen())?;
         self.run
-            .put_unseen_before(put.step, Unseen::Queues { thread })?;
+            .put_unseen_before(put.step, Move::Queues { thread })?;
         self.run.put_effect_before(put.step, poll)?;
         self.set_kind(poll, Kind::Must);
         Ok(())

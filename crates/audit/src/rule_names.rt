@@ -3,9 +3,7 @@
 /// A rule, by which something was found.
 #[derive(Clone, Copy, PartialEq, Eq, PartialOrd, Ord)]
 pub(crate) enum Rule {
-    /// The kernel answers as its rules say.
-    Answer,
-    /// The same, in a log of which lines were lost.
+    /// A run of the kernel's rules is found that gives each answer.
     Unexplained,
     /// A page is registered when it is put.
     NotRegistered,
@@ -27,8 +25,7 @@ pub(crate) enum Rule {
 
 impl Rule {
     /// All, in the order of docs/AUDIT.md.
-    pub(crate) const ALL: [Rule; 10] = [
-        Rule::Answer,
+    pub(crate) const ALL: [Rule; 9] = [
         Rule::Unexplained,
         Rule::NotRegistered,
         Rule::PutTwice,
@@ -42,7 +39,6 @@ impl Rule {
 
     pub(crate) fn name(self) -> &'static str {
         match self {
-            Rule::Answer => "impossible-answer",
             Rule::Unexplained => "unexplained-answer",
             Rule::NotRegistered => "not-registered",
             Rule::PutTwice => "put-twice",
@@ -55,22 +51,21 @@ impl Rule {
         }
     }
 
-    /// Who has not kept it.
-    pub(crate) fn whose(self) -> &'static str {
-        match self {
-            Rule::Answer | Rule::Unexplained => "kernel",
-            _ => "monitor",
+    /// Who has not kept it, as a finding begins: nobody is named for an answer without a run. `whole` says that no line of the log was lost.
+    pub(crate) fn whose(self, whole: bool) -> &'static str {
+        match (self, whole) {
+            (Rule::Unexplained, true) => "",
+            (Rule::Unexplained, false) => "perhaps a lost line: ",
+            (_, true) => "monitor: ",
+            (_, false) => "monitor or a lost line: ",
         }
     }
 
     /// What a finding means, and where docs/LINUX.md speaks of it.
     pub(crate) fn meaning(self) -> &'static str {
         match self {
-            Rule::Answer => {
-                "the kernel answered otherwise than its rules, or calls are missing: of the log, or of the monitor (LINUX.md, The userfault object)"
-            }
             Rule::Unexplained => {
-                "the kernel answered otherwise than its rules, or a line that was lost explains the answer (LINUX.md, The userfault object)"
+                "a call is missing, of the log or of the monitor; or the audit did not find the run; or the kernel does not keep its rules (LINUX.md, The userfault object)"
             }
             Rule::NotRegistered => {
                 "the page was unmapped or moved meanwhile, or the address is wrong (LINUX.md, For authors of a handler)"

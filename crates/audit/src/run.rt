@@ -1,33 +1,17 @@
 //! A run of a log: its lines in their order, with the effects of calls put in between, and what no line shows.
 
 use call_log::call_table::narrow;
+use kernel_rules::Move;
 use mig_base::NoMemory;
 use std::alloc::Global;
 
 /// A thread that finds that it has to wait at a page.
 #[derive(Clone, Copy)]
-pub(crate) struct Sight {
-    pub(crate) thread: u64,
-    pub(crate) object: u64,
-    pub(crate) page: u64,
-    pub(crate) flags: u64,
-}
-
-/// What a log does not show.
-#[derive(Clone, Copy)]
-pub(crate) enum Unseen {
-    /// A thread finds that it has to wait at a page.
-    Sees(Sight),
-    /// It queues its fault.
-    Queues { thread: u64 },
-    /// It leaves its fault.
-    Leaves { thread: u64 },
-    /// The next event that a map call tells an object is queued.
-    Tells { key: u32, object: u64 },
-    /// A map call clears its pages.
-    Clears { key: u32 },
-    /// A protection of several pages protects this one of them, and the others later.
-    Protects { key: u32, page: u64 },
+struct Sight {
+    thread: u64,
+    object: u64,
+    page: u64,
+    flags: u64,
 }
 
 /// A step of a run other than a line: the call at this place of the log takes effect, or something that no line shows, by its place in a list of
@@ -63,7 +47,7 @@ pub(crate) struct Run {
     /// Of the threads that queue their fault or leave it.
     threads: Vec<u64>,
     /// The rest of what no line shows.
-    others: Vec<Unseen>,
+    others: Vec<Move>,
     lines: u32,
 }
 
@@ -99,22 +83,32 @@ impl Run {
         self.add(What::Effect(call))
     }
 
-    pub(crate) fn add_unseen(&mut self, unseen: Unseen) -> Result<(), NoMemory> {
+    pub(crate) fn add_unseen(&mut self, unseen: Move) -> Result<(), NoMemory> {
         let what = self.keep(unseen)?;
         self.add(what)
     }
 
     /// Keeps what no line shows.
-    fn keep(&mut self, unseen: Unseen) -> Result<What, NoMemory> {
+    fn keep(&mut self, unseen: Move) -> Result<What, NoMemory> {
         match unseen {
-            Unseen::Sees(sight) => {
+            Move::Sees {
+                thread,
+                object,
+                page,
+                flags,
+            } => {
                 let place = narrow(self.sights.len())?;
-                self.sights.push(sight)?;
+                self.sights.push(Sight {
+                    thread,
+                    object,
+                    page,
+                    flags,
+                })?;
                 Ok(What::Sees(place))
             }
-            Unseen::Queues { thread } => Ok(What::Queues(self.keep_thread(thread)?)),
-            Unseen::Leaves { thread } => Ok(What::Leaves(self.keep_thread(thread)?)),
-            Unseen::Tells { .. } | Unseen::Clears { .. } | Unseen::Protects { .. } => {
+            Move::Queues { thread } => Ok(What::Queues(self.keep_thread(thread)?)),
+            Move::Leaves { thread } => Ok(What::Leaves(self.keep_thread(thread)?)),
+            _ => {
                 let place = narrow(self.others.len())?;
                 self.others.push(unseen)?;
                 Ok(What::Other(place))
@@ -128,39 +122,38 @@ impl Run {
         Ok(place)
     }
 
-    /// What a step does that no line shows.
-    pub(crate) fn unseen(&self, what: What) -> Option<Unseen> {
+    /// What a step does that no line shows. Calls are named by their places in the log.
+    pub(crate) fn unseen(&self, what: What) -> Option<Move> {
         match what {
             What::Effect(_) => None,
             What::Sees(place) => {
-                let sight = self.sights.get(place as usize).copied()?;
-                Some(Unseen::Sees(sight))
+                let Sight {
+                    thread,
+                    object,
+                    page,
+                    flags,
+                } = self.sights.get(place as usize).copied()?;
+                Some(Move::Sees {
+                    thread,
+                    object,
+                    page,
+                    flags,
+                })
             }
             What::Queues(place) => {
                 let thread = self.threads.get(place as usize).copied()?;
-                Some(Unseen::Queues { thread })
+                Some(Move::Queues { thread })
             }
             What::Leaves(place) => {
                 let thread = self.threads.get(place as usize).copied()?;
-                Some(Unseen::Leaves { thread })
+                Some(Move::Leaves { thread })
             }
             What::Other(place) => self.others.get(place as usize).copied(),
         }
     }
 
-    /// Whether a protection of several pages has changed one before the others.
-    pub(crate) fn has_protected_page_by_page(&self) -> bool {
-        self.others
-            .iter()
-            .any(|unseen| matches!(*unseen, Unseen::Protects { .. }))
-    }
-
     /// Puts a step in before another one, and after those that were put in before that.
-    pub(crate) fn put_unseen_before(
-        &mut self,
-        before: u32,
-        unseen: Unseen,
-    ) -> Result<(), NoMemory> {
+    pub(crate) fn put_unseen_before(&mut self, before: u32, unseen: Move) -> Result<(), NoMemory> {
         let what = self.keep(unseen)?;
         self.late.push(Late { before, what })?;
         Ok(())
@@ -181,5 +174,13 @@ impl Run {
             }
         }
         false
+    }
+
+    /// The steps that were put in later, in their order.
+    pub(crate) fn sorted_late(&self, alloc: Global) -> Result<Vec<Late>, NoMemory> {
+        let mut late = Vec::new(alloc);
+        late.extend_from_slice(&self.late)?;
+        late.sort_by_key(|step| step.before)?;
+        Ok(late)
     }
 }

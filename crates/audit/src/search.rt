@@ -7,17 +7,17 @@ pub(crate) mod index;
 use crate::accesses::Shown;
 use crate::kernel::{Kernel, is_present};
 use crate::needs::Wanted;
-use crate::refusal::{Refusal, Stop};
-use crate::rules::Made;
-use crate::run::{Run, Unseen};
+use crate::run::Run;
 use crate::search::index::Index;
 use crate::tasks::{Frame, Task, others};
-use crate::unseen::Unreturned;
+use crate::why::Refusal;
 use call_log::log::Log;
-use call_log::log_call::{Kind, LogCall};
+use call_log::log_call::{Kind, LogCall, has_put};
 use indexmap::IndexMap;
+use kernel_rules::Move;
 use mig_base::NoMemory;
 use std::alloc::Global;
+use uffd_log::Answer;
 
 /// A call that has begun and has not taken effect.
 #[derive(Clone, Copy)]
@@ -34,9 +34,9 @@ pub(crate) struct Put {
     pub(crate) step: u32,
 }
 
-/// A call whose answer no rule allows, and why.
+/// A call for whose answer no run was found, and why.
 #[derive(Clone, Copy)]
-pub(crate) struct Impossible {
+pub(crate) struct Unexplained {
     pub(crate) call: u32,
     pub(crate) reason: Refusal,
 }
@@ -65,7 +65,7 @@ pub(crate) struct Search {
     /// How many threads were made up for messages that name none, and for messages that nobody reads.
     pub(crate) unnamed: u64,
     pub(crate) strangers: u64,
-    pub(crate) impossible: Vec<Impossible>,
+    pub(crate) unexplained: Vec<Unexplained>,
     /// The line of the log that is looked at.
     pub(crate) line: u32,
 }
@@ -73,7 +73,7 @@ pub(crate) struct Search {
 impl Search {
     pub(crate) fn new(alloc: Global, log: Log) -> Result<Search, NoMemory> {
         let index = Index::new(alloc, &log)?;
-        let kernel = Kernel::new(alloc, log.size, &log.found)?;
+        let kernel = Kernel::new(alloc, &log)?;
         Ok(Search {
             log,
             kernel,
@@ -89,7 +89,7 @@ impl Search {
             placed: None,
             unnamed: 0,
             strangers: 0,
-            impossible: Vec::new(alloc),
+            unexplained: Vec::new(alloc),
             line: 0,
         })
     }
@@ -106,7 +106,7 @@ impl Search {
             self.run.add_line();
         }
         self.begin_before(begun, u32::MAX)?;
-        self.kernel.finish()
+        Ok(())
     }
 
     /// The calls from a place on begin whose lines are above the end of another call. Returns the place of the first that does not.
@@ -142,50 +142,50 @@ impl Search {
             return Ok(());
         };
         self.line = call.end;
+        if call.answer == Some(Answer::Interrupted) && !self.log.messages_of(&call).is_empty() {
+            let reason = Refusal::Plain("it was interrupted, and read messages");
+            self.refuse(place, reason)?;
+        }
         if call.has_effect() && !call.done {
             self.carry_out(Task::Settle(place))?;
         }
-        if self.kernel.may_return(place).is_err() {
+        let key = u64::from(place);
+        if !self.kernel.rules.is_told_all(key) {
             self.carry_out(others(Wanted::Events))?;
         }
-        match self.kernel.may_return(place) {
-            Err(Unreturned::Untold) => self.refuse(
-                place,
-                Refusal::Plain(Unreturned::Untold.text()),
-            )?,
-            Err(Unreturned::Uncleared) => {
-                self.step(Unseen::Clears { key: place })?;
-            }
-            Ok(()) => {}
+        if !self.kernel.rules.is_told_all(key) {
+            self.refuse(place, Refusal::Plain("an event of the call is unread"))?;
+        } else if self.kernel.rules.clear_span(key).is_some() {
+            self.step(Move::Clears { key: place })?;
         }
         self.end_telling(place)
     }
 
     /// A call has returned. Where it is a map call that has told objects, it is the last moment for those which these refused with EAGAIN because of it.
     fn end_telling(&mut self, place: u32) -> Result<(), NoMemory> {
-        if self.kernel.is_telling(place) {
+        if self.kernel.rules.calls().contains(&u64::from(place)) {
             self.carry_out(others(Wanted::RefusedDuring(place)))?;
-            self.kernel.returned(place);
+            self.kernel.rules.returned(u64::from(place));
         }
         Ok(())
     }
 
     /// A step that the log does not show. Whether the rules allow it.
-    pub(crate) fn step(&mut self, unseen: Unseen) -> Result<bool, NoMemory> {
-        let made = self.kernel.make(&self.log, unseen)?;
+    pub(crate) fn step(&mut self, step: Move) -> Result<bool, NoMemory> {
+        let made = self.kernel.make(&self.log, step)?;
         if made {
-            self.run.add_unseen(unseen)?;
+            self.run.add_unseen(step)?;
         }
         Ok(made)
     }
 
     /// No rule allows the answer of a call.
     fn refuse(&mut self, place: u32, reason: Refusal) -> Result<(), NoMemory> {
-        self.impossible.push(Impossible {
+        self.unexplained.push(Unexplained {
             call: place,
             reason,
         })?;
-        self.set_kind(place, Kind::Impossible);
+        self.set_kind(place, Kind::Unexplained);
         Ok(())
     }
 
@@ -211,21 +211,13 @@ impl Search {
 
     /// Judges the answer of a call, which takes effect.
     fn judge(&mut self, frame: Frame, call: &LogCall) -> Result<(), NoMemory> {
-        let made = Made {
-            key: frame.call,
-            call: *call,
-        };
-        match self.kernel.take(&self.log, made) {
-            Ok(()) => {
-                self.note_kind(frame, call);
-                Ok(())
-            }
-            Err(Stop::Refused(reason)) => {
-                self.refuse(frame.call, reason)?;
-                self.force(call)
-            }
-            Err(Stop::NoMemory) => Err(NoMemory),
+        if self.kernel.take(&self.log, frame.call, call)? {
+            self.note_kind(frame, call);
+            return Ok(());
         }
+        let reason = self.kernel.why(&self.log, frame.call, call);
+        self.refuse(frame.call, reason)?;
+        self.kernel.force(&self.log, frame.call, call)
     }
 
     /// Notes how sure the answer of a call is, unless that is known.
@@ -238,41 +230,8 @@ impl Search {
             return;
         }
         let has_messages = !self.log.messages_of(call).is_empty();
-        let may = has_messages || self.kernel.resolved > 0 || self.run.has_access_from(frame.first);
+        let may = has_messages || self.kernel.resolved || self.run.has_access_from(frame.first);
         self.set_kind(frame.call, if may { Kind::May } else { Kind::Must });
-    }
-
-    /// After an impossible call: what it says of pages is taken for true, so that later calls are judged on their own.
-    fn force(&mut self, call: &LogCall) -> Result<(), NoMemory> {
-        let is_there = call.is_ok() || matches!(call.errno(), Some(uffd_log::Errno::Eexist));
-        let (Some(object), Some(range)) = (call.object(), self.log.pages_of(call)) else {
-            return Ok(());
-        };
-        let Some(space) = self.kernel.space_of(object) else {
-            return Ok(());
-        };
-        if call.install_mode().is_none() || !is_there {
-            return Ok(());
-        }
-        let count = if call.is_ok() { range.count } else { 1 };
-        for number in range.first..range.first.saturating_add(count) {
-            self.force_page(space, number)?;
-        }
-        Ok(())
-    }
-
-    fn force_page(&mut self, space: u32, number: u64) -> Result<(), NoMemory> {
-        let Some(page) = self.kernel.page(space, number) else {
-            return Ok(());
-        };
-        self.kernel.set(
-            space,
-            number,
-            Some(kernel_rules::Page {
-                presence: kernel_rules::Presence::Present,
-                ..page
-            }),
-        )
     }
 
     /// A call has taken effect, by this step.
@@ -296,18 +255,5 @@ impl Search {
             Some(page) => is_present(page),
             None => false,
         }
-    }
-}
-
-/// Whether a call has put a page.
-pub(crate) fn has_put(call: &LogCall) -> bool {
-    match call.answer {
-        Some(
-            uffd_log::Answer::Failed {
-                bytes: Some(bytes),
-                ..
-            },
-        ) => bytes > 0,
-        _ => call.is_ok(),
     }
 }

@@ -7,7 +7,6 @@ ghost use Rattle.audit.specs.Verdicts.{IsCertificateLine, IsSummary, certified_l
 use crate::certificate::{Certificate, Missing, Totals};
 use crate::findings::Finding;
 use crate::judging::Judged;
-use crate::replay::Broken;
 use crate::rule_names::Rule;
 use crate::waits::{KINDS, Microseconds, waits_of};
 use call_log::log_call::Kind;
@@ -39,7 +38,7 @@ const DIFFERENCES: &[(Difference, &str)] = &[
 /// How often a difference from the model was noted.
 fn count_difference(judged: &Judged, wanted: Difference) -> u64 {
     let mut count = 0u64;
-    for difference in &judged.kernel.differs {
+    for difference in &judged.notes.differs {
         if *difference == wanted {
             count = count.saturating_add(1);
         }
@@ -76,19 +75,6 @@ fn add_kind(
             text,
             "waits, {name}: {count}, the median {median}, the longest {longest}\n"
         )?;
-    }
-    Ok(())
-}
-
-/// Adds why the run that was found is none.
-fn add_broken(text: &mut String, broken: &Broken) -> Result<(), NoMemory> {
-    let reason = broken.reason;
-    match broken.line {
-        Some(line) => write!(
-            text,
-            "the run that was found does not replay: line {line}: {reason}\n"
-        )?,
-        None => write!(text, "the run that was found does not replay: {reason}\n")?,
     }
     Ok(())
 }
@@ -152,27 +138,26 @@ pub(crate) fn front_of(
     add_details(&mut rest, alloc, judged, found, explains)?;
     Ok(Front {
         calls: judged.log.count(),
-        counts: counts(alloc, judged, whole)?,
+        counts: counts(alloc, judged)?,
         rest,
     })
 }
 
-/// How many calls there are of each kind. An answer that no rule allows is not impossible where a lost line may explain it.
-fn counts(alloc: Global, judged: &Judged, whole: bool) -> Result<String, NoMemory> {
+/// How many calls there are of each kind.
+fn counts(alloc: Global, judged: &Judged) -> Result<String, NoMemory> {
     let mut text = String::new(alloc);
     let must = judged.log.count_of(Kind::Must);
     let may = judged.log.count_of(Kind::May);
-    let refused = judged.log.count_of(Kind::Impossible);
-    let impossible = if whole { refused } else { 0 };
+    let unexplained = judged.log.count_of(Kind::Unexplained);
     let unjudged = judged.log.count_of(Kind::Unjudged);
     write!(
         text,
         "{must} with the only answer that the rules allow, {may} that an access explains which the log does not show, "
     )?;
-    write!(text, "{impossible} impossible, {unjudged} not judged")?;
-    if !whole {
-        write!(text, ", {refused} that lost lines may explain")?;
-    }
+    write!(
+        text,
+        "{unexplained} for which no run was found, {unjudged} not judged"
+    )?;
     Ok(text)
 }
 
@@ -184,9 +169,6 @@ fn add_details(
     found: &[Finding],
     explains: bool,
 ) -> Result<(), NoMemory> {
-    if let Some(broken) = &judged.broken {
-        add_broken(text, broken)?;
-    }
     add_waits(text, alloc, judged)?;
     if explains {
         add_explanation(text, alloc, judged, found)?;
@@ -217,7 +199,9 @@ fn certified_line(alloc: Global, totals: Totals) -> Result<String, NoMemory>
     ensures { IfOk result (λ text. string_bytes text ≡ certified_line totals) }
 {
     let mut text = String::new(alloc);
-    text.push_str("certified: a kernel of the rules may have answered so; pages owed ")?;
+    text.push_str(
+        "certified: a kernel of the rules may have given these answers; pages known to be owed ",
+    )?;
     add_numbers(&mut text, totals)?;
     Ok(text)
 }

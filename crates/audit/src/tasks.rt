@@ -1,15 +1,13 @@
 //! What is to be done for the answer of a call, before it takes effect: other calls that take effect earlier, and steps that no line shows.
-//!
-//! Python's `audit/judge.py` does the same by functions that call each other.
 
 use crate::accesses::ThreadTask;
 use crate::needs::{Wanted, is_refused_for_now};
 use crate::polls::PollTask;
-use crate::run::Unseen;
 use crate::search::Search;
 use crate::search::index::{FaultRead, message_of};
 use call_log::log_call::{LogCall, PROTECTS};
 use call_log::pages::Range;
+use kernel_rules::Move;
 use kernel_rules::fault::{find, is_protection};
 use mig_base::NoMemory;
 use uffd_log::{Call, Errno, Message};
@@ -36,6 +34,8 @@ pub(crate) enum Task {
     MakeMissing { space: u32, range: Range },
     /// The same, once each such madvise took effect.
     Clear { space: u32, page: u64 },
+    /// Events are read where such a madvise has to tell of the page first.
+    TellOf { space: u32, page: u64 },
     /// A page that is not write-protected is put or protected by a call that is under way, where there is one.
     MakeProtected { object: u64, page: u64 },
     /// The same by a protection of several pages, which changes the others later.
@@ -89,6 +89,7 @@ impl Search {
             Task::ProtectAlone { object, page } => self.protect_alone(object, page),
             Task::ProtectBy { call, page } => self.protect_by(call, page),
             Task::Clear { space, page } => self.clear_page(space, page),
+            Task::TellOf { space, page } => self.tell_of(space, page),
             Task::ReadEvents(object) => self.read_events(object),
             Task::ChangeByAny(object) => self.change_by_any(object),
             Task::Foresee(call) => self.foresee(call),
@@ -223,9 +224,37 @@ impl Search {
             return Ok(());
         };
         match call.errno() {
-            None => self.prepare_put(place, object, range),
-            Some(Errno::Eexist) => self.make_there(object, range.first),
+            None => {
+                self.prepare_put(place, object, range)?;
+                self.make_registered(object, range)
+            }
+            Some(Errno::Eexist) => {
+                let first = Range { count: 1, ..range };
+                self.make_there(object, range.first)?;
+                self.make_registered(object, first)
+            }
+            Some(Errno::Enoent) => self.make_unregistered(object, range),
             Some(Errno::Eagain) => self.make_changing(object),
+            _ => Ok(()),
+        }
+    }
+
+    /// The pages of a range are registered by calls that are under way, where they are not.
+    fn make_registered(&mut self, object: u64, range: Range) -> Result<(), NoMemory> {
+        match self.kernel.space_of(object) {
+            Some(space) if !self.are_registered(space, range) => {
+                self.plan(others(Wanted::Registers { object, range }))
+            }
+            _ => Ok(()),
+        }
+    }
+
+    /// A page of a range is no longer registered by calls that are under way, where each is.
+    fn make_unregistered(&mut self, object: u64, range: Range) -> Result<(), NoMemory> {
+        match self.kernel.space_of(object) {
+            Some(space) if self.are_registered(space, range) => {
+                self.plan(others(Wanted::Unregisters { space, range }))
+            }
             _ => Ok(()),
         }
     }
@@ -240,13 +269,17 @@ impl Search {
         self.plan(Task::MakeMissing { space, range })
     }
 
-    /// A page that is missing is put by a call that is under way, where there is one.
+    /// A page that is missing is put by a call that is under way, where there is one; and one of which nothing is known by a call that puts all
+    /// its pages.
     fn make_there(&mut self, object: u64, page: u64) -> Result<(), NoMemory> {
         match self.kernel.space_of(object) {
             Some(space) if self.is_known_missing(space, page) => self.plan(others(Wanted::Installs {
                 object,
                 page,
             })),
+            Some(space) if !self.is_there(space, page) => {
+                self.plan(others(Wanted::Puts { object, page }))
+            }
             _ => Ok(()),
         }
     }
@@ -261,6 +294,7 @@ impl Search {
                     range: Range { first, count },
                 })?;
                 self.plan(Task::Clear { space, page })?;
+                self.plan(Task::TellOf { space, page })?;
                 return self.plan(others(Wanted::Clears { space, page }));
             }
         }
@@ -300,26 +334,30 @@ impl Search {
         if let Some(call) = self.log.call(key)
             && !call.done
         {
-            self.step(Unseen::Protects { key, page })?;
+            self.step(Move::Protects { key, page })?;
         }
         Ok(())
     }
 
-    /// The map calls clear a page that are about to.
+    /// The map calls clear a page that are about to, once their events are read.
     fn clear_page(&mut self, space: u32, number: u64) -> Result<(), NoMemory> {
-        for place in 0..self.kernel.calls.len() {
-            if let Some(calling) = self.kernel.calls.get(place) {
-                let key = calling.key;
-                if calling.space == space && calling.clears.contains(number) {
-                    self.step(Unseen::Clears { key })?;
-                }
+        for key in &self.kernel.clearers(space, number)? {
+            self.step(Move::Clears { key: *key })?;
+        }
+        Ok(())
+    }
+
+    fn tell_of(&mut self, space: u32, number: u64) -> Result<(), NoMemory> {
+        for key in &self.kernel.clearers(space, number)? {
+            if !self.kernel.rules.is_told_all(u64::from(*key)) {
+                return self.plan(others(Wanted::Events));
             }
         }
         Ok(())
     }
 
     fn read_events(&mut self, object: u64) -> Result<(), NoMemory> {
-        if self.kernel.is_changing(object) {
+        if self.kernel.rules.is_changing(object) {
             self.plan(others(Wanted::Events))
         } else {
             Ok(())
@@ -372,7 +410,7 @@ impl Search {
             return Ok(true);
         };
         let access = self.access_of(fault.object, addr, flags, thread, None);
-        if !is_protection(flags) && find(&self.kernel.faults, access.thread).is_none() {
+        if !is_protection(flags) && find(self.kernel.rules.faults(), access.thread).is_none() {
             self.step(access.seen())?;
         }
         Ok(true)

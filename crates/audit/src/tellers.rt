@@ -43,7 +43,7 @@ impl Search {
     /// A map call under way has told an object: that whose event is read next, or else any. (One that takes effect too early forbids installs until its
     /// event is read.)
     pub(crate) fn make_changing(&mut self, object: u64) -> Result<(), NoMemory> {
-        if self.kernel.may_be_changing(object) {
+        if self.kernel.rules.may_be_changing(object) {
             return Ok(());
         }
         self.plan(Task::ChangeByAny(object))?;
@@ -55,7 +55,7 @@ impl Search {
 
     /// The map calls under way take effect, unless one has told the object.
     pub(crate) fn change_by_any(&mut self, object: u64) -> Result<(), NoMemory> {
-        if self.kernel.may_be_changing(object) {
+        if self.kernel.rules.may_be_changing(object) {
             Ok(())
         } else {
             self.plan(others(Wanted::Tellers))

@@ -62,7 +62,7 @@ pub(crate) fn waits_of(
     flags: Option<u64>,
 ) -> Result<Vec<Wait>, NoMemory> {
     let mut waits = Vec::new(alloc);
-    for waited in &judged.kernel.waits {
+    for waited in &judged.notes.waits {
         if flags.is_none() || flags == Some(waited.flags) {
             if let Some(wait) = wait_of(judged, waited.read, waited.by) {
                 waits.push(wait)?;

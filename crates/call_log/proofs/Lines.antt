@@ -2,6 +2,7 @@
 use Rattle.std.proofs.Common.{◌≡◌, ℕ, ◌+◌, ◌<◌, ◌≤◌, IsTrue, Bool, true, false, List, [], ◌∷◌, ◌++◌, length, Option, Some, None, refl, sym, ap, subst, ◌∙◌, append_assoc, append-nil, inl, inr, arith}
 use Rattle.std.specs.Prelude.{IsNone, IsSome, IfNone, IfSome, codes, string_bytes}
 use Rattle.std.specs.List.{concat}
+use Rattle.std.proofs.lemmas.List.Folds.{concat-append}
 use Rattle.uffd_log.specs.declared.line.Line.{Line}
 use Rattle.uffd_log.specs.Lines.{Spells}
 use Rattle.call_log.specs.declared.log_reader.LogReader.{LogReader}
@@ -34,10 +35,6 @@ listed_then : (name : List ℕ) (n : ℕ) (xs ys : List (List ℕ)) → AreListe
 listed_then name n [] ys p q = q
 listed_then name n (x ∷ xs) ys p q = (p.0, listed_then name n xs ys p.1 q)
 
-concat_then : (xs ys : List (List ℕ)) → concat (xs ++ ys) ≡ concat xs ++ concat ys
-concat_then [] ys = refl
-concat_then (x ∷ xs) ys = ap (λ (t : List ℕ). x ++ t) (concat_then xs ys) ∙ sym (append_assoc x (concat xs) (concat ys))
-
 both_none : (xs ys : List (List ℕ)) → xs ++ ys ≡ [] → (xs ≡ []) × (ys ≡ [])
 both_none [] ys e = (refl, e)
 both_none (x ∷ xs) ys e = absurd (cc)
@@ -45,7 +42,7 @@ both_none (x ∷ xs) ys e = absurd (cc)
 pub adds_then : (a b c : LogReader) (xs ys : List (List ℕ)) → Adds a.line a xs b → Adds b.line b ys c → Adds a.line a (xs ++ ys) c
 adds_then a b c xs ys p q = record {
   listed = listed_then (string_bytes a.name) a.line xs ys p.listed (subst (λ (n : ℕ). AreListed (string_bytes a.name) n ys) p.line (subst (λ (s : List ℕ). AreListed s b.line ys) p.name q.listed));
-  output = q.output ∙ ap (λ (t : List ℕ). t ++ concat ys) p.output ∙ append_assoc a.output.items (concat xs) (concat ys) ∙ ap (λ (t : List ℕ). a.output.items ++ t) (sym (concat_then xs ys));
+  output = q.output ∙ ap (λ (t : List ℕ). t ++ concat ys) p.output ∙ append_assoc a.output.items (concat xs) (concat ys) ∙ ap (λ (t : List ℕ). a.output.items ++ t) (sym (concat-append xs ys));
   right = (
     (λ t. let s = q.right.0 t in let r = p.right.0 s.0 in (r.0, rw (r.1, s.1) refl)),
     (λ t. let e = both_none xs ys t.1 in q.right.1 (p.right.1 (t.0, e.0), e.1)),

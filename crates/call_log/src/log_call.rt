@@ -24,8 +24,8 @@ pub enum Kind {
     Must,
     /// An access explains it which the log does not show.
     May,
-    /// No rule allows it.
-    Impossible,
+    /// No run was found that gives it.
+    Unexplained,
 }
 
 /// A call of a log with its answer, which is absent where it never returned.
@@ -184,6 +184,19 @@ impl LogCall {
     /// Its name in a log.
     pub fn word(&self) -> &'static str {
         word_of(&self.call)
+    }
+}
+
+/// Whether a call has put a page.
+pub fn has_put(call: &LogCall) -> bool {
+    match call.answer {
+        Some(
+            Answer::Failed {
+                bytes: Some(bytes),
+                ..
+            },
+        ) => bytes > 0,
+        _ => call.is_ok(),
     }
 }
 

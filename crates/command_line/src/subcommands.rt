@@ -13,11 +13,13 @@ const STATUSES: &str = "Exit status:
   0  all was done, or a check wrote ok
   1  a line, a frame or the command line is wrong, or an audit found something
   2  a read or a write failed, or an audit had no log to judge
-  3  a check wrote wrong, a test differs, finish has no epoch left, threads ended with a fault, or
-     an audit found an answer that no kernel gives;
+  3  a check or a history wrote wrong, a test differs, finish has no epoch left, threads ended with a
+     fault, or an audit found no run that gives some answer of its log;
      with --strict also: no entry was checked, a frame was refused, or a test compared no answer
   4  memory ran out, or a thread could not be started
-  5  an audit found nothing and could not judge all calls, or lines of its log were lost
+  5  an audit found nothing and could not judge all calls, or lines of its log were lost, or a
+     history was not decided
+  6  an audit had nothing to judge: in its log no message was read, and no page was put
 
 docs/SCRIPT.md has the lines of scripts and transcripts.";
 
@@ -145,6 +147,22 @@ const AUDIT: &[Argument] = &[
         id: "late",
         help: "Names each page fault that waited longer, from its read to the call that woke its thread",
         form: Form::Valued("MICROSECONDS", ANY_NUMBER),
+        ..PLAIN
+    },
+    FILE,
+];
+
+/// `postmig history [--explain] [--transcript FILE] [FILE]`.
+const HISTORY: &[Argument] = &[
+    Argument {
+        id: "explain",
+        help: "Says which operations contradict each other, and why a read or a write failed",
+        ..PLAIN
+    },
+    Argument {
+        id: "transcript",
+        help: "Gets the operations in the order that was found, as a transcript",
+        form: Form::Valued("FILE", ValueParser::String),
         ..PLAIN
     },
     FILE,
@@ -328,6 +346,11 @@ const SUBCOMMANDS: &[Subcommand] = &[
         name: "audit",
         about: "Judges the userfaultfd calls of a log or of strace's output, and names what is wrong with them",
         arguments: AUDIT,
+    },
+    Subcommand {
+        name: "history",
+        about: "Says whether what threads did to a memory at once is what one flat memory does",
+        arguments: HISTORY,
     },
     Subcommand {
         name: "frames",

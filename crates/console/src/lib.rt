@@ -23,8 +23,8 @@ pub use progress::{Counted, Erasing, ProgressLine};
 pub use reasons::say_wrong_line;
 pub use renewal::renew_files;
 pub use status::{
-    ALL_DONE, BAD_COMMAND_OR_SCRIPT, NO_FLAT_RUN, NO_MEMORY, READ_OR_WRITE_FAULT, UNDECIDED,
-    status_of, strict_status_of,
+    ALL_DONE, BAD_COMMAND_OR_SCRIPT, NO_FLAT_RUN, NO_MEMORY, NOTHING_TO_JUDGE, READ_OR_WRITE_FAULT,
+    UNDECIDED, status_of, strict_status_of,
 };
 pub use streams::{
     Given, end, end_at_lines, end_lint, open_input, open_output, open_script, say_input, say_output,

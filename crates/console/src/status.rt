@@ -23,6 +23,9 @@ pub const NO_MEMORY: u8 = 4;
 /// A log could not be decided.
 pub const UNDECIDED: u8 = 5;
 
+/// A log has nothing to judge.
+pub const NOTHING_TO_JUDGE: u8 = 6;
+
 /// The exit status of a run or a check: whether all is well, or the fault that ended it.
 pub fn status_of(outcome: Result<bool, RunFault>) -> u8
     ensures answer { IfOk outcome (λ answer. result ≡ answer_status answer) }

@@ -22,9 +22,7 @@ use Rattle.mig_base.proofs.SetLemmas.{same_members, member_without, member_below
 use Rattle.mig_model.specs.Host.{Host, memory, host_after, IsSound}
 use Rattle.mig_base.specs.Userfault.{fresh_object, is_registered, is_watched}
 use Rattle.mig_model.specs.Space.{Space, access_of, accessed_by, accessed, is_made, message_if, call_messages, modes_after, protected_after, all_queued, called_with, called, queued_by}
-use Rattle.mig_base.specs.Bytes.{contents}
 use Rattle.mig_base.specs.Commands.{is_store, page_of, is_access}
-use Rattle.mig_model.specs.Wire.{is_zeros}
 use Rattle.mig_model.proofs.memory.CommandLemmas.{memory-changed}
 use Rattle.mig_model.proofs.memory.SpaceLemmas.{IsSoundSpace-accessed, IsSoundSpace-called, no_member}
 use Rattle.mig_model.proofs.owed.SourceCalls.{untold}
@@ -179,22 +177,13 @@ memory_kept host value new command view sound is = ap memory is ∙ memory-chang
 
 -- Which commands need memory
 
-no_store : (made missing : Bool) → (made && false && missing) ≡ true → ⊥
-no_store true true h = false≢true h
-no_store true false h = false≢true h
-no_store false true h = false≢true h
-no_store false false h = false≢true h
-
-made_missing : (made missing : Bool) → (made && true && missing) ≡ true → (made && missing) ≡ true
-made_missing true true h = refl
-made_missing true false h = absurd (false≢true h)
-made_missing false true h = absurd (false≢true h)
-made_missing false false h = absurd (false≢true h)
+no_store : (made : Bool) → (made && false) ≡ true → ⊥
+no_store true h = false≢true h
+no_store false h = false≢true h
 
 answered_needs : (space : Space) (command : Command) → is_access command ≡ true → spaces.needs_room_by (Answered (reply_of (memory space.host) command)) space command ≡ true → host_needs_room space.host command ≡ true
-answered_needs space (Load addr width) access h = absurd (no_store (is_made (reply_of (memory space.host) (Load addr width))) (is_zeros (contents space.host.bytes (page_of (Load addr width)))) h)
-answered_needs space (Store addr width value) access h =
-    made_missing (is_made (reply_of (memory space.host) (Store addr width value))) (is_zeros (contents space.host.bytes (page_of (Store addr width value)))) h
+answered_needs space (Load addr width) access h = absurd (no_store (is_made (reply_of (memory space.host) (Load addr width))) h)
+answered_needs space (Store addr width value) access h = h
 answered_needs space (Mmap len prot place) access h = absurd (false≢true access)
 answered_needs space (Munmap addr len) access h = absurd (false≢true access)
 answered_needs space (Mremap addr old_len new_len may_move fixed) access h = absurd (false≢true access)

@@ -42,8 +42,8 @@ impl Host {
         }
     }
 
-    /// Makes a command, and returns the reply of one flat memory. `NoMemory` only if the command needs memory, for the bytes of a page that
-    /// reads as zeros before a store or to change which pages are mapped; it changes nothing.
+    /// Makes a command, and returns the reply of one flat memory. `NoMemory` only if the command needs memory: for a store to a missing
+    /// page, for one of another number than 0 to a page of zeros, or to change which pages are mapped. It changes nothing.
     pub fn perform(&mut self, command: Command) -> Result<Reply, NoMemory>
         ensures reply { IfOk result (λ reply. reply ≡ reply_of (memory self.old) command) }
         ensures memory { OnOk result (memory self.new ≡ after (memory self.old) command) }

@@ -6,7 +6,6 @@ use Rattle.std.proofs.lemmas.List.{append-nil, map-append}
 use Rattle.std.proofs.Math.Numerals.{add-one}
 use Rattle.std.proofs.Math.Seq.{take-length}
 use Rattle.std.proofs.lemmas.List.Elements.{filter_map-append}
-use Rattle.mig_base.specs.Tests.{is_empty}
 use Rattle.mig_base.proofs.TestLemmas.{and_first, and_second}
 use Rattle.uffd_log.specs.declared.line.Answer.{Answer}
 use Rattle.uffd_log.specs.declared.line.Answer.TheVariants.{Interrupted}
@@ -14,10 +13,10 @@ use Rattle.kernel_rules.specs.declared.certify.BegunCall.{BegunCall}
 use Rattle.kernel_rules.specs.declared.run.Made.{Made}
 use Rattle.kernel_rules.specs.declared.run.Move.{Move}
 use Rattle.kernel_rules.specs.declared.run.Move.TheVariants as move
-use Rattle.kernel_rules.specs.Certified.{Place, affected, at_end, certified, effected, ended_at, entered, find_of, fresh_place, is_ended_by, is_mremap, judged, lined, moved, moved_all, moved_by, next_after, others_than, outcome_in, quiet, read_on, ruled, step_of, steps_of, then_moved, IsCertified}
+use Rattle.kernel_rules.specs.Certified.{Place, affected, at_end, certified, effected, ended_at, entered, find_of, fresh_place, is_ended_by, lined, moved, moved_all, moved_by, next_after, others_than, outcome_in, protected_by, read_on, ruled, step_of, steps_of, then_moved, IsCertified}
 use Rattle.kernel_rules.specs.Faults.{sees, queues, leaves}
-use Rattle.kernel_rules.specs.MapCalls.{may_return, returned}
-use Rattle.kernel_rules.specs.Runs.{IsClean, Begun, Outcome, Step, World, Event, begins, begun_of, effect, effect_at_end, ends, line, line_of, lines_of, takes, thread_leaves, thread_queues, thread_sees, without_begun, world_with, IsStep, Leads}
+use Rattle.kernel_rules.specs.MapCalls.{clears, may_return, returned, tells}
+use Rattle.kernel_rules.specs.Runs.{IsClean, Begun, Outcome, Step, World, Event, begins, begun_of, call_clears, call_protects, call_tells, effect, effect_at_end, ends, is_still, line, line_of, lines_of, protect_of, protects_first, takes, thread_leaves, thread_queues, thread_sees, without_begun, world_with, IsStep, Leads}
 use Rattle.kernel_rules.specs.State.{Kernel}
 use Rattle.kernel_rules.specs.Held.{kernel_of}
 use Rattle.kernel_rules.specs.Worlds.{if_made}
@@ -91,15 +90,16 @@ ended_out log Interrupted (Some at) next of out here ended = cc
 ended_out log _ (Some at) next of out here ended = rw (eqb-true at next ended, here) refl
 ended_out log _ None next of out here ended = cc
 
-end_advances : (log : List Event) (old : Place) (key : ℕ) (one : BegunCall) (out : Outcome) → find_of old.begun key ≡ Some one → slice_get log old.next ≡ Some (ends key out)
+end_advances : (log : List Event) (old : Place) (key : ℕ) (one : BegunCall) (out : Outcome) → is_still out ≡ true → find_of old.begun key ≡ Some one → slice_get log old.next ≡ Some (ends key out)
     → (may_return old.kernel key && is_ended_by one.at out.answer old.next) ≡ true
     → Advance log old move.Line (read_on (record old { kernel = returned old.kernel key; begun = others_than key old.begun }))
-end_advances log old key one out found here may =
+end_advances log old key one out still found here may =
     record {
       made = line (ends key out);
       is = ap (option_map line) here;
       leads = (
         begun_in log one,
+        still,
         found_in log old.begun key ∙ ap (option_map (begun_in log)) found,
         and_first _ _ may,
         ended_out log out.answer one.at old.next key out here (and_second (may_return old.kernel key) _ may),
@@ -108,6 +108,21 @@ end_advances log old key one out found here may =
       lines = rw add-one (taken_more log old.next (ends key out) here);
       next = refl;
     }
+
+still_advances : (log : List Event) (old new : Place) (key : ℕ) (out : Outcome) → is_still out ≡ true → slice_get log old.next ≡ Some (ends key out)
+    → option_map read_on (ended_at old key out.answer (find_of old.begun key)) ≡ Some new → Advance log old move.Line new
+still_advances log old new key out still here is =
+    elim (find_of old.begun key) as (λ o. find_of old.begun key ≡ o → option_map read_on (ended_at old key out.answer o) ≡ Some new → Advance log old move.Line new) [
+      | None ↦ λ e h. absurd cc
+      | Some one ↦ λ e h.
+          elim (may_return old.kernel key && is_ended_by one.at out.answer old.next) as (λ b. (may_return old.kernel key && is_ended_by one.at out.answer old.next) ≡ b
+          → option_map read_on (if b then Some (record old { kernel = returned old.kernel key; begun = others_than key old.begun }) else None) ≡ Some new → Advance log old move.Line new) [
+            | false ↦ λ may i. absurd cc
+            | true ↦ λ may i.
+                let same : read_on (record old { kernel = returned old.kernel key; begun = others_than key old.begun }) ≡ new = cc in
+                subst (λ (p : Place). Advance log old move.Line p) same (end_advances log old key one out still e here may)
+          ] refl h
+    ] refl is
 
 event_advances : (log : List Event) (old new : Place) (one : Event) → slice_get log old.next ≡ Some one → option_map read_on (entered old one) ≡ Some new → Advance log old move.Line new
 event_advances log old new (begins made) here is =
@@ -119,37 +134,17 @@ event_advances log old new (begins made) here is =
           subst (λ (p : Place). Advance log old move.Line p) same (begin_advances log old made e here)
     ] refl is
 event_advances log old new (ends key out) here is =
-    elim (find_of old.begun key) as (λ o. find_of old.begun key ≡ o → option_map read_on (ended_at old key out.answer o) ≡ Some new → Advance log old move.Line new) [
-      | None ↦ λ e h. absurd cc
-      | Some one ↦ λ e h.
-          elim (may_return old.kernel key && is_ended_by one.at out.answer old.next) as (λ b. (may_return old.kernel key && is_ended_by one.at out.answer old.next) ≡ b
-          → option_map read_on (if b then Some (record old { kernel = returned old.kernel key; begun = others_than key old.begun }) else None) ≡ Some new → Advance log old move.Line new) [
-            | false ↦ λ may i. absurd cc
-            | true ↦ λ may i.
-                let same : read_on (record old { kernel = returned old.kernel key; begun = others_than key old.begun }) ≡ new = cc in
-                subst (λ (p : Place). Advance log old move.Line p) same (end_advances log old key one out e here may)
-          ] refl h
+    elim (is_still out) as (λ s. is_still out ≡ s → option_map read_on (if s then ended_at old key out.answer (find_of old.begun key) else None) ≡ Some new → Advance log old move.Line new) [
+      | false ↦ λ still h. absurd cc
+      | true ↦ λ still h. still_advances log old new key out still here h
     ] refl is
 
 line_advances : (log : List Event) (old new : Place) (one : Option Event) → slice_get log old.next ≡ one → lined old one ≡ Some new → Advance log old move.Line new
 line_advances log old new None here is = absurd cc
 line_advances log old new (Some one) here is = event_advances log old new one here is
 
-quiet_taken : (taken : Option Kernel) (kernel : Kernel) → quiet taken ≡ Some kernel → taken ≡ Some kernel
-quiet_taken None kernel is = absurd cc
-quiet_taken (Some one) kernel is =
-    elim (is_empty one.calls) as (λ b. (if b then Some one else None) ≡ Some kernel → Some one ≡ Some kernel) [ true ↦ λ h. h | false ↦ λ h. absurd cc ] is
-
-judged_taken : (kernel after : Kernel) (made : Made) (out : Outcome) → judged kernel made out ≡ Some after → takes kernel made out ≡ Some after
-unfolding judged
-judged_taken kernel after made out is =
-    elim (is_mremap made.call) as (λ b. (if b then None else quiet (takes kernel made out)) ≡ Some after → takes kernel made out ≡ Some after) [
-      | true ↦ λ h. absurd cc
-      | false ↦ λ h. quiet_taken (takes kernel made out) after h
-    ] is
-
 effect_advances : (log : List Event) (old : Place) (key at : ℕ) (one : BegunCall) (out : Outcome) (kernel : Kernel) → find_of old.begun key ≡ Some one → one.at ≡ None
-    → outcome_in (slice_get log at) ≡ Some out → judged old.kernel one.made out ≡ Some kernel
+    → outcome_in (slice_get log at) ≡ Some out → takes old.kernel one.made out ≡ Some kernel
     → Advance log old (move.Effect key at) (record old { kernel = kernel; begun = others_than key old.begun ++ record { made = one.made; at = Some at } ∷ [] })
 effect_advances log old key at one out kernel found none here took =
     record {
@@ -159,7 +154,7 @@ effect_advances log old key at one out kernel found none here took =
         found_in log old.begun key,
         found,
         none,
-        judged_taken old.kernel kernel one.made out took,
+        took,
         map-append (begun_in log) (others_than key old.begun) (record { made = one.made; at = Some at } ∷ []),
         here,
         without_in log old.begun key,
@@ -172,10 +167,10 @@ out_advances : (log : List Event) (old new : Place) (key at : ℕ) (one : BegunC
     → effected old key at (Some one) out ≡ Some new → Advance log old (move.Effect key at) new
 out_advances log old new key at one None found here is = absurd cc
 out_advances log old new key at one (Some out) found here is =
-    elim one.at as (λ o. one.at ≡ o → (if is_some o then None else affected old key at one.made (judged old.kernel one.made out)) ≡ Some new → Advance log old (move.Effect key at) new) [
+    elim one.at as (λ o. one.at ≡ o → (if is_some o then None else affected old key at one.made (takes old.kernel one.made out)) ≡ Some new → Advance log old (move.Effect key at) new) [
       | Some n ↦ λ e h. absurd cc
       | None ↦ λ e h.
-          elim (judged old.kernel one.made out) as (λ k. judged old.kernel one.made out ≡ k → affected old key at one.made k ≡ Some new → Advance log old (move.Effect key at) new) [
+          elim (takes old.kernel one.made out) as (λ k. takes old.kernel one.made out ≡ k → affected old key at one.made k ≡ Some new → Advance log old (move.Effect key at) new) [
             | None ↦ λ took i. absurd cc
             | Some kernel ↦ λ took i.
                 let same : (record old { kernel = kernel; begun = others_than key old.begun ++ record { made = one.made; at = Some at } ∷ [] }) ≡ new = cc in
@@ -203,6 +198,21 @@ rule_advances log old new step made (Some kernel) made_is same silent steps is =
       next = sym same;
     })
 
+-- a call protects a page in a world as at its place
+protect_found : (log : List Event) (old : Place) (page : ℕ) (after : World) (one : Option BegunCall) → world_with (world_of log old) (protected_by old.kernel one page) ≡ Some after
+    → protect_of (world_of log old) (option_map (begun_in log) one) page ≡ Some after
+protect_found log old page after None h = absurd cc
+protect_found log old page after (Some one) h =
+    elim one.at as (λ at. world_with (world_of log old) (protects_first old.kernel one.made (is_some at) page) ≡ Some after
+    → world_with (world_of log old) (protects_first old.kernel one.made (is_some (out_of log at)) page) ≡ Some after) [
+      | None ↦ λ e. e
+      | Some n ↦ λ e. absurd cc
+    ] h
+
+protect_in : (log : List Event) (old : Place) (key page : ℕ) (after : World) → world_with (world_of log old) (protected_by old.kernel (find_of old.begun key) page) ≡ Some after
+    → protect_of (world_of log old) (begun_of (world_of log old).begun key) page ≡ Some after
+protect_in log old key page after h = ap (λ o. protect_of (world_of log old) o page) (found_in log old.begun key) ∙ protect_found log old page after (find_of old.begun key) h
+
 advances : (log : List Event) (old new : Place) (step : Move) → moved log old step ≡ Some new → Advance log old step new
 unfolding moved_by
 advances log old new move.Line is = line_advances log old new (slice_get log old.next) refl is
@@ -210,6 +220,11 @@ advances log old new (move.Effect key at) is = call_advances log old new key at 
 advances log old new (move.Sees thread object page flags) is =
     rule_advances log old new (move.Sees thread object page flags) (thread_sees thread object page flags) (sees old.kernel thread object page flags) refl refl refl (λ after h. h) is
 advances log old new (move.Queues thread) is = rule_advances log old new (move.Queues thread) (thread_queues thread) (queues old.kernel thread) refl refl refl (λ after h. h) is
+advances log old new (move.Tells key) is = rule_advances log old new (move.Tells key) (call_tells key) (tells old.kernel key) refl refl refl (λ after h. h) is
+advances log old new (move.Clears key) is = rule_advances log old new (move.Clears key) (call_clears key) (clears old.kernel key) refl refl refl (λ after h. h) is
+advances log old new (move.Protects key page) is =
+    rule_advances log old new (move.Protects key page) (call_protects key page) (protected_by old.kernel (find_of old.begun key) page) refl refl refl
+    (protect_in log old key page) is
 advances log old new (move.Leaves thread) is = rule_advances log old new (move.Leaves thread) (thread_leaves thread) (leaves old.kernel thread) refl refl refl (λ after h. h) is
 
 -- Runs

@@ -1,10 +1,8 @@
-pub mod Calm
 pub mod Laws
 pub mod Layers
+pub mod Moved
 pub mod Owed
 pub mod Places
-pub mod Quiet
 pub mod Replies
 pub mod Spaces
 pub mod Steps
-pub mod Told

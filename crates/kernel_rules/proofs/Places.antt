@@ -1,8 +1,8 @@
 -- What tables of a run hold after a step.
-use Rattle.std.proofs.Common.{◌≡◌, ◌∙◌, ℕ, Bool, Bor, true, false, List, [], ◌∷◌, ◌++◌, Option, Some, None, Result, Ok, Err, refl, sym, ap, length}
+use Rattle.std.proofs.Common.{◌≡◌, ◌∙◌, ℕ, Bool, Bor, true, false, List, [], ◌∷◌, ◌++◌, Option, Some, None, Result, Ok, Err, refl, sym, ap, subst, length}
 use Rattle.std.proofs.lemmas.Option.{slice_get-map, slice_get_past, slice_get_read}
 use Rattle.std.specs.Slice.{IsItemAt}
-use Rattle.std.specs.Prelude.{is_some, map, option_map, slice_get, IfOk}
+use Rattle.std.specs.Prelude.{◌&&◌, is_some, map, option_map, slice_get, IfOk}
 use Rattle.mig_base.specs.declared.NoMemory.{NoMemory}
 use Rattle.uffd_log.specs.declared.line.Answer.{Answer}
 use Rattle.kernel_rules.specs.declared.certify.BegunCall.{BegunCall}
@@ -11,11 +11,12 @@ use Rattle.kernel_rules.specs.declared.kernel_table.KernelTable.{KernelTable}
 use Rattle.kernel_rules.specs.declared.run.Made.{Made}
 use Rattle.kernel_rules.specs.declared.run.Move.{Move}
 use Rattle.kernel_rules.specs.declared.run.Move.TheVariants as move
-use Rattle.kernel_rules.specs.Certified.{Place, begun_at, effected, ended_at, entered, find_of, is_ended_by, judged, lined, moved, moved_by, others_than, outcome_in, read_on, ruled, seen_at}
+use Rattle.kernel_rules.specs.Certified.{Place, begun_at, effected, ended_at, entered, find_of, is_ended_by, lined, moved, moved_by, others_than, outcome_in, protected_by, read_on, ruled, seen_at}
 use Rattle.kernel_rules.specs.Faults.{leaves, queues, sees}
+use Rattle.kernel_rules.specs.MapCalls.{clears, may_return, returned, tells}
 use Rattle.kernel_rules.specs.Held.{kernel_of}
 use Rattle.kernel_rules.specs.declared.run.Entry.{Entry}
-use Rattle.kernel_rules.specs.Runs.{Event, Outcome, event_of}
+use Rattle.kernel_rules.specs.Runs.{Event, Outcome, event_of, takes}
 use Rattle.kernel_rules.specs.State.{Kernel, allowed}
 use Rattle.kernel_rules.specs.Worlds.{if_made, place_of}
 
@@ -30,16 +31,17 @@ pub begun_twice : (table : WorldTable) (made : Made) → is_some (find_of table.
 begun_twice table made found = rw found refl
 
 -- a call ends
-pub ended_made : (old new : WorldTable) (key : ℕ) (answer : Answer) (one : BegunCall) → find_of old.begun.items key ≡ Some one → is_ended_by one.at answer old.next ≡ true
-    → new.begun.items ≡ others_than key old.begun.items → new ≡ record old { begun = new.begun } → ended_at (place_of old) key answer (find_of old.begun.items key) ≡ Some (place_of new)
-unfolding kernel_of
-ended_made old new key answer one found fits left same =
-    let p : place_of new ≡ record (place_of old) { begun = others_than key old.begun.items } = ap place_of same ∙ ap (λ b. record (place_of old) { begun = b }) left in
-    rw (found, fits) (ap (λ (q : Place). Some q) (sym p))
+pub ended_made : (old new : WorldTable) (key : ℕ) (answer : Answer) (one : BegunCall) → find_of old.begun.items key ≡ Some one
+    → (may_return (kernel_of old.kernel) key && is_ended_by one.at answer old.next) ≡ true → kernel_of new.kernel ≡ returned (kernel_of old.kernel) key
+    → new.begun.items ≡ others_than key old.begun.items → new ≡ record old { kernel = new.kernel; begun = new.begun } → ended_at (place_of old) key answer (find_of old.begun.items key) ≡ Some (place_of new)
+ended_made old new key answer one found may over left same =
+    let p : place_of new ≡ record (place_of old) { kernel = returned (kernel_of old.kernel) key; begun = others_than key old.begun.items } =
+    ap place_of same ∙ ap (λ b. record (place_of old) { kernel = kernel_of new.kernel; begun = b }) left
+    ∙ ap (λ k. record (place_of old) { kernel = k; begun = others_than key old.begun.items }) over in
+    rw (found, may) (ap (λ (q : Place). Some q) (sym p))
 
-pub ended_unfit : (table : WorldTable) (key : ℕ) (answer : Answer) (one : BegunCall) → find_of table.begun.items key ≡ Some one → is_ended_by one.at answer table.next ≡ false
-    → ended_at (place_of table) key answer (find_of table.begun.items key) ≡ None
-unfolding kernel_of
+pub ended_unfit : (table : WorldTable) (key : ℕ) (answer : Answer) (one : BegunCall) → find_of table.begun.items key ≡ Some one
+    → (may_return (kernel_of table.kernel) key && is_ended_by one.at answer table.next) ≡ false → ended_at (place_of table) key answer (find_of table.begun.items key) ≡ None
 ended_unfit table key answer one found unfit = rw (found, unfit) refl
 
 -- the next line is read
@@ -53,7 +55,7 @@ line_refused old mid one event made here is fails = rw (here, is, fails) refl
 
 -- a call takes effect
 pub effect_made : (old new : WorldTable) (key at : ℕ) (one : BegunCall) (out : Outcome) (of_out : Option Outcome) (table : KernelTable) (took : Bool) → find_of old.begun.items key ≡ Some one → of_out ≡ Some out
-    → is_some one.at ≡ false → judged (kernel_of old.kernel) one.made out ≡ allowed took (kernel_of table) → took ≡ true
+    → is_some one.at ≡ false → takes (kernel_of old.kernel) one.made out ≡ allowed took (kernel_of table) → took ≡ true
     → new.begun.items ≡ others_than key old.begun.items ++ record { made = one.made; at = Some at } ∷ [] → new ≡ record old { kernel = table; begun = new.begun }
     → effected (place_of old) key at (find_of old.begun.items key) of_out ≡ Some (place_of new)
 effect_made old new key at one out of_out table took found here none taken holds noted same =
@@ -62,7 +64,7 @@ effect_made old new key at one out of_out table took found here none taken holds
     rw (found, here, none, taken, holds) (ap (λ (q : Place). Some q) (sym p))
 
 pub effect_refused : (old : WorldTable) (key at : ℕ) (one : BegunCall) (out : Outcome) (of_out : Option Outcome) (table : KernelTable) (took : Bool) → find_of old.begun.items key ≡ Some one → of_out ≡ Some out
-    → is_some one.at ≡ false → judged (kernel_of old.kernel) one.made out ≡ allowed took (kernel_of table) → took ≡ false → effected (place_of old) key at (find_of old.begun.items key) of_out ≡ None
+    → is_some one.at ≡ false → takes (kernel_of old.kernel) one.made out ≡ allowed took (kernel_of table) → took ≡ false → effected (place_of old) key at (find_of old.begun.items key) of_out ≡ None
 effect_refused old key at one out of_out table took found here none taken fails = rw (found, here, none, taken, fails) refl
 
 pub effect_twice : (old : WorldTable) (key at : ℕ) (one : BegunCall) (out : Outcome) (of_out : Option Outcome) → find_of old.begun.items key ≡ Some one → of_out ≡ Some out → is_some one.at ≡ true
@@ -88,6 +90,11 @@ pub rule_step : (old : WorldTable) (table : KernelTable) (rule : Option Kernel) 
 rule_step old table rule place (Err e) is made = tt
 rule_step old table rule place (Ok made) is steps = is ∙ rule_made old table rule made steps
 
+-- the same of a move that changes the kernel of a table
+pub kernel_step : (old new : WorldTable) (rule : Option Kernel) (place : Option Place) (result : Result Bool NoMemory) → place ≡ ruled (place_of old) rule → new ≡ record old { kernel = new.kernel }
+    → IfOk result (λ made. rule ≡ allowed made (kernel_of new.kernel)) → IfOk result (λ ok. place ≡ if_made ok (place_of new))
+kernel_step old new rule place result is same steps = subst (λ (t : WorldTable). IfOk result (λ ok. place ≡ if_made ok (place_of t))) (sym same) (rule_step old new.kernel rule place result is steps)
+
 -- moves by what they are
 pub line_moved : (seen : Option Event) (place : Place) (step : Move) → step ≡ move.Line → moved_by seen place step ≡ lined place seen
 unfolding moved_by
@@ -110,6 +117,19 @@ queues_moved seen place step thread is = rw is refl
 pub leaves_moved : (seen : Option Event) (place : Place) (step : Move) (thread : ℕ) → step ≡ move.Leaves thread → moved_by seen place step ≡ ruled place (leaves place.kernel thread)
 unfolding moved_by
 leaves_moved seen place step thread is = rw is refl
+
+pub tells_moved : (seen : Option Event) (place : Place) (step : Move) (key : ℕ) → step ≡ move.Tells key → moved_by seen place step ≡ ruled place (tells place.kernel key)
+unfolding moved_by
+tells_moved seen place step key is = rw is refl
+
+pub clears_moved : (seen : Option Event) (place : Place) (step : Move) (key : ℕ) → step ≡ move.Clears key → moved_by seen place step ≡ ruled place (clears place.kernel key)
+unfolding moved_by
+clears_moved seen place step key is = rw is refl
+
+pub protects_moved : (seen : Option Event) (place : Place) (step : Move) (key page : ℕ) → step ≡ move.Protects key page
+    → moved_by seen place step ≡ ruled place (protected_by place.kernel (find_of place.begun key) page)
+unfolding moved_by
+protects_moved seen place step key page is = rw is refl
 
 -- the event of an entry of a log
 lent_event : (log : List Entry) (at : ℕ) (seen : Option (Bor Entry)) → IsItemAt log at seen → slice_get (map event_of log) at ≡ option_map (λ (e : Bor Entry). event_of e.now) seen

@@ -1,9 +1,5 @@
--- What a checker of runs does: a function of a log and of a run. That what it finds is a run of the log is a law (`certify`). It follows
--- no call of which an event tells anybody, and no mremap(2).
+-- What a checker of runs does: a function of a log and of a run. That what it finds is a run of the log is a law (`certify`).
 use Rattle.std.specs.Prelude.{◌≡◌, ℕ, ◌+◌, ◌==◌, ◌&&◌, Bool, true, false, if◌then◌else◌, Option, Some, None, is_some, not, option_map, option_to_list, List, [], ◌∷◌, ◌++◌, filter, length, slice_get}
-use Rattle.mig_base.specs.Tests.{is_empty}
-use Rattle.uffd_log.specs.declared.call.Call.{Call}
-use Rattle.uffd_log.specs.declared.call.Call.TheVariants as call
 use Rattle.uffd_log.specs.declared.line.Answer.{Answer}
 use Rattle.uffd_log.specs.declared.line.Answer.TheVariants.{Interrupted}
 use Rattle.kernel_rules.specs.declared.certify.BegunCall.{BegunCall}
@@ -11,8 +7,8 @@ use Rattle.kernel_rules.specs.declared.run.Made.{Made}
 use Rattle.kernel_rules.specs.declared.run.Move.{Move}
 use Rattle.kernel_rules.specs.declared.run.Move.TheVariants as move
 use Rattle.kernel_rules.specs.Faults.{sees, queues, leaves}
-use Rattle.kernel_rules.specs.MapCalls.{may_return, returned}
-use Rattle.kernel_rules.specs.Runs.{Event, Outcome, Step, World, begins, effect, ends, line, takes, thread_leaves, thread_queues, thread_sees, IsRun}
+use Rattle.kernel_rules.specs.MapCalls.{clears, may_return, returned, tells}
+use Rattle.kernel_rules.specs.Runs.{Event, Outcome, Step, World, begins, call_clears, call_protects, call_tells, effect, ends, is_still, line, protects_first, takes, thread_leaves, thread_queues, thread_sees, IsRun}
 use Rattle.kernel_rules.specs.State.{Kernel, fresh_kernel}
 
 -- The run that moves are
@@ -30,6 +26,9 @@ step_of log next (move.Effect key at) = option_map (effect key) (outcome_in (sli
 step_of log next (move.Sees thread object page flags) = Some (thread_sees thread object page flags)
 step_of log next (move.Queues thread) = Some (thread_queues thread)
 step_of log next (move.Leaves thread) = Some (thread_leaves thread)
+step_of log next (move.Tells key) = Some (call_tells key)
+step_of log next (move.Clears key) = Some (call_clears key)
+step_of log next (move.Protects key page) = Some (call_protects key page)
 
 -- the next event after a move
 abbrev pub next_after : ℕ → Move → ℕ
@@ -44,22 +43,6 @@ steps_of log next (move ∷ moves) = option_to_list (step_of log next move) ++ s
 -- the run is one of the log, with this kernel at its end
 abbrev pub IsCertified : List Event → List Move → Kernel → Type 0
 IsCertified log run kernel = (last : World) × IsRun log (steps_of log 0 run) last × (last.kernel ≡ kernel)
-
--- The calls that the checker follows
-
--- mremap(2)
-abbrev pub is_mremap : Call → Bool
-is_mremap (call.Mremap addr old_len new_len flags target) = true
-is_mremap _ = false
-
--- the kernel, unless a map call is under way that has something to tell
-abbrev pub quiet : Option Kernel → Option Kernel
-quiet None = None
-quiet (Some kernel) = if is_empty kernel.calls then Some kernel else None
-
--- a call takes effect, if the checker follows it
-unfoldable pub judged : Kernel → Made → Outcome → Option Kernel
-judged kernel made out = if is_mremap made.call then None else quiet (takes kernel made out)
 
 -- What the checker has, and what becomes of it
 
@@ -104,7 +87,7 @@ ended_at place key answer (Some one) =
 -- the line of an event
 abbrev pub entered : Place → Event → Option Place
 entered place (begins made) = begun_at place made
-entered place (ends key out) = ended_at place key out.answer (find_of place.begun key)
+entered place (ends key out) = if is_still out then ended_at place key out.answer (find_of place.begun key) else None
 
 -- one event more is read
 abbrev pub read_on : Place → Place
@@ -125,25 +108,33 @@ affected place key at made (Some kernel) =
 abbrev pub effected : Place → ℕ → ℕ → Option BegunCall → Option Outcome → Option Place
 effected place key at None out = None
 effected place key at (Some one) None = None
-effected place key at (Some one) (Some out) = if is_some one.at then None else affected place key at one.made (judged place.kernel one.made out)
+effected place key at (Some one) (Some out) = if is_some one.at then None else affected place key at one.made (takes place.kernel one.made out)
 
 -- the place with another kernel, if a rule has one
 abbrev pub ruled : Place → Option Kernel → Option Place
 ruled place None = None
 ruled place (Some kernel) = Some (record place { kernel = kernel })
 
+-- a call that has begun protects a page, before it takes effect
+abbrev pub protected_by : Kernel → Option BegunCall → ℕ → Option Kernel
+protected_by kernel None page = None
+protected_by kernel (Some one) page = protects_first kernel one.made (is_some one.at) page
+
 -- the place of the event that a move looks at: where its call ends if one takes effect, else the next
 abbrev pub seen_at : ℕ → Move → ℕ
 seen_at next (move.Effect key at) = at
 seen_at next _ = next
 
--- a move by the event that it looks at, if the rules allow it and the checker follows it
+-- a move by the event that it looks at, if the rules allow it
 unfoldable pub moved_by : Option Event → Place → Move → Option Place
 moved_by seen place move.Line = lined place seen
 moved_by seen place (move.Effect key at) = effected place key at (find_of place.begun key) (outcome_in seen)
 moved_by seen place (move.Sees thread object page flags) = ruled place (sees place.kernel thread object page flags)
 moved_by seen place (move.Queues thread) = ruled place (queues place.kernel thread)
 moved_by seen place (move.Leaves thread) = ruled place (leaves place.kernel thread)
+moved_by seen place (move.Tells key) = ruled place (tells place.kernel key)
+moved_by seen place (move.Clears key) = ruled place (clears place.kernel key)
+moved_by seen place (move.Protects key page) = ruled place (protected_by place.kernel (find_of place.begun key) page)
 
 -- a move of a run of a log
 abbrev pub moved : List Event → Place → Move → Option Place

@@ -1,7 +1,7 @@
 -- The changes of a page as values, which a table can keep: each is one of the functions of Pages.antt.
 use Rattle.std.specs.Prelude.{ℕ, if◌then◌else◌, Option, Some, None}
 use Rattle.mig_base.specs.Ranges.{in_range}
-use Rattle.kernel_rules.specs.Pages.{registered_page, without_object, put_page, protected_page, perhaps_protected, settled, shown, cleared_page}
+use Rattle.kernel_rules.specs.Pages.{registered_page, without_object, put_page, protected_page, perhaps_protected, settled, shown, cleared_page, perhaps_cleared}
 use Rattle.kernel_rules.specs.declared.change.Change.{Change}
 use Rattle.kernel_rules.specs.declared.change.Change.TheVariants as change
 use Rattle.kernel_rules.specs.declared.known.Page.{Page}
@@ -23,6 +23,7 @@ changed change.Shown page = page_with (λ p. record p { presence = Present }) pa
 changed (change.Protect protect unpopulated) page = page_with (protected_page protect unpopulated) page
 changed (change.PerhapsProtect protect) page = page_with (perhaps_protected protect) page
 changed (change.Clear presence) page = page_with (cleared_page presence) page
+changed change.PerhapsClear page = page_with perhaps_cleared page
 changed (change.Fault protected) page = page_with (shown protected) page
 changed (change.Settle presence) page = page_with (settled presence) page
 

@@ -1,5 +1,5 @@
 -- What threads do that no line of a log shows: they find a page missing or write-protected, queue a fault, sleep, and leave it.
-use Rattle.std.specs.Prelude.{ℕ, ◌==◌, ◌&&◌, ◌||◌, not, Bool, true, false, if◌then◌else◌, Option, Some, None, is_some, List, [], ◌∷◌, ◌++◌, filter, filter_map}
+use Rattle.std.specs.Prelude.{ℕ, ◌==◌, ◌&&◌, ◌||◌, not, nat_lt, Bool, true, false, if◌then◌else◌, Option, Some, None, is_some, List, [], ◌∷◌, ◌++◌, filter, filter_map}
 use Rattle.std.specs.List.{list_any}
 use Rattle.mig_base.specs.Ranges.{in_range}
 use Rattle.kernel_rules.specs.declared.fault.Fault.{Fault}
@@ -45,10 +45,14 @@ fault_of (fault ∷ faults) thread = if fault.thread == thread then Some fault e
 abbrev pub waits : Kernel → ℕ → Bool
 waits kernel thread = is_some (fault_of kernel.faults thread)
 
+-- whether flags are those of a fault that is judged: UFFD_PAGEFAULT_FLAG_WRITE is bit 0, UFFD_PAGEFAULT_FLAG_WP bit 1
+abbrev pub are_flags : ℕ → Bool
+are_flags flags = nat_lt flags 4
+
 -- a thread finds that it has to wait at a page
 abbrev pub sees : Kernel → ℕ → ℕ → ℕ → ℕ → Option Kernel
 sees kernel thread object page flags = of_object (kernel.objects object) (λ o.
-    allowed (not (waits kernel thread) && page_is (stops_at object flags) (kernel.pages o.space page))
+    allowed (not (waits kernel thread) && are_flags flags && page_is (stops_at object flags) (kernel.pages o.space page))
     (record (pages_changed kernel o.space page 1 (shown (is_of_protection flags))) {
       faults = kernel.faults ++ record { thread = thread; object = object; page = page; flags = flags; phase = Seen; read_by = None } ∷ [];
     }))

@@ -1,5 +1,5 @@
 -- What a table of a kernel holds.
-use Rattle.std.specs.Prelude.{ℕ, Option, Some, None, [], IfSome, nat_eq}
+use Rattle.std.specs.Prelude.{ℕ, Option, Some, None, IfSome, nat_eq}
 use Rattle.indexmap.specs.IndexMap.{get}
 use Rattle.kernel_rules.specs.declared.known.Page.{Page}
 use Rattle.kernel_rules.specs.declared.kernel_table.KernelTable.{KernelTable}
@@ -16,7 +16,7 @@ pages_by (Some table) page = pages_of table page
 abbrev pub AreTables : KernelTable → Type 0
 AreTables table = (space : ℕ) → IfSome (get nat_eq table.spaces space) IsTable
 
--- the kernel that a table holds. No map call is under way there: a table follows those alone that tell nobody
+-- the kernel that a table holds
 unfoldable pub kernel_of : KernelTable → Kernel
 kernel_of table =
     record {
@@ -24,7 +24,13 @@ kernel_of table =
       ranges = table.ranges.items;
       pages = λ space page. pages_by (get nat_eq table.spaces space) page;
       faults = table.faults.items;
-      calls = [];
+      calls = table.calls.items;
+      told = table.told.items;
+      events = table.events.items;
+      queued = table.queued.items;
+      untold = table.untold.items;
+      clears = table.clears.items;
+      protected = table.protected.items;
       differs = table.differs.items;
       unanswered = table.unanswered.items;
       owed = table.owed.items;

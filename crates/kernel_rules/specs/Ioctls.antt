@@ -4,12 +4,18 @@ use Rattle.std.specs.Prelude.{ℕ, zero, suc, ◌+◌, ◌-◌, ◌/◌, ◌%◌
 use Rattle.std.specs.List.{list_any}
 use Rattle.mig_base.specs.declared.TheConstants.{PAGE_SIZE}
 use Rattle.mig_base.specs.Bits.{is_one}
+use Rattle.mig_base.specs.Ranges.{in_range}
+use Rattle.mig_base.specs.Tests.{is_empty}
 use Rattle.mig_base.specs.Userfault.{Mode}
 use Rattle.uffd_log.specs.declared.line.Answer.{Answer}
 use Rattle.uffd_log.specs.declared.line.Answer.TheVariants.{Opened, Done, Value, Features, Failed}
 use Rattle.uffd_log.specs.declared.errno.Errno.{Errno}
-use Rattle.uffd_log.specs.declared.errno.Errno.TheVariants.{Eperm, Enoent, Esrch, Eagain, Enomem, Efault, Ebusy, Eexist, Einval}
-use Rattle.kernel_rules.specs.Pages.{is_missing, may_be_missing, may_be_there, mode_of, registered_page, without_object, put_page, protected_page, perhaps_protected, settled}
+use Rattle.uffd_log.specs.declared.errno.Errno.TheVariants.{Eperm, Enoent, Esrch, Eagain, Enomem, Efault, Ebusy, Eexist, Einval, Other}
+use Rattle.kernel_rules.specs.Pages.{is_missing, is_present, may_be_missing, may_be_there, mode_of, registered_page, without_object, put_page, protected_page, perhaps_protected, settled}
+use Rattle.kernel_rules.specs.declared.calling.Protecting.{Protecting}
+use Rattle.kernel_rules.specs.declared.calling.Span.{Span}
+use Rattle.kernel_rules.specs.declared.calling.Told.{Told}
+use Rattle.kernel_rules.specs.declared.calling.Untold.{Untold}
 use Rattle.kernel_rules.specs.declared.difference.Difference.TheVariants as differs
 use Rattle.kernel_rules.specs.declared.known.Presence.{Presence}
 use Rattle.kernel_rules.specs.declared.known.Presence.TheVariants.{Unknown, Missing, Present}
@@ -17,22 +23,34 @@ use Rattle.kernel_rules.specs.declared.known.Page.{Page}
 use Rattle.kernel_rules.specs.declared.object.Object.{Object}
 use Rattle.kernel_rules.specs.declared.object.Registration.{Registration}
 use Rattle.kernel_rules.specs.declared.run.Run.{Run}
-use Rattle.kernel_rules.specs.State.{Calling, Kernel, is_range, is_within, set_pages, page_is, each_page, some_page, pages_changed, with_object, allowed, asked_for, is_enabled, noted_if}
+use Rattle.kernel_rules.specs.State.{Kernel, is_range, is_within, may_be_outside, set_pages, page_is, each_page, some_page, pages_changed, with_object, allowed, asked_for, is_enabled, noted_if}
 use Rattle.kernel_rules.specs.Faults.{sleeps_in, sleeps_at, woken}
 
--- userfaultfd(2): a new object, with or without O_NONBLOCK, bit 11
+-- the errors of userfaultfd(2): also those of a table of files that is full, and of a security module
+abbrev pub is_open_error : Errno → Bool
+is_open_error Einval = true
+is_open_error Enomem = true
+is_open_error Eperm = true
+is_open_error Other = true
+is_open_error _ = false
+
+-- userfaultfd(2): a new object, with or without O_NONBLOCK, bit 11; O_CLOEXEC is bit 19, UFFD_USER_MODE_ONLY bit 0
 abbrev pub opened : Kernel → ℕ → ℕ → Answer → Option Kernel
 opened kernel space flags (Opened on) =
-    allowed (not (is_some (kernel.objects on.object)))
+    allowed (not (is_some (kernel.objects on.object)) && is_within flags 0x80801)
     (with_object kernel on.object (record { space = space; waits = not (is_one flags 11); features = None; puts = false }))
-opened kernel space flags (Failed errno bytes) = Some kernel
+opened kernel space flags (Failed errno bytes) = allowed (is_open_error errno) kernel
 opened kernel space flags _ = None
 
 -- UFFDIO_API
 
--- whether the handshake may be made: once, and with features that are offered. UFFD_FEATURE_EVENT_FORK, bit 1, is not judged
+-- whether the handshake may be made: once, and with features that are offered
 abbrev pub may_shake : Object → ℕ → ℕ → ℕ → Bool
-may_shake object api features offered = not (is_enabled object) && api == 0xaa && is_within features offered && not (is_one features 1)
+may_shake object api features offered = not (is_enabled object) && api == 0xaa && is_within features offered
+
+-- whether the kernel offers some feature, and says that the object has UFFDIO_REGISTER, bit 0, UFFDIO_UNREGISTER, bit 1, and UFFDIO_API, bit 63
+abbrev pub is_offer : ℕ → ℕ → Bool
+is_offer offered ioctls = nat_lt 0 offered && is_one ioctls 0 && is_one ioctls 1 && is_one ioctls 63
 
 -- the kernel once it is made. The features of the model are 0x14d
 abbrev pub with_handshake : Kernel → ℕ → Object → ℕ → Kernel
@@ -42,7 +60,7 @@ with_handshake kernel name object features =
 -- UFFDIO_API: the kernel has offered these features, or it has refused
 abbrev pub shaken : Kernel → ℕ → Object → ℕ → ℕ → Answer → Option Kernel
 shaken kernel name object api features (Features offered ioctls) =
-    allowed (may_shake object api features offered) (with_handshake kernel name object features)
+    allowed (may_shake object api features offered && is_offer offered ioctls) (with_handshake kernel name object features)
 shaken kernel name object api features (Failed Einval bytes) = allowed (is_enabled object || not (api == 0xaa) || nat_lt 0 features) kernel
 shaken kernel name object api features (Failed Eperm bytes) = allowed (is_one features 1) kernel
 shaken kernel name object api features (Failed Efault bytes) = Some kernel
@@ -63,24 +81,35 @@ with_range kernel name first count = record kernel { ranges = kernel.ranges ++ r
 abbrev pub is_mode : ℕ → Bool
 is_mode bits = nat_lt 0 bits && nat_lt bits 4
 
--- the errors that an object may return for what a log does not show: what is mapped, and other objects
-abbrev pub is_map_error : Errno → Bool
-is_map_error Einval = true
-is_map_error Ebusy = true
-is_map_error Eperm = true
-is_map_error Enomem = true
-is_map_error Efault = true
-is_map_error _ = false
+-- the errors of UFFDIO_REGISTER, for what a log does not show: what is mapped, and other objects. Before the handshake it is EINVAL
+abbrev pub is_register_error : Object → Errno → Bool
+is_register_error object Einval = true
+is_register_error object Ebusy = is_enabled object
+is_register_error object Eperm = is_enabled object
+is_register_error object Enomem = is_enabled object
+is_register_error object Efault = is_enabled object
+is_register_error object _ = false
+
+-- the errors of UFFDIO_UNREGISTER
+abbrev pub is_unregister_error : Object → Errno → Bool
+is_unregister_error object Einval = true
+is_unregister_error object Enomem = is_enabled object
+is_unregister_error object Efault = is_enabled object
+is_unregister_error object _ = false
+
+-- whether the pages of a range have UFFDIO_WAKE, bit 2, and UFFDIO_COPY, bit 3, as a kernel says of each that it registers
+abbrev pub has_calls : ℕ → Bool
+has_calls ioctls = is_one ioctls 2 && is_one ioctls 3
 
 -- UFFDIO_REGISTER of a range that no other object has
 abbrev pub registered : Kernel → ℕ → Object → ℕ → ℕ → ℕ → Answer → Option Kernel
 registered kernel name object start len bits (Value ioctls) =
     allowed
-    (is_enabled object && is_mode bits && is_range start len
+    (has_calls ioctls && is_enabled object && is_mode bits && is_range start len
     && not (some_page kernel object.space (start / PAGE_SIZE) (len / PAGE_SIZE) (λ page. not (page.object == name))))
     (noted_if (not (asked_for object 2 && asked_for object 3 && asked_for object 6)) differs.RegisterWithoutEvents
     (with_range (with_registered kernel name object.space (start / PAGE_SIZE) (len / PAGE_SIZE) (mode_of bits)) name (start / PAGE_SIZE) (len / PAGE_SIZE)))
-registered kernel name object start len bits (Failed errno bytes) = allowed (is_map_error errno) kernel
+registered kernel name object start len bits (Failed errno bytes) = allowed (is_register_error object errno) kernel
 registered kernel name object start len bits _ = None
 
 -- whether a page is owed where its registration ends: its object puts pages, and this one, which it watches for missing faults, is missing
@@ -111,30 +140,47 @@ abbrev pub unregistered : Kernel → ℕ → Object → ℕ → ℕ → Answer �
 unregistered kernel name object start len Done =
     allowed (is_enabled object && is_range start len)
     (woken (unregistered_in kernel name object (start / PAGE_SIZE) (len / PAGE_SIZE)) (sleeps_in name (start / PAGE_SIZE) (len / PAGE_SIZE)) false)
-unregistered kernel name object start len (Failed errno bytes) = allowed (is_map_error errno) kernel
+unregistered kernel name object start len (Failed errno bytes) = allowed (is_unregister_error object errno) kernel
 unregistered kernel name object start len _ = None
 
 -- UFFDIO_WAKE
 abbrev pub waked : Kernel → ℕ → Object → ℕ → ℕ → Answer → Option Kernel
 waked kernel name object start len Done =
     allowed (is_enabled object && is_range start len) (woken kernel (sleeps_in name (start / PAGE_SIZE) (len / PAGE_SIZE)) true)
-waked kernel name object start len (Failed Einval bytes) = allowed (not (is_enabled object && is_range start len)) kernel
-waked kernel name object start len (Failed Efault bytes) = Some kernel
+waked kernel name object start len (Failed Einval bytes) = allowed (not (is_enabled object && is_range start len) || may_be_outside start len) kernel
+waked kernel name object start len (Failed Efault bytes) = allowed (is_enabled object) kernel
 waked kernel name object start len _ = None
 
 -- The address space is changing
 
+-- whether a map call has anything to tell an object
+abbrev pub tells_object : Kernel → ℕ → ℕ → Bool
+tells_object kernel key name = list_any (λ (one : Told). one.key == key && one.object == name) kernel.told
+
+-- whether a map call has an event for an object which is not read
+abbrev pub has_event : Kernel → ℕ → ℕ → Bool
+has_event kernel key name = list_any (λ (one : Untold). one.key == key && one.object == name) kernel.events
+
+-- the range of a call, if it has one
+abbrev pub span_of : List Span → ℕ → Option Span
+span_of [] key = None
+span_of (span ∷ spans) key = if span.key == key then Some span else span_of spans key
+
+-- whether a map call has pages of which it has to tell an object by REMOVE
+abbrev pub has_removes : Kernel → ℕ → ℕ → Bool
+has_removes kernel key name = is_some (span_of kernel.untold key) && tells_object kernel key name
+
 -- whether a map call has something to tell the object which is not read
-abbrev pub has_untold : ℕ → Calling → Bool
-has_untold name calling = calling.tells name && (list_any (λ event. event.0 == name) calling.events || nat_lt 0 calling.untold.1)
+abbrev pub has_untold : Kernel → ℕ → ℕ → Bool
+has_untold kernel name key = has_event kernel key name || has_removes kernel key name
 
 -- whether calls that put or protect pages have to be EAGAIN: an event is unread
 abbrev pub is_changing : Kernel → ℕ → Bool
-is_changing kernel name = list_any (has_untold name) kernel.calls
+is_changing kernel name = list_any (has_untold kernel name) kernel.calls
 
 -- whether they may be: a map call that told the object has not returned
 abbrev pub may_be_changing : Kernel → ℕ → Bool
-may_be_changing kernel name = list_any (λ (calling : Calling). calling.tells name) kernel.calls
+may_be_changing kernel name = list_any (λ (one : Told). one.object == name) kernel.told
 
 -- EAGAIN of such a call, which changes nothing
 abbrev pub refused_while_changing : Kernel → ℕ → Option Kernel
@@ -171,10 +217,16 @@ stopped_at kernel key space page = stopped_by (kernel.pages space page) where
       allowed (may_be_there found)
       (pages_changed (stop_noted kernel found.put key) space page 1 (λ p. record p { presence = Present }))
 
--- what a rule says once the first pages are put, and the next one is there
+-- a call halts at a page: it is there; or nothing is known to be, and what no line shows has stopped the call: its source cannot be read,
+-- the address space is changing, or memory has run out
+abbrev pub halted_at : Kernel → ℕ → ℕ → ℕ → Option Kernel
+halted_at kernel key space page = if page_is (λ p. is_present p.presence) (kernel.pages space page) then stopped_at kernel key space page
+    else allowed (page_is (λ p. true) (kernel.pages space page)) kernel
+
+-- what a rule says once the first pages are put, and the call halts at the next one
 abbrev pub put_in_part : Kernel → ℕ → ℕ → Object → ℕ → ℕ → ℕ → Option Kernel
 put_in_part kernel key name object first done bits =
-    if may_be_put kernel object.space first done bits then stopped_at (with_put kernel name object first done bits) key object.space (first + done) else None
+    if may_be_put kernel object.space first done bits then halted_at (with_put kernel name object first done bits) key object.space (first + done) else None
 
 -- whether an error says that a call has put part of its pages
 abbrev pub is_part : ℕ → Option ℕ → Bool
@@ -185,6 +237,10 @@ is_part len (Some bytes) = nat_lt 0 bytes && nat_lt bytes len && bytes % PAGE_SI
 abbrev pub bytes_or_none : Option ℕ → ℕ
 bytes_or_none None = 0
 bytes_or_none (Some bytes) = bytes
+
+-- whether the result field is one that a kernel has written with the error: it is negative
+abbrev pub is_negative : Option ℕ → Bool
+is_negative bytes = not (is_some bytes)
 
 -- a call that found its first page there
 abbrev pub put_stopped : Kernel → ℕ → Object → ℕ → ℕ → ℕ → ℕ → Option Kernel
@@ -203,6 +259,7 @@ put_outside kernel key object start len bits most =
 abbrev pub is_put_wrong : Kernel → Object → ℕ → ℕ → ℕ → ℕ → Bool
 is_put_wrong kernel object start len bits most =
     not (is_right object start len bits most)
+    || may_be_outside start len
     || is_one bits 1 && some_page kernel object.space (start / PAGE_SIZE) (len / PAGE_SIZE) (λ page. not page.protect)
 
 -- a call that has put part of its pages, or none since the address space is changing
@@ -215,12 +272,12 @@ put_halted kernel key name object start len bits most bytes =
 -- why such a call may fail
 abbrev pub put_failed : Kernel → ℕ → ℕ → Object → ℕ → ℕ → ℕ → ℕ → Option ℕ → Errno → Option Kernel
 put_failed kernel key name object start len bits most bytes Eagain = put_halted kernel key name object start len bits most bytes
-put_failed kernel key name object start len bits most bytes Eexist = put_stopped kernel key object start len bits most
-put_failed kernel key name object start len bits most bytes Enoent = put_outside kernel key object start len bits most
+put_failed kernel key name object start len bits most bytes Eexist = if is_negative bytes then put_stopped kernel key object start len bits most else None
+put_failed kernel key name object start len bits most bytes Enoent = if is_negative bytes then put_outside kernel key object start len bits most else None
 put_failed kernel key name object start len bits most bytes Einval = allowed (is_put_wrong kernel object start len bits most) kernel
-put_failed kernel key name object start len bits most bytes Efault = Some kernel
-put_failed kernel key name object start len bits most bytes Enomem = Some kernel
-put_failed kernel key name object start len bits most bytes Esrch = Some kernel
+put_failed kernel key name object start len bits most bytes Efault = allowed (is_enabled object) kernel
+put_failed kernel key name object start len bits most bytes Enomem = allowed (is_enabled object) kernel
+put_failed kernel key name object start len bits most bytes Esrch = allowed (is_enabled object) kernel
 put_failed kernel key name object start len bits most bytes _ = None
 
 -- UFFDIO_COPY with `most` 3 and UFFDIO_ZEROPAGE with `most` 1, to the address `start` of the object's space
@@ -231,6 +288,18 @@ put_with kernel key name object start len bits most (Value bytes) =
     (with_put kernel name object (start / PAGE_SIZE) (len / PAGE_SIZE) bits)
 put_with kernel key name object start len bits most (Failed errno bytes) = put_failed kernel key name object start len bits most bytes errno
 put_with kernel key name object start len bits most _ = None
+
+-- whether an answer is EINVAL
+abbrev pub is_invalid : Answer → Bool
+is_invalid (Failed Einval bytes) = true
+is_invalid _ = false
+
+-- UFFDIO_COPY from an address of the object's space: a source that wraps, or that no process has, is EINVAL
+abbrev pub copied : Kernel → ℕ → ℕ → Object → ℕ → ℕ → ℕ → ℕ → Answer → Option Kernel
+copied kernel key name object to from len bits answer =
+    if is_invalid answer && may_be_outside from len then Some kernel
+    else if nat_lt (2 ^ 64) (from + len) then None
+    else put_with kernel key name object to len bits 3 answer
 
 -- UFFDIO_WRITEPROTECT: UFFDIO_WRITEPROTECT_MODE_WP is bit 0, UFFDIO_WRITEPROTECT_MODE_DONTWAKE bit 1
 
@@ -246,17 +315,58 @@ with_protected kernel object first count protect = pages_changed kernel object.s
 abbrev pub is_each_protected : Kernel → Object → ℕ → ℕ → Bool
 is_each_protected kernel object start len = each_page kernel object.space (start / PAGE_SIZE) (len / PAGE_SIZE) (λ page. page.protect)
 
--- whether a range may be protected, or no longer
-abbrev pub may_be_protected : Kernel → ℕ → Object → ℕ → ℕ → ℕ → Bool
-may_be_protected kernel name object start len bits =
-    is_right object start len bits 2 && not (is_changing kernel name) && some_page kernel object.space (start / PAGE_SIZE) (len / PAGE_SIZE) (λ page. page.protect)
+-- whether a call has protected a page before its others
+abbrev pub has_begun : Kernel → ℕ → Bool
+has_begun kernel key = list_any (λ (one : Protecting). one.key == key) kernel.protected
 
--- the kernel once a range is protected; or no longer, which wakes those that sleep there
-abbrev pub protected_in : Kernel → ℕ → Object → ℕ → ℕ → ℕ → Kernel
-protected_in kernel name object first count bits =
-    let after = noted_if (not (each_page kernel object.space first count (λ page. page.protect))) differs.WriteProtectOverAHole
-    (with_protected kernel object first count (is_one bits 0)) in
+-- whether it has protected this one
+abbrev pub has_protected : Kernel → ℕ → ℕ → Bool
+has_protected kernel key page = list_any (λ (one : Protecting). one.key == key && one.page == page) kernel.protected
+
+-- whether a range may be protected, or no longer. Where the call has protected a page already, the kernel has looked at its range before that
+abbrev pub may_be_protected : Kernel → ℕ → ℕ → Object → ℕ → ℕ → ℕ → Bool
+may_be_protected kernel key name object start len bits =
+    is_right object start len bits 2
+    && (has_begun kernel key || not (is_changing kernel name) && some_page kernel object.space (start / PAGE_SIZE) (len / PAGE_SIZE) (λ page. page.protect))
+
+-- the kernel with the page of a number
+abbrev pub page_set : Kernel → ℕ → ℕ → Option Page → Kernel
+page_set kernel space page found = record kernel { pages = set_pages kernel.pages space page 1 (λ other. found) }
+
+-- the kernel with these pages
+abbrev pub pages_set : Kernel → ℕ → List (ℕ × Option Page) → Kernel
+pages_set kernel space [] = kernel
+pages_set kernel space (page ∷ pages) = pages_set (page_set kernel space page.0 page.1) space pages
+
+-- the pages that a call has protected before its others, as they are
+abbrev pub kept_pages : Kernel → ℕ → ℕ → List Protecting → List (ℕ × Option Page)
+kept_pages kernel key space [] = []
+kept_pages kernel key space (one ∷ others) =
+    if one.key == key then (one.page, kernel.pages space one.page) ∷ kept_pages kernel key space others else kept_pages kernel key space others
+
+-- the kernel once a call has protected no page before others
+abbrev pub without_protected : Kernel → ℕ → Kernel
+without_protected kernel key = record kernel { protected = filter (λ (one : Protecting). not (one.key == key)) kernel.protected }
+
+-- the kernel once a range is protected, but for the pages that the call has protected before; or no longer, which wakes those that sleep there
+abbrev pub protected_in : Kernel → ℕ → ℕ → Object → ℕ → ℕ → ℕ → Kernel
+protected_in kernel key name object first count bits =
+    let all = with_protected kernel object first count (is_one bits 0) in
+    let kept = without_protected (pages_set all object.space (kept_pages kernel key object.space kernel.protected)) key in
+    let after = noted_if (not (each_page kernel object.space first count (λ page. page.protect))) differs.WriteProtectOverAHole kept in
     if bits == 0 then woken after (sleeps_in name first count) true else after
+
+-- whether a page may be protected before the others of its range, if it is registered for that and has something to protect
+abbrev pub may_protect_one : Object → Page → Bool
+may_protect_one object page = page.protect && (protects_missing object || not (is_missing page.presence))
+
+-- a call that protects a range protects this page of it, and the others later: a kernel takes them one after another
+abbrev pub protected_first : Kernel → ℕ → ℕ → Object → ℕ → ℕ → ℕ → ℕ → Option Kernel
+protected_first kernel key name object start len bits page =
+    allowed
+    (bits == 1 && is_right object start len bits 2 && in_range (start / PAGE_SIZE) (len / PAGE_SIZE) page && not (has_protected kernel key page)
+    && (has_begun kernel key || not (is_changing kernel name)) && page_is (may_protect_one object) (kernel.pages object.space page))
+    (record (pages_changed kernel object.space page 1 (protected_page true true)) { protected = kernel.protected ++ record { key = key; page = page } ∷ [] })
 
 -- a call over pages that are not all registered for it: some may be protected
 abbrev pub protect_outside : Kernel → Object → ℕ → ℕ → ℕ → Option Kernel
@@ -268,18 +378,18 @@ protect_outside kernel object start len bits =
 abbrev pub protect_failed : Kernel → ℕ → Object → ℕ → ℕ → ℕ → Errno → Option Kernel
 protect_failed kernel name object start len bits Eagain = refused_while_changing kernel name
 protect_failed kernel name object start len bits Enoent = protect_outside kernel object start len bits
-protect_failed kernel name object start len bits Einval = allowed (not (is_right object start len bits 2)) kernel
-protect_failed kernel name object start len bits Efault = Some kernel
-protect_failed kernel name object start len bits Enomem = Some kernel
-protect_failed kernel name object start len bits Esrch = Some kernel
+protect_failed kernel name object start len bits Einval = allowed (not (is_right object start len bits 2) || may_be_outside start len) kernel
+protect_failed kernel name object start len bits Efault = allowed (is_enabled object) kernel
+protect_failed kernel name object start len bits Enomem = allowed (is_enabled object) kernel
+protect_failed kernel name object start len bits Esrch = allowed (is_enabled object) kernel
 protect_failed kernel name object start len bits _ = None
 
 -- UFFDIO_WRITEPROTECT
-abbrev pub protected_with : Kernel → ℕ → Object → ℕ → ℕ → ℕ → Answer → Option Kernel
-protected_with kernel name object start len bits Done =
-    allowed (may_be_protected kernel name object start len bits) (protected_in kernel name object (start / PAGE_SIZE) (len / PAGE_SIZE) bits)
-protected_with kernel name object start len bits (Failed errno bytes) = protect_failed kernel name object start len bits errno
-protected_with kernel name object start len bits _ = None
+abbrev pub protected_with : Kernel → ℕ → ℕ → Object → ℕ → ℕ → ℕ → Answer → Option Kernel
+protected_with kernel key name object start len bits Done =
+    allowed (may_be_protected kernel key name object start len bits) (protected_in kernel key name object (start / PAGE_SIZE) (len / PAGE_SIZE) bits)
+protected_with kernel key name object start len bits (Failed errno bytes) = protect_failed kernel name object start len bits errno
+protected_with kernel key name object start len bits _ = None
 
 -- What the recorder read: it settles what is not known, and is compared with nothing, since it is not of one moment
 
@@ -305,19 +415,10 @@ settled_by kernel space from end (run ∷ runs) = settled_by (settled_to kernel 
 -- a scan settles which pages of its range are present
 abbrev pub scanned : Kernel → Object → ℕ → ℕ → List Run → Answer → Option Kernel
 scanned kernel object start len runs (Value count) = Some (settled_by kernel object.space (start / PAGE_SIZE) (start / PAGE_SIZE + len / PAGE_SIZE) runs)
-scanned kernel object start len runs (Failed errno bytes) = Some kernel
+scanned kernel object start len runs (Failed errno bytes) = allowed (is_empty runs) kernel
 scanned kernel object start len runs _ = None
 
 -- close(2) of the last descriptor
-
--- a map call that has nothing more to tell the object
-abbrev pub without_events : ℕ → Calling → Calling
-without_events name calling =
-    record calling {
-      events = filter (λ event. not (event.0 == name)) calling.events;
-      queued = calling.queued && not (has_untold name calling);
-      tells = λ other. not (other == name) && calling.tells other;
-    }
 
 -- whether a range is the object's. It ends at the greatest address at the latest
 abbrev pub is_own : ℕ → Registration → Bool
@@ -340,10 +441,14 @@ abbrev pub end_ranges : Kernel → ℕ → Object → List Registration → Kern
 end_ranges kernel name object [] = kernel
 end_ranges kernel name object (range ∷ ranges) = end_ranges (end_range kernel name object range) name object ranges
 
--- the kernel without an object: a map call has nothing more to tell it
+-- the kernel without an object: no map call has anything to tell it
 abbrev pub without_object_of : Kernel → ℕ → Kernel
 without_object_of kernel name =
-    record kernel { objects = λ other. if name == other then None else kernel.objects other; calls = map (without_events name) kernel.calls }
+    record kernel {
+      objects = λ other. if name == other then None else kernel.objects other;
+      told = filter (λ (one : Told). not (one.object == name)) kernel.told;
+      events = filter (λ (one : Untold). not (one.object == name)) kernel.events;
+    }
 
 -- the kernel once the last descriptor of an object is closed: its registrations end, and its sleepers wake
 abbrev pub closed : Kernel → ℕ → Object → Kernel

@@ -1,23 +1,29 @@
 -- The calls that change an address space: what becomes of registered pages, and which events the objects get. mmap(2), munmap(2), mremap(2),
 -- madvise(2); userfaultfd(2), UFFD_EVENT_UNMAP, UFFD_EVENT_REMAP and UFFD_EVENT_REMOVE. Whether such a call succeeds is not judged.
-use Rattle.std.specs.Prelude.{ℕ, zero, suc, ◌+◌, ◌-◌, ◌*◌, ◌/◌, ◌^◌, ◌==◌, ◌&&◌, ◌||◌, not, nat_lt, Bool, true, false, if◌then◌else◌, Option, Some, None, List, [], ◌∷◌, ◌++◌, filter, map}
+use Rattle.std.specs.Prelude.{ℕ, zero, suc, ◌+◌, ◌-◌, ◌*◌, ◌/◌, ◌^◌, ◌==◌, ◌&&◌, ◌||◌, not, nat_lt, Bool, true, false, if◌then◌else◌, Option, Some, None, is_some, List, [], ◌∷◌, ◌++◌, filter, length, max, min}
 use Rattle.std.specs.List.{list_any}
 use Rattle.mig_base.specs.declared.TheConstants.{PAGE_SIZE}
-use Rattle.mig_base.specs.Ranges.{in_range, lesser, pages_of}
+use Rattle.mig_base.specs.Bits.{is_one}
+use Rattle.mig_base.specs.Ranges.{pages_of}
 use Rattle.mig_base.specs.Tests.{is_empty}
 use Rattle.uffd_log.specs.declared.line.Answer.{Answer}
 use Rattle.uffd_log.specs.declared.line.Answer.TheVariants.{Done, Value, Failed}
-use Rattle.uffd_log.specs.declared.errno.Errno.TheVariants.{Enomem}
+use Rattle.uffd_log.specs.declared.errno.Errno.{Errno}
+use Rattle.uffd_log.specs.declared.errno.Errno.TheVariants.{Eperm, Eagain, Enomem, Ebusy, Eexist, Einval, Other}
 use Rattle.uffd_log.specs.declared.call.Message.{Message}
-use Rattle.uffd_log.specs.declared.call.Message.TheVariants.{Remap, Unmap}
-use Rattle.kernel_rules.specs.Pages.{cleared_page}
+use Rattle.uffd_log.specs.declared.call.Message.TheVariants.{Fork, Remap, Unmap}
+use Rattle.kernel_rules.specs.Pages.{cleared_page, perhaps_cleared}
 use Rattle.kernel_rules.specs.declared.difference.Difference.TheVariants.{MessagesOfMremap}
 use Rattle.kernel_rules.specs.declared.known.Presence.TheVariants.{Unknown, Missing}
 use Rattle.kernel_rules.specs.declared.known.Page.{Page}
 use Rattle.kernel_rules.specs.declared.known.Presence.{Presence}
 use Rattle.kernel_rules.specs.declared.object.Object.{Object}
 use Rattle.kernel_rules.specs.declared.object.Registration.{Registration}
-use Rattle.kernel_rules.specs.State.{Calling, Kernel, set_pages, pages_changed, allowed, asked_for, noted_if}
+use Rattle.kernel_rules.specs.declared.calling.Span.{Span}
+use Rattle.kernel_rules.specs.declared.calling.Told.{Told}
+use Rattle.kernel_rules.specs.declared.calling.Untold.{Untold}
+use Rattle.kernel_rules.specs.Ioctls.{is_own, pages_set, span_of, with_range}
+use Rattle.kernel_rules.specs.State.{Kernel, set_pages, some_page, pages_changed, allowed, asked_for, noted_if}
 
 -- Whom a call tells
 
@@ -25,15 +31,21 @@ use Rattle.kernel_rules.specs.State.{Calling, Kernel, set_pages, pages_changed, 
 abbrev pub with_name : List ℕ → ℕ → List ℕ
 with_name names name = if list_any (λ other. other == name) names then names else names ++ name ∷ []
 
--- a list with the object with which a page is registered, if it is
-abbrev pub with_watcher : List ℕ → Option Page → List ℕ
-with_watcher names None = names
-with_watcher names (Some page) = with_name names page.object
+-- whether a page from one on and below another is registered with the object of a range, in it
+abbrev pub watches_in : Kernel → ℕ → ℕ → ℕ → Registration → Bool
+watches_in kernel space first end range =
+    is_own range.object range
+    && some_page kernel space (max range.first first) (min (range.first + range.count) end - max range.first first) (λ page. page.object == range.object)
 
--- the objects with which pages of a range are registered, each once, by their first page
-unfoldable pub objects_in : Kernel → ℕ → ℕ → ℕ → List ℕ
-objects_in kernel space first zero = []
-objects_in kernel space first (suc count) = with_watcher (objects_in kernel space first count) (kernel.pages space (first + count))
+-- the objects of these ranges that watch such a page, each once, after those of a list
+abbrev pub watchers_of : Kernel → ℕ → ℕ → ℕ → List Registration → List ℕ → List ℕ
+watchers_of kernel space first end [] names = names
+watchers_of kernel space first end (range ∷ ranges) names =
+    watchers_of kernel space first end ranges (if watches_in kernel space first end range then with_name names range.object else names)
+
+-- the objects with which pages of a range are registered
+abbrev pub objects_in : Kernel → ℕ → ℕ → ℕ → List ℕ
+objects_in kernel space first end = watchers_of kernel space first end kernel.ranges []
 
 -- whether an object asked for these events, if it is open
 abbrev pub would_tell : ℕ → Option Object → Bool
@@ -44,50 +56,82 @@ would_tell bit (Some object) = asked_for object bit
 abbrev pub is_told : Kernel → ℕ → ℕ → Bool
 is_told kernel bit name = would_tell bit (kernel.objects name)
 
--- a message to each object that watches a page of the range and asked for it
-abbrev pub told_of : Kernel → ℕ → ℕ → ℕ → ℕ → Message → List (ℕ × Message)
-told_of kernel bit space first count message = map (λ name. (name, message)) (filter (is_told kernel bit) (objects_in kernel space first count))
+-- the objects that watch a page from one on and below another, and asked for these events
+abbrev pub told_in : Kernel → ℕ → ℕ → ℕ → ℕ → List ℕ
+told_in kernel bit space first end = filter (is_told kernel bit) (objects_in kernel space first end)
 
--- UFFD_FEATURE_EVENT_UNMAP is bit 6, UFFD_FEATURE_EVENT_REMAP bit 2, UFFD_FEATURE_EVENT_REMOVE bit 3
-abbrev pub unmap_events : Kernel → ℕ → ℕ → ℕ → List (ℕ × Message)
-unmap_events kernel space first count = told_of kernel 6 space first count (Unmap (PAGE_SIZE * first) (PAGE_SIZE * (first + count)))
+-- the kernel with a call that has something to tell an object
+abbrev pub with_told : Kernel → ℕ → ℕ → Kernel
+with_told kernel key name = record kernel { told = kernel.told ++ record { key = key; object = name } ∷ [] }
 
--- the kernel with a call that has events to tell. One that has none is over
-abbrev pub with_calling : Kernel → ℕ → ℕ → List (ℕ × Message) → Kernel
-with_calling kernel key space events =
-    if is_empty events then kernel
-    else
-    record kernel {
-      calls = kernel.calls
-          ++ record { key = key; space = space; events = events; queued = false; untold = (0, 0); clears = (0, 0); tells = λ name. list_any (λ event. event.0 == name) events } ∷ [];
-    }
+-- the same of several
+abbrev pub with_all_told : Kernel → ℕ → List ℕ → Kernel
+with_all_told kernel key [] = kernel
+with_all_told kernel key (name ∷ names) = with_all_told (with_told kernel key name) key names
+
+-- the kernel with an event of a call for an object. Its rank is above those of the call's other events
+abbrev pub with_event : Kernel → ℕ → Message → ℕ → Kernel
+with_event kernel key event name =
+    record (with_told kernel key name) { events = kernel.events ++ record { key = key; rank = length kernel.told; object = name; message = event } ∷ [] }
+
+-- the same for each of several
+abbrev pub with_events : Kernel → ℕ → Message → List ℕ → Kernel
+with_events kernel key event [] = kernel
+with_events kernel key event (name ∷ names) = with_events (with_event kernel key event name) key event names
+
+-- UFFD_FEATURE_EVENT_UNMAP is bit 6, UFFD_FEATURE_EVENT_REMAP bit 2, UFFD_FEATURE_EVENT_REMOVE bit 3, UFFD_FEATURE_EVENT_FORK bit 1
+abbrev pub unmap_told : Kernel → ℕ → ℕ → ℕ → ℕ → Kernel
+unmap_told kernel key space first count =
+    with_events kernel key (Unmap (first * PAGE_SIZE) ((first + count) * PAGE_SIZE)) (told_in kernel 6 space first (first + count))
+
+-- the kernel with a map call that has changed the map
+abbrev pub with_calling : Kernel → ℕ → Kernel
+with_calling kernel key = record kernel { calls = kernel.calls ++ key ∷ [] }
 
 -- mmap(2) and munmap(2)
 
+-- the kernel once nothing in a range is registered
+abbrev pub forgotten : Kernel → ℕ → ℕ → ℕ → Kernel
+forgotten kernel space first count = record kernel { pages = set_pages kernel.pages space first count (λ page. None) }
+
 -- the kernel once a range of pages is unmapped or replaced: nothing there is registered, and nothing is owed
 abbrev pub unmapped : Kernel → ℕ → ℕ → ℕ → ℕ → Kernel
-unmapped kernel key space first count =
-    with_calling (record kernel { pages = set_pages kernel.pages space first count (λ page. None) }) key space (unmap_events kernel space first count)
+unmapped kernel key space first count = forgotten (with_calling (unmap_told kernel key space first count) key) space first count
 
 -- whether a range may be mapped or unmapped: it ends below the greatest address
 abbrev pub is_mappable : ℕ → ℕ → Bool
 is_mappable first count = nat_lt (first + count) (2 ^ 52)
 
--- a range of bytes is unmapped or replaced
+-- whether a range has a byte
+abbrev pub has_bytes : ℕ → Bool
+has_bytes len = nat_lt 0 len
+
+-- a range of bytes is unmapped or replaced, of which there is one at least
 abbrev pub unmapped_bytes : Kernel → ℕ → ℕ → ℕ → ℕ → Option Kernel
 unmapped_bytes kernel key space addr len =
-    allowed (is_mappable (addr / PAGE_SIZE) (pages_of len)) (unmapped kernel key space (addr / PAGE_SIZE) (pages_of len))
+    allowed (has_bytes len && is_mappable (addr / PAGE_SIZE) (pages_of len)) (unmapped kernel key space (addr / PAGE_SIZE) (pages_of len))
+
+-- whether mmap(2) has mapped where it was to: MAP_FIXED, bit 4, asks for the address, and without it that is a hint
+abbrev pub is_placed : ℕ → ℕ → ℕ → Bool
+is_placed addr flags start = not (is_one flags 4) || start == addr
 
 -- mmap(2) replaces what was mapped where it maps
-abbrev pub mmapped : Kernel → ℕ → ℕ → ℕ → Answer → Option Kernel
-mmapped kernel key space len (Value start) = unmapped_bytes kernel key space start len
-mmapped kernel key space len (Failed errno bytes) = Some kernel
-mmapped kernel key space len _ = None
+abbrev pub mmapped : Kernel → ℕ → ℕ → ℕ → ℕ → ℕ → Answer → Option Kernel
+mmapped kernel key space addr len flags (Value start) = if is_placed addr flags start then unmapped_bytes kernel key space start len else None
+mmapped kernel key space addr len flags (Failed errno bytes) = Some kernel
+mmapped kernel key space addr len flags _ = None
+
+-- the errors of munmap(2)
+abbrev pub is_munmap_error : Errno → Bool
+is_munmap_error Einval = true
+is_munmap_error Enomem = true
+is_munmap_error Eperm = true
+is_munmap_error _ = false
 
 -- munmap(2)
 abbrev pub munmapped : Kernel → ℕ → ℕ → ℕ → ℕ → Answer → Option Kernel
 munmapped kernel key space addr len Done = unmapped_bytes kernel key space addr len
-munmapped kernel key space addr len (Failed errno bytes) = Some kernel
+munmapped kernel key space addr len (Failed errno bytes) = allowed (is_munmap_error errno) kernel
 munmapped kernel key space addr len _ = None
 
 -- mremap(2)
@@ -97,64 +141,92 @@ abbrev pub moved_page : Kernel → Option Page → Option Page
 moved_page kernel None = None
 moved_page kernel (Some page) = if is_told kernel 2 page.object then Some page else None
 
+-- a registered page without its bytes
+abbrev pub emptied : Page → Page
+emptied page = record page { presence = Missing; guarded = false; put = false }
+
 -- a page by which a range grows: registered as its last page is, and missing
 abbrev pub grown_page : Option Page → Option Page
 grown_page None = None
-grown_page (Some page) = Some (record page { presence = Missing; guarded = false; put = false })
+grown_page (Some page) = Some (emptied page)
 
--- what is at a place of the new range, by the pages of the old one
-abbrev pub arrived : Kernel → (ℕ → Option Page) → ℕ → ℕ → ℕ → Bool → Option Page
-arrived kernel pages from count i stays =
-    let page = if nat_lt i count then pages (from + i) else grown_page (pages (from + (count - 1))) in
+-- what is at a place of the new range, by the `count` pages of the old one
+abbrev pub arrived : Kernel → ℕ → ℕ → ℕ → ℕ → Bool → Option Page
+arrived kernel space from count i stays =
+    let page = if nat_lt i count then kernel.pages space (from + i) else if count == 0 then None else grown_page (kernel.pages space (from + (count - 1))) in
     if stays then page else moved_page kernel page
 
--- the pages of the space once `count` pages from `from` on are `new_count` pages from `to` on
-abbrev pub moved_pages : Kernel → (ℕ → Option Page) → ℕ → ℕ → ℕ → ℕ → ℕ → Option Page
-moved_pages kernel pages from count to new_count =
-    λ page. if in_range to new_count page then arrived kernel pages from count (page - to) (to == from)
-    else if in_range from count page then None
-    else pages page
+-- a page with its number, if it is registered
+abbrev pub with_number : ℕ → Option Page → List (ℕ × Option Page)
+with_number number None = []
+with_number number (Some page) = (number, Some page) ∷ []
 
--- the events of a kernel's mremap: UNMAP of the target, REMAP, UNMAP of the tail that is cut off, UNMAP of the old place of what moved
-abbrev pub mremap_events : Kernel → ℕ → ℕ → ℕ → ℕ → ℕ → List (ℕ × Message)
-mremap_events kernel space from count to new_count =
-    let kept = lesser count new_count in
-    let tail = unmap_events kernel space (from + new_count) (count - new_count) in
-    if to == from then tail
+-- the pages at the first `n` places of the new range
+unfoldable pub arrivals : Kernel → ℕ → ℕ → ℕ → ℕ → ℕ → List (ℕ × Option Page)
+arrivals kernel space from count to zero = []
+arrivals kernel space from count to (suc n) = arrivals kernel space from count to n ++ with_number (to + n) (arrived kernel space from count n (to == from))
+
+-- the first `n` pages of the old range, whose bytes have moved away: they stay registered
+unfoldable pub leavings : Kernel → ℕ → ℕ → ℕ → List (ℕ × Option Page)
+leavings kernel space from zero = []
+leavings kernel space from (suc n) = leavings kernel space from n ++ with_number (from + n) (grown_page (kernel.pages space (from + n)))
+
+-- the kernel once `count` pages from `from` on are `new_count` pages from `to` on; `stay` says whether the old ones stay mapped
+abbrev pub moved_pages : Kernel → ℕ → ℕ → ℕ → ℕ → ℕ → Bool → Kernel
+moved_pages kernel space from count to new_count stay =
+    pages_set
+    (pages_set (forgotten (forgotten kernel space from count) space to new_count) space (leavings kernel space from (if stay then count else 0)))
+    space (arrivals kernel space from count to new_count)
+
+-- the REMAP of a range
+abbrev pub remap_told : Kernel → ℕ → ℕ → ℕ → ℕ → ℕ → ℕ → Kernel
+remap_told kernel key space from count to new_count =
+    with_events kernel key (Remap (from * PAGE_SIZE) (to * PAGE_SIZE) (min count new_count * PAGE_SIZE)) (told_in kernel 2 space from (from + count))
+
+-- the UNMAP of the pages after the first `new_count`
+abbrev pub tail_told : Kernel → ℕ → ℕ → ℕ → ℕ → ℕ → Kernel
+tail_told kernel key space from count new_count = if nat_lt new_count count then unmap_told kernel key space (from + new_count) (count - new_count) else kernel
+
+-- the events of a kernel's mremap: UNMAP of the target, REMAP, UNMAP of the tail that is cut off, UNMAP of the old place of what moved, unless
+-- that stays mapped
+abbrev pub move_told : Kernel → ℕ → ℕ → ℕ → ℕ → ℕ → ℕ → Bool → Kernel
+move_told kernel key space from count to new_count stay =
+    if to == from then tail_told kernel key space from count new_count
     else
-    unmap_events kernel space to new_count
-    ++ told_of kernel 2 space from count (Remap (PAGE_SIZE * from) (PAGE_SIZE * to) (PAGE_SIZE * kept))
-    ++ tail ++ unmap_events kernel space from kept
+    let told = remap_told (unmap_told kernel key space to new_count) key space from count to new_count in
+    if stay then told else unmap_told (tail_told told key space from count new_count) key space from (min count new_count)
 
--- the ranges of the objects whose registrations move with a range: its new place is one of them
-abbrev pub moved_ranges : Kernel → ℕ → ℕ → ℕ → ℕ → ℕ → List Registration
-moved_ranges kernel space from count to new_count =
-    map (λ name. record { object = name; first = to; count = new_count })
-    (if to == from then objects_in kernel space from count else filter (is_told kernel 2) (objects_in kernel space from count))
+-- the objects whose registrations move with a range
+abbrev pub movers : Kernel → ℕ → ℕ → ℕ → ℕ → List ℕ
+movers kernel space from count to = if to == from then objects_in kernel space from (from + count) else told_in kernel 2 space from (from + count)
+
+-- the kernel once a range is one of each of these objects
+abbrev pub with_ranges : Kernel → ℕ → ℕ → List ℕ → Kernel
+with_ranges kernel first count [] = kernel
+with_ranges kernel first count (name ∷ names) = with_ranges (with_range kernel name first count) first count names
+
+-- whether a call has anything to tell anybody
+abbrev pub tells_anybody : Kernel → ℕ → Bool
+tells_anybody kernel key = list_any (λ (one : Told). one.key == key) kernel.told
 
 -- the kernel once a range has moved
-abbrev pub moved : Kernel → ℕ → ℕ → ℕ → ℕ → ℕ → ℕ → Kernel
-moved kernel key space from count to new_count =
-    let events = mremap_events kernel space from count to new_count in
-    noted_if (not (to == from) && not (is_empty events)) MessagesOfMremap
-    (with_calling
-    (record kernel {
-      pages = λ other page. if other == space then moved_pages kernel (kernel.pages space) from count to new_count page else kernel.pages other page;
-      ranges = kernel.ranges ++ moved_ranges kernel space from count to new_count;
-    })
-    key space events)
+abbrev pub moved : Kernel → ℕ → ℕ → ℕ → ℕ → ℕ → ℕ → Bool → Kernel
+moved kernel key space from count to new_count stay =
+    let told = move_told kernel key space from count to new_count stay in
+    let there = moved_pages told space from count to new_count stay in
+    with_calling (with_ranges (noted_if (not (to == from) && tells_anybody told key) MessagesOfMremap there) to new_count (movers kernel space from count to)) key
 
 -- whether a range may move: it and its new place are mappable
 abbrev pub may_move : ℕ → ℕ → ℕ → ℕ → Bool
 may_move from count to new_count = is_mappable from count && is_mappable to new_count
 
--- mremap(2) moves the pages, and unmaps what it replaces
-abbrev pub mremapped : Kernel → ℕ → ℕ → ℕ → ℕ → ℕ → Answer → Option Kernel
-mremapped kernel key space addr old_len new_len (Value target) =
+-- mremap(2) moves the pages, and unmaps what it replaces, and the old place unless MREMAP_DONTUNMAP, bit 2, is asked for
+abbrev pub mremapped : Kernel → ℕ → ℕ → ℕ → ℕ → ℕ → ℕ → Answer → Option Kernel
+mremapped kernel key space addr old_len new_len flags (Value target) =
     allowed (may_move (addr / PAGE_SIZE) (pages_of old_len) (target / PAGE_SIZE) (pages_of new_len))
-    (moved kernel key space (addr / PAGE_SIZE) (pages_of old_len) (target / PAGE_SIZE) (pages_of new_len))
-mremapped kernel key space addr old_len new_len (Failed errno bytes) = Some kernel
-mremapped kernel key space addr old_len new_len _ = None
+    (moved kernel key space (addr / PAGE_SIZE) (pages_of old_len) (target / PAGE_SIZE) (pages_of new_len) (is_one flags 2))
+mremapped kernel key space addr old_len new_len flags (Failed errno bytes) = Some kernel
+mremapped kernel key space addr old_len new_len flags _ = None
 
 -- madvise(2)
 
@@ -166,19 +238,19 @@ is_clearing advice = advice == 4 || advice == 9 || advice == 24
 abbrev pub cleared_to : Kernel → ℕ → ℕ → ℕ → Presence → Kernel
 cleared_to kernel space first count presence = pages_changed kernel space first count (cleared_page presence)
 
--- the kernel with a call that has to tell these objects before it clears a range
-abbrev pub with_clearing : Kernel → ℕ → ℕ → ℕ × ℕ → List ℕ → Kernel
-with_clearing kernel key space range told =
-    record kernel {
-      calls = kernel.calls
-          ++ record { key = key; space = space; events = []; queued = false; untold = range; clears = range; tells = λ name. list_any (λ other. other == name) told } ∷ [];
+-- the kernel with a call that clears a range once it has told of it
+abbrev pub with_clearing : Kernel → ℕ → ℕ → ℕ → ℕ → Kernel
+with_clearing kernel key space first count =
+    record (with_calling kernel key) {
+      untold = kernel.untold ++ record { key = key; space = space; first = first; end = first + count } ∷ [];
+      clears = kernel.clears ++ record { key = key; space = space; first = first; end = first + count } ∷ [];
     }
 
 -- the kernel once a call has begun to clear a range: where an object gets a REMOVE, a kernel clears it only after that was read
 abbrev pub clearing : Kernel → ℕ → ℕ → ℕ → ℕ → Kernel
 clearing kernel key space first count =
-    let told = filter (is_told kernel 3) (objects_in kernel space first count) in
-    if is_empty told then cleared_to kernel space first count Missing else with_clearing kernel key space (first, count) told
+    let told = told_in kernel 3 space first (first + count) in
+    if is_empty told then cleared_to kernel space first count Missing else with_clearing (with_all_told kernel key told) key space first count
 
 -- whether a call may have cleared pages: ENOMEM says that a part of its range is not mapped
 abbrev pub has_cleared : Answer → Bool
@@ -186,56 +258,98 @@ has_cleared Done = true
 has_cleared (Failed Enomem bytes) = true
 has_cleared _ = false
 
+-- whether a call may have cleared the first pages of its range: EINVAL says that it has met pages that are locked, or of another kind
+abbrev pub has_stopped : ℕ → Answer → Bool
+has_stopped advice (Failed Einval bytes) = is_clearing advice || advice == 8
+has_stopped advice _ = false
+
+-- the kernel once a call may have cleared pages of a range, and has stopped before its last one
+abbrev pub cleared_in_part : Kernel → ℕ → ℕ → ℕ → Kernel
+cleared_in_part kernel space first count = pages_changed kernel space first (count - 1) perhaps_cleared
+
+-- whether madvise(2) knows an advice, and what it says of a call that succeeds with another one
+abbrev pub is_advice : ℕ → Answer → Bool
+is_advice advice Done = nat_lt advice 104
+is_advice advice _ = true
+
 -- madvise(2), of the advices that clear pages
 abbrev pub madvised : Kernel → ℕ → ℕ → ℕ → ℕ → ℕ → Answer → Option Kernel
 madvised kernel key space addr len advice answer =
-    if not (has_cleared answer) then Some kernel
+    if not (is_advice advice answer) then None
+    else if has_stopped advice answer then Some (cleared_in_part kernel space (addr / PAGE_SIZE) (pages_of len))
+    else if not (has_cleared answer) then Some kernel
     else if is_clearing advice then Some (clearing kernel key space (addr / PAGE_SIZE) (pages_of len))
     else if advice == 8 then Some (cleared_to kernel space (addr / PAGE_SIZE) (pages_of len) Unknown)
     else Some kernel
 
+-- fork(2)
+
+-- the message of a child, whose descriptor its reader alone knows
+abbrev pub child_message : Message
+child_message = Fork (record { object = 0; fd = 0 })
+
+-- the errors of fork(2) and clone(2)
+abbrev pub is_fork_error : Errno → Bool
+is_fork_error Eperm = true
+is_fork_error Eagain = true
+is_fork_error Enomem = true
+is_fork_error Ebusy = true
+is_fork_error Eexist = true
+is_fork_error Einval = true
+is_fork_error Other = true
+is_fork_error _ = false
+
+-- fork(2): whoever asked for it gets a message
+abbrev pub forked : Kernel → ℕ → ℕ → Answer → Option Kernel
+forked kernel key space (Failed errno bytes) = allowed (is_fork_error errno) kernel
+forked kernel key space _ = Some (with_calling (with_events kernel key child_message (told_in kernel 1 space 0 (2 ^ 52))) key)
+
 -- What a map call under way does, which no line shows
 
--- the map calls with one of them changed
-abbrev pub with_call : List Calling → ℕ → (Calling → Calling) → List Calling
-with_call [] key change = []
-with_call (calling ∷ calls) key change = if calling.key == key then change calling ∷ calls else calling ∷ with_call calls key change
-
--- the map call with this number, if it is under way
-abbrev pub call_of : List Calling → ℕ → Option Calling
-call_of [] key = None
-call_of (calling ∷ calls) key = if calling.key == key then Some calling else call_of calls key
+-- whether a call has an event that is not read
+abbrev pub has_events : Kernel → ℕ → Bool
+has_events kernel key = list_any (λ (one : Untold). one.key == key) kernel.events
 
 -- whether all its events are read
-abbrev pub is_told_all : Calling → Bool
-is_told_all calling = is_empty calling.events && calling.untold.1 == 0
+abbrev pub is_told_all : Kernel → ℕ → Bool
+is_told_all kernel key = not (has_events kernel key) && not (is_some (span_of kernel.untold key) && tells_anybody kernel key)
 
--- what a rule says of a map call under way
-abbrev pub of_call : Option Calling → (Calling → Option Kernel) → Option Kernel
-of_call None rule = None
-of_call (Some calling) rule = rule calling
+-- whether the next event of a call is queued
+abbrev pub is_queued : Kernel → ℕ → Bool
+is_queued kernel key = list_any (λ other. other == key) kernel.queued
 
 -- the next event of a call is queued: a kernel queues one at a time, and the next when that is read
 abbrev pub tells : Kernel → ℕ → Option Kernel
-tells kernel key = of_call (call_of kernel.calls key) (λ calling.
-    allowed (not calling.queued && not (is_told_all calling))
-    (record kernel { calls = with_call kernel.calls key (λ (calling : Calling). record calling { queued = true }) }))
+tells kernel key = allowed (not (is_queued kernel key) && not (is_told_all kernel key)) (record kernel { queued = kernel.queued ++ key ∷ [] })
+
+-- ranges but those of a call
+abbrev pub spans_without : List Span → ℕ → List Span
+spans_without spans key = filter (λ (one : Span). not (one.key == key)) spans
+
+-- the kernel once a call has cleared its range, if it has one
+abbrev pub cleared_by : Kernel → ℕ → Option Span → Option Kernel
+cleared_by kernel key None = None
+cleared_by kernel key (Some span) =
+    allowed (is_told_all kernel key) (cleared_to (record kernel { clears = spans_without kernel.clears key }) span.space span.first (span.end - span.first) Missing)
 
 -- a call clears its pages, once its events are read
 abbrev pub clears : Kernel → ℕ → Option Kernel
-clears kernel key = of_call (call_of kernel.calls key) (λ calling.
-    allowed (is_told_all calling && nat_lt 0 calling.clears.1)
-    (cleared_to (record kernel { calls = with_call kernel.calls key (λ (calling : Calling). record calling { clears = (0, 0) }) }) calling.space calling.clears.0 calling.clears.1 Missing))
-
--- whether a map call has told all and cleared its pages, if it is under way
-abbrev pub is_over : Option Calling → Bool
-is_over None = true
-is_over (Some calling) = is_told_all calling && calling.clears.1 == 0
+clears kernel key = cleared_by kernel key (span_of kernel.clears key)
 
 -- whether a call may return: its events are read, and its pages cleared
 abbrev pub may_return : Kernel → ℕ → Bool
-may_return kernel key = is_over (call_of kernel.calls key)
+may_return kernel key = is_told_all kernel key && not (is_some (span_of kernel.clears key))
+
+-- numbers but this one
+abbrev pub numbers_without : List ℕ → ℕ → List ℕ
+numbers_without numbers key = filter (λ other. not (other == key)) numbers
 
 -- the kernel once a call has returned
 abbrev pub returned : Kernel → ℕ → Kernel
-returned kernel key = record kernel { calls = filter (λ (calling : Calling). not (calling.key == key)) kernel.calls }
+returned kernel key =
+    record kernel {
+      calls = numbers_without kernel.calls key;
+      told = filter (λ (one : Told). not (one.key == key)) kernel.told;
+      queued = numbers_without kernel.queued key;
+      untold = spans_without kernel.untold key;
+    }

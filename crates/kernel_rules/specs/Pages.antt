@@ -59,6 +59,10 @@ protected_page protect unpopulated page =
 abbrev pub perhaps_protected : Bool → Page → Page
 perhaps_protected protect page = if protect && page.protect then record page { guarded = true } else page
 
+-- a page of a range of which a call may have cleared the first pages
+abbrev pub perhaps_cleared : Page → Page
+perhaps_cleared page = if is_missing page.presence then page else record page { presence = Unknown }
+
 -- nothing is known of the page's presence
 abbrev pub is_unknown : Presence → Bool
 is_unknown Missing = false

@@ -1,12 +1,15 @@
 -- What a run of a log is: the lines of the log in their order, with steps put in between. A call takes effect once, between the line where
 -- it begins and the one where it ends; so a call that ended before another began took effect first. The rules of a kernel allow each step
 -- with exactly the answer of the log.
-use Rattle.std.specs.Prelude.{◌≡◌, ℕ, ◌==◌, Contains, not, Bool, true, false, if◌then◌else◌, Option, Some, None, is_some, List, [], ◌∷◌, ◌++◌, filter, filter_map}
+use Rattle.std.specs.Prelude.{◌≡◌, ℕ, ◌==◌, ◌&&◌, ◌||◌, Contains, not, Bool, true, false, if◌then◌else◌, Option, Some, None, is_some, List, [], ◌∷◌, ◌++◌, filter, filter_map}
 use Rattle.uffd_log.specs.declared.call.Call.{Call}
 use Rattle.uffd_log.specs.declared.call.Call.TheVariants as call
 use Rattle.uffd_log.specs.declared.call.Message.{Message}
 use Rattle.uffd_log.specs.declared.line.Answer.{Answer}
 use Rattle.uffd_log.specs.declared.line.Answer.TheVariants.{Done, Failed, Interrupted}
+use Rattle.uffd_log.specs.declared.errno.Errno.{Errno}
+use Rattle.uffd_log.specs.declared.errno.Errno.TheVariants.{Eperm, Eintr, Eagain, Enomem, Efault, Ebusy, Eexist, Einval, Other}
+use Rattle.mig_base.specs.Tests.{is_empty}
 use Rattle.kernel_rules.specs.declared.difference.Difference.{Difference}
 use Rattle.kernel_rules.specs.declared.object.Object.{Object}
 use Rattle.kernel_rules.specs.declared.object.Registration.{Registration}
@@ -15,10 +18,10 @@ use Rattle.kernel_rules.specs.declared.run.Entry.{Entry}
 use Rattle.kernel_rules.specs.declared.run.Entry.TheVariants as entry
 use Rattle.kernel_rules.specs.declared.run.Made.{Made}
 use Rattle.kernel_rules.specs.declared.run.Run.{Run}
-use Rattle.kernel_rules.specs.State.{Kernel, fresh_kernel, with_object, of_object}
+use Rattle.kernel_rules.specs.State.{Kernel, fresh_kernel, with_object, of_object, allowed}
 use Rattle.kernel_rules.specs.Faults.{sees, queues, leaves, faults_over}
-use Rattle.kernel_rules.specs.Ioctls.{end_range, opened, shaken, registered, unregistered, waked, put_with, protected_with, scanned, closed}
-use Rattle.kernel_rules.specs.MapCalls.{mmapped, munmapped, mremapped, madvised, tells, clears, may_return, returned}
+use Rattle.kernel_rules.specs.Ioctls.{end_range, opened, shaken, registered, unregistered, waked, copied, put_with, protected_first, protected_with, scanned, closed}
+use Rattle.kernel_rules.specs.MapCalls.{forked, mmapped, munmapped, mremapped, madvised, tells, clears, may_return, returned}
 use Rattle.kernel_rules.specs.Reads.{read, polled}
 
 -- The lines of a log that a judge reads
@@ -50,16 +53,41 @@ made_at (ends key out) = None
 
 -- What a call may answer, and what follows from it
 
+-- the errors of fcntl(2) and ioctl(2) for O_NONBLOCK: EBADF, and EFAULT of FIONBIO
+abbrev pub is_unblock_error : Errno → Bool
+is_unblock_error Efault = true
+is_unblock_error Other = true
+is_unblock_error _ = false
+
 -- O_NONBLOCK is set or cleared
 abbrev pub unblocked : Kernel → ℕ → Object → Bool → Answer → Option Kernel
 unblocked kernel name object set Done = Some (with_object kernel name (record object { waits = not set }))
-unblocked kernel name object set (Failed errno bytes) = Some kernel
+unblocked kernel name object set (Failed errno bytes) = allowed (is_unblock_error errno) kernel
 unblocked kernel name object set _ = None
+
+-- whether an error is none that the rules name, as EBADF
+abbrev pub is_other : Errno → Bool
+is_other Other = true
+is_other _ = false
+
+-- the errors of dup(2), dup2(2) and dup3(2)
+abbrev pub is_dup_error : Errno → Bool
+is_dup_error Eintr = true
+is_dup_error Enomem = true
+is_dup_error Ebusy = true
+is_dup_error Einval = true
+is_dup_error Other = true
+is_dup_error _ = false
+
+-- dup(2) of a descriptor of an object
+abbrev pub duplicated : Kernel → Answer → Option Kernel
+duplicated kernel (Failed errno bytes) = allowed (is_dup_error errno) kernel
+duplicated kernel _ = Some kernel
 
 -- close(2): it ends the object if the descriptor was its last
 abbrev pub close_taken : Kernel → ℕ → Object → Bool → Answer → Option Kernel
 close_taken kernel name object last Done = Some (if last then closed kernel name object else kernel)
-close_taken kernel name object last (Failed errno bytes) = Some kernel
+close_taken kernel name object last (Failed errno bytes) = allowed (is_other errno) kernel
 close_taken kernel name object last _ = None
 
 -- the object on which a call is made, if it is on one
@@ -93,13 +121,13 @@ on_object kernel key name object last out (call.Api on api features) = shaken ke
 on_object kernel key name object last out (call.Register on start len mode) = registered kernel name object start len mode out.answer
 on_object kernel key name object last out (call.Unregister on start len) = unregistered kernel name object start len out.answer
 on_object kernel key name object last out (call.Wake on start len) = waked kernel name object start len out.answer
-on_object kernel key name object last out (call.Copy on to from len mode) = put_with kernel key name object to len mode 3 out.answer
+on_object kernel key name object last out (call.Copy on to from len mode) = copied kernel key name object to from len mode out.answer
 on_object kernel key name object last out (call.ZeroPage on start len mode) = put_with kernel key name object start len mode 1 out.answer
-on_object kernel key name object last out (call.WriteProtect on start len mode) = protected_with kernel name object start len mode out.answer
+on_object kernel key name object last out (call.WriteProtect on start len mode) = protected_with kernel key name object start len mode out.answer
 on_object kernel key name object last out (call.Read on room) = read kernel key name object room out.messages out.answer
 on_object kernel key name object last out (call.Poll on) = polled kernel name object out.answer
 on_object kernel key name object last out (call.NonBlock on set) = unblocked kernel name object set out.answer
-on_object kernel key name object last out (call.Dup on target) = Some kernel
+on_object kernel key name object last out (call.Dup on target) = duplicated kernel out.answer
 on_object kernel key name object last out (call.Close on) = close_taken kernel name object last out.answer
 on_object kernel key name object last out (call.Scan on start len) = scanned kernel object start len out.runs out.answer
 on_object kernel key name object last out _ = None
@@ -107,11 +135,11 @@ on_object kernel key name object last out _ = None
 -- the other calls, of an address space
 unfoldable pub on_space : Kernel → ℕ → ℕ → Outcome → Call → Option Kernel
 on_space kernel key space out (call.Open device flags) = opened kernel space flags out.answer
-on_space kernel key space out (call.Mmap addr len prot flags) = mmapped kernel key space len out.answer
+on_space kernel key space out (call.Mmap addr len prot flags) = mmapped kernel key space addr len flags out.answer
 on_space kernel key space out (call.Munmap addr len) = munmapped kernel key space addr len out.answer
-on_space kernel key space out (call.Mremap addr old_len new_len flags target) = mremapped kernel key space addr old_len new_len out.answer
+on_space kernel key space out (call.Mremap addr old_len new_len flags target) = mremapped kernel key space addr old_len new_len flags out.answer
 on_space kernel key space out (call.Madvise addr len advice) = madvised kernel key space addr len advice out.answer
-on_space kernel key space out call.Fork = Some kernel
+on_space kernel key space out call.Fork = forked kernel key space out.answer
 on_space kernel key space out _ = None
 
 -- the same, by the object that a call is on
@@ -122,6 +150,14 @@ taken_by kernel made out (Some name) = of_object (kernel.objects name) (λ objec
 -- a call of a log takes effect with its outcome; None where no kernel has it
 abbrev pub takes : Kernel → Made → Outcome → Option Kernel
 takes kernel made out = taken_by kernel made out (object_of made.call)
+
+-- a UFFDIO_WRITEPROTECT that is under way protects a page of its range, before the others; `over` says whether it has taken effect
+abbrev pub protects_first : Kernel → Made → Bool → ℕ → Option Kernel
+protects_first kernel made true page = None
+protects_first kernel made false page = protects_of made.call where
+  protects_of : Call → Option Kernel
+  protects_of (call.WriteProtect on start len mode) = of_object (kernel.objects on.object) (λ object. protected_first kernel made.key on.object object start len mode page)
+  protects_of _ = None
 
 -- Runs
 
@@ -134,6 +170,7 @@ pub data Step : Type 0 where
   thread_leaves : ℕ → Step
   call_tells : ℕ → Step
   call_clears : ℕ → Step
+  call_protects : ℕ → ℕ → Step
 
 -- a call that has begun, with its outcome once it has taken effect
 pub record Begun : Type 0 where
@@ -170,6 +207,18 @@ effect_of world (Some one) key out =
     if is_some one.out then None
     else world_with (record world { begun = without_begun world.begun key ++ record one { out = Some out } ∷ [] }) (takes world.kernel one.made out)
 
+-- a call that has begun protects a page
+abbrev pub protect_of : World → Option Begun → ℕ → Option World
+protect_of world None page = None
+protect_of world (Some one) page = world_with world (protects_first world.kernel one.made (is_some one.out) page)
+
+-- whether a call has read nothing if it was interrupted
+abbrev pub is_still : Outcome → Bool
+is_still out = not (is_interrupted out.answer) || is_empty out.messages && is_empty out.runs where
+  is_interrupted : Answer → Bool
+  is_interrupted Interrupted = true
+  is_interrupted _ = false
+
 -- the effect that a call must have had at its end: one that was interrupted had none
 abbrev pub effect_at_end : Answer → Outcome → Option Outcome
 effect_at_end Interrupted out = None
@@ -179,7 +228,7 @@ effect_at_end _ out = Some out
 abbrev pub IsStep : World → Step → World → Type 0
 IsStep world (line (begins made)) after = (begun_of world.begun made.key ≡ None) × (after ≡ record world { begun = world.begun ++ record { made = made; out = None } ∷ [] })
 IsStep world (line (ends key out)) after =
-    (one : Begun) × (begun_of world.begun key ≡ Some one) × (may_return world.kernel key ≡ true) × (one.out ≡ effect_at_end out.answer out)
+    (one : Begun) × (is_still out ≡ true) × (begun_of world.begun key ≡ Some one) × (may_return world.kernel key ≡ true) × (one.out ≡ effect_at_end out.answer out)
     × (after ≡ record { kernel = returned world.kernel key; begun = without_begun world.begun key })
 IsStep world (effect key out) after = effect_of world (begun_of world.begun key) key out ≡ Some after
 IsStep world (thread_sees thread object page flags) after = world_with world (sees world.kernel thread object page flags) ≡ Some after
@@ -187,6 +236,7 @@ IsStep world (thread_queues thread) after = world_with world (queues world.kerne
 IsStep world (thread_leaves thread) after = world_with world (leaves world.kernel thread) ≡ Some after
 IsStep world (call_tells key) after = world_with world (tells world.kernel key) ≡ Some after
 IsStep world (call_clears key) after = world_with world (clears world.kernel key) ≡ Some after
+IsStep world (call_protects key page) after = protect_of world (begun_of world.begun key) page ≡ Some after
 
 -- the steps lead from one world to another
 abbrev pub Leads : World → List Step → World → Type 0

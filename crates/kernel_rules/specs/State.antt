@@ -1,30 +1,20 @@
 -- What a kernel has: userfault objects, the pages that are registered with them, the threads that sleep, and the map calls under way.
 -- Address spaces, objects and threads are numbers; a page is the number of its first byte divided by the page size, without a bound.
-use Rattle.std.specs.Prelude.{ℕ, ◌+◌, ◌%◌, ◌^◌, ◌==◌, ◌&&◌, not, nat_le, nat_lt, Bool, true, false, if◌then◌else◌, Option, Some, None, is_some, List, [], ◌∷◌, ◌++◌}
+use Rattle.std.specs.Prelude.{ℕ, ◌+◌, ◌%◌, ◌^◌, ◌==◌, ◌&&◌, ◌||◌, not, nat_le, nat_lt, Bool, true, false, if◌then◌else◌, Option, Some, None, is_some, List, [], ◌∷◌, ◌++◌}
 use Rattle.mig_base.specs.declared.TheConstants.{PAGE_SIZE}
 use Rattle.mig_base.specs.Bits.{is_one}
 use Rattle.mig_base.specs.Ranges.{in_range, none_below}
 use Rattle.mig_base.specs.Tests.{is_every}
-use Rattle.uffd_log.specs.declared.call.Message.{Message}
 use Rattle.kernel_rules.specs.Changes.{page_with}
+use Rattle.kernel_rules.specs.declared.calling.Protecting.{Protecting}
+use Rattle.kernel_rules.specs.declared.calling.Span.{Span}
+use Rattle.kernel_rules.specs.declared.calling.Told.{Told}
+use Rattle.kernel_rules.specs.declared.calling.Untold.{Untold}
 use Rattle.kernel_rules.specs.declared.difference.Difference.{Difference}
 use Rattle.kernel_rules.specs.declared.fault.Fault.{Fault}
 use Rattle.kernel_rules.specs.declared.object.Object.{Object}
 use Rattle.kernel_rules.specs.declared.object.Registration.{Registration}
 use Rattle.kernel_rules.specs.declared.known.Page.{Page}
-
--- a map call that has changed the map and has not returned
-pub record Calling : Type 0 where
-  pub key : ℕ
-  pub space : ℕ
-  -- its events that are not read, each with its object, in the order in which the kernel queues them; and whether the first is queued
-  pub events : List (ℕ × Message)
-  pub queued : Bool
-  -- of MADV_DONTNEED: the pages of which no REMOVE was read yet, first and count; and those that are to be cleared then
-  pub untold : ℕ × ℕ
-  pub clears : ℕ × ℕ
-  -- the objects to which it has anything to tell
-  pub tells : ℕ → Bool
 
 -- what a kernel has, as far as userfault objects are concerned
 pub record Kernel : Type 0 where
@@ -35,7 +25,18 @@ pub record Kernel : Type 0 where
   pub pages : ℕ → ℕ → Option Page
   -- in the order in which the unread ones were queued
   pub faults : List Fault
-  pub calls : List Calling
+  -- the map calls that have changed the map and have not returned, by their numbers, the oldest first
+  pub calls : List ℕ
+  -- the objects to which they have anything to tell
+  pub told : List Told
+  -- their events that are not read, those of each in the order in which the kernel queues them; and the calls whose next event is queued
+  pub events : List Untold
+  pub queued : List ℕ
+  -- of MADV_DONTNEED: the pages of which no REMOVE was read yet, and those that are to be cleared then
+  pub untold : List Span
+  pub clears : List Span
+  -- the pages that a UFFDIO_WRITEPROTECT under way has protected before its others
+  pub protected : List Protecting
   -- what was done otherwise than by the model, the oldest first
   pub differs : List Difference
   -- the reads whose fault nobody has answered
@@ -57,6 +58,12 @@ fresh_kernel =
       pages = λ space page. None;
       faults = [];
       calls = [];
+      told = [];
+      events = [];
+      queued = [];
+      untold = [];
+      clears = [];
+      protected = [];
       differs = [];
       unanswered = [];
       owed = [];
@@ -67,9 +74,14 @@ fresh_kernel =
 
 -- Ranges of bytes
 
--- whether a range of bytes is one of whole pages that ends at the greatest address at the latest
+-- whether a range of bytes is one of whole pages that a process may have: the user's half of an address space has 2^56 bytes at the most
 abbrev pub is_range : ℕ → ℕ → Bool
-is_range start len = start % PAGE_SIZE == 0 && len % PAGE_SIZE == 0 && nat_lt 0 len && nat_le (start + len) (2 ^ 64)
+is_range start len = start % PAGE_SIZE == 0 && len % PAGE_SIZE == 0 && nat_lt 0 len && nat_le (start + len) (2 ^ 56)
+
+-- whether a kernel may refuse a range as one that no process has: where the user's half has 2^47 bytes but for a page, or vm.mmap_min_addr
+-- is the usual 64 KiB
+abbrev pub may_be_outside : ℕ → ℕ → Bool
+may_be_outside start len = nat_lt start 0x10000 || nat_lt 0x7ffffffff000 (start + len)
 
 -- whether a word has no bit that another one lacks
 abbrev pub is_within : ℕ → ℕ → Bool

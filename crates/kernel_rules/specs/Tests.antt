@@ -1,6 +1,6 @@
 -- Tests of pages as values.
 use Rattle.std.specs.Prelude.{◌==◌, ◌&&◌, ◌||◌, not, Bool, true}
-use Rattle.kernel_rules.specs.Pages.{may_be_missing}
+use Rattle.kernel_rules.specs.Pages.{is_present, may_be_missing}
 use Rattle.kernel_rules.specs.declared.known.Page.{Page}
 use Rattle.kernel_rules.specs.declared.page_test.PageTest.{PageTest}
 use Rattle.kernel_rules.specs.declared.page_test.PageTest.TheVariants as test
@@ -13,3 +13,4 @@ passes (test.OfAnother name) = λ page. not (page.object == name)
 passes (test.MayBePut protect) = λ page. may_be_missing page && (not protect || page.protect)
 passes test.Protected = λ page. page.protect
 passes test.NotProtected = λ page. not page.protect
+passes test.Present = λ page. is_present page.presence

@@ -1,21 +1,47 @@
 //! What the arguments of a call say by themselves.
 
-ghost use Rattle.std.specs.Prelude.{◌≡◌, ◌<◌, ◌&&◌, not};
+ghost use Rattle.std.specs.Prelude.{◌≡◌, ◌<◌, ◌+◌, ◌^◌, ◌&&◌, nat_lt, not};
 ghost use Rattle.mig_base.specs.Bits.{is_one};
-ghost use Rattle.kernel_rules.specs.State.{asked_for, is_enabled, is_range, is_within};
-ghost use Rattle.kernel_rules.specs.Ioctls.{bytes_or_none, is_map_error, is_mode, is_part, is_right, presence_of};
+ghost use Rattle.kernel_rules.specs.State.{asked_for, is_enabled, is_range, is_within, may_be_outside};
+ghost use Rattle.kernel_rules.specs.Ioctls.{bytes_or_none, is_mode, is_part, is_right, presence_of};
 
 use crate::known::Presence;
 use crate::object::Object;
 use mig_base::PAGE_SIZE;
 use mig_base::flags::has_bit;
-use uffd_log::Errno;
 
-/// Whether a range of bytes is one of whole pages that ends at the greatest address at the latest.
+/// The bytes that the user's half of an address space has at the most.
+pub const MOST_BYTES: u64 = 1 << 56;
+
+/// The bytes of the user's half on most machines: 2^47, but for a page.
+const USUAL_BYTES: u64 = 0x7fff_ffff_f000;
+
+/// The usual value of vm.mmap_min_addr.
+const LEAST_ADDRESS: u64 = 0x1_0000;
+
+/// Whether a range of bytes is one of whole pages that a process may have.
 pub(crate) fn is_range(start: u64, len: u64) -> bool
     ensures { result ≡ is_range start len }
 {
-    start % PAGE_SIZE == 0 && len % PAGE_SIZE == 0 && len > 0 && len - 1 <= u64::MAX - start
+    start % PAGE_SIZE == 0
+        && len % PAGE_SIZE == 0
+        && len > 0
+        && start <= MOST_BYTES
+        && len <= MOST_BYTES - start
+}
+
+/// Whether a kernel may refuse a range as one that no process has.
+pub fn may_be_outside(start: u64, len: u64) -> bool
+    ensures { result ≡ may_be_outside start len }
+{
+    start < LEAST_ADDRESS || start > USUAL_BYTES || len > USUAL_BYTES - start
+}
+
+/// Whether a range of bytes ends past the greatest address.
+pub fn wraps(start: u64, len: u64) -> bool
+    ensures { result ≡ nat_lt (2 ^ 64) (start + len) }
+{
+    len > 0 && len - 1 > u64::MAX - start
 }
 
 /// Whether a word has a bit that another one lacks.
@@ -27,7 +53,7 @@ fn lacks(word: u64, other: u64, i: u32) -> bool
 }
 
 /// Whether a word has no bit that another one lacks.
-pub(crate) fn is_within(word: u64, other: u64) -> bool
+pub fn is_within(word: u64, other: u64) -> bool
     ensures { result ≡ is_within word other }
 {
     for i in 0..64 {
@@ -61,16 +87,6 @@ pub(crate) fn is_mode(bits: u64) -> bool
     ensures { result ≡ is_mode bits }
 {
     0 < bits && bits < 4
-}
-
-/// Whether an error may come for what a log does not show.
-pub(crate) fn is_map_error(errno: Errno) -> bool
-    ensures { result ≡ is_map_error errno }
-{
-    matches!(
-        errno,
-        Errno::Einval | Errno::Ebusy | Errno::Eperm | Errno::Enomem | Errno::Efault
-    )
 }
 
 /// Whether the arguments of a call are right; `most` is the greatest word of modes.

@@ -1,8 +1,10 @@
 //! A run of a log: the lines of the log in their order, with steps put in between, each of which the rules of a kernel allow.
 
-ghost use Rattle.std.specs.Prelude.{◌≡◌, ◌++◌, ◌∷◌, [], map, IfOk, OnOk, IfSome, option_map};
-ghost use Rattle.kernel_rules.specs.Certified.{begun_at, certified, effected, ended_at, entered, find_of, fresh_place, is_ended_by, lined, moved, moved_all, moved_by, others_than, outcome_in, seen_at, IsCertified};
-ghost use Rattle.kernel_rules.specs.Runs.{event_of, outcome_of, IsClean};
+ghost use Rattle.std.specs.Prelude.{◌≡◌, ◌&&◌, ◌++◌, ◌∷◌, [], map, IfOk, OnOk, IfSome, option_map};
+ghost use Rattle.kernel_rules.specs.Certified.{begun_at, certified, effected, ended_at, entered, find_of, fresh_place, is_ended_by, lined, moved, moved_all, moved_by, others_than, outcome_in, protected_by, seen_at, IsCertified};
+ghost use Rattle.kernel_rules.specs.Runs.{event_of, is_still, outcome_of, IsClean};
+ghost use Rattle.kernel_rules.specs.MapCalls.{may_return, returned};
+ghost use Rattle.kernel_rules.specs.State.{allowed};
 ghost use Rattle.kernel_rules.specs.Held.{kernel_of, AreTables};
 ghost use Rattle.kernel_rules.specs.Worlds.{if_made, place_of};
 
@@ -57,6 +59,16 @@ fn fits(one: BegunCall, answer: Answer, next: usize) -> bool
     }
 }
 
+/// Whether a call has read nothing if it was interrupted.
+fn is_still(ending: &Ending) -> bool
+    ensures { result ≡ is_still (outcome_of ending.now) }
+{
+    match ending.answer {
+        Answer::Interrupted => ending.messages.is_empty() && ending.runs.is_empty(),
+        _ => true,
+    }
+}
+
 /// The ending of an entry, if a call ends there.
 fn ending_of(seen: Option<&Entry>) -> Option<&Ending>
     ensures { option_map (λ ending. outcome_of ending.now) result ≡
@@ -108,6 +120,24 @@ impl WorldTable {
         Ok(true)
     }
 
+    /// Whether a call that has begun may end: it has told all, and has taken effect so.
+    fn may_end(&self, one: BegunCall, key: u32, answer: Answer) -> bool
+        ensures { result ≡ (may_return (kernel_of self.now.kernel) key
+            && is_ended_by one.at answer self.now.next) }
+    {
+        self.kernel.may_return(u64::from(key)) && fits(one, answer, self.next)
+    }
+
+    /// A call is no longer under way in the kernel.
+    fn returned(&mut self, key: u32)
+        requires { AreTables self.old.kernel }
+        ensures tables { AreTables self.new.kernel }
+        ensures over { kernel_of self.new.kernel ≡ returned (kernel_of self.old.kernel) key }
+        ensures same { self.new ≡ record self.old { kernel = self.new.kernel } }
+    {
+        self.kernel.returned(u64::from(key));
+    }
+
     /// A call ends, if it has begun and has taken effect so.
     fn end(&mut self, key: u32, answer: Answer) -> bool
         requires { AreTables self.old.kernel }
@@ -119,9 +149,10 @@ impl WorldTable {
         let Some(one) = find_begun(&self.begun, key) else {
             return false;
         };
-        if !fits(one, answer, self.next) {
+        if !self.may_end(one, key, answer) {
             return false;
         }
+        self.returned(key);
         remove_begun(&mut self.begun, key);
         true
     }
@@ -136,7 +167,7 @@ impl WorldTable {
     {
         match one {
             Entry::Begins(made) => self.begin(*made),
-            Entry::Ends { key, ending } => Ok(self.end(*key, ending.answer)),
+            Entry::Ends { key, ending } => Ok(is_still(ending) && self.end(*key, ending.answer)),
         }
     }
 
@@ -198,6 +229,21 @@ impl WorldTable {
         Ok(true)
     }
 
+    /// A UFFDIO_WRITEPROTECT that has begun protects a page.
+    fn protects(&mut self, key: u32, page: u64) -> Result<bool, NoMemory>
+        requires { AreTables self.old.kernel }
+        ensures tables { AreTables self.new.kernel }
+        ensures same { self.new ≡ record self.old { kernel = self.new.kernel } }
+        ensures step { IfOk result (λ ok.
+            protected_by (kernel_of self.old.kernel) (find_of self.old.begun.items key) page ≡
+            allowed ok (kernel_of self.new.kernel)) }
+    {
+        let Some(one) = find_begun(&self.begun, key) else {
+            return Ok(false);
+        };
+        self.kernel.protects_page(one.made, one.at.is_some(), page)
+    }
+
     /// The place of the entry that a move looks at: that of its ending where a call takes effect, else the next one.
     pub fn seen_at(&self, step: Move) -> usize
         ensures { result ≡ seen_at self.now.next step }
@@ -209,7 +255,7 @@ impl WorldTable {
     }
 
     /// Makes the next move of a run of the log; `seen` is the entry of the log at `seen_at`, if there is one. False where no rule allows the
-    /// move, or it is of a call that is not followed. After `NoMemory`, or then, a table is not to be used.
+    /// move. After `NoMemory`, or then, a table is not to be used.
     pub fn step(&mut self, seen: Option<&Entry>, step: Move) -> Result<bool, NoMemory>
         requires { AreTables self.old.kernel }
         ensures tables { AreTables self.new.kernel }
@@ -228,6 +274,9 @@ impl WorldTable {
             } => self.kernel.sees(thread, object, page, flags),
             Move::Queues { thread } => self.kernel.queues(thread),
             Move::Leaves { thread } => self.kernel.leaves(thread),
+            Move::Tells { key } => self.kernel.tells(u64::from(key)),
+            Move::Clears { key } => self.kernel.clears(u64::from(key)),
+            Move::Protects { key, page } => self.protects(key, page),
         }
     }
 
@@ -262,13 +311,12 @@ impl WorldTable {
 
 /// Whether a run is one of the log: it has the lines of the log in their order, so that it keeps the order of calls that do not overlap;
 /// each call takes effect once between its begin and its end, with exactly the answer of its end; and the rules of a kernel allow each
-/// step, also those that no line shows. Then the kernel at its end is returned, with its findings. `None` says that this run is none, or
-/// has a call that is not followed, and nothing of other runs. `NoMemory` comes if room is refused.
+/// step, also those that no line shows. Then the kernel at its end is returned, with its findings. `None` says that this run is none,
+/// and nothing of other runs. `NoMemory` comes if room is refused.
 ///
 /// A call that never ends in the log may take effect with the ending of any entry.
 ///
-/// Not followed, and so refused, are mremap(2), map calls of which an object gets an event, and reads of events; an object with
-/// UFFD_FEATURE_EVENT_FORK; and UFFDIO_MOVE, UFFDIO_CONTINUE, UFFDIO_POISON and the minor mode.
+/// Not followed, and so refused, are UFFDIO_MOVE, UFFDIO_CONTINUE, UFFDIO_POISON and the minor mode.
 pub fn certify(alloc: Global, log: &[Entry], run: &[Move]) -> Result<Option<KernelTable>, NoMemory>
     ensures tables { IfOk result (λ found. IfSome found AreTables) }
     ensures run { IfOk result (λ found. IfSome found (λ table.

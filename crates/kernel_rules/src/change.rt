@@ -2,7 +2,7 @@
 
 ghost use Rattle.std.specs.Prelude.{◌≡◌, Some};
 ghost use Rattle.kernel_rules.specs.Changes.{changed};
-ghost use Rattle.kernel_rules.specs.Pages.{cleared_page, perhaps_protected, protected_page, put_page, registered_page, settled, shown};
+ghost use Rattle.kernel_rules.specs.Pages.{cleared_page, perhaps_cleared, perhaps_protected, protected_page, put_page, registered_page, settled, shown};
 
 use crate::known::{Page, Presence};
 
@@ -42,6 +42,8 @@ pub enum Change {
     Clear {
         presence: Presence,
     },
+    /// It may be cleared, by a call that failed.
+    PerhapsClear,
     /// A fault shows it: of a write-protected page, or of a missing one.
     Fault {
         protected: bool,
@@ -114,6 +116,19 @@ fn put(page: Page, protect: bool) -> Page
     }
 }
 
+/// A page that a call may have cleared.
+fn perhaps_cleared(page: Page) -> Page
+    ensures { result ≡ perhaps_cleared page }
+{
+    match page.presence {
+        Presence::Missing => page,
+        _ => Page {
+            presence: Presence::Unknown,
+            ..page
+        },
+    }
+}
+
 /// A page once it is cleared, or may be.
 fn cleared(page: Page, presence: Presence) -> Page
     ensures { result ≡ cleared_page presence page }
@@ -171,6 +186,7 @@ impl Change {
             } => Some(protected(page, protect, unpopulated)),
             Change::PerhapsProtect { protect } => Some(perhaps_protected(page, protect)),
             Change::Clear { presence } => Some(cleared(page, presence)),
+            Change::PerhapsClear => Some(perhaps_cleared(page)),
             Change::Fault { protected } => Some(faulted(page, protected)),
             Change::Settle { presence } => Some(settled_by(page, presence)),
         }

@@ -4,10 +4,11 @@ ghost use Rattle.std.specs.Prelude.{◌≡◌, ◌==◌, filter, map, not, true,
 ghost use Rattle.kernel_rules.specs.State.{allowed};
 ghost use Rattle.kernel_rules.specs.Faults.{faults_over};
 ghost use Rattle.kernel_rules.specs.Ioctls as ioctl;
-ghost use Rattle.kernel_rules.specs.Ioctls.{without_events};
 ghost use Rattle.kernel_rules.specs.Runs.{close_taken, end_all, finished};
 ghost use Rattle.kernel_rules.specs.Held.{kernel_of, AreTables};
 
+use crate::answers::is_close_error;
+use crate::calling::{Told, Untold};
 use crate::difference::Difference;
 use crate::fault::{Reach, note_all};
 use crate::kernel_table::KernelTable;
@@ -20,16 +21,30 @@ use uffd_log::Answer;
 const PAGES: u64 = 1 << 52;
 
 /// Whether a range is the object's.
-fn is_own(name: u64, range: Registration) -> bool
+pub(crate) fn is_own(name: u64, range: Registration) -> bool
     ensures { result ≡ ioctl.is_own name range }
 {
     range.object == name && range.first <= PAGES && range.count <= PAGES - range.first
 }
 
+/// Takes away what calls have to tell an object.
+fn remove_told_object(told: &mut Vec<Told>, name: u64)
+    ensures { told.new.items ≡ filter (λ one. not (one.object == name)) told.old.items }
+{
+    told.retain(|one| one.object != name);
+}
+
+/// Takes away the events for an object.
+fn remove_events(events: &mut Vec<Untold>, name: u64)
+    ensures { events.new.items ≡ filter (λ one. not (one.object == name)) events.old.items }
+{
+    events.retain(|one| one.object != name);
+}
+
 impl KernelTable {
     /// The ranges that were registered.
     #[tactic(auto, unfolding(crate::specs::Held::kernel_of))]
-    fn ranges(&self) -> &[Registration]
+    pub(crate) fn ranges(&self) -> &[Registration]
         ensures { result.now ≡ (kernel_of self.now).ranges }
     {
         &self.ranges
@@ -96,6 +111,8 @@ impl KernelTable {
         ensures gone { kernel_of self.new ≡ ioctl.without_object_of (kernel_of self.old) name }
     {
         self.objects.swap_remove(&name);
+        remove_told_object(&mut self.told, name);
+        remove_events(&mut self.events, name);
     }
 
     /// The last descriptor of an object is closed.
@@ -136,7 +153,7 @@ impl KernelTable {
                 }
                 Ok(true)
             }
-            Answer::Failed { .. } => Ok(true),
+            Answer::Failed { errno, .. } => Ok(is_close_error(errno)),
             _ => Ok(false),
         }
     }

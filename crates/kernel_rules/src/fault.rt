@@ -3,7 +3,7 @@
 ghost use Rattle.std.specs.Prelude.{◌≡◌, ◌++◌, [], OnOk, filter, filter_map, if◌then◌else◌, not, true};
 ghost use Rattle.std.specs.List.{list_any};
 ghost use Rattle.kernel_rules.specs.Pages.{is_of_protection};
-ghost use Rattle.kernel_rules.specs.Faults.{is_seen, stops_at, fault_of, faults_without, is_twin, sleeps, is_unread_in, is_of_thread, left_unanswered};
+ghost use Rattle.kernel_rules.specs.Faults.{are_flags, is_seen, stops_at, fault_of, faults_without, is_twin, sleeps, is_unread_in, is_of_thread, left_unanswered};
 ghost use Rattle.kernel_rules.specs.Reads.{first_unread};
 
 use crate::known::{Page, Phase, Presence};
@@ -36,6 +36,13 @@ pub fn is_protection(flags: u64) -> bool
     ensures { result ≡ is_of_protection flags }
 {
     has_bit(flags, 1)
+}
+
+/// Whether flags are those of a fault that is judged.
+pub fn are_flags(flags: u64) -> bool
+    ensures { result ≡ are_flags flags }
+{
+    flags < 4
 }
 
 /// Whether an access with these flags has to wait at a page that is registered with the object.

@@ -4,13 +4,14 @@
 ghost use Rattle.std.specs.Prelude.{◌≡◌, ◌==◌, ◌≤◌, ◌+◌, ◌/◌, ◌^◌, ◌&&◌, ◌++◌, ◌∷◌, [], if◌then◌else◌, not, Some, IfOk, OnOk};
 ghost use Rattle.mig_base.specs.declared.TheConstants.{PAGE_SIZE};
 ghost use Rattle.kernel_rules.specs.State.{allowed, some_page};
-ghost use Rattle.kernel_rules.specs.Ioctls.{is_mode, is_owed, may_shake, opened, registered, shaken, unregistered, unregistered_in, waked, with_handshake, with_owed, with_range, with_registered};
+ghost use Rattle.kernel_rules.specs.Ioctls.{has_calls, is_mode, is_owed, may_shake, opened, registered, shaken, unregistered, unregistered_in, waked, with_handshake, with_owed, with_range, with_registered};
 ghost use Rattle.kernel_rules.specs.State.{asked_for, is_enabled, is_range, noted_if, page_is};
 ghost use Rattle.kernel_rules.specs.Pages.{mode_of};
 ghost use Rattle.kernel_rules.specs.declared.difference.Difference.TheVariants as differs;
 ghost use Rattle.kernel_rules.specs.Held.{kernel_of, AreTables};
 
-use crate::arguments::{asked_for, is_enabled, is_map_error, is_mode, is_range, is_within};
+use crate::answers::{has_calls, is_offer, is_open_error, is_register_error, is_unregister_error};
+use crate::arguments::{asked_for, is_enabled, is_mode, is_range, is_within, may_be_outside};
 use crate::change::Change;
 use crate::difference::Difference;
 use crate::fault::Reach;
@@ -33,7 +34,7 @@ fn is_owed(name: u64, object: Object, page: Page) -> bool
 fn may_shake(object: Object, api: u64, features: u64, offered: u64) -> bool
     ensures { result ≡ may_shake object api features offered }
 {
-    !is_enabled(object) && api == 0xaa && is_within(features, offered) && !has_bit(features, 1)
+    !is_enabled(object) && api == 0xaa && is_within(features, offered)
 }
 
 impl KernelTable {
@@ -49,6 +50,9 @@ impl KernelTable {
                 if self.object(on.object).is_some() {
                     return Ok(false);
                 }
+                if !is_within(flags, 0x80801) {
+                    return Ok(false);
+                }
                 let waits = !has_bit(flags, 11);
                 self.set_object(
                     on.object,
@@ -61,7 +65,7 @@ impl KernelTable {
                 )?;
                 Ok(true)
             }
-            Answer::Failed { .. } => Ok(true),
+            Answer::Failed { errno, .. } => Ok(is_open_error(errno)),
             _ => Ok(false),
         }
     }
@@ -102,9 +106,9 @@ impl KernelTable {
         match answer {
             Answer::Features {
                 features: offered,
-                ..
+                ioctls,
             } => {
-                if !may_shake(object, api, features, offered) {
+                if !may_shake(object, api, features, offered) || !is_offer(offered, ioctls) {
                     return Ok(false);
                 }
                 self.shake(name, object, features)?;
@@ -180,14 +184,14 @@ impl KernelTable {
             allowed made (kernel_of self.new)) }
     {
         match answer {
-            Answer::Value(_) => {
-                if !self.may_register(name, object, start, len, bits) {
+            Answer::Value(ioctls) => {
+                if !has_calls(ioctls) || !self.may_register(name, object, start, len, bits) {
                     return Ok(false);
                 }
                 self.register_in(name, object, start / PAGE_SIZE, len / PAGE_SIZE, bits)?;
                 Ok(true)
             }
-            Answer::Failed { errno, .. } => Ok(is_map_error(errno)),
+            Answer::Failed { errno, .. } => Ok(is_register_error(object, errno)),
             _ => Ok(false),
         }
     }
@@ -306,7 +310,7 @@ impl KernelTable {
                 self.wake(name, Reach::Within { first, count }, false)?;
                 Ok(true)
             }
-            Answer::Failed { errno, .. } => Ok(is_map_error(errno)),
+            Answer::Failed { errno, .. } => Ok(is_unregister_error(object, errno)),
             _ => Ok(false),
         }
     }
@@ -337,8 +341,8 @@ impl KernelTable {
                 Ok(true)
             }
             Answer::Failed { errno, .. } => Ok(match errno {
-                Errno::Einval => !right,
-                Errno::Efault => true,
+                Errno::Einval => !right || may_be_outside(start, len),
+                Errno::Efault => is_enabled(object),
                 _ => false,
             }),
             _ => Ok(false),

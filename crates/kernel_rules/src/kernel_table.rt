@@ -12,11 +12,12 @@ ghost use Rattle.indexmap.specs.IndexMap.{get};
 ghost use Rattle.kernel_rules.specs.Tables.{pages_of, IsTable};
 ghost use Rattle.kernel_rules.specs.Held.{kernel_of, pages_by, AreTables};
 
+use crate::calling::{Protecting, Span, Told, Untold};
 use crate::change::Change;
 use crate::difference::Difference;
 use crate::fault::{
-    Fault, Reach, find, has_seen, has_twin, has_unread_in, is_protection, note_left, note_thread,
-    remove, stops, wake_in,
+    Fault, Reach, are_flags, find, has_seen, has_twin, has_unread_in, is_protection, note_left,
+    note_thread, remove, stops, wake_in,
 };
 use crate::known::{Page, Phase};
 use crate::object::{Object, Registration};
@@ -34,6 +35,18 @@ pub struct KernelTable {
     pub ranges: Vec<Registration>,
     pub spaces: IndexMap<u64, PageTable>,
     pub faults: Vec<Fault>,
+    /// The map calls under way, the oldest first.
+    pub calls: Vec<u64>,
+    /// What they have to tell, and the events of it that are not read.
+    pub told: Vec<Told>,
+    pub events: Vec<Untold>,
+    /// Those whose next event is queued.
+    pub queued: Vec<u64>,
+    /// The pages that they have to announce by REMOVE, and to clear.
+    pub untold: Vec<Span>,
+    pub clears: Vec<Span>,
+    /// The pages that a UFFDIO_WRITEPROTECT under way has protected before its others.
+    pub protected: Vec<Protecting>,
     /// What was done otherwise than by the model, the oldest first.
     pub differs: Vec<Difference>,
     /// The reads whose fault nobody has answered.
@@ -59,6 +72,13 @@ impl KernelTable {
             ranges: Vec::new(alloc),
             spaces: IndexMap::new(alloc),
             faults: Vec::new(alloc),
+            calls: Vec::new(alloc),
+            told: Vec::new(alloc),
+            events: Vec::new(alloc),
+            queued: Vec::new(alloc),
+            untold: Vec::new(alloc),
+            clears: Vec::new(alloc),
+            protected: Vec::new(alloc),
             differs: Vec::new(alloc),
             unanswered: Vec::new(alloc),
             owed: Vec::new(alloc),
@@ -86,6 +106,13 @@ impl KernelTable {
         ensures { result ≡ (kernel_of self.now).objects name }
     {
         self.objects.get(&name).copied()
+    }
+
+    /// The threads that wait.
+    pub(crate) fn waiting(&self) -> &[Fault]
+        ensures { result.now ≡ self.now.faults.items }
+    {
+        &self.faults
     }
 
     /// Whether a thread still has to wait. Its object watches this space.
@@ -413,7 +440,7 @@ impl KernelTable {
             phase: Phase::Seen,
             read_by: None,
         };
-        if self.fault(thread).is_some() || !self.must_wait(of.space, fault) {
+        if self.fault(thread).is_some() || !are_flags(flags) || !self.must_wait(of.space, fault) {
             return Ok(false);
         }
         let protected = is_protection(flags);

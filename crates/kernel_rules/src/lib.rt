@@ -7,7 +7,9 @@
 //! what a run of a log is.
 #![tactic(auto)]
 
+pub mod answers;
 pub mod arguments;
+pub mod calling;
 pub mod certify;
 pub mod change;
 mod closes;
@@ -15,9 +17,11 @@ pub mod difference;
 pub mod fault;
 mod installs;
 mod ioctls;
+pub mod kernel;
 pub mod kernel_table;
 pub mod known;
 mod map_calls;
+mod moving;
 pub mod object;
 pub mod page_table;
 pub mod page_test;
@@ -25,10 +29,12 @@ mod reads;
 pub mod run;
 mod scans;
 mod takes;
+mod telling;
 
 pub use crate::change::Change;
 pub use crate::difference::Difference;
 pub use crate::fault::{Fault, Reach};
+pub use crate::kernel::Kernel;
 pub use crate::kernel_table::KernelTable;
 pub use crate::known::{Page, Phase, Presence};
 pub use crate::object::{Object, Registration};

@@ -1,16 +1,14 @@
-//! The calls that change an address space, where no object gets an event of them, by the rules of `specs/MapCalls.antt`. After `NoMemory`, or
+//! The calls that change an address space, by the rules of `specs/MapCalls.antt`. After `NoMemory`, or
 //! where no rule allows the answer, a table is not to be used.
 
-ghost use Rattle.std.specs.Prelude.{◌≡◌, ◌<◌, ◌≤◌, ◌+◌, ◌^◌, filter, not, Some, IfOk, OnOk};
+ghost use Rattle.std.specs.Prelude.{◌≡◌, ◌<◌, ◌≤◌, ◌+◌, ◌^◌, ◌++◌, ◌∷◌, [], IfOk, OnOk};
 ghost use Rattle.mig_base.specs.Ranges.{pages_of};
-ghost use Rattle.mig_base.specs.Tests.{is_empty};
-ghost use Rattle.kernel_rules.specs.State.{allowed, page_is};
-ghost use Rattle.kernel_rules.specs.Certified.{quiet};
+ghost use Rattle.kernel_rules.specs.State.{allowed};
 ghost use Rattle.kernel_rules.specs.MapCalls as maps;
-ghost use Rattle.kernel_rules.specs.MapCalls.{is_told, objects_in};
 ghost use Rattle.kernel_rules.specs.Held.{kernel_of, AreTables};
 
-use crate::arguments::asked_for;
+use crate::answers::{has_bytes, has_stopped, is_advice, is_clearing, is_munmap_error, is_placed};
+use crate::calling::Span;
 use crate::change::Change;
 use crate::kernel_table::KernelTable;
 use crate::known::Presence;
@@ -21,7 +19,7 @@ use uffd_log::{Answer, Errno};
 const PAGES: u64 = 1 << 52;
 
 /// How many pages `len` bytes take, rounded up.
-fn pages_of(len: u64) -> u64
+pub(crate) fn pages_of(len: u64) -> u64
     ensures value { result ≡ pages_of len }
     ensures bound { result ≤ 2 ^ 52 }
 {
@@ -29,17 +27,10 @@ fn pages_of(len: u64) -> u64
 }
 
 /// Whether a range may be mapped or unmapped: it ends below the greatest address.
-fn is_mappable(first: u64, count: u64) -> bool
+pub(crate) fn is_mappable(first: u64, count: u64) -> bool
     ensures { result ≡ maps.is_mappable first count }
 {
     first < PAGES && count < PAGES - first
-}
-
-/// Whether an advice of madvise(2) clears pages.
-fn is_clearing(advice: u64) -> bool
-    ensures { result ≡ maps.is_clearing advice }
-{
-    advice == 4 || advice == 9 || advice == 24
 }
 
 /// Whether a call may have cleared pages.
@@ -54,43 +45,15 @@ fn has_cleared(answer: Answer) -> bool
 }
 
 impl KernelTable {
-    /// Whether an object is open, and asked for events, by the bit of the feature.
-    fn is_told(&self, bit: u32, name: u64) -> bool
-        requires { bit < 64 }
-        ensures { result ≡ is_told (kernel_of self.now) bit name }
-    {
-        match self.object(name) {
-            Some(object) => asked_for(object, bit),
-            None => false,
-        }
-    }
-
-    /// Whether a page is registered with an object that asked for events.
-    fn is_told_of(&self, bit: u32, space: u64, page: u64) -> bool
-        requires tables { AreTables self.now }
-        requires bit { bit < 64 }
-        ensures { result ≡ page_is (λ page. is_told (kernel_of self.now) bit page.object)
-            ((kernel_of self.now).pages space page) }
-    {
-        match self.page(space, page) {
-            Some(page) => self.is_told(bit, page.object),
-            None => false,
-        }
-    }
-
-    /// Whether no object that watches a page of a range asked for events.
-    fn tells_nobody(&self, bit: u32, space: u64, first: u64, count: u64) -> bool
-        requires tables { AreTables self.now }
-        requires bit { bit < 64 }
+    /// Nothing in a range is registered.
+    pub(crate) fn forget(&mut self, space: u64, first: u64, count: u64) -> Result<(), NoMemory>
+        requires tables { AreTables self.old }
         requires room { first + count ≤ 2 ^ 64 }
-        ensures { result ≡ is_empty (filter (is_told (kernel_of self.now) bit)
-            (objects_in (kernel_of self.now) space first count)) }
+        ensures tables { AreTables self.new }
+        ensures gone { OnOk result (kernel_of self.new ≡
+            maps.forgotten (kernel_of self.old) space first count) }
     {
-        let mut nobody = true;
-        for i in 0..count {
-            nobody = nobody && !self.is_told_of(bit, space, first + i);
-        }
-        nobody
+        self.change(space, first, count, Change::Forget)
     }
 
     /// A range is unmapped or replaced, if it may be: nothing there is registered, and nothing is owed.
@@ -98,14 +61,16 @@ impl KernelTable {
         requires { AreTables self.old }
         ensures tables { AreTables self.new }
         ensures step { IfOk result (λ made.
-            quiet (maps.unmapped_bytes (kernel_of self.old) key space addr len) ≡
+            maps.unmapped_bytes (kernel_of self.old) key space addr len ≡
             allowed made (kernel_of self.new)) }
     {
         let (first, count) = (addr / PAGE_SIZE, pages_of(len));
-        if !is_mappable(first, count) || !self.tells_nobody(6, space, first, count) {
+        if !has_bytes(len) || !is_mappable(first, count) {
             return Ok(false);
         }
-        self.change(space, first, count, Change::Forget)?;
+        self.tell_unmap(key, space, first, count)?;
+        self.add_calling(key)?;
+        self.forget(space, first, count)?;
         Ok(true)
     }
 
@@ -114,17 +79,24 @@ impl KernelTable {
         &mut self,
         key: u64,
         space: u64,
+        addr: u64,
         len: u64,
+        flags: u64,
         answer: Answer,
     ) -> Result<bool, NoMemory>
         requires { AreTables self.old }
         ensures tables { AreTables self.new }
         ensures step { IfOk result (λ made.
-            quiet (maps.mmapped (kernel_of self.old) key space len answer) ≡
+            maps.mmapped (kernel_of self.old) key space addr len flags answer ≡
             allowed made (kernel_of self.new)) }
     {
         match answer {
-            Answer::Value(start) => self.unmap(key, space, start, len),
+            Answer::Value(start) => {
+                if !is_placed(addr, flags, start) {
+                    return Ok(false);
+                }
+                self.unmap(key, space, start, len)
+            }
             Answer::Failed { .. } => Ok(true),
             _ => Ok(false),
         }
@@ -142,12 +114,12 @@ impl KernelTable {
         requires { AreTables self.old }
         ensures tables { AreTables self.new }
         ensures step { IfOk result (λ made.
-            quiet (maps.munmapped (kernel_of self.old) key space addr len answer) ≡
+            maps.munmapped (kernel_of self.old) key space addr len answer ≡
             allowed made (kernel_of self.new)) }
     {
         match answer {
             Answer::Done => self.unmap(key, space, addr, len),
-            Answer::Failed { .. } => Ok(true),
+            Answer::Failed { errno, .. } => Ok(is_munmap_error(errno)),
             _ => Ok(false),
         }
     }
@@ -169,26 +141,81 @@ impl KernelTable {
         self.change(space, first, count, Change::Clear { presence })
     }
 
-    /// A call clears a range, unless it has to tell somebody first.
-    fn clear_at_once(
+    /// A call may have cleared pages of a range, and has stopped before its last one.
+    fn clear_part(&mut self, space: u64, first: u64, count: u64) -> Result<(), NoMemory>
+        requires tables { AreTables self.old }
+        requires room { first + count ≤ 2 ^ 64 }
+        ensures tables { AreTables self.new }
+        ensures cleared { OnOk result (kernel_of self.new ≡
+            maps.cleared_in_part (kernel_of self.old) space first count) }
+    {
+        self.change(space, first, count.saturating_sub(1), Change::PerhapsClear)
+    }
+
+    /// A call has a range to announce, and to clear then.
+    #[tactic(auto, unfolding(crate::specs::Held::kernel_of))]
+    fn add_spans(&mut self, span: Span) -> Result<(), NoMemory>
+        requires { AreTables self.old }
+        ensures tables { AreTables self.new }
+        ensures added { OnOk result (kernel_of self.new ≡ record (kernel_of self.old) {
+          untold = (kernel_of self.old).untold ++ span ∷ [];
+          clears = (kernel_of self.old).clears ++ span ∷ [];
+        }) }
+    {
+        let Ok(()) = self.untold.push(span) else {
+            return Err(NoMemory);
+        };
+        match self.clears.push(span) {
+            Ok(()) => Ok(()),
+            Err(_) => Err(NoMemory),
+        }
+    }
+
+    /// A call clears a range once it has told these objects of it.
+    fn clear_later(
         &mut self,
         key: u64,
         space: u64,
         first: u64,
         count: u64,
-    ) -> Result<bool, NoMemory>
+        told: &[u64],
+    ) -> Result<(), NoMemory>
         requires tables { AreTables self.old }
-        requires room { first + count ≤ 2 ^ 64 }
+        requires room { first + count < 2 ^ 64 }
         ensures tables { AreTables self.new }
-        ensures step { IfOk result (λ made.
-            quiet (Some (maps.clearing (kernel_of self.old) key space first count)) ≡
-            allowed made (kernel_of self.new)) }
+        ensures begun { OnOk result (kernel_of self.new ≡ maps.with_clearing
+            (maps.with_all_told (kernel_of self.old) key told.now) key space first count) }
     {
-        if !self.tells_nobody(3, space, first, count) {
-            return Ok(false);
+        self.add_all_told(key, told)?;
+        self.add_calling(key)?;
+        let end = first + count;
+        self.add_spans(Span {
+            key,
+            space,
+            first,
+            end,
+        })
+    }
+
+    /// A call begins to clear a range.
+    fn begin_to_clear(
+        &mut self,
+        key: u64,
+        space: u64,
+        first: u64,
+        count: u64,
+    ) -> Result<(), NoMemory>
+        requires tables { AreTables self.old }
+        requires room { first + count < 2 ^ 64 }
+        ensures tables { AreTables self.new }
+        ensures begun { OnOk result (kernel_of self.new ≡
+            maps.clearing (kernel_of self.old) key space first count) }
+    {
+        let told = self.told_in(3, space, first, first + count)?;
+        if told.is_empty() {
+            return self.clear(space, first, count, Presence::Missing);
         }
-        self.clear(space, first, count, Presence::Missing)?;
-        Ok(true)
+        self.clear_later(key, space, first, count, &told)
     }
 
     /// madvise(2), of the advices that clear pages.
@@ -204,15 +231,23 @@ impl KernelTable {
         requires { AreTables self.old }
         ensures tables { AreTables self.new }
         ensures step { IfOk result (λ made.
-            quiet (maps.madvised (kernel_of self.old) key space addr len advice answer) ≡
+            maps.madvised (kernel_of self.old) key space addr len advice answer ≡
             allowed made (kernel_of self.new)) }
     {
+        if !is_advice(advice, answer) {
+            return Ok(false);
+        }
+        let (first, count) = (addr / PAGE_SIZE, pages_of(len));
+        if has_stopped(advice, answer) {
+            self.clear_part(space, first, count)?;
+            return Ok(true);
+        }
         if !has_cleared(answer) {
             return Ok(true);
         }
-        let (first, count) = (addr / PAGE_SIZE, pages_of(len));
         if is_clearing(advice) {
-            return self.clear_at_once(key, space, first, count);
+            self.begin_to_clear(key, space, first, count)?;
+            return Ok(true);
         }
         if advice == 8 {
             self.clear(space, first, count, Presence::Unknown)?;

@@ -21,6 +21,8 @@ pub enum PageTest {
     Protected,
     /// It is registered for missing faults alone.
     NotProtected,
+    /// It is known to be present.
+    Present,
 }
 
 /// Whether a page may be missing, as far as is known.
@@ -42,6 +44,7 @@ impl PageTest {
             PageTest::MayBePut { protect } => may_miss(page) && (!protect || page.protect),
             PageTest::Protected => page.protect,
             PageTest::NotProtected => !page.protect,
+            PageTest::Present => matches!(page.presence, Presence::Present),
         }
     }
 }

@@ -1,18 +1,24 @@
 //! read(2) and poll(2) of a userfault object, by the rules of `specs/Reads.antt`. After `NoMemory`, or where no rule allows the answer, a
 //! table is not to be used.
 
-ghost use Rattle.std.specs.Prelude.{◌≡◌, ◌==◌, map, Some, None, IfOk};
-ghost use Rattle.std.specs.Bool.{OnTrue};
+ghost use Rattle.std.specs.Prelude.{◌≡◌, ◌==◌, ◌&&◌, ◌++◌, count_by, filter, not, option_to_list, false, None, Some, IfOk, OnOk};
+ghost use Rattle.std.specs.List.{list_any};
 ghost use Rattle.kernel_rules.specs.State.{allowed};
+ghost use Rattle.kernel_rules.specs.Ioctls as ioctl;
+ghost use Rattle.kernel_rules.specs.Ioctls.{span_of};
+ghost use Rattle.kernel_rules.specs.MapCalls.{numbers_without, spans_without};
 ghost use Rattle.kernel_rules.specs.Reads as reads;
 ghost use Rattle.kernel_rules.specs.Held.{kernel_of, AreTables};
 
+use crate::answers::{has_room_for, is_poll_error};
 use crate::arguments::{asked_for, is_enabled};
+use crate::calling::{Span, Untold};
+use crate::difference::Difference;
 use crate::fault::{Fault, find_unread};
 use crate::kernel_table::KernelTable;
 use crate::known::Phase;
 use crate::object::Object;
-use mig_base::flags::has_bit;
+use crate::telling::{remove_number, remove_spans};
 use mig_base::{NoMemory, PAGE_SIZE};
 use uffd_log::{Answer, Errno, Message};
 
@@ -25,17 +31,82 @@ fn is_message(object: Object, fault: Fault, addr: u64, flags: u64, thread: u32) 
     } else {
         thread == 0
     };
-    fault.page == addr / PAGE_SIZE && fault.flags == flags && named
+    let exact = asked_for(object, 11) || addr % PAGE_SIZE == 0;
+    fault.page == addr / PAGE_SIZE && exact && fault.flags == flags && named
 }
 
-/// Whether there is room for a message, if the log says how much.
-fn has_room(room: Option<u64>) -> bool
-    ensures { result ≡ reads.has_room room }
+/// The next event of a call, if it has any.
+fn find_event(events: &[Untold], key: u64) -> Option<Untold>
+    ensures { result ≡ reads.first_event events.now key }
 {
-    match room {
-        None => true,
-        Some(room) => 32 <= room,
+    for one in events {
+        if one.key == key {
+            return Some(*one);
+        }
     }
+    None
+}
+
+/// Takes an event of a call away.
+fn remove_event(events: &mut Vec<Untold>, key: u64, rank: usize)
+    ensures { events.new.items ≡
+        filter (λ other. not (other.key == key && other.rank == rank)) events.old.items }
+{
+    events.retain(|other| !(other.key == key && other.rank == rank));
+}
+
+/// Whether two messages are the same event.
+fn is_same_event(event: Message, other: Message) -> bool
+    ensures { result ≡ reads.is_same_event event other }
+{
+    match (event, other) {
+        (
+            Message::Remap { from, to, len },
+            Message::Remap {
+                from: other_from,
+                to: other_to,
+                len: other_len,
+            },
+        ) => from == other_from && to == other_to && len == other_len,
+        (
+            Message::Unmap { start, end },
+            Message::Unmap {
+                start: other_start,
+                end: other_end,
+            },
+        ) => start == other_start && end == other_end,
+        (Message::Fork { .. }, Message::Fork { .. }) => true,
+        _ => false,
+    }
+}
+
+/// Whether a REMOVE is of the whole range of its call.
+fn is_whole(event: Message, span: Option<Span>) -> bool
+    ensures { result ≡ reads.is_whole event span }
+{
+    match (span, event) {
+        (Some(span), Message::Remove { start, end }) => {
+            start / PAGE_SIZE == span.first && end / PAGE_SIZE == span.end
+        }
+        _ => true,
+    }
+}
+
+/// Whether a message is of a page fault.
+fn is_fault(message: Message) -> bool
+    ensures { result ≡ reads.is_fault message }
+{
+    matches!(message, Message::Fault { .. })
+}
+
+/// How many messages are of page faults.
+fn count_faults(messages: &[Message]) -> usize
+    ensures { result ≡ count_by reads.is_fault messages.now }
+{
+    messages
+        .iter()
+        .filter(|message| is_fault(**message))
+        .count()
 }
 
 impl KernelTable {
@@ -47,11 +118,269 @@ impl KernelTable {
         find_unread(&self.faults, name)
     }
 
+    /// Whether the event that a call has queued is for the object.
+    fn is_queued_for(&self, name: u64, key: u64) -> bool
+        ensures { result ≡ reads.is_queued_for (kernel_of self.now) name key }
+    {
+        match self.first_event(key) {
+            Some(one) => one.object == name,
+            None => self.has_removes(key, name),
+        }
+    }
+
+    /// The calls whose next event is queued.
+    #[tactic(auto, unfolding(crate::specs::Held::kernel_of))]
+    fn queued_calls(&self) -> &[u64]
+        ensures { result.now ≡ (kernel_of self.now).queued }
+    {
+        &self.queued
+    }
+
+    /// Whether an event waits to be read.
+    fn has_queued(&self, name: u64) -> bool
+        ensures { result ≡
+            list_any (reads.is_queued_for (kernel_of self.now) name)
+            (kernel_of self.now).queued }
+    {
+        for key in self.queued_calls() {
+            if self.is_queued_for(name, *key) {
+                return true;
+            }
+        }
+        false
+    }
+
     /// Whether anything waits to be read.
-    pub(crate) fn has_unread(&self, name: u64) -> bool
+    pub fn has_unread(&self, name: u64) -> bool
         ensures { result ≡ reads.has_unread (kernel_of self.now) name }
     {
-        self.first_unread(name).is_some()
+        self.first_unread(name).is_some() || self.has_queued(name)
+    }
+
+    /// The next event of a call.
+    #[tactic(auto, unfolding(crate::specs::Held::kernel_of))]
+    fn first_event(&self, key: u64) -> Option<Untold>
+        ensures { result ≡ reads.first_event (kernel_of self.now).events key }
+    {
+        find_event(&self.events, key)
+    }
+
+    /// Whether a page from one on and below another is registered with an object that a call tells.
+    fn tells_within(&self, key: u64, space: u64, first: u64, end: u64) -> bool
+        requires { AreTables self.now }
+        ensures { result ≡ reads.tells_within (kernel_of self.now) key space first end }
+    {
+        for range in self.ranges() {
+            if self.tells_object(key, range.object) && self.watches_in(space, first, end, *range) {
+                return true;
+            }
+        }
+        false
+    }
+
+    /// Whether such a page is registered with this object.
+    fn watches_within(&self, name: u64, space: u64, first: u64, end: u64) -> bool
+        requires { AreTables self.now }
+        ensures { result ≡ reads.watches_within (kernel_of self.now) name space first end }
+    {
+        for range in self.ranges() {
+            if range.object == name && self.watches_in(space, first, end, *range) {
+                return true;
+            }
+        }
+        false
+    }
+
+    /// Whether the pages from one on to another are those of the next REMOVE to an object.
+    fn is_remove_of(&self, name: u64, key: u64, first: u64, last: u64, span: Span) -> bool
+        requires { AreTables self.now }
+        ensures { result ≡
+            reads.is_remove_of (kernel_of self.now) name key first last span }
+    {
+        span.first <= first
+            && first < last
+            && last <= span.end
+            && self.tells_object(key, name)
+            && !self.tells_within(key, span.space, span.first, first)
+            && self.watches_within(name, span.space, first, last)
+    }
+
+    /// Whether a message is the next REMOVE of a call.
+    fn is_next_remove(&self, name: u64, key: u64, event: Message) -> bool
+        requires { AreTables self.now }
+        ensures { result ≡ reads.is_next_remove (kernel_of self.now) name key event
+            (span_of (kernel_of self.now).untold key) }
+    {
+        let Some(span) = self.untold_span(key) else {
+            return false;
+        };
+        match event {
+            Message::Remove { start, end } => {
+                self.is_remove_of(name, key, start / PAGE_SIZE, end / PAGE_SIZE, span)
+            }
+            _ => false,
+        }
+    }
+
+    /// Whether the next event of a call is this message to the object.
+    pub fn is_next_of(&self, name: u64, key: u64, event: Message) -> bool
+        requires { AreTables self.now }
+        ensures { result ≡ reads.is_next_of (kernel_of self.now) name key event
+            (reads.first_event (kernel_of self.now).events key) }
+    {
+        match self.first_event(key) {
+            Some(one) => one.object == name && is_same_event(one.message, event),
+            None => self.is_next_remove(name, key, event),
+        }
+    }
+
+    /// Whether that is queued.
+    fn is_queued_as(&self, name: u64, event: Message, key: u64) -> bool
+        requires { AreTables self.now }
+        ensures { result ≡ reads.is_queued_as (kernel_of self.now) name event key }
+    {
+        self.is_queued(key) && self.is_next_of(name, key, event)
+    }
+
+    /// The call whose next event is this message, and whether another one with an event for the object is before it.
+    fn teller(&self, name: u64, event: Message) -> Option<(u64, bool)>
+        requires { AreTables self.now }
+        ensures { result ≡ reads.teller (kernel_of self.now) name event
+            (kernel_of self.now).calls false }
+    {
+        let mut late = false;
+        for key in self.calls_under_way() {
+            if self.is_queued_as(name, event, *key) {
+                return Some((*key, late));
+            }
+            late = late || self.has_untold(name, *key);
+        }
+        None
+    }
+
+    /// A list event of a call is read.
+    #[tactic(auto, unfolding(crate::specs::Held::kernel_of))]
+    fn drop_event(&mut self, key: u64, rank: usize)
+        requires { AreTables self.old }
+        ensures tables { AreTables self.new }
+        ensures read { kernel_of self.new ≡ record (kernel_of self.old) {
+          queued = numbers_without (kernel_of self.old).queued key;
+          events = filter (λ other. not (other.key == key && other.rank == rank))
+              (kernel_of self.old).events;
+        } }
+    {
+        remove_number(&mut self.queued, key);
+        remove_event(&mut self.events, key, rank);
+    }
+
+    /// A call has only these pages left to announce, if any.
+    #[tactic(auto, unfolding(crate::specs::Held::kernel_of))]
+    fn leave_removes(&mut self, key: u64, rest: Option<Span>) -> Result<(), NoMemory>
+        requires { AreTables self.old }
+        ensures tables { AreTables self.new }
+        ensures left { OnOk result (kernel_of self.new ≡ record (kernel_of self.old) {
+          queued = numbers_without (kernel_of self.old).queued key;
+          untold = spans_without (kernel_of self.old).untold key ++ option_to_list rest;
+        }) }
+    {
+        remove_number(&mut self.queued, key);
+        remove_spans(&mut self.untold, key);
+        let Some(span) = rest else {
+            return Ok(());
+        };
+        match self.untold.push(span) {
+            Ok(()) => Ok(()),
+            Err(_) => Err(NoMemory),
+        }
+    }
+
+    /// The range that a call has still to announce after a page.
+    fn rest_of(&self, key: u64, last: u64, span: Span) -> Option<Span>
+        requires { AreTables self.now }
+        ensures { option_to_list result ≡ reads.rest_of (kernel_of self.now) key last span }
+    {
+        if self.tells_within(key, span.space, last, span.end) {
+            Some(Span {
+                first: last,
+                ..span
+            })
+        } else {
+            None
+        }
+    }
+
+    /// The next event of a call is a REMOVE, and is read.
+    fn read_remove(&mut self, key: u64, event: Message) -> Result<(), NoMemory>
+        requires { AreTables self.old }
+        ensures tables { AreTables self.new }
+        ensures read { OnOk result (kernel_of self.new ≡
+            reads.event_read (kernel_of self.old) key event None) }
+    {
+        let (Some(span), Message::Remove { end, .. }) = (self.untold_span(key), event) else {
+            self.unqueue(key);
+            return Ok(());
+        };
+        let rest = self.rest_of(key, end / PAGE_SIZE, span);
+        self.leave_removes(key, rest)
+    }
+
+    /// A call has queued nothing.
+    #[tactic(auto, unfolding(crate::specs::Held::kernel_of))]
+    fn unqueue(&mut self, key: u64)
+        requires { AreTables self.old }
+        ensures tables { AreTables self.new }
+        ensures gone { kernel_of self.new ≡ record (kernel_of self.old) {
+          queued = numbers_without (kernel_of self.old).queued key;
+        } }
+    {
+        remove_number(&mut self.queued, key);
+    }
+
+    /// The next event of a call is read.
+    fn read_next(&mut self, key: u64, event: Message) -> Result<(), NoMemory>
+        requires { AreTables self.old }
+        ensures tables { AreTables self.new }
+        ensures read { OnOk result (kernel_of self.new ≡
+            reads.event_read (kernel_of self.old) key event
+            (reads.first_event (kernel_of self.old).events key)) }
+    {
+        match self.first_event(key) {
+            Some(one) => {
+                self.drop_event(key, one.rank);
+                Ok(())
+            }
+            None => self.read_remove(key, event),
+        }
+    }
+
+    /// An event is read, of the map call that has it next.
+    fn read_event(&mut self, name: u64, event: Message) -> Result<bool, NoMemory>
+        requires { AreTables self.old }
+        ensures tables { AreTables self.new }
+        ensures step { IfOk result (λ made.
+            reads.event_taken (kernel_of self.old) event
+            (reads.teller (kernel_of self.old) name event (kernel_of self.old).calls false) ≡
+            allowed made (kernel_of self.new)) }
+    {
+        let Some((key, late)) = self.teller(name, event) else {
+            return Ok(false);
+        };
+        let whole = is_whole(event, self.clear_span(key));
+        self.read_next(key, event)?;
+        self.note_if(!whole, Difference::RemoveOfEachArea)?;
+        self.note_if(late, Difference::OrderOfTwoCalls)?;
+        Ok(true)
+    }
+
+    /// How many faults of an object are unread.
+    #[tactic(auto, unfolding(crate::specs::Held::kernel_of))]
+    fn unread_faults(&self, name: u64) -> usize
+        ensures { result ≡ reads.unread_faults (kernel_of self.now).faults name }
+    {
+        self.faults
+            .iter()
+            .filter(|fault| fault.object == name && matches!(fault.phase, Phase::Unread))
+            .count()
     }
 
     /// A fault is read, if it is the first.
@@ -85,28 +414,33 @@ impl KernelTable {
         Ok(true)
     }
 
-    /// A message is read.
+    /// A message is read, and this many page faults after it.
     fn read_message(
         &mut self,
         key: u64,
         name: u64,
         object: Object,
         message: Message,
+        later: usize,
     ) -> Result<bool, NoMemory>
         requires { AreTables self.old }
         ensures tables { AreTables self.new }
         ensures step { IfOk result (λ made.
-            reads.message_taken (kernel_of self.old) key name object message ≡
+            reads.message_taken (kernel_of self.old) key name object message later ≡
             allowed made (kernel_of self.new)) }
     {
-        match message {
-            Message::Fault {
-                addr,
-                flags,
-                thread,
-            } => self.read_fault(key, name, object, addr, flags, thread),
-            _ => Ok(false),
+        if let Message::Fault {
+            addr,
+            flags,
+            thread,
+        } = message
+        {
+            return self.read_fault(key, name, object, addr, flags, thread);
         }
+        if self.unread_faults(name) > later {
+            return Ok(false);
+        }
+        self.read_event(name, message)
     }
 
     /// Messages are read in turn.
@@ -123,8 +457,9 @@ impl KernelTable {
             reads.messages_taken (kernel_of self.old) key name object messages.now ≡
             allowed made (kernel_of self.new)) }
     {
-        for message in messages {
-            if !self.read_message(key, name, object, *message)? {
+        for i in 0..messages.len() {
+            let later = count_faults(&messages[i + 1..]);
+            if !self.read_message(key, name, object, messages[i], later)? {
                 return Ok(false);
             }
         }
@@ -137,8 +472,8 @@ impl KernelTable {
     {
         match errno {
             Errno::Eagain => is_enabled(object) && !object.waits && !self.has_unread(name),
-            Errno::Einval => !is_enabled(object) || !has_room(room),
-            Errno::Eintr | Errno::Efault => true,
+            Errno::Einval => !is_enabled(object) || !has_room_for(1, room),
+            Errno::Eintr | Errno::Efault => is_enabled(object),
             _ => false,
         }
     }
@@ -161,12 +496,15 @@ impl KernelTable {
     {
         match answer {
             Answer::Value(count) => {
-                if !is_enabled(object) || count != messages.len() as u64 || count == 0 {
+                let is_of = count == messages.len() as u64 && count > 0;
+                if !is_enabled(object) || !is_of || !has_room_for(count, room) {
                     return Ok(false);
                 }
                 self.read_messages(key, name, object, messages)
             }
-            Answer::Failed { errno, .. } => Ok(self.may_fail_to_read(name, object, room, errno)),
+            Answer::Failed { errno, .. } => {
+                Ok(messages.is_empty() && self.may_fail_to_read(name, object, room, errno))
+            }
             _ => Ok(false),
         }
     }
@@ -175,14 +513,19 @@ impl KernelTable {
     fn may_poll(&self, name: u64, object: Object, events: u64) -> bool
         ensures { result ≡ reads.may_poll (kernel_of self.now) name object events }
     {
-        if has_bit(events, 5) {
+        if events == 0x20 {
             return true;
         }
-        if has_bit(events, 3) {
+        if events == 8 {
             return !is_enabled(object) || object.waits;
         }
         let waits = self.has_unread(name);
-        is_enabled(object) && !object.waits && (if has_bit(events, 0) { waits } else { !waits })
+        let may_be = if events == 1 {
+            waits
+        } else {
+            events == 0 && !waits
+        };
+        is_enabled(object) && !object.waits && may_be
     }
 
     /// Whether poll(2) may answer so. It changes nothing.
@@ -192,7 +535,7 @@ impl KernelTable {
     {
         match answer {
             Answer::Value(events) => self.may_poll(name, object, events),
-            Answer::Failed { .. } => true,
+            Answer::Failed { errno, .. } => is_poll_error(errno),
             _ => false,
         }
     }

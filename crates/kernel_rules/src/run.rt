@@ -59,4 +59,17 @@ pub enum Move {
     Leaves {
         thread: u64,
     },
+    /// The next event of a map call is queued.
+    Tells {
+        key: u32,
+    },
+    /// A map call clears its pages.
+    Clears {
+        key: u32,
+    },
+    /// A UFFDIO_WRITEPROTECT that is under way protects this page of its range, and the others later.
+    Protects {
+        key: u32,
+        page: u64,
+    },
 }

@@ -92,7 +92,7 @@ impl KernelTable {
                 self.settle_by(object.space, first, first + len / PAGE_SIZE, runs)?;
                 Ok(true)
             }
-            Answer::Failed { .. } => Ok(true),
+            Answer::Failed { .. } => Ok(runs.is_empty()),
             _ => Ok(false),
         }
     }

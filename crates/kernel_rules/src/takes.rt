@@ -1,13 +1,13 @@
 //! A call of a log takes effect, by the rules of `specs/Runs.antt`. After `NoMemory`, or where no rule allows the answer, a table is not to
 //! be used.
 
-ghost use Rattle.std.specs.Prelude.{◌≡◌, false, if◌then◌else◌, IfOk};
-ghost use Rattle.kernel_rules.specs.Runs.{object_of, on_object, on_space, outcome_of, unblocked};
-ghost use Rattle.kernel_rules.specs.Certified.{is_mremap, judged, quiet};
+ghost use Rattle.std.specs.Prelude.{◌≡◌, false, IfOk};
+ghost use Rattle.kernel_rules.specs.Runs.{object_of, on_object, on_space, outcome_of, protects_first, takes, unblocked};
 ghost use Rattle.kernel_rules.specs.State.{allowed, of_object};
 ghost use Rattle.kernel_rules.specs.Kinds.{only, is_install, is_on_range};
 ghost use Rattle.kernel_rules.specs.Held.{kernel_of, AreTables};
 
+use crate::answers::{duplicates, is_unblock_error};
 use crate::kernel_table::KernelTable;
 use crate::object::Object;
 use crate::run::{Ending, Made};
@@ -90,7 +90,7 @@ impl KernelTable {
                 )?;
                 Ok(true)
             }
-            Answer::Failed { .. } => Ok(true),
+            Answer::Failed { errno, .. } => Ok(is_unblock_error(errno)),
             _ => Ok(false),
         }
     }
@@ -112,9 +112,13 @@ impl KernelTable {
     {
         let (key, answer) = (u64::from(made.key), ending.answer);
         match made.call {
-            Call::Copy { to, len, mode, .. } => {
-                self.puts(key, name, object, to, len, mode, 3, answer)
-            }
+            Call::Copy {
+                to,
+                from,
+                len,
+                mode,
+                ..
+            } => self.copies(key, name, object, to, from, len, mode, answer),
             Call::ZeroPage {
                 start,
                 len,
@@ -126,7 +130,7 @@ impl KernelTable {
                 len,
                 mode,
                 ..
-            } => self.protects(name, object, start, len, mode, answer),
+            } => self.protects(key, name, object, start, len, mode, answer),
             _ => Ok(false),
         }
     }
@@ -190,7 +194,7 @@ impl KernelTable {
             }
             Call::Poll { .. } => Ok(self.polls(name, object, answer)),
             Call::NonBlock { set, .. } => self.unblocks(name, object, set, answer),
-            Call::Dup { .. } => Ok(true),
+            Call::Dup { .. } => Ok(duplicates(answer)),
             Call::Close { .. } => self.closes(name, object, made.last, answer),
             _ => Ok(false),
         }
@@ -217,42 +221,80 @@ impl KernelTable {
         self.take_other(name, object, made, ending)
     }
 
-    /// A call of an address space takes effect, unless it is mremap(2), or tells somebody.
+    /// A call of an address space takes effect.
     #[tactic(auto, unfolding(crate::specs::Runs::on_space))]
     fn take_on_space(&mut self, made: Made, ending: &Ending) -> Result<bool, NoMemory>
         requires tables { AreTables self.old }
         ensures tables { AreTables self.new }
         ensures step { IfOk result (λ ok.
-            quiet (if is_mremap made.call then None
-            else on_space (kernel_of self.old) made.key made.space (outcome_of ending.now)
-            made.call) ≡ allowed ok (kernel_of self.new)) }
+            on_space (kernel_of self.old) made.key made.space (outcome_of ending.now)
+            made.call ≡ allowed ok (kernel_of self.new)) }
     {
         let (key, space) = (u64::from(made.key), u64::from(made.space));
         let answer = ending.answer;
         match made.call {
             Call::Open { flags, .. } => self.open(space, flags, answer),
-            Call::Mmap { len, .. } => self.mmaps(key, space, len, answer),
+            Call::Mmap {
+                addr,
+                len,
+                flags,
+                ..
+            } => self.mmaps(key, space, addr, len, flags, answer),
             Call::Munmap { addr, len } => self.munmaps(key, space, addr, len, answer),
+            Call::Mremap {
+                addr,
+                old_len,
+                new_len,
+                flags,
+                ..
+            } => self.mremaps(key, space, addr, old_len, new_len, flags, answer),
             Call::Madvise { addr, len, advice } => {
                 self.madvises(key, space, addr, len, advice, answer)
             }
-            Call::Fork => Ok(true),
+            Call::Fork => self.forks(key, space, answer),
             _ => Ok(false),
         }
     }
 
-    /// A call of a log takes effect, if it is followed.
-    #[tactic(auto, unfolding(crate::specs::Certified::judged))]
+    /// A call of a log takes effect. False where no rule allows its answer.
     pub fn takes(&mut self, made: Made, ending: &Ending) -> Result<bool, NoMemory>
         requires { AreTables self.old }
         ensures tables { AreTables self.new }
         ensures step { IfOk result (λ ok.
-            judged (kernel_of self.old) made (outcome_of ending.now) ≡
+            takes (kernel_of self.old) made (outcome_of ending.now) ≡
             allowed ok (kernel_of self.new)) }
     {
         match object_of(made.call) {
             Some(name) => self.take_on_object(name, made, ending),
             None => self.take_on_space(made, ending),
         }
+    }
+
+    /// A UFFDIO_WRITEPROTECT that is under way protects a page of its range; `over` says whether it has taken effect. False where no rule allows
+    /// that, and nothing has changed then.
+    pub fn protects_page(&mut self, made: Made, over: bool, page: u64) -> Result<bool, NoMemory>
+        requires { AreTables self.old }
+        ensures tables { AreTables self.new }
+        ensures step { IfOk result (λ ok.
+            protects_first (kernel_of self.old) made over page ≡
+            allowed ok (kernel_of self.new)) }
+    {
+        let Call::WriteProtect {
+            on,
+            start,
+            len,
+            mode,
+        } = made.call
+        else {
+            return Ok(false);
+        };
+        let Some(object) = self.object(on.object) else {
+            return Ok(false);
+        };
+        if over {
+            return Ok(false);
+        }
+        let key = u64::from(made.key);
+        self.protects_first(key, on.object, object, start, len, mode, page)
     }
 }

@@ -112,7 +112,7 @@ static STRESS: [&'static [u8]; 30] = [
     b"5525008902710 11607 11607 end 21 ok",
 ];
 
-/// The run that audit/judge finds for `STRESS`. The object names no threads, so these have numbers of their own.
+/// A run of `STRESS`. The object names no threads, so these have numbers of their own.
 static STRESS_RUN: [Move; 46] = [
     Move::Line,
     Move::Effect { key: 8, at: 1 },
@@ -214,13 +214,13 @@ static CASES: [Case; 16] = [
     ),
     // a feature that is not offered
     (Some((3, b"1400 70 70 end 2 ok 0xff 0x0")), None, None),
-    // an object with UFFD_FEATURE_EVENT_FORK
+    // UFFD_FEATURE_EVENT_FORK, which the model does not have
     (
         Some((2, b"1300 70 70 begin 2 api 8:5 0xaa 0x102")),
         None,
-        None,
+        Some((2, 1, 1, 0)),
     ),
-    // mremap is not followed
+    // mremap that returns no address
     (
         Some((15, b"2700 70 70 begin 8 mremap 0x10000 4096 4096 0x0 0x0")),
         None,

@@ -23,56 +23,56 @@ static TRACES: [(&'static [u8], Verdict, &'static [u8]); 10] = [
     // Nothing is put, and nobody asks.
     (
         b"",
-        Verdict::Certified,
-        b"3 calls: 3 with the only answer that the rules allow, 0 that an access explains which the log does not show, 0 impossible, 0 not judged\ncertified: a kernel of the rules may have answered so; pages owed 0, put twice 0\n",
+        Verdict::Nothing,
+        b"3 calls: 3 with the only answer that the rules allow, 0 that an access explains which the log does not show, 0 for which no run was found, 0 not judged\nnot certified: nothing was judged: no message was read, and no page was put\n",
     ),
     // A fault is read, and its page put later than after the microsecond that the tests allow.
     (
         b"8 100.000500 read(5<anon_inode:[userfaultfd]>, \"\\x12\\x00\\x00\\x00\\x00\\x00\\x00\\x00\\x00\\x00\\x00\\x00\\x00\\x00\\x00\\x00\\x00\\x00\\x01\\x00\\x00\\x00\\x00\\x00\\x09\\x00\\x00\\x00\\x00\\x00\\x00\\x00\", 32) = 32 <0.000010>\n8 100.000600 ioctl(5<anon_inode:[userfaultfd]>, UFFDIO_COPY, {dst=0x10000, src=0x50000, len=0x1000, mode=0, copy=0x1000}) = 0 <0.000020>\n8 100.000700 ioctl(5<anon_inode:[userfaultfd]>, UFFDIO_COPY, {dst=0x11000, src=0x50000, len=0x1000, mode=0, copy=0x1000}) = 0 <0.000020>\n",
         Verdict::Found,
-        b"a line 5.txt:6: monitor: read: the page fault waited 110.0 us, until line 7 [late]\n6 calls: 4 with the only answer that the rules allow, 2 that an access explains which the log does not show, 0 impossible, 0 not judged\ncertified: a kernel of the rules may have answered so; pages owed 0, put twice 0\npage faults that waited until a call woke their thread: 1, the longest 110.0 us, read at line 6, woken at line 7\n",
+        b"a line 5.txt:6: monitor: read: the page fault waited 110.0 us, until line 7 [late]\n6 calls: 4 with the only answer that the rules allow, 2 that an access explains which the log does not show, 0 for which no run was found, 0 not judged\ncertified: a kernel of the rules may have given these answers; pages known to be owed 0, put twice 0\npage faults that waited until a call woke their thread: 1, the longest 110.0 us, read at line 6, woken at line 7\n",
     ),
     // It is never put.
     (
         b"8 100.000500 read(5<anon_inode:[userfaultfd]>, \"\\x12\\x00\\x00\\x00\\x00\\x00\\x00\\x00\\x00\\x00\\x00\\x00\\x00\\x00\\x00\\x00\\x00\\x00\\x01\\x00\\x00\\x00\\x00\\x00\\x09\\x00\\x00\\x00\\x00\\x00\\x00\\x00\", 32) = 32 <0.000010>\n8 100.000700 ioctl(5<anon_inode:[userfaultfd]>, UFFDIO_COPY, {dst=0x11000, src=0x50000, len=0x1000, mode=0, copy=0x1000}) = 0 <0.000020>\n",
         Verdict::Found,
-        b"a line 5.txt:6: monitor: read: the page fault that this call has read was not resolved [fault-not-resolved]\na line 5.txt:7: monitor: end of the log: 1 registered pages from 0x10000 on are still missing [page-owed]\n5 calls: 3 with the only answer that the rules allow, 2 that an access explains which the log does not show, 0 impossible, 0 not judged\ncertified: a kernel of the rules may have answered so; pages owed 1, put twice 0\n",
+        b"a line 5.txt:6: monitor: read: the page fault that this call has read was not resolved [fault-not-resolved]\na line 5.txt:7: monitor: end of the log: 1 registered pages from 0x10000 on are still missing [page-owed]\n5 calls: 3 with the only answer that the rules allow, 2 that an access explains which the log does not show, 0 for which no run was found, 0 not judged\ncertified: a kernel of the rules may have given these answers; pages known to be owed 1, put twice 0\n",
     ),
     // A page is put twice.
     (
         b"8 100.000600 ioctl(5<anon_inode:[userfaultfd]>, UFFDIO_COPY, {dst=0x10000, src=0x50000, len=0x1000, mode=0, copy=0x1000}) = 0 <0.000020>\n8 100.000800 ioctl(5<anon_inode:[userfaultfd]>, UFFDIO_COPY, {dst=0x10000, src=0x50000, len=0x1000, mode=0, copy=-17}) = -1 EEXIST (File exists) <0.000020>\n",
         Verdict::Found,
-        b"a line 5.txt:7: monitor: copy: the page 0x10000 was installed before by this log [put-twice]\n5 calls: 4 with the only answer that the rules allow, 1 that an access explains which the log does not show, 0 impossible, 0 not judged\ncertified: a kernel of the rules may have answered so; pages owed 0, put twice 1\n",
+        b"a line 5.txt:7: monitor: copy: the page 0x10000 was installed before by this log [put-twice]\n5 calls: 4 with the only answer that the rules allow, 1 that an access explains which the log does not show, 0 for which no run was found, 0 not judged\ncertified: a kernel of the rules may have given these answers; pages known to be owed 0, put twice 1\n",
     ),
     // A page outside is said to be put.
     (
         b"8 100.000500 ioctl(5<anon_inode:[userfaultfd]>, UFFDIO_COPY, {dst=0x12000, src=0x50000, len=0x1000, mode=0, copy=0x1000}) = 0 <0.000020>\n",
-        Verdict::Impossible,
-        b"a line 5.txt:6: kernel: copy: no run of the rules has this answer: not registered, or wrong arguments [impossible-answer]\n4 calls: 3 with the only answer that the rules allow, 0 that an access explains which the log does not show, 1 impossible, 0 not judged\nnot certified: no run was found\n",
+        Verdict::Unexplained,
+        b"a line 5.txt:6: copy: no run was found that gives this answer: not registered, or wrong arguments [unexplained-answer]\n4 calls: 3 with the only answer that the rules allow, 0 that an access explains which the log does not show, 1 for which no run was found, 0 not judged\nnot certified: no run was found\n",
     ),
     // A process that shares the memory of the first one gives a page back, which is put again.
     (
         b"7 100.000500 vfork() = 9 <0.000010>\n8 100.000600 ioctl(5<anon_inode:[userfaultfd]>, UFFDIO_COPY, {dst=0x10000, src=0x50000, len=0x2000, mode=0, copy=0x2000}) = 0 <0.000020>\n9 100.000700 madvise(0x10000, 4096, MADV_DONTNEED) = 0 <0.000020>\n8 100.000800 ioctl(5<anon_inode:[userfaultfd]>, UFFDIO_COPY, {dst=0x10000, src=0x50000, len=0x1000, mode=0, copy=0x1000}) = 0 <0.000020>\n9 100.000900 execve(\"./b\", [\"./b\"], 0x7ffc /* 20 vars */) = 0\n9 100.001000 madvise(0x10000, 4096, MADV_DONTNEED) = 0 <0.000020>\n",
         Verdict::Certified,
-        b"7 calls: 6 with the only answer that the rules allow, 1 that an access explains which the log does not show, 0 impossible, 0 not judged\ncertified: a kernel of the rules may have answered so; pages owed 0, put twice 0\n",
+        b"7 calls: 6 with the only answer that the rules allow, 1 that an access explains which the log does not show, 0 for which no run was found, 0 not judged\ncertified: a kernel of the rules may have given these answers; pages known to be owed 0, put twice 0\n",
     ),
     // One that has a copy of the memory.
     (
         b"7 100.000500 fork() = 9 <0.000010>\n8 100.000600 ioctl(5<anon_inode:[userfaultfd]>, UFFDIO_COPY, {dst=0x10000, src=0x50000, len=0x2000, mode=0, copy=0x2000}) = 0 <0.000020>\n9 100.000700 madvise(0x10000, 4096, MADV_DONTNEED) = 0 <0.000020>\n8 100.000800 ioctl(5<anon_inode:[userfaultfd]>, UFFDIO_COPY, {dst=0x10000, src=0x50000, len=0x1000, mode=0, copy=0x1000}) = 0 <0.000020>\n",
-        Verdict::Impossible,
-        b"a line 5.txt:9: kernel: copy: no run of the rules has this answer: the page is present [impossible-answer]\n7 calls: 5 with the only answer that the rules allow, 1 that an access explains which the log does not show, 1 impossible, 0 not judged\nnot certified: no run was found\n",
+        Verdict::Unexplained,
+        b"a line 5.txt:9: copy: no run was found that gives this answer: the page is present [unexplained-answer]\n7 calls: 5 with the only answer that the rules allow, 1 that an access explains which the log does not show, 1 for which no run was found, 0 not judged\nnot certified: no run was found\n",
     ),
     // A call never returns.
     (
         b"8 100.000500 ioctl(5<anon_inode:[userfaultfd]>, UFFDIO_WAKE, {start=0x10000, len=0x1000} <unfinished ...>\n",
-        Verdict::Certified,
-        b"4 calls: 3 with the only answer that the rules allow, 0 that an access explains which the log does not show, 0 impossible, 1 not judged\ncertified: a kernel of the rules may have answered so; pages owed 0, put twice 0\n",
+        Verdict::Nothing,
+        b"4 calls: 3 with the only answer that the rules allow, 0 that an access explains which the log does not show, 0 for which no run was found, 1 not judged\nnot certified: nothing was judged: no message was read, and no page was put\n",
     ),
     // A call on an object whose handshake is not in the trace.
     (
         b"8 100.000500 ioctl(6<anon_inode:[userfaultfd]>, UFFDIO_WAKE, {start=0x10000, len=0x1000}) = 0 <0.000010>\n",
-        Verdict::Undecided,
-        b"4 calls: 3 with the only answer that the rules allow, 0 that an access explains which the log does not show, 0 impossible, 1 not judged\nnot certified: line 6: wake is not followed\n",
+        Verdict::Nothing,
+        b"4 calls: 3 with the only answer that the rules allow, 0 that an access explains which the log does not show, 0 for which no run was found, 1 not judged\nnot certified: nothing was judged: no message was read, and no page was put\n",
     ),
     // A line without a call, one without a field, and one without its line feed.
     (
@@ -86,8 +86,8 @@ static TRACES: [(&'static [u8], Verdict, &'static [u8]); 10] = [
 static OTHERS: [(&'static [u8], Result<Verdict, LogFault>, &'static [u8]); 8] = [
     (
         b"uffdlog 1\nrecorder preload 1\nkernel Linux 6.18.44 x86_64\npage 4096\nclock thread\ncommand ./monitor\n1 7 7 started 1 ./monitor\n2 7 7 exit\n",
-        Ok(Verdict::Certified),
-        b"0 calls: 0 with the only answer that the rules allow, 0 that an access explains which the log does not show, 0 impossible, 0 not judged\ncertified: a kernel of the rules may have answered so; pages owed 0, put twice 0\n",
+        Ok(Verdict::Nothing),
+        b"0 calls: 0 with the only answer that the rules allow, 0 that an access explains which the log does not show, 0 for which no run was found, 0 not judged\nnot certified: nothing was judged: the log has no call\n",
     ),
     (
         b"uffdlog 1\nrecorder preload 1\nkernel Linux 6.18.44 x86_64\npage 4096\nclock thread\ncommand ./monitor\n1 7 7 end 6 ok\n",

@@ -21,10 +21,10 @@ use Rattle.mig_model.specs.SourceSteps as source
 use Rattle.mig_model.specs.Wire.{Frame, is_zeros}
 use Rattle.mig_model.specs.Wire.Frame.{Advise, Page, Zero, Run, Discard, Package, End, Resume, Request, Recv, Done}
 use Rattle.mig_model.proofs.steps.StepLemmas.{holds-and_then, holds-in_phase, holds-unless}
-use Rattle.mig_laws.specs.Replacements.{comes_before_run}
 use Rattle.mig_laws.specs.Sides.{Did, Line, acts, sends, sends_urgently, source_line, source_step}
-use Rattle.mig_laws.proofs.EitherOrder.{ok-holds}
+use Rattle.mig_laws.proofs.AcceptedSteps.{ok-holds}
 use Rattle.mig_laws.proofs.OrderRuns.{each, never, over_map}
+use Rattle.mig_laws.proofs.NotRun.{comes_before_run}
 
 -- whether a frame that comes back does not say that the destination runs
 abbrev pub is_quiet : Frame → Bool

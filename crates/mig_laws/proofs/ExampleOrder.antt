@@ -14,7 +14,7 @@ use Rattle.mig_laws.specs.Example.{its_effects, with_a_break, with_a_late_notice
 use Rattle.mig_laws.specs.Processes.{AreEvents, Channel, IsHere, IsOpening, IsSettled, IsThere, Processes, first_processes}
 use Rattle.mig_laws.specs.Orders.{AreTurns, IsCut, IsDestinationTurn, IsSourceTurn, Pair, first_pair}
 use Rattle.mig_laws.specs.Sides.{Did, Line}
-use Rattle.mig_laws.proofs.ChangedOrders.{after_here, after_there}
+use Rattle.mig_laws.proofs.LinesAlone.{after_here, after_there}
 
 abbrev pub gives : {Node : Type 0} → Effect → List Frame → Node → Did Node
 gives effect frames node = record { effect = effect; frames = frames; urgent = []; entries = []; node = node }
@@ -175,10 +175,10 @@ e10 = record e9 { source = told.node; first = wire [] [] }
 
 event-1 : IsHere e0 (Line.Made Step.Start) e1
 unfolding unless
-event-1 = record { did = started; gives = refl; may = refl; back = []; takes = refl; channel = wire (advise ∷ []) []; puts = refl; is = refl }
+event-1 = (started, refl, record { may = refl; back = []; takes = refl; channel = wire (advise ∷ []) []; puts = refl; is = refl })
 
 event-3 : IsHere e2 (Line.Made (Step.Notice Side.Source)) e3
-event-3 = record { did = noticed; gives = refl; may = refl; back = []; takes = refl; channel = wire (advise ∷ []) []; puts = refl; is = refl }
+event-3 = (noticed, refl, record { may = refl; back = []; takes = refl; channel = wire (advise ∷ []) []; puts = refl; is = refl })
 
 event-4 : IsOpening e3 e4
 unfolding unless
@@ -186,17 +186,17 @@ event-4 = record { did = again; gives = refl; lost = refl; is = refl }
 
 event-5 : IsThere e4 (Line.Took advise) e5
 unfolding unless
-event-5 = record { did = advised; gives = refl; may = refl; forward = []; takes = refl; urgent = []; takes_urgent = refl; is = refl }
+event-5 = (advised, refl, record { may = refl; forward = []; takes = refl; urgent = []; takes_urgent = refl; is = refl })
 
 event-7 : IsThere e6 (Line.Made (Step.Notice Side.Destination)) e7
-event-7 = record { did = noticed_there; gives = refl; may = refl; forward = []; takes = refl; urgent = []; takes_urgent = refl; is = refl }
+event-7 = (noticed_there, refl, record { may = refl; forward = []; takes = refl; urgent = []; takes_urgent = refl; is = refl })
 
 event-9 : IsThere e8 (Line.Took (sent_in_two Frame.Resume)) e9
 unfolding unless
-event-9 = record { did = again_there; gives = refl; may = refl; forward = []; takes = refl; urgent = []; takes_urgent = refl; is = refl }
+event-9 = (again_there, refl, record { may = refl; forward = []; takes = refl; urgent = []; takes_urgent = refl; is = refl })
 
 event-10 : IsHere e9 (Line.Took (sent_in_two recv)) e10
-event-10 = record { did = told; gives = refl; may = refl; back = []; takes = refl; channel = wire [] []; puts = refl; is = refl }
+event-10 = (told, refl, record { may = refl; back = []; takes = refl; channel = wire [] []; puts = refl; is = refl })
 
 pub late-events : AreEvents e0 with_a_late_notice e10
 late-events = (

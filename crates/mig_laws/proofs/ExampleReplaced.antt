@@ -48,7 +48,7 @@ abbrev e15 : Processes
 e15 = record e14 { source = told_again.node; first = wire [] [] }
 
 event-12 : IsHere e11 (Line.Made (Step.Notice Side.Source)) e12
-event-12 = record { did = noticed_again; gives = refl; may = refl; back = []; takes = refl; channel = wire [] []; puts = refl; is = refl }
+event-12 = (noticed_again, refl, record { may = refl; back = []; takes = refl; channel = wire [] []; puts = refl; is = refl })
 
 event-13 : IsOpening e12 e13
 unfolding unless
@@ -58,7 +58,7 @@ change-14 : IsReplaced 1 e13 3 e14
 change-14 = record { before = refl; skipped = []; next = wire (resume_of 3 ∷ []) []; rest = []; opened = refl; forward = []; takes = refl; is = refl }
 
 event-15 : IsHere e14 (Line.Took sent_in_three) e15
-event-15 = record { did = told_again; gives = refl; may = refl; back = []; takes = refl; channel = wire [] []; puts = refl; is = refl }
+event-15 = (told_again, refl, record { may = refl; back = []; takes = refl; channel = wire [] []; puts = refl; is = refl })
 
 pub example-replaced : (new : Processes) × AreChanges 1 (first_processes 1 0 0) with_another_destination new × IsSettled new
 example-replaced = (

@@ -14,11 +14,11 @@ use Rattle.mig_model.specs.GuestSteps.{issue, retry}
 use Rattle.mig_model.specs.Source.{Source, is_under_way}
 use Rattle.mig_model.specs.SourceSteps as source
 use Rattle.mig_model.specs.Wire.{Sent, sending, sending_if}
-use Rattle.mig_laws.specs.Orders.{AreTurns, IsCut, IsDestinationAlone, IsDestinationTurn, IsSourceAlone, IsSourceTurn, Pair, TakesFront, Turn, destination_lines, is_alone, is_resume, source_lines, source_may}
+use Rattle.mig_laws.specs.Orders.{AreTurns, IsCut, IsDestinationTurn, IsSourceTurn, Pair, TakesFront, Turn, destination_lines, is_alone, is_resume, source_lines, source_may}
 use Rattle.mig_laws.specs.Processes.{Channel, last_of, put_later}
 use Rattle.mig_laws.specs.Sides.{Did, Line, acts, destination_after, destination_line, node_by, source_after, source_line, source_step}
-use Rattle.mig_laws.proofs.ChangedOrders.{alone-may, alone-resume, alone-takes, alone-urgent, got, source-may-still, there-may}
-use Rattle.mig_laws.proofs.EitherOrder.{nothing-first, ok-holds}
+use Rattle.mig_laws.proofs.LinesAlone.{IsDestinationAlone, IsSourceAlone, alone-may, alone-resume, alone-takes, alone-urgent, got, source-may-still, there-may}
+use Rattle.mig_laws.proofs.AcceptedSteps.{nothing-first, ok-holds}
 use Rattle.mig_laws.proofs.OrderRuns.{each, never, over_map}
 
 -- Pairs
@@ -108,7 +108,7 @@ one-there old new line did turn = (new, (did, turn, refl), refl)
 abbrev IsSilent : Did Source → Type 0
 IsSilent did = (did.frames ≡ []) × (did.urgent ≡ [])
 
-silent : (node : Source) (line : Line) (did : Did Source) → is_alone line ≡ true → source_line node line ≡ Ok did → IsSilent did
+pub silent : (node : Source) (line : Line) (did : Did Source) → is_alone line ≡ true → source_line node line ≡ Ok did → IsSilent did
 silent node (Line.Made (Step.Issue cpu command)) did alone gives =
     ok-holds IsSilent (source_step node (Step.Issue cpu command)) did (over_map _ _ (issue node.guest (not node.switched) cpu command) (each _ (issue node.guest (not node.switched) cpu command) (λ tried. (refl, refl)))) gives
 silent node (Line.Made (Step.Retry cpu)) did alone gives =

@@ -136,7 +136,7 @@ idle_by-under f (CpuState.Asleep command) = refl
 idle_by-under f (CpuState.Woken command) = refl
 idle_by-under f (CpuState.InCall reply left) = refl
 
-idle-under : (f : ℕ → ℕ) (cpus : Cpus) (k : ℕ) → idle_answer (map (cpu_under f) cpus) k ≡ idle_answer cpus k
+pub idle-under : (f : ℕ → ℕ) (cpus : Cpus) (k : ℕ) → idle_answer (map (cpu_under f) cpus) k ≡ idle_answer cpus k
 idle-under f cpus k =
     ap (λ n. cond (ltb k n) (idle_by (processor_at (map (cpu_under f) cpus) k)) (Err Refusal.NoCpu)) (length-map cpus (cpu_under f))
     ∙ ap (λ (r : Result (Unit {0}) Refusal). cond (ltb k (length cpus)) r (Err Refusal.NoCpu)) (ap idle_by (processor_at-under f cpus k) ∙ idle_by-under f (processor_at cpus k))

@@ -14,10 +14,10 @@ pub mod WholePages
 pub mod WholeWorlds
 pub mod ChangedRuns
 pub mod SideForms
-pub mod EitherOrder
+pub mod AcceptedSteps
 pub mod OrderRuns
 pub mod LogNodes
-pub mod ChangedOrders
+pub mod LinesAlone
 pub mod ExampleOrder
 pub mod GrownOrders
 pub mod TwoProcesses
@@ -27,3 +27,12 @@ pub mod BeforeSwitch
 pub mod Replaced
 pub mod ReplacedRuns
 pub mod ExampleReplaced
+pub mod HeldGuests
+pub mod HeldSource
+pub mod HeldDestination
+pub mod EnteredLines
+pub mod QuietAccesses
+pub mod FilledRuns
+pub mod DriverWorlds
+pub mod EventsOfOrders
+pub mod RunsOfDrivers

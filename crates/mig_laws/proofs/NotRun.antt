@@ -1,11 +1,10 @@
 -- A destination that has taken no Package knows of a migration no more than its phase, its epoch and its copies.
-use Rattle.std.proofs.Common.{◌≡◌, ◌⊎◌, inl, inr, ℕ, true, false, not, List, [], ◌∷◌, ◌++◌, refl, sym, ap, subst, ◌∙◌}
-use Rattle.std.specs.Prelude.{Result, Ok, Err}
+use Rattle.std.proofs.Common.{◌≡◌, ◌⊎◌, inl, inr, ℕ, Bool, true, false, not, List, [], ◌∷◌, refl}
+use Rattle.std.specs.Prelude.{Ok}
 use Rattle.std.specs.Ordering.{nat_cmp}
 use Rattle.std.specs.FinMap as finmap
 use Rattle.std.specs.FinMap.{FinMap}
-use Rattle.std.specs.List.{list_all}
-use Rattle.std.proofs.lemmas.Bool.{and_parts, false≢true}
+use Rattle.std.proofs.lemmas.Bool.{false≢true}
 use Rattle.mig_base.specs.Bytes.{zero_page}
 use Rattle.mig_base.specs.declared.phase.DestPhase.{DestPhase}
 use Rattle.mig_base.specs.declared.phase.Received.{Received}
@@ -19,10 +18,25 @@ use Rattle.mig_model.specs.NodeSteps.{unless}
 use Rattle.mig_model.specs.Wire.{Frame, kept_after}
 use Rattle.mig_model.specs.Wire.Frame.{Advise, Page, Zero, Run, Discard, Package, End, Resume, Request, Recv, Done}
 use Rattle.mig_model.proofs.steps.StepLemmas.{holds-in_phase, holds-unless}
-use Rattle.mig_laws.specs.Replacements.{IsNotRun, comes_before_run, is_before_run, not_run, resume_of, resume_taken}
-use Rattle.mig_laws.specs.Sides.{Did, Line, acts, destination_after, destination_entries, destination_line, entries_by, node_by, sends}
-use Rattle.mig_laws.proofs.EitherOrder.{ok-holds}
+use Rattle.mig_laws.specs.Replacements.{not_run, resume_of, resume_taken}
+use Rattle.mig_laws.specs.Sides.{Did, Line, acts, destination_line, sends}
+use Rattle.mig_laws.proofs.AcceptedSteps.{ok-holds}
 use Rattle.mig_laws.proofs.OrderRuns.{issue-runs, never, over_map, retry-runs}
+
+-- whether a frame comes before the destination runs: any but Package, with which it runs, and End, which follows that
+abbrev pub comes_before_run : Frame → Bool
+comes_before_run (Package areas owed commands) = false
+comes_before_run (End urgent) = false
+comes_before_run frame = true
+
+-- whether a line of the destination does, if it takes a frame
+abbrev pub is_before_run : Line → Bool
+is_before_run (Line.Took sent) = comes_before_run sent.frame
+is_before_run line = true
+
+-- a destination is such a one
+abbrev pub IsNotRun : ℕ → Destination → Type 0
+IsNotRun cpus node = (phase : DestPhase) × (epoch : ℕ) × (kept : FinMap nat_cmp (List ℕ)) × (node ≡ not_run cpus phase epoch kept)
 
 abbrev pub Copies : Type 0
 Copies = FinMap nat_cmp (List ℕ)
@@ -77,25 +91,6 @@ line-not_run cpus phase epoch kept (Line.TookUrgent sent) did before gives = abs
 
 -- Its log
 
-record IsSilentBefore (cpus : ℕ) (node : Destination) (lines : List Line) : Type 0 where
-  is_not_run : IsNotRun cpus (destination_after node lines)
-  silent : destination_entries node lines ≡ []
-
-by-line : (cpus : ℕ) (phase : DestPhase) (epoch : ℕ) (kept : Copies) (line : Line) → is_before_run line ≡ true → (given : Result (Did Destination) Refusal) → destination_line (not_run cpus phase epoch kept) line ≡ given →
-    IsNotRun cpus (node_by (not_run cpus phase epoch kept) given) × (entries_by given ≡ [])
-by-line cpus phase epoch kept line before (Ok did) is = let stays = line-not_run cpus phase epoch kept line did before is in (stays.node, stays.entries)
-by-line cpus phase epoch kept line before (Err refusal) is = ((phase, epoch, kept, refl), refl)
-
-log-not_run : (cpus : ℕ) (phase : DestPhase) (epoch : ℕ) (kept : Copies) (lines : List Line) → list_all is_before_run lines ≡ true → IsSilentBefore cpus (not_run cpus phase epoch kept) lines
-log-not_run cpus phase epoch kept [] before = record { is_not_run = (phase, epoch, kept, refl); silent = refl }
-log-not_run cpus phase epoch kept (line ∷ lines) before =
-    let node = not_run cpus phase epoch kept in
-    let both = and_parts (is_before_run line) (list_all is_before_run lines) before in
-    let one = by-line cpus phase epoch kept line both.0 (destination_line node line) refl in
-    let rest = log-not_run cpus one.0.0 one.0.1 one.0.2 lines both.1 in
-    let further = subst (λ now. IsSilentBefore cpus now lines) (sym one.0.3) rest in
-    record { is_not_run = further.is_not_run; silent = ap (λ entries. entries ++ destination_entries (node_by node (destination_line node line)) lines) one.1 ∙ further.silent }
-
 -- A Resume
 
 pub takes-resume : (cpus : ℕ) (phase : DestPhase) (epoch : ℕ) (kept : Copies) (at : ℕ) → destination_line (not_run cpus phase epoch kept) (Line.Took (resume_of at)) ≡ Ok (resume_taken cpus at)
@@ -104,14 +99,3 @@ takes-resume cpus phase epoch kept at = refl
 
 abbrev first : ℕ → Destination
 first cpus = not_run cpus DestPhase.Idle 0 finmap.empty
-
-pub learned : (cpus : ℕ) (lines : List Line) → list_all is_before_run lines ≡ true → IsNotRun cpus (destination_after (first cpus) lines)
-learned cpus lines before = (log-not_run cpus DestPhase.Idle 0 finmap.empty lines before).is_not_run
-
-pub silent-before : (cpus : ℕ) (lines : List Line) → list_all is_before_run lines ≡ true → destination_entries (first cpus) lines ≡ []
-silent-before cpus lines before = (log-not_run cpus DestPhase.Idle 0 finmap.empty lines before).silent
-
-pub resumes-alike : (cpus at : ℕ) (lines : List Line) → list_all is_before_run lines ≡ true → destination_line (destination_after (first cpus) lines) (Line.Took (resume_of at)) ≡ Ok (resume_taken cpus at)
-resumes-alike cpus at lines before =
-    let last = learned cpus lines before in
-    ap (λ node. destination_line node (Line.Took (resume_of at))) last.3 ∙ takes-resume cpus last.0 last.1 last.2 at

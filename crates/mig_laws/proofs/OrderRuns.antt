@@ -37,7 +37,7 @@ use Rattle.mig_model.proofs.steps.StepLemmas.{Holds, delivers, delivers_back, de
 use Rattle.mig_laws.specs.Nodes.{map_ok}
 use Rattle.mig_laws.specs.Orders.{AreTurns, IsCut, IsDestinationTurn, IsSourceTurn, IsTurn, Pair, Turn, destination_lines, first_pair, line_of, log_of, logged, makes, source_lines, source_may, step_of, taken_line, world_of}
 use Rattle.mig_laws.specs.Sides.{Did, Line, acts, destination_line, destination_step, running_side, sends, source_step}
-use Rattle.mig_laws.proofs.EitherOrder.{next-made, sends-quiet, source-quiet, ok-holds, outcome-made, started-back, started-forward, under_way-down}
+use Rattle.mig_laws.proofs.AcceptedSteps.{next-made, sends-quiet, source-quiet, ok-holds, outcome-made, started-back, started-forward, under_way-down}
 use Rattle.mig_laws.proofs.SideForms.{destination-issue, destination-own, destination-retry, destination_done, destination_gives, destination_linked, is_destination_own, is_source_own, or-false, sends-gives, source-issue, source-own, source-retry, source_done, source_gives, source_linked, there_acts-gives, there_sends-gives}
 
 -- a turn of two processes as a step of their world: its answer, and what it adds to the logs of the two sides
@@ -509,7 +509,3 @@ first-later cpus epoch rounds = λ none. refl
 
 pub run_of_logs : (cpus epoch rounds : ℕ) (turns : List Turn) (effects : List Effect) (new : Pair) → AreTurns (first_pair cpus epoch rounds) turns effects new → IsRunOfBoth (first_pair cpus epoch rounds) turns effects new
 run_of_logs cpus epoch rounds turns effects new is = run_of_both (first_pair cpus epoch rounds) turns effects new (first-reached cpus epoch rounds) (first-later cpus epoch rounds) is
-
-pub reached-logs : (cpus epoch rounds : ℕ) (turns : List Turn) (effects : List Effect) (new : Pair) → AreTurns (first_pair cpus epoch rounds) turns effects new → IsReached (world_of new)
-reached-logs cpus epoch rounds turns effects new is =
-    record { cpus = cpus; epoch = epoch; rounds = rounds; steps = map step_of turns; is = sym (run_of_logs cpus epoch rounds turns effects new is).world }

@@ -20,11 +20,11 @@ use Rattle.mig_model.specs.Wire.Frame.{Advise, Page, Zero, Run, Discard, Package
 use Rattle.mig_model.proofs.steps.StepLemmas.{holds-unless}
 use Rattle.mig_laws.specs.Orders.{TakesFront, destination_may, is_alone}
 use Rattle.mig_laws.specs.Processes.{AreEvents, Channel, Event, IsEvent, IsHere, IsOpening, IsThere, Processes, first_processes, last_of, log_there, logged_there, put_first, put_later}
-use Rattle.mig_laws.specs.Replacements.{IsNotRun, comes_before_run, is_before_run, not_run, resume_of}
+use Rattle.mig_laws.specs.Replacements.{not_run, resume_of}
 use Rattle.mig_laws.specs.Sides.{Did, Line, destination_after, destination_entries, destination_line, entries_by, node_by, sends, source_line}
 use Rattle.mig_laws.proofs.BeforeSwitch.{Come, is_quiet, line-before, takes_quiet}
-use Rattle.mig_laws.proofs.EitherOrder.{ok-holds, sending_if-first}
-use Rattle.mig_laws.proofs.NotRun.{AnswersNotRun, Copies, line-not_run}
+use Rattle.mig_laws.proofs.AcceptedSteps.{ok-holds, sending_if-first}
+use Rattle.mig_laws.proofs.NotRun.{AnswersNotRun, Copies, IsNotRun, comes_before_run, is_before_run, line-not_run}
 use Rattle.mig_laws.proofs.OrderRuns.{issue-runs, never, over_map, retry-runs}
 
 -- Frames in flight
@@ -168,27 +168,27 @@ first-before cpus epoch rounds off =
 
 here-before : (cpus : ℕ) (log : List Line) (old : Processes) (line : Line) (new : Processes) → IsHere old line new → StillBefore cpus log old → StillBefore cpus log new
 here-before cpus log old line new is still =
-    subst (StillBefore cpus log) (sym is.is) (λ off.
+    subst (StillBefore cpus log) (sym is.2.is) (λ off.
     let last = last_of old.first old.later in
-    let stays = line-before old.source line is.did is.gives off in
+    let stays = line-before old.source line is.0 is.1 off in
     let before = still stays.0 in
     let calm = last-calm old.first old.later before.first before.later in
-    let front = front-quiet line last.back is.back is.takes calm.quiet in
+    let front = front-quiet line last.back is.2.back is.2.takes calm.quiet in
     let sent = stays.1 before.running front.0 in
-    let puts : IsCalm is.channel = subst IsCalm (sym is.puts) (record { come = come-sending_if old.here last.forward is.did.node.epoch is.did.frames calm.come sent.1; quiet = front.1 }) in
-    let kept : (HasResume last.forward → HasResume is.channel.forward) = λ resume. subst (λ (c : Channel). HasResume c.forward) (sym is.puts) (resume-sending_if old.here last.forward is.did.node.epoch is.did.frames resume) in
+    let puts : IsCalm is.2.channel = subst IsCalm (sym is.2.puts) (record { come = come-sending_if old.here last.forward is.0.node.epoch is.0.frames calm.come sent.1; quiet = front.1 }) in
+    let kept : (HasResume last.forward → HasResume is.2.channel.forward) = λ resume. subst (λ (c : Channel). HasResume c.forward) (sym is.2.puts) (resume-sending_if old.here last.forward is.0.node.epoch is.0.frames resume) in
     record {
       running = sent.0;
-      first = put_first-calm old.first old.later is.channel before.first puts;
-      later = put_later-opened old.first old.later is.channel puts kept before.later;
+      first = put_first-calm old.first old.later is.2.channel before.first puts;
+      later = put_later-opened old.first old.later is.2.channel puts kept before.later;
       is_not_run = before.is_not_run;
       at = before.at;
       silent = before.silent;
-      resume = λ there paused. put_first-resume old.first old.later is.channel (before.resume there paused) kept;
+      resume = λ there paused. put_first-resume old.first old.later is.2.channel (before.resume there paused) kept;
       noticed = before.noticed;
     })
 
-resume-sent : (node : Source) (did : Did Source) → source_line node (Line.Made Step.Resume) ≡ Ok did → did.frames ≡ Resume ∷ []
+pub resume-sent : (node : Source) (did : Did Source) → source_line node (Line.Made Step.Resume) ≡ Ok did → did.frames ≡ Resume ∷ []
 resume-sent node did gives = ok-holds (λ (d : Did Source). d.frames ≡ Resume ∷ []) (sends (source.resume node)) did (over_map _ _ (source.resume node) (holds-unless _ _ _ (λ none. refl))) gives
 
 opens-before : (cpus : ℕ) (log : List Line) (old new : Processes) → IsOpening old new → StillBefore cpus log old → StillBefore cpus log new
@@ -261,18 +261,18 @@ paused-by cpus phase epoch kept reads (Line.Made _) did flight rest may gives ta
 
 there-before : (cpus : ℕ) (log : List Line) (old : Processes) (line : Line) (new : Processes) → IsThere old line new → StillBefore cpus log old → StillBefore cpus (log ++ line ∷ []) new
 there-before cpus log old line new is still =
-    subst (StillBefore cpus (log ++ line ∷ [])) (sym is.is) (λ off.
+    subst (StillBefore cpus (log ++ line ∷ [])) (sym is.2.is) (λ off.
     let before = still off in
     let know = before.is_not_run in
-    let front = front-come line old.first.forward is.forward is.takes before.first.come in
-    let gives = subst (λ node. destination_line node line ≡ Ok is.did) know.3 is.gives in
-    let stays = line-not_run cpus know.0 know.1 know.2 line is.did front.0 gives in
+    let front = front-come line old.first.forward is.2.forward is.2.takes before.first.come in
+    let gives = subst (λ node. destination_line node line ≡ Ok is.0) know.3 is.1 in
+    let stays = line-not_run cpus know.0 know.1 know.2 line is.0 front.0 gives in
     let resume : (old.there ≡ true → is_dest_paused know.0 ≡ true → HasResume old.first.forward) = λ there paused. before.resume there (ap (λ (n : Destination). is_dest_paused n.phase) know.3 ∙ paused) in
-    let by = paused-by cpus know.0 know.1 know.2 old.there line is.did old.first.forward is.forward is.may gives is.takes resume in
-    let given = ap (λ node. destination_line node line) (sym before.at) ∙ is.gives in
+    let by = paused-by cpus know.0 know.1 know.2 old.there line is.0 old.first.forward is.2.forward is.2.may gives is.2.takes resume in
+    let given = ap (λ node. destination_line node line) (sym before.at) ∙ is.1 in
     record {
       running = before.running;
-      first = record { come = front.1; quiet = quiet-sending_if old.there old.first.back is.did.node.epoch is.did.frames before.first.quiet stays.frames };
+      first = record { come = front.1; quiet = quiet-sending_if old.there old.first.back is.0.node.epoch is.0.frames before.first.quiet stays.frames };
       later = before.later;
       is_not_run = stays.node;
       at = sym (after-append (first_destination cpus) log (line ∷ []) ∙ (λ i. node_by (sym before.at i) (given i)));

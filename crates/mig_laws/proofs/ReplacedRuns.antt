@@ -19,15 +19,15 @@ use Rattle.mig_laws.proofs.TwoProcesses.{IsWorldOf, world-of}
 
 -- Events that grow at their end
 
-events-append : (old mid new : Processes) (events more : List Event) → AreEvents old events mid → AreEvents mid more new → AreEvents old (events ++ more) new
+pub events-append : (old mid new : Processes) (events more : List Event) → AreEvents old events mid → AreEvents mid more new → AreEvents old (events ++ more) new
 events-append old mid new [] more is last = subst (λ now. AreEvents now more new) is last
 events-append old mid new (event ∷ events) more is last = (is.0, is.1, events-append is.0 mid new events more is.2 last)
 
-here-append : (events more : List Event) → log_here (events ++ more) ≡ log_here events ++ log_here more
+pub here-append : (events more : List Event) → log_here (events ++ more) ≡ log_here events ++ log_here more
 here-append [] more = refl
 here-append (event ∷ events) more = ap (λ lines. logged_here event ++ lines) (here-append events more) ∙ sym (append_assoc (logged_here event) (log_here events) (log_here more))
 
-there-append : (events more : List Event) → log_there (events ++ more) ≡ log_there events ++ log_there more
+pub there-append : (events more : List Event) → log_there (events ++ more) ≡ log_there events ++ log_there more
 there-append [] more = refl
 there-append (event ∷ events) more = ap (λ lines. logged_there event ++ lines) (there-append events more) ∙ sym (append_assoc (logged_there event) (log_there events) (log_there more))
 
@@ -85,7 +85,7 @@ notices-by : (source : Source) (here : Bool) (cpus : ℕ) (phase : DestPhase) (e
 notices-by source here cpus phase epoch kept channel later gives =
     let old = waiting source here (not_run cpus phase epoch kept) channel later in
     let new = waiting source here (not_run cpus DestPhase.Paused epoch kept) channel later in
-    let line : IsThere old notice new = record { did = did_notice cpus epoch kept; gives = gives; may = refl; forward = channel.forward; takes = refl; urgent = channel.urgent; takes_urgent = refl; is = refl } in
+    let line : IsThere old notice new = (did_notice cpus epoch kept, gives, record { may = refl; forward = channel.forward; takes = refl; urgent = channel.urgent; takes_urgent = refl; is = refl }) in
     way-one old new (Event.There notice) line refl
 
 -- it notices, if it has not
@@ -115,7 +115,7 @@ joins source here cpus epoch kept channel [] next rest at forward takes =
     let mid : Processes = record { source = source; destination = node; first = next; later = rest; here = here; there = true } in
     let new = joined source here cpus at next forward rest in
     let line : IsThere mid (Line.Took (resume_of at)) new =
-    record { did = resume_taken cpus at; gives = takes-resume cpus DestPhase.Paused epoch kept at; may = refl; forward = forward; takes = takes; urgent = next.urgent; takes_urgent = refl; is = refl } in
+    (resume_taken cpus at, takes-resume cpus DestPhase.Paused epoch kept at, record { may = refl; forward = forward; takes = takes; urgent = next.urgent; takes_urgent = refl; is = refl }) in
     way-then (waiting source here node channel (next ∷ rest)) mid new [] (Line.Took (resume_of at) ∷ [])
     (way-one (waiting source here node channel (next ∷ rest)) mid Event.Joins (record { lost = refl; paused = refl; next = next; rest = rest; opened = refl; is = refl }) refl)
     (way-one mid new (Event.There (Line.Took (resume_of at))) line refl)
@@ -175,11 +175,11 @@ pub record Stands (cpus : ℕ) (first : Processes) (here last : List Line) (now 
   pub entered : destination_entries (first_destination cpus) (log_there events) ≡ destination_entries (first_destination cpus) last
 
 -- one more line at the end of a log that leads to a destination
-after-event : (cpus : ℕ) (old : Processes) (event : Event) (new : Processes) (log : List Line) → IsEvent old event new → old.destination ≡ destination_after (first_destination cpus) log →
+pub after-event : (cpus : ℕ) (old : Processes) (event : Event) (new : Processes) (log : List Line) → IsEvent old event new → old.destination ≡ destination_after (first_destination cpus) log →
     new.destination ≡ destination_after (first_destination cpus) (log ++ logged_there event)
 after-event cpus old (Event.There line) new log is at =
-    ap (λ (now : Processes). now.destination) is.is ∙ sym (ap (node_by old.destination) is.gives) ∙ ap (λ node. node_by node (destination_line node line)) at ∙ sym (after-append (first_destination cpus) log (line ∷ []))
-after-event cpus old (Event.Here line) new log is at = ap (λ (now : Processes). now.destination) is.is ∙ at ∙ ap (destination_after (first_destination cpus)) (sym (append-nil log))
+    ap (λ (now : Processes). now.destination) is.2.is ∙ sym (ap (node_by old.destination) is.1) ∙ ap (λ node. node_by node (destination_line node line)) at ∙ sym (after-append (first_destination cpus) log (line ∷ []))
+after-event cpus old (Event.Here line) new log is at = ap (λ (now : Processes). now.destination) is.2.is ∙ at ∙ ap (destination_after (first_destination cpus)) (sym (append-nil log))
 after-event cpus old Event.Opens new log is at = ap (λ (now : Processes). now.destination) is.is ∙ at ∙ ap (destination_after (first_destination cpus)) (sym (append-nil log))
 after-event cpus old Event.LosesHere new log is at = ap (λ (now : Processes). now.destination) is.is ∙ at ∙ ap (destination_after (first_destination cpus)) (sym (append-nil log))
 after-event cpus old Event.LosesThere new log is at = ap (λ (now : Processes). now.destination) is.is ∙ at ∙ ap (destination_after (first_destination cpus)) (sym (append-nil log))
@@ -205,16 +205,11 @@ happens cpus first here last old event new stands is =
       entered = ap (destination_entries (first_destination cpus)) grown ∙ same-entered cpus (log_there stands.events) last (logged_there event) (sym stands.whole ∙ stands.at) stands.entered;
     }
 
-after-events : (cpus : ℕ) (old : Processes) (events : List Event) (new : Processes) (log : List Line) → AreEvents old events new → old.destination ≡ destination_after (first_destination cpus) log → new.destination ≡ destination_after (first_destination cpus) (log ++ log_there events)
-after-events cpus old [] new log is at = ap (λ (now : Processes). now.destination) is ∙ at ∙ ap (destination_after (first_destination cpus)) (sym (append-nil log))
-after-events cpus old (event ∷ events) new log is at =
-    after-events cpus is.0 events new (log ++ logged_there event) is.2 (after-event cpus old event is.0 log is.1 at) ∙ ap (destination_after (first_destination cpus)) (append_assoc log (logged_there event) (log_there events))
-
 -- the log of a newcomer, by itself
-newcomer-at : (cpus epoch : ℕ) → destination_after (first_destination cpus) (newcomer_log epoch) ≡ (resume_taken cpus epoch).node
+pub newcomer-at : (cpus epoch : ℕ) → destination_after (first_destination cpus) (newcomer_log epoch) ≡ (resume_taken cpus epoch).node
 newcomer-at cpus epoch = ap (node_by (not_run cpus DestPhase.Paused 0 finmap.empty)) (takes-resume cpus DestPhase.Paused 0 finmap.empty epoch)
 
-newcomer-silent : (cpus epoch : ℕ) → destination_entries (first_destination cpus) (newcomer_log epoch) ≡ []
+pub newcomer-silent : (cpus epoch : ℕ) → destination_entries (first_destination cpus) (newcomer_log epoch) ≡ []
 newcomer-silent cpus epoch = ap (λ given. entries_by given ++ []) (takes-resume cpus DestPhase.Paused 0 finmap.empty epoch)
 
 replaced : (cpus epoch rounds : ℕ) (here last : List Line) (old : Processes) (at : ℕ) (new : Processes) → Stands cpus (first_processes cpus epoch rounds) here last old → IsReplaced cpus old at new → Stands cpus (first_processes cpus epoch rounds) here (newcomer_log at) new

@@ -11,12 +11,13 @@ use Rattle.mig_model.specs.Migration.{World, after_steps, first_world_with}
 use Rattle.mig_model.specs.Promises.{IsReached}
 use Rattle.mig_model.specs.Source.{Source, first_source, is_under_way}
 use Rattle.mig_model.specs.Wire.{Sent, sending, sending_if}
-use Rattle.mig_laws.specs.Orders.{IsCut, IsDestinationAlone, IsDestinationTurn, Pair, TakesFront, TakesUrgentFront, destination_may, first_pair, is_alone, log_of, step_of}
+use Rattle.mig_laws.specs.Orders.{IsCut, IsDestinationTurn, Pair, TakesFront, TakesUrgentFront, destination_may, first_pair, is_alone, log_of, step_of}
 use Rattle.mig_laws.specs.Processes.{AreEvents, Channel, Event, IsEvent, IsSettled, Processes, first_processes, last_of, log_here, log_there, logged_here, logged_there, put_first, put_later}
 use Rattle.mig_laws.specs.Sides.{Did, Line, destination_after, destination_entries, destination_line, source_after, source_entries, source_line}
 use Rattle.mig_laws.proofs.LogNodes.{left}
 use Rattle.mig_laws.proofs.OrderRuns.{run_of_logs}
 use Rattle.mig_laws.proofs.GrownOrders.{Adds, InUse, IsLost, Leads, Open, Shut, all-alone, all-alone_there, alone-more, alone-more_there, back-same, down, down-here, down-there, leads-cut, leads-here, leads-there, lost-same, never-used, on, on-here, one-here, one-there, regroup, shut-loses, shut-more, shut-opens}
+use Rattle.mig_laws.proofs.LinesAlone.{IsDestinationAlone}
 
 -- What has happened, as an order so far and the lines that wait
 
@@ -276,7 +277,7 @@ on-there channel new here there said told line did adds =
       is = ap (λ (c : Channel). on c here did.node said (told ++ did.entries)) adds.puts;
     }
 
-urgent-same : (line : Line) (flight rest : List Sent) → is_alone line ≡ true → TakesUrgentFront line flight rest → rest ≡ flight
+pub urgent-same : (line : Line) (flight rest : List Sent) → is_alone line ≡ true → TakesUrgentFront line flight rest → rest ≡ flight
 urgent-same (Line.Made step) flight rest alone takes = takes
 urgent-same (Line.Took sent) flight rest alone takes = takes
 urgent-same (Line.TookUrgent sent) flight rest alone takes = absurd (false≢true alone)
@@ -403,14 +404,14 @@ joins-sim first here there source destination channel next later uses false lost
 
 event-sim : (first : Pair) (here there : List Line) (old : Processes) (event : Event) (new : Processes) → IsEvent old event new → Sim first here there old → Sim first (here ++ logged_here event) (there ++ logged_there event) new
 event-sim first here there old (Event.Here line) new is sim =
-    let adds : Adds old.here old.source (last_of old.first old.later) line is.did is.channel = record { gives = is.gives; may = is.may; back = is.back; takes = is.takes; puts = is.puts } in
+    let adds : Adds old.here old.source (last_of old.first old.later) line is.0 is.2.channel = record { gives = is.1; may = is.2.may; back = is.2.back; takes = is.2.takes; puts = is.2.puts } in
     subst (λ log. Sim first (here ++ line ∷ []) log new) (sym (append-nil there))
-    (subst (Sim first (here ++ line ∷ []) there) (sym is.is) (here-sim first here there old.source old.destination old.first old.later old.here old.there line is.did is.channel sim adds))
+    (subst (Sim first (here ++ line ∷ []) there) (sym is.2.is) (here-sim first here there old.source old.destination old.first old.later old.here old.there line is.0 is.2.channel sim adds))
 event-sim first here there old (Event.There line) new is sim =
-    let channel : Channel = record { forward = is.forward; back = sending_if old.there old.first.back is.did.node.epoch is.did.frames; urgent = is.urgent } in
-    let adds : AddsThere old.there old.destination old.first line is.did channel = record { gives = is.gives; may = is.may; forward = is.forward; takes = is.takes; urgent = is.urgent; takes_urgent = is.takes_urgent; puts = refl } in
+    let channel : Channel = record { forward = is.2.forward; back = sending_if old.there old.first.back is.0.node.epoch is.0.frames; urgent = is.2.urgent } in
+    let adds : AddsThere old.there old.destination old.first line is.0 channel = record { gives = is.1; may = is.2.may; forward = is.2.forward; takes = is.2.takes; urgent = is.2.urgent; takes_urgent = is.2.takes_urgent; puts = refl } in
     subst (λ log. Sim first log (there ++ line ∷ []) new) (sym (append-nil here))
-    (subst (Sim first here (there ++ line ∷ [])) (sym is.is) (there-sim first here there old.source old.destination old.first old.later old.here old.there line is.did channel sim adds))
+    (subst (Sim first here (there ++ line ∷ [])) (sym is.2.is) (there-sim first here there old.source old.destination old.first old.later old.here old.there line is.0 channel sim adds))
 event-sim first here there old Event.Opens new is sim =
     let lost : SimBy first here there old.source old.destination old.first old.later false old.there = subst (λ uses. SimBy first here there old.source old.destination old.first old.later uses old.there) is.lost sim in
     subst (λ log. Sim first (here ++ Line.Made Step.Resume ∷ []) log new) (sym (append-nil there))

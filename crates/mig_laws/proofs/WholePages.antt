@@ -110,7 +110,7 @@ retained_whole pages test old q bytes h =
 
 -- Every command
 
-changed_whole : (host : Host) (command : Command) (reply : Reply) → reply ≡ reply_of (memory host) command → AreWholePages host.bytes → AreWholePages (host_changed host command reply).bytes
+pub changed_whole : (host : Host) (command : Command) (reply : Reply) → reply ≡ reply_of (memory host) command → AreWholePages host.bytes → AreWholePages (host_changed host command reply).bytes
 changed_whole host (Store addr width value) Done is old =
     inserted_whole host.bytes (addr / 4096) _ old
     (written_whole (contents host.bytes (addr / 4096)) addr width value (stored_form (memory host) addr width value is) (contents_whole host.bytes (addr / 4096) old))

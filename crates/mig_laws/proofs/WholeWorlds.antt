@@ -32,7 +32,7 @@ use Rattle.mig_laws.proofs.WholePages.{contents_whole, inserted_whole, none_whol
 
 -- Frames that are sent
 
-abbrev AllWhole : List Frame → Type 0
+abbrev pub AllWhole : List Frame → Type 0
 AllWhole [] = Unit {0}
 AllWhole (frame ∷ frames) = IsWholeFrame frame × AllWhole frames
 
@@ -40,11 +40,11 @@ one_more : (wire : List Sent) (sent : Sent) → AreWholeFrames wire → IsWholeF
 one_more [] sent old new = (new, tt)
 one_more (first ∷ rest) sent old new = (old.0, one_more rest sent old.1 new)
 
-sent_whole : (wire : List Sent) (epoch : ℕ) (frames : List Frame) → AreWholeFrames wire → AllWhole frames → AreWholeFrames (sending wire epoch frames)
+pub sent_whole : (wire : List Sent) (epoch : ℕ) (frames : List Frame) → AreWholeFrames wire → AllWhole frames → AreWholeFrames (sending wire epoch frames)
 sent_whole wire epoch [] old new = old
 sent_whole wire epoch (frame ∷ frames) old new = sent_whole (wire ++ record { epoch = epoch; frame = frame } ∷ []) epoch frames (one_more wire (record { epoch = epoch; frame = frame }) old new.0) new.1
 
-sent_if_whole : (up : Bool) (wire : List Sent) (epoch : ℕ) (frames : List Frame) → AreWholeFrames wire → AllWhole frames → AreWholeFrames (sending_if up wire epoch frames)
+pub sent_if_whole : (up : Bool) (wire : List Sent) (epoch : ℕ) (frames : List Frame) → AreWholeFrames wire → AllWhole frames → AreWholeFrames (sending_if up wire epoch frames)
 sent_if_whole true wire epoch frames old new = sent_whole wire epoch frames old new
 sent_if_whole false wire epoch frames old new = old
 
@@ -52,10 +52,10 @@ page_either : (page : ℕ) (bytes : List ℕ) (zeros : Bool) → is_zeros bytes 
 page_either page bytes true is whole = tt
 page_either page bytes false is whole = (whole, is)
 
-page_whole : (source : Source) (page : ℕ) → AreWholePages (space_of source).host.bytes → IsWholeFrame (page_frame page (bytes_of source page))
+pub page_whole : (source : Source) (page : ℕ) → AreWholePages (space_of source).host.bytes → IsWholeFrame (page_frame page (bytes_of source page))
 page_whole source page whole = page_either page (bytes_of source page) (is_zeros (bytes_of source page)) refl (contents_whole (space_of source).host.bytes page whole)
 
-run_whole : (source : Source) (first count : ℕ) → AreWholePages (space_of source).host.bytes → ArePageBytes (run_of source first count)
+pub run_whole : (source : Source) (first count : ℕ) → AreWholePages (space_of source).host.bytes → ArePageBytes (run_of source first count)
 run_whole source first zero whole = tt
 run_whole source first (suc count) whole = (contents_whole (space_of source).host.bytes first whole, run_whole source (1 + first) count whole)
 
@@ -63,7 +63,7 @@ rebuilt_by : (switched : Bool) (source : Source) (pages : FinSet nat_cmp) (owed 
 rebuilt_by true source pages owed = (tt, (tt, tt))
 rebuilt_by false source pages owed = tt
 
-answers_whole : (source : Source) (frame : Frame) → AllWhole (source_answers source frame)
+pub answers_whole : (source : Source) (frame : Frame) → AllWhole (source_answers source frame)
 answers_whole source (Recv Received.NotRun owed) = rebuilt_by source.switched source no_pages (present (space_of source))
 answers_whole source (Recv Received.Running owed) = tt
 answers_whole source (Recv Received.Ended owed) = tt
@@ -78,7 +78,7 @@ recv_whole Received.NotRun node = (tt, tt)
 recv_whole Received.Running node = (tt, requests_whole node.requests)
 recv_whole Received.Ended node = (tt, tt)
 
-there_answers_whole : (node : Destination) (frame : Frame) → AllWhole (destination_answers node frame)
+pub there_answers_whole : (node : Destination) (frame : Frame) → AllWhole (destination_answers node frame)
 there_answers_whole node (End urgent) = (tt, tt)
 there_answers_whole node Resume = recv_whole (received_of node) node
 there_answers_whole node _ = tt
@@ -87,13 +87,13 @@ asked_whole : (b : Bool) (origin : ℕ) → AllWhole (cond b [] (Request origin 
 asked_whole true origin = tt
 asked_whole false origin = (tt, tt)
 
-act_frames_whole : (act : Act) (node : Destination) → AllWhole (act_frames act node)
+pub act_frames_whole : (act : Act) (node : Destination) → AllWhole (act_frames act node)
 act_frames_whole (Requested origin) node = asked_whole _ origin
 act_frames_whole _ node = tt
 
 -- The source
 
-source_acted_whole : (act : Act) (node : Source) (page : ℕ) → AreWholePages (space_of node).host.bytes → AreWholePages (space_of (source_acted_by act node page)).host.bytes
+pub source_acted_whole : (act : Act) (node : Source) (page : ℕ) → AreWholePages (space_of node).host.bytes → AreWholePages (space_of (source_acted_by act node page)).host.bytes
 source_acted_whole Zeroed node page old = put_whole (space_of node).host.bytes page zero_page old zeros_whole
 source_acted_whole _ node page old = old
 
@@ -101,7 +101,7 @@ rebuilt_whole : (switched : Bool) (a b : Source) → AreWholePages (space_of a).
 rebuilt_whole true a b one other = one
 rebuilt_whole false a b one other = other
 
-source_took_whole : (node : Source) (frame : Frame) → AreWholePages (space_of node).host.bytes → AreWholePages (space_of (source_took node frame)).host.bytes
+pub source_took_whole : (node : Source) (frame : Frame) → AreWholePages (space_of node).host.bytes → AreWholePages (space_of (source_took node frame)).host.bytes
 source_took_whole node (Recv Received.NotRun owed) old = rebuilt_whole node.switched _ _ old old
 source_took_whole node (Recv Received.Running owed) old = old
 source_took_whole node (Recv Received.Ended owed) old = none_whole
@@ -111,10 +111,10 @@ source_took_whole node _ old = old
 -- The destination
 
 -- its memory, the copies that it keeps, and those that have arrived
-record HasWholeCopies (node : Destination) : Type 0 where
-  memory : AreWholePages node.guest.space.host.bytes
-  kept : AreWholePages node.kept
-  arrivals : AreWholeCopies node.arrivals
+pub record HasWholeCopies (node : Destination) : Type 0 where
+  pub memory : AreWholePages node.guest.space.host.bytes
+  pub kept : AreWholePages node.kept
+  pub arrivals : AreWholeCopies node.arrivals
 
 one_copy : (copies : List Copy) (copy : Copy) → AreWholeCopies copies → IsPageBytes copy.bytes → AreWholeCopies (copies ++ copy ∷ [])
 one_copy [] copy old new = (new, tt)
@@ -133,7 +133,7 @@ resumed_whole Received.NotRun node old = record { memory = old.memory; kept = no
 resumed_whole Received.Running node old = record { memory = old.memory; kept = old.kept; arrivals = old.arrivals }
 resumed_whole Received.Ended node old = record { memory = old.memory; kept = old.kept; arrivals = old.arrivals }
 
-took_whole : (node : Destination) (epoch : ℕ) (frame : Frame) → IsWholeFrame frame → HasWholeCopies node → HasWholeCopies (destination_took node epoch frame)
+pub took_whole : (node : Destination) (epoch : ℕ) (frame : Frame) → IsWholeFrame frame → HasWholeCopies node → HasWholeCopies (destination_took node epoch frame)
 took_whole node epoch Advise new old = record { memory = old.memory; kept = old.kept; arrivals = old.arrivals }
 took_whole node epoch (Page page bytes) new old = came_whole node.has_run node (record { page = page; bytes = bytes }) old new.0
 took_whole node epoch (Zero page) new old = came_whole node.has_run node (record { page = page; bytes = zero_page }) old zeros_whole
@@ -146,19 +146,19 @@ took_whole node epoch (Request page) new old = old
 took_whole node epoch (Recv state owed) new old = old
 took_whole node epoch Done new old = old
 
-urgent_whole : (node : Destination) (frame : Frame) → IsWholeFrame frame → HasWholeCopies node → HasWholeCopies (urgent_took node frame)
+pub urgent_whole : (node : Destination) (frame : Frame) → IsWholeFrame frame → HasWholeCopies node → HasWholeCopies (urgent_took node frame)
 urgent_whole node (Page page bytes) new old = record { memory = old.memory; kept = old.kept; arrivals = one_copy node.arrivals (record { page = page; bytes = bytes }) old.arrivals new.0 }
 urgent_whole node (Zero page) new old = record { memory = old.memory; kept = old.kept; arrivals = one_copy node.arrivals (record { page = page; bytes = zero_page }) old.arrivals zeros_whole }
 urgent_whole node _ new old = old
 
-acted_whole : (act : Act) (node : Destination) (page : ℕ) → HasWholeCopies node → HasWholeCopies (destination_acted_by act node page)
+pub acted_whole : (act : Act) (node : Destination) (page : ℕ) → HasWholeCopies node → HasWholeCopies (destination_acted_by act node page)
 acted_whole Zeroed node page old = record { memory = put_whole node.guest.space.host.bytes page zero_page old.memory zeros_whole; kept = old.kept; arrivals = old.arrivals }
 acted_whole Unprotected node page old = record { memory = old.memory; kept = old.kept; arrivals = old.arrivals }
 acted_whole Woke node page old = record { memory = old.memory; kept = old.kept; arrivals = old.arrivals }
 acted_whole Forgot node page old = record { memory = old.memory; kept = old.kept; arrivals = old.arrivals }
 acted_whole (Requested origin) node page old = record { memory = old.memory; kept = old.kept; arrivals = old.arrivals }
 
-installed_whole : (o : Option ℕ) (node : Destination) (copy : Copy) (rest : List Copy) → AreWholeCopies (copy ∷ rest) → HasWholeCopies node → HasWholeCopies (install_by o node copy rest)
+pub installed_whole : (o : Option ℕ) (node : Destination) (copy : Copy) (rest : List Copy) → AreWholeCopies (copy ∷ rest) → HasWholeCopies node → HasWholeCopies (install_by o node copy rest)
 installed_whole (Some page) node copy rest first old = record { memory = put_whole node.guest.space.host.bytes page copy.bytes old.memory first.0; kept = old.kept; arrivals = first.1 }
 installed_whole None node copy rest first old = record { memory = old.memory; kept = old.kept; arrivals = first.1 }
 

@@ -25,8 +25,8 @@ use Rattle.mig_model.proofs.steps.StepCases.{holds-made}
 use Rattle.mig_model.proofs.steps.StepLemmas.{delivers, delivers_back, delivers_urgent, next-refused}
 use Rattle.mig_laws.specs.Orders.{AreTurns, AreWhole, IsTurn, Pair, Turn, completes, destination_lines, destination_may, first_pair, is_whole, log_of, logged, source_lines, source_may, step_of, taken_line, world_of}
 use Rattle.mig_laws.specs.Sides.{Did, Line, acts, destination_step, sends, source_step}
-use Rattle.mig_laws.proofs.ChangedOrders.{after_here, after_there}
-use Rattle.mig_laws.proofs.EitherOrder.{accepted-by, answered, finds-back, finds-forward, finds-urgent, next-made, outcome-made, took_back, took_urgent}
+use Rattle.mig_laws.proofs.LinesAlone.{after_here, after_there}
+use Rattle.mig_laws.proofs.AcceptedSteps.{accepted-by, answered, finds-back, finds-forward, finds-urgent, next-made, outcome-made, took_back, took_urgent}
 use Rattle.mig_laws.proofs.OrderRuns.{IsLater, every-turn, first-later, first-reached, here_first, later-new, never, there_first, whole}
 use Rattle.mig_laws.proofs.SideForms.{destination-issue, destination-own, destination-retry, destination_did, destination_gives, destination_linked, is_destination_own, is_source_own, sends-gives, source-issue, source-own, source-retry, source_did, source_gives, source_linked, there_sends-gives}
 

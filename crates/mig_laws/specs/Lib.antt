@@ -6,4 +6,5 @@ pub mod Sides
 pub mod Orders
 pub mod Processes
 pub mod Replacements
+pub mod Drivers
 pub mod Example

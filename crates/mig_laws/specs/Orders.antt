@@ -1,6 +1,6 @@
 -- Two processes: the two nodes with what is in flight between them, the orders in which the lines of their logs may have happened, and
 -- the logs of the two sides of a world.
-use Rattle.std.specs.Prelude.{◌≡◌, ℕ, ◌||◌, ◌&&◌, not, Bool, true, false, if◌then◌else◌, Option, Some, Result, Ok, Err, IsOk, List, [], ◌∷◌, ◌++◌}
+use Rattle.std.specs.Prelude.{◌≡◌, ℕ, ◌||◌, ◌&&◌, not, Bool, true, false, if◌then◌else◌, Option, Some, Result, Ok, Err, List, [], ◌∷◌, ◌++◌}
 use Rattle.mig_base.specs.declared.command.Entry.{Entry}
 use Rattle.mig_base.specs.declared.effect.Effect.{Effect}
 use Rattle.mig_base.specs.declared.refusal.Refusal.{Refusal}
@@ -11,7 +11,7 @@ use Rattle.mig_model.specs.Lengths.{text_len}
 use Rattle.mig_model.specs.Migration.{World, is_short, next, outcome}
 use Rattle.mig_model.specs.Source.{Source, first_source, is_under_way}
 use Rattle.mig_model.specs.Wire.{Sent, Wire, sending, sending_if, wire_behind}
-use Rattle.mig_laws.specs.Sides.{Did, Line, destination_line, node_by, side_of, source_line}
+use Rattle.mig_laws.specs.Sides.{Did, Line, destination_line, side_of, source_line}
 
 -- Two processes
 
@@ -160,32 +160,12 @@ AreTurns old (turn ∷ turns) (effect ∷ effects) new = (mid : Pair) × IsTurn 
 AreTurns old [] (effect ∷ effects) new = ⊥
 AreTurns old (turn ∷ turns) [] new = ⊥
 
--- whether the frame that a line takes is there
-abbrev pub finds_front : Line → List Sent → Bool
-finds_front (Line.Took sent) [] = false
-finds_front line flight = true
-
--- the same of the urgent wire
-abbrev pub finds_urgent_front : Line → List Sent → Bool
-finds_urgent_front (Line.TookUrgent sent) [] = false
-finds_urgent_front line flight = true
-
 -- Lines that need no channel: a side's notice, and what it does by itself after a loss
 abbrev pub is_alone : Line → Bool
 is_alone (Line.Made Step.Start) = false
 is_alone (Line.Made Step.Resume) = false
 is_alone (Line.Made step) = not (needs_link step)
 is_alone line = false
-
--- the source makes lines by itself that need no channel, and refuses none of them
-abbrev pub IsSourceAlone : Source → List Line → Type 0
-IsSourceAlone node [] = Unit {0}
-IsSourceAlone node (line ∷ lines) = (is_alone line ≡ true) × IsOk (source_line node line) × IsSourceAlone (node_by node (source_line node line)) lines
-
--- the same of the destination
-abbrev pub IsDestinationAlone : Destination → List Line → Type 0
-IsDestinationAlone node [] = Unit {0}
-IsDestinationAlone node (line ∷ lines) = (is_alone line ≡ true) × IsOk (destination_line node line) × IsDestinationAlone (node_by node (destination_line node line)) lines
 
 -- the step of a world that a turn is: a frame is taken by a delivery of all its bytes
 abbrev pub step_of : Turn → Step

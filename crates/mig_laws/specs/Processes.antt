@@ -60,10 +60,9 @@ pub data Event : Type 0 where
   LosesThere : Event
   Joins : Event
 
--- a line of the source. While it uses its channel it makes no Notice; after it has lost it, it takes and sends nothing
-pub record IsHere (old : Processes) (line : Line) (new : Processes) : Type 0 where
-  pub did : Did Source
-  pub gives : source_line old.source line ≡ Ok did
+-- what the source has done by a line goes over its channel. While it uses that it makes no Notice; after it has lost it, it takes and sends
+-- nothing
+pub record GoesHere (old : Processes) (line : Line) (did : Did Source) (new : Processes) : Type 0 where
   pub may : (if old.here then source_may true false line else is_alone line) ≡ true
   pub back : List Sent
   pub takes : TakesFront line (last_of old.first old.later).back back
@@ -75,16 +74,22 @@ pub record IsHere (old : Processes) (line : Line) (new : Processes) : Type 0 whe
   }
   pub is : new ≡ record old { source = did.node; first = put_first old.first old.later channel; later = put_later old.later channel }
 
--- a line of the destination
-pub record IsThere (old : Processes) (line : Line) (new : Processes) : Type 0 where
-  pub did : Did Destination
-  pub gives : destination_line old.destination line ≡ Ok did
+-- the same of the destination
+pub record GoesThere (old : Processes) (line : Line) (did : Did Destination) (new : Processes) : Type 0 where
   pub may : (if old.there then destination_may true line else is_alone line) ≡ true
   pub forward : List Sent
   pub takes : TakesFront line old.first.forward forward
   pub urgent : List Sent
   pub takes_urgent : TakesUrgentFront line old.first.urgent urgent
   pub is : new ≡ record old { destination = did.node; first = record { forward = forward; back = sending_if old.there old.first.back did.node.epoch did.frames; urgent = urgent } }
+
+-- a line of the source
+abbrev pub IsHere : Processes → Line → Processes → Type 0
+IsHere old line new = (did : Did Source) × (source_line old.source line ≡ Ok did) × GoesHere old line did new
+
+-- a line of the destination
+abbrev pub IsThere : Processes → Line → Processes → Type 0
+IsThere old line new = (did : Did Destination) × (destination_line old.destination line ≡ Ok did) × GoesThere old line did new
 
 -- Resume: a source that has lost its channel opens a new one, whatever the destination knows
 pub record IsOpening (old new : Processes) : Type 0 where

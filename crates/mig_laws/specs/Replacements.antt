@@ -1,6 +1,6 @@
 -- Another destination takes the place of one that has not run: a process that knows of no migration, to which the source connects before it
 -- has switched.
-use Rattle.std.specs.Prelude.{◌≡◌, ℕ, Bool, true, false, List, [], ◌∷◌, ◌++◌}
+use Rattle.std.specs.Prelude.{◌≡◌, ℕ, true, false, List, [], ◌∷◌, ◌++◌}
 use Rattle.std.specs.Ordering.{nat_cmp}
 use Rattle.std.specs.FinMap as finmap
 use Rattle.std.specs.FinMap.{FinMap}
@@ -11,31 +11,16 @@ use Rattle.mig_base.specs.declared.schedule.Side.{Side}
 use Rattle.mig_base.specs.declared.schedule.Step.{Step}
 use Rattle.mig_model.specs.Destination.{Destination, first_destination}
 use Rattle.mig_model.specs.Log.{no_pages}
-use Rattle.mig_model.specs.Wire.{Frame, Sent, sending}
-use Rattle.mig_model.specs.Wire.Frame.{Package, End, Resume, Recv}
+use Rattle.mig_model.specs.Wire.{Sent, sending}
+use Rattle.mig_model.specs.Wire.Frame.{Resume, Recv}
 use Rattle.mig_laws.specs.Processes.{Channel, Event, IsEvent, Processes, logged_here, logged_there}
 use Rattle.mig_laws.specs.Sides.{Did, Line}
 
 -- A destination that has not run
 
--- whether a frame comes before the destination runs: any but Package, with which it runs, and End, which follows that
-abbrev pub comes_before_run : Frame → Bool
-comes_before_run (Package areas owed commands) = false
-comes_before_run (End urgent) = false
-comes_before_run frame = true
-
--- whether a line of the destination does, if it takes a frame
-abbrev pub is_before_run : Line → Bool
-is_before_run (Line.Took sent) = comes_before_run sent.frame
-is_before_run line = true
-
 -- a destination that knows of a migration no more than its phase and its epoch, and has no more than the copies that it keeps
 abbrev pub not_run : (cpus : ℕ) → DestPhase → (epoch : ℕ) → (kept : FinMap nat_cmp (List ℕ)) → Destination
 not_run cpus phase epoch kept = record (first_destination cpus) { phase = phase; epoch = epoch; kept = kept }
-
--- a destination is such a one
-abbrev pub IsNotRun : ℕ → Destination → Type 0
-IsNotRun cpus node = (phase : DestPhase) × (epoch : ℕ) × (kept : FinMap nat_cmp (List ℕ)) × (node ≡ not_run cpus phase epoch kept)
 
 -- a Resume of an epoch
 abbrev pub resume_of : ℕ → Sent

@@ -1,5 +1,5 @@
 -- The two sides of a migration: which node makes a step, what a node gives in a process of its own, and the lines of its log.
-use Rattle.std.specs.Prelude.{not, Bool, true, false, if◌then◌else◌, Option, Some, None, Result, Ok, Err, List, [], ◌∷◌, ◌++◌}
+use Rattle.std.specs.Prelude.{not, Bool, if◌then◌else◌, Option, Some, None, Result, Ok, Err, List, [], ◌∷◌, ◌++◌}
 use Rattle.mig_base.specs.declared.command.Entry.{Entry}
 use Rattle.mig_base.specs.declared.effect.Effect.{Effect}
 use Rattle.mig_base.specs.declared.refusal.Refusal.{Refusal}
@@ -33,11 +33,6 @@ side_of has_run Step.Install = Some Side.Destination
 side_of has_run (Step.Notice side) = Some side
 side_of has_run Step.Break = None
 side_of has_run step = Some Side.Source
-
--- whether a step is Resume: the source makes it, and asks whether the destination is paused
-abbrev pub resumes : Step → Bool
-resumes Step.Resume = true
-resumes step = false
 
 -- What a node does by itself
 

@@ -9,10 +9,13 @@
 //! is lost; `specs/Replacements.antt` lets another destination take the place of one that has not run. `specs/Example.antt` has an order, and
 //! what happens to two processes with the same logs.
 //!
+//! Two drivers are a world. `specs/Drivers.antt` has two drivers whose nodes hold no byte, and what each does with the bytes of its guest.
+//!
 //! [`spaces`] has the laws of an address space, [`nodes`] those of a guest and of a node, [`worlds`] those of a migration whose contents
-//! change, and [`sides`] those of two nodes in processes of their own.
+//! change, [`sides`] those of two nodes in processes of their own, and [`drivers`] those of two drivers.
 #![tactic(auto)]
 
+pub mod drivers;
 pub mod nodes;
 pub mod sides;
 pub mod spaces;

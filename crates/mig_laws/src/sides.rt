@@ -1,45 +1,21 @@
 //! Two nodes are a world: what each node gives by itself, in a process of its own, is what it gives in a world. Each law is a function with
 //! an empty body, whose contract is the law.
 
-ghost use Rattle.std.specs.Prelude.{◌≡◌, ◌++◌, ℕ, true, false, Some, IsOk, Ok, List, [], map};
-ghost use Rattle.std.specs.List.{list_all};
+ghost use Rattle.std.specs.Prelude.{◌≡◌, ◌++◌, ℕ, true, Ok, List, [], map};
 ghost use Rattle.mig_base.specs.declared.effect.Effect.{Effect};
 ghost use Rattle.mig_base.specs.declared.schedule.Side.{Side};
 ghost use Rattle.mig_base.specs.declared.schedule.Step.{Step};
 ghost use Rattle.mig_base.specs.Flat.{IsFlatRun, memory_of};
 ghost use Rattle.mig_model.specs.Destination.{first_destination};
 ghost use Rattle.mig_model.specs.Host.{memory};
-ghost use Rattle.mig_model.specs.Migration.{World, after_steps, first_world_with, next, outcome};
-ghost use Rattle.mig_model.specs.Promises.{IsAlone, IsReached};
+ghost use Rattle.mig_model.specs.Migration.{after_steps, first_world_with};
 ghost use Rattle.mig_model.specs.Runs.{outcomes};
 ghost use Rattle.mig_model.specs.Source.{first_source, is_released};
-ghost use Rattle.mig_model.specs.Whereabouts.{current_host};
 ghost use Rattle.mig_laws.specs.Example.{its_effects, with_a_break, with_a_late_notice, with_another_destination};
-ghost use Rattle.mig_laws.specs.Orders.{AreTurns, AreWhole, IsDestinationAlone, IsSourceAlone, IsTurn, Pair, Turn, destination_lines, finds_front, finds_urgent_front, first_pair, is_resume, log_of, source_lines, step_of, world_of};
+ghost use Rattle.mig_laws.specs.Orders.{AreTurns, AreWhole, Pair, Turn, destination_lines, first_pair, log_of, source_lines, step_of, world_of};
 ghost use Rattle.mig_laws.specs.Processes.{AreEvents, Event, IsSettled, Processes, first_processes, log_here, log_there};
-ghost use Rattle.mig_laws.specs.Replacements.{AreChanges, Change, IsNotRun, is_before_run, last_log, resume_of, resume_taken, source_log};
-ghost use Rattle.mig_laws.specs.Sides.{Line, destination_after, destination_entries, destination_line, resumes, side_of, source_after, source_entries};
-
-/// A step of the source and a step of the destination that are both accepted are accepted in either order, with the same effects, and lead
-/// to the same world. That holds of deliveries, whole or partial, and of commands. Break is a step of neither side, and loses what the
-/// other step sends. Resume is left out: it asks whether the destination is paused, and brings the link up.
-pub fn either_order()
-    ensures source { (world : World) (here there : Step) → IsReached world →
-        side_of world.destination.has_run here ≡ Some Side.Source →
-        side_of world.destination.has_run there ≡ Some Side.Destination → resumes here ≡ false →
-        IsOk (outcome world here) → IsOk (outcome world there) →
-        outcome (next world there) here ≡ outcome world here }
-    ensures destination { (world : World) (here there : Step) → IsReached world →
-        side_of world.destination.has_run here ≡ Some Side.Source →
-        side_of world.destination.has_run there ≡ Some Side.Destination → resumes here ≡ false →
-        IsOk (outcome world here) → IsOk (outcome world there) →
-        outcome (next world here) there ≡ outcome world there }
-    ensures world { (world : World) (here there : Step) → IsReached world →
-        side_of world.destination.has_run here ≡ Some Side.Source →
-        side_of world.destination.has_run there ≡ Some Side.Destination → resumes here ≡ false →
-        IsOk (outcome world here) → IsOk (outcome world there) →
-        next (next world here) there ≡ next (next world there) here }
-{}
+ghost use Rattle.mig_laws.specs.Replacements.{AreChanges, Change, last_log, source_log};
+ghost use Rattle.mig_laws.specs.Sides.{Line, destination_after, destination_entries, source_after, source_entries};
 
 /// Two logs in an order in which they may have happened are a run of one world. Each line is a step that is accepted there with the effect
 /// that the node gives by itself, each loss of the channel is a Break, and each frame that was taken is a delivery of all its bytes. The
@@ -91,53 +67,6 @@ pub fn a_log_decides_its_node()
         old.at_destination ++ destination_entries old.destination (destination_lines turns) }
 {}
 
-/// The headline of two processes. The commands that took effect at the source, and after them those at the destination, are a run of one
-/// flat memory. The guest sees the last of it, and if the source was released the destination alone holds it. Each other law of a reached
-/// world holds of the two nodes as well.
-pub fn the_headline_of_two_processes()
-    ensures reached { (cpus epoch rounds : ℕ) (turns : List Turn) (effects : List Effect)
-        (new : Pair) → AreTurns (first_pair cpus epoch rounds) turns effects new →
-        IsReached (world_of new) }
-    ensures transcript { (cpus epoch rounds : ℕ) (turns : List Turn) (effects : List Effect)
-        (new : Pair) → AreTurns (first_pair cpus epoch rounds) turns effects new →
-        IsFlatRun (new.at_source ++ new.at_destination) }
-    ensures seen { (cpus epoch rounds : ℕ) (turns : List Turn) (effects : List Effect)
-        (new : Pair) → AreTurns (first_pair cpus epoch rounds) turns effects new →
-        memory (current_host (world_of new)) ≡ memory_of (new.at_source ++ new.at_destination) }
-    ensures alone { (cpus epoch rounds : ℕ) (turns : List Turn) (effects : List Effect)
-        (new : Pair) → AreTurns (first_pair cpus epoch rounds) turns effects new →
-        is_released new.source.phase ≡ true → IsAlone (world_of new) }
-{}
-
-/// Neighbours in an order may change places where they are lines of the two sides, neither takes what the other has just sent, and neither
-/// is Resume. They have the same effects, and lead to the same pair.
-pub fn neighbours_change_places()
-    ensures source_first { (old mid new : Pair) (here there : Line) (one other : Effect) →
-        IsTurn old (Turn.AtSource here) one mid → IsTurn mid (Turn.AtDestination there) other new →
-        is_resume here ≡ false → finds_front there old.forward ≡ true →
-        finds_urgent_front there old.urgent ≡ true → (between : Pair) ×
-        IsTurn old (Turn.AtDestination there) other between ×
-        IsTurn between (Turn.AtSource here) one new }
-    ensures destination_first { (old mid new : Pair) (here there : Line) (one other : Effect) →
-        IsTurn old (Turn.AtDestination there) other mid → IsTurn mid (Turn.AtSource here) one new →
-        is_resume here ≡ false → finds_front here old.back ≡ true → (between : Pair) ×
-        IsTurn old (Turn.AtSource here) one between ×
-        IsTurn between (Turn.AtDestination there) other new }
-{}
-
-/// Once the channel is lost each side is alone: its notice and whatever else it does without a channel come next, whatever the other side
-/// has done and whether or not it has noticed. Only the side itself can refuse them.
-pub fn each_side_notices_by_itself()
-    ensures source { (old : Pair) (lines : List Line) → old.up ≡ false →
-        IsSourceAlone old.source lines → (effects : List Effect) × (new : Pair) ×
-        AreTurns old (map (λ line. Turn.AtSource line) lines) effects new ×
-        (new.destination ≡ old.destination) × (new.up ≡ false) }
-    ensures destination { (old : Pair) (lines : List Line) → old.up ≡ false →
-        IsDestinationAlone old.destination lines → (effects : List Effect) × (new : Pair) ×
-        AreTurns old (map (λ line. Turn.AtDestination line) lines) effects new ×
-        (new.source ≡ old.source) × (new.up ≡ false) }
-{}
-
 /// Two processes, each of which learns by itself that its channel is lost, are a world. One side may notice long before the other, the
 /// destination may take frames of a channel that the source has lost, and the source may open new channels before the destination has lost
 /// the old one. Where they are settled, their logs have an order all the same. So some steps of a world have exactly these logs as their
@@ -166,19 +95,6 @@ pub fn two_processes_are_a_world()
         is_released new.source.phase ≡ true → memory new.destination.guest.space.host ≡
         memory_of (source_entries (first_source cpus epoch rounds) (log_here events) ++
         destination_entries (first_destination cpus) (log_there events)) }
-{}
-
-/// A destination that has taken neither a Package nor an End has learned of the migration its phase, its epoch and the copies that it keeps,
-/// and has entered no command. A Resume tells it all of that anew, and takes the copies away: whatever it has made and taken, it then is the
-/// same destination, and has sent the same Recv, as one to which nothing but a Notice has happened.
-pub fn a_resume_makes_destinations_alike()
-    ensures learned { (cpus : ℕ) (lines : List Line) → list_all is_before_run lines ≡ true →
-        IsNotRun cpus (destination_after (first_destination cpus) lines) }
-    ensures silent { (cpus : ℕ) (lines : List Line) → list_all is_before_run lines ≡ true →
-        destination_entries (first_destination cpus) lines ≡ [] }
-    ensures alike { (cpus epoch : ℕ) (lines : List Line) → list_all is_before_run lines ≡ true →
-        destination_line (destination_after (first_destination cpus) lines)
-        (Line.Took (resume_of epoch)) ≡ Ok (resume_taken cpus epoch) }
 {}
 
 /// Another destination may take the place of one, until the source has switched: it takes the Resume of a channel that the source has

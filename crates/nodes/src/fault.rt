@@ -4,25 +4,34 @@ ghost use Rattle.std.specs.Prelude.{◌≡◌};
 ghost use Rattle.nodes.specs.Faults as machine;
 
 use mig_base::fault::{BackFault, RebuildFault, TakeFault};
+use thiserror::Error;
 
 /// Why a node does not take a frame. Nothing is changed.
-#[derive(Clone, Copy, Debug, PartialEq, Eq)]
+#[derive(Clone, Copy, Debug, PartialEq, Eq, Error)]
 pub enum FrameFault {
     /// The bytes are not those of one frame.
+    #[error("the bytes are not those of one frame")]
     NotAFrame,
     /// No such frame may come now.
+    #[error("no such frame may come now")]
     OutOfPlace,
     /// The frame is of another epoch.
+    #[error("the frame is of another epoch")]
     StaleEpoch,
     /// The contents of the frame do not fit what the destination has.
+    #[error("the contents of the frame do not fit what the destination has")]
     BadFrame,
     /// A Recv contradicts the source.
+    #[error("the Recv contradicts the source")]
     BadOwed,
     /// A copy that has arrived has to be installed first.
+    #[error("a copy that has arrived has to be installed first")]
     InstallFirst,
     /// Frames of the urgent wire have to be taken first.
+    #[error("frames of the urgent wire have to be taken first")]
     UrgentFirst,
     /// Out of memory.
+    #[error("out of memory")]
     NoMemory,
 }
 

@@ -1,11 +1,11 @@
 -- Zeros written into a page of zeros.
-use Rattle.std.proofs.Common.{◌≡◌, ℕ, zero, suc, if◌then◌else◌, Some, None, ◌+◌, ◌-◌, ◌≤◌, eqb, true, refl, ap, ◌∙◌, arith, List, [], ◌∷◌, ◌++◌, length, drop}
+use Rattle.std.proofs.Common.{◌≡◌, ℕ, zero, suc, if◌then◌else◌, Some, None, ◌+◌, ◌-◌, ◌≤◌, ◌&&◌, not, eqb, true, false, refl, ap, ◌∙◌, arith, List, [], ◌∷◌, ◌++◌, length, drop}
 use Rattle.std.specs.Prelude.{replicate}
 use Rattle.std.specs.List.{list_all}
 use Rattle.std.proofs.lemmas.Bool.{and_parts, eqb-true}
 use Rattle.std.proofs.lemmas.List.{take-replicate, drop-replicate, replicate-append-replicate}
 use Rattle.mig_base.specs.Bytes.{overwrite, zero_page}
-use Rattle.page_table.specs.Bytes.{unless_zeros}
+use Rattle.page_table.specs.Bytes.{is_zeros, unless_zeros, write_needs_room}
 
 zeros : ℕ → List ℕ
 zeros n = replicate {A = ℕ} n 0
@@ -26,6 +26,11 @@ zeros_pass (suc n) = zeros_pass n
 pub none_of_zeros : unless_zeros (Some zero_page) ≡ None
 unfolding zero_page zeros
 none_of_zeros = ap (λ all. if all then None else Some (zeros 4096)) (zeros_pass 4096)
+
+-- a page of zeros needs bytes of its own for another byte
+pub zeros_need_room : (bytes : List ℕ) → is_zeros bytes ≡ false → write_needs_room (Some zero_page) bytes ≡ true
+unfolding zero_page zeros
+zeros_need_room bytes other = ap (λ all. all && not (is_zeros bytes)) (zeros_pass 4096) ∙ ap not other
 
 three_zeros : (a b c : ℕ) → zeros a ++ (zeros b ++ zeros c) ≡ zeros (a + (b + c))
 unfolding zeros

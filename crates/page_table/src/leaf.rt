@@ -1,12 +1,11 @@
 //! Leaves: `CHUNK` pages each, present or missing, and the set of the protected ones.
 
-ghost use Rattle.std.specs.Prelude.{◌≡◌, ◌≢◌, ℕ, ◌+◌, ◌<◌, ◌≤◌, nat_eq, if◌then◌else◌, None, OnErr, IfOk, unwrap_or, length, slice_index_or, slice_set};
+ghost use Rattle.std.specs.Prelude.{◌≡◌, ◌≢◌, ℕ, ◌+◌, ◌<◌, ◌≤◌, true, nat_eq, if◌then◌else◌, None, OnErr, IfOk, length, slice_index_or, slice_set};
 ghost use Rattle.std.specs.FinSet.{contains};
 ghost use Rattle.mig_base.specs.Ranges.{in_range};
-ghost use Rattle.mig_base.specs.Bytes.{zero_page};
 ghost use Rattle.mig_base.specs.declared.TheConstants.{PAGE_SIZE};
 ghost use Rattle.mig_base.specs.declared.chunk.TheConstants.{CHUNK};
-ghost use Rattle.page_table.specs.Bytes.{AreWhole, stored_page};
+ghost use Rattle.page_table.specs.Bytes.{AreWhole, stored_page, write_needs_room};
 
 use crate::page::Page;
 use mig_base::NoMemory;
@@ -70,8 +69,8 @@ pub fn write_page(
     ensures others { (j : ℕ) → j ≢ i →
         slice_index_or pages.new.items j None ≡ slice_index_or pages.old.items j None }
     ensures size { length pages.new.items ≡ length pages.old.items }
-    ensures zeros { OnErr result (unwrap_or (slice_index_or pages.old.items i None) zero_page ≡
-        zero_page) }
+    ensures needs { OnErr result
+        (write_needs_room (slice_index_or pages.old.items i None) bytes.now ≡ true) }
 {
     pages[i].write(alloc, offset, bytes)
 }

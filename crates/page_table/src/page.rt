@@ -1,10 +1,10 @@
 //! One page of a leaf. A page of zeros takes no memory until another byte is stored to it.
 
-ghost use Rattle.std.specs.Prelude.{◌≡◌, ℕ, ◌+◌, ◌≤◌, is_some, None, Some, IfOk, OnErr, unwrap_or, length};
+ghost use Rattle.std.specs.Prelude.{◌≡◌, ℕ, ◌+◌, ◌≤◌, false, true, is_some, None, Some, IfOk, OnErr, length};
 ghost use Rattle.std.specs.Option.{option_copied};
 ghost use Rattle.mig_base.specs.Bytes.{overwrite, zero_page};
 ghost use Rattle.mig_base.specs.declared.TheConstants.{PAGE_SIZE};
-ghost use Rattle.page_table.specs.Bytes.{stored_page, unless_zeros};
+ghost use Rattle.page_table.specs.Bytes.{is_zeros, stored_page, unless_zeros, write_needs_room};
 ghost use Rattle.page_table.specs.Contents.{bytes_in};
 
 use mig_base::zeros::{are_zeros, zero_bytes};
@@ -130,7 +130,7 @@ impl Page {
     pub fn write(&mut self, alloc: Global, offset: usize, bytes: &[u8]) -> Result<(), NoMemory>
         requires { offset + length bytes.now ≤ PAGE_SIZE }
         ensures stored { self.new ≡ stored_page result self.old offset bytes.now }
-        ensures zeros { OnErr result (unwrap_or self.old zero_page ≡ zero_page) }
+        ensures needs { OnErr result (write_needs_room self.old bytes.now ≡ true) }
     {
         match &mut self.content {
             Content::Missing => self.content = written(alloc, offset, bytes)?,
@@ -145,8 +145,9 @@ impl Page {
 /// memory.
 fn written(alloc: Global, offset: usize, bytes: &[u8]) -> Result<Content, NoMemory>
     requires { offset + length bytes.now ≤ PAGE_SIZE }
-    ensures { IfOk result (λ content.
+    ensures ok { IfOk result (λ content.
         bytes_in content ≡ Some (overwrite zero_page offset bytes.now)) }
+    ensures err { OnErr result (is_zeros bytes.now ≡ false) }
 {
     if are_zeros(bytes) {
         return Ok(Content::Zeros);

@@ -10,7 +10,7 @@ ghost use Rattle.mig_base.specs.Pages.{remove_range};
 ghost use Rattle.mig_base.specs.Sets.{without};
 ghost use Rattle.mig_base.specs.declared.TheConstants.{HIGH_PAGE, PAGE_SIZE};
 ghost use Rattle.mig_base.specs.Bytes.{zero_page, contents, overwrite};
-ghost use Rattle.page_table.specs.Bytes.{unless_zeros};
+ghost use Rattle.page_table.specs.Bytes.{unless_zeros, write_needs_room};
 
 mod ranges;
 
@@ -192,8 +192,9 @@ impl PageTable {
     /// Writes bytes into a page, protected or not, from byte `offset` on. A missing page becomes present, not protected, with zeros
     /// elsewhere. The call touches only the bytes written.
     ///
-    /// A page of zeros that has no memory of its own gets some, unless all these bytes are zero too; a missing page needs room of its
-    /// leaf as well. `NoMemory`, if that cannot be allocated, leaves the table as it was.
+    /// A page of zeros that has no memory of its own gets some, unless all these bytes are zero too; a missing page needs room in its
+    /// leaf as well. `NoMemory`, if that cannot be allocated, leaves the table as it was. So it never comes where the page has another
+    /// byte than zero, nor where a present page gets zeros alone.
     pub fn write(&mut self, page: PageNo, offset: usize, bytes: &[u8]) -> Result<(), NoMemory>
         requires page { page < HIGH_PAGE }
         requires inside { offset + length bytes.now ≤ PAGE_SIZE }
@@ -202,7 +203,8 @@ impl PageTable {
             (overwrite (contents self.old.bytes page) offset bytes.now)) }
         ensures protected { self.new.protected ≡ self.old.protected }
         ensures err { OnErr result (self.new ≡ self.old) }
-        ensures zeros { OnErr result (contents self.old.bytes page ≡ zero_page) }
+        ensures needs { OnErr result
+            (write_needs_room (map.get self.old.bytes page) bytes.now ≡ true) }
     {
         make_place(self.alloc, &mut self.places, page)?;
         write_at(self.alloc, &mut self.places, page, offset, bytes)

@@ -1,14 +1,13 @@
 //! Leaves, and one place for a leaf: reading, putting, writing, taking out and clearing pages there. A page is named by its number in
 //! the leaf.
 
-ghost use Rattle.std.specs.Prelude.{◌≡◌, ℕ, ◌+◌, ◌*◌, ◌%◌, ◌<◌, ◌≤◌, ◌&&◌, ◌||◌, Bool, true, false, nat_eq, if◌then◌else◌, None, IfOk, OnOk, OnErr, is_some, unwrap_or, length};
+ghost use Rattle.std.specs.Prelude.{◌≡◌, ℕ, ◌+◌, ◌*◌, ◌%◌, ◌<◌, ◌≤◌, ◌&&◌, ◌||◌, Bool, true, false, nat_eq, if◌then◌else◌, None, IfOk, OnOk, OnErr, is_some, length};
 ghost use Rattle.std.specs.Option.{option_copied};
 ghost use Rattle.std.specs.FinSet.{contains};
-ghost use Rattle.mig_base.specs.Bytes.{zero_page};
 ghost use Rattle.mig_base.specs.Ranges.{in_range};
 ghost use Rattle.mig_base.specs.declared.TheConstants.{PAGE_SIZE};
 ghost use Rattle.mig_base.specs.declared.chunk.TheConstants.{CHUNK};
-ghost use Rattle.page_table.specs.Bytes.{IsWhole, unless_zeros};
+ghost use Rattle.page_table.specs.Bytes.{IsWhole, unless_zeros, write_needs_room};
 ghost use Rattle.page_table.specs.Leaves.{Cell, cell_in, leaf_cell, is_place, no_cell, with_protection, stored_cell};
 
 use crate::leaf::{
@@ -108,7 +107,8 @@ impl Leaf {
             leaf_cell self.new j ≡
             (if nat_eq j i then stored_cell result (leaf_cell self.old i) offset bytes.now else
             leaf_cell self.old j) }
-        ensures zeros { OnErr result (unwrap_or (leaf_cell self.old i).0 zero_page ≡ zero_page) }
+        ensures needs { OnErr result
+            (write_needs_room (leaf_cell self.old i).0 bytes.now ≡ true) }
     {
         write_page(alloc, &mut self.pages, i as usize, offset, bytes)
     }
@@ -252,7 +252,7 @@ pub fn place_write(
         cell_in place.new j ≡
         (if nat_eq j i then stored_cell result (cell_in place.old i) offset bytes.now else cell_in
         place.old j) }
-    ensures zeros { OnErr result (unwrap_or (cell_in place.old i).0 zero_page ≡ zero_page) }
+    ensures needs { OnErr result (write_needs_room (cell_in place.old i).0 bytes.now ≡ true) }
 {
     match place {
         Some(leaf) => leaf.write(alloc, i, offset, bytes),

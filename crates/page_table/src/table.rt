@@ -1,13 +1,12 @@
 //! The places of all pages. The leaf of a place is made when it is first needed.
 
-ghost use Rattle.std.specs.Prelude.{◌≡◌, ℕ, ◌+◌, ◌-◌, ◌/◌, ◌%◌, ◌<◌, ◌≤◌, ◌⊎◌, Bool, true, false, nat_eq, if◌then◌else◌, None, OnOk, OnErr, IfOk, is_some, unwrap_or, length, slice_index_or};
+ghost use Rattle.std.specs.Prelude.{◌≡◌, ℕ, ◌+◌, ◌-◌, ◌/◌, ◌%◌, ◌<◌, ◌≤◌, ◌⊎◌, Bool, true, false, nat_eq, if◌then◌else◌, None, OnOk, OnErr, IfOk, is_some, length, slice_index_or};
 ghost use Rattle.std.specs.FinSet.{contains};
 ghost use Rattle.std.specs.Option.{option_copied};
-ghost use Rattle.mig_base.specs.Bytes.{zero_page};
 ghost use Rattle.mig_base.specs.Ranges.{in_range};
 ghost use Rattle.mig_base.specs.declared.TheConstants.{HIGH_PAGE, PAGE_SIZE};
 ghost use Rattle.mig_base.specs.declared.chunk.TheConstants.{CHUNKS};
-ghost use Rattle.page_table.specs.Bytes.{IsWhole, unless_zeros};
+ghost use Rattle.page_table.specs.Bytes.{IsWhole, unless_zeros, write_needs_room};
 ghost use Rattle.page_table.specs.Leaves.{Cell, cell_at, has_place, no_cell, with_protection, stored_cell, moved_cell, put_cell};
 
 use crate::leaf::Place;
@@ -136,8 +135,8 @@ pub fn write_at(
         (if nat_eq q page then stored_cell result (cell_at places.old.items page) offset bytes.now
         else cell_at places.old.items q) }
     ensures size { length places.new.items ≡ length places.old.items }
-    ensures zeros { OnErr result (unwrap_or (cell_at places.old.items page).0 zero_page ≡
-        zero_page) }
+    ensures needs { OnErr result
+        (write_needs_room (cell_at places.old.items page).0 bytes.now ≡ true) }
 {
     let place = &mut places[(page / CHUNK) as usize];
     place_write(alloc, place, page % CHUNK, offset, bytes)

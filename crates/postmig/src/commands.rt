@@ -3,6 +3,7 @@
 ghost use Rattle.std.specs.Prelude.{◌≤◌};
 
 use crate::endings::{end_audit, end_frames, end_tapped};
+use crate::histories::judge;
 use crate::showing::show;
 use audit::Asked;
 use clap::ArgMatches;
@@ -24,6 +25,7 @@ use frames::run_frames;
 use grammar::Language;
 use host_calls::run_steps;
 use lint::lint_lines;
+use rig::CloseFault;
 use std::env::{Env, FillError};
 use std::io::Stdout;
 use std::process::ExitCode;
@@ -370,8 +372,22 @@ fn run_in_threads<T: Threads + Wait + Sync>(
     };
     let mut output = open_output(rt);
     let cut = matches.get_flag("cut");
-    let outcome = run_threads(handle, rt.alloc(), &mut output, cpus, calls, cut);
+    let outcome = match run_threads(handle, rt.alloc(), &mut output, cpus, calls, cut) {
+        Ok(run) => Ok(is_right(rt, run.fault)),
+        Err(fault) => Err(fault),
+    };
     end(rt, given, &input, &output, outcome)
+}
+
+/// Whether nothing was found wrong when a rig was closed. If something was, standard error has its text.
+fn is_right(rt: &HostRuntime, fault: Option<CloseFault>) -> bool {
+    match fault {
+        None => true,
+        Some(fault) => {
+            let _ = eprintln!(rt; "postmig: {fault}");
+            false
+        }
+    }
 }
 
 /// Carries out the parsed command line, and returns the exit status.
@@ -382,6 +398,7 @@ fn do_command<T: Threads + Wait + Sync>(rt: &HostRuntime, handle: &T, matches: &
         Some(("check", matches)) => check_input(rt, matches),
         Some(("lint", matches)) => lint(rt, matches),
         Some(("audit", matches)) => audit(rt, matches),
+        Some(("history", matches)) => judge(rt, matches),
         Some(("frames", matches)) => take_frames(rt, matches),
         Some(("draw", matches)) => draw_script(rt, matches),
         Some(("show", matches)) => show(rt, matches),

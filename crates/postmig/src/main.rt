@@ -8,6 +8,7 @@
 //!   wrong with it.
 //! - `postmig lint` lists the wrong lines of a script or a transcript.
 //! - `postmig audit` judges the userfaultfd calls of a real program, by a log of them or by what strace has written.
+//! - `postmig history` judges what threads did to a memory at once.
 //! - `postmig frames` reads frames, and writes a destination's answer to each.
 //! - `postmig draw` runs a script, and writes a picture of the run.
 //! - `postmig show` runs a script up to a line, and writes what is there.
@@ -16,7 +17,7 @@
 //! - `postmig threads` reads nothing, runs a migration in threads, and writes a report.
 //!
 //! `docs/SCRIPT.md` defines scripts and transcripts, `docs/FORMATS.md` frames, `docs/EXPLORE.md` random scripts, `docs/THREADS.md` a run in
-//! threads, `docs/UFFDLOG.md` logs, and `docs/AUDIT.md` what is found in them.
+//! threads, `docs/HISTORY.md` histories, `docs/UFFDLOG.md` logs, and `docs/AUDIT.md` what is found in them.
 //!
 //! `command_line` has the arguments of each, and `console` its files and streams. The exit statuses are those of `specs/Status.antt` here
 //! and in `console`. Reading and writing is done by `engine` for scripts and transcripts, and by the crate of the same name for each other
@@ -26,6 +27,7 @@
 
 mod commands;
 mod endings;
+mod histories;
 mod showing;
 mod status;
 

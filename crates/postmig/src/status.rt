@@ -6,7 +6,8 @@ ghost use Rattle.postmig.specs.Status.{audit_fault_status, frames_fault_status, 
 use audit::Verdict;
 use call_log::LogFault;
 use console::{
-    ALL_DONE, BAD_COMMAND_OR_SCRIPT, NO_FLAT_RUN, NO_MEMORY, READ_OR_WRITE_FAULT, UNDECIDED,
+    ALL_DONE, BAD_COMMAND_OR_SCRIPT, NO_FLAT_RUN, NO_MEMORY, NOTHING_TO_JUDGE, READ_OR_WRITE_FAULT,
+    UNDECIDED,
 };
 use frames::FramesFault;
 
@@ -32,8 +33,9 @@ pub(crate) fn audit_status_of(outcome: Result<Verdict, LogFault>) -> u8
         Ok(Verdict::Certified | Verdict::Clean) => ALL_DONE,
         Ok(Verdict::Found) => BAD_COMMAND_OR_SCRIPT,
         Ok(Verdict::Wrong) => READ_OR_WRITE_FAULT,
-        Ok(Verdict::Impossible) => NO_FLAT_RUN,
+        Ok(Verdict::Unexplained) => NO_FLAT_RUN,
         Ok(Verdict::Undecided | Verdict::Doubtful) => UNDECIDED,
+        Ok(Verdict::Nothing) => NOTHING_TO_JUDGE,
         Err(LogFault::NoMemory) => NO_MEMORY,
         Err(_) => READ_OR_WRITE_FAULT,
     }

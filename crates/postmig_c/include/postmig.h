@@ -13,19 +13,19 @@ extern "C" {
 /* What a call answers. */
 enum {
     POSTMIG_OK = 0,
-    POSTMIG_NO_ROOM = 1,     /* out is too short: *written is the length that is needed */
-    POSTMIG_NOT_OPEN = 2,    /* the handle has no world; of a call on a decoder, no decoder */
-    POSTMIG_NOT_A_LINE = 3,  /* the text is not a line; of a whole text, *written is the number of its first line that is not one */
-    POSTMIG_NO_MEMORY = 4,   /* malloc failed */
-    POSTMIG_NO_CPU = 5,      /* there are 1 to 16 processors */
-    POSTMIG_NO_FRAME = 6,    /* no frame waits: the stream has to continue */
-    POSTMIG_FRAMES_WAIT = 7, /* frames wait: postmig_frames_next has to take them first */
-    POSTMIG_BAD_TAG = 8,     /* the stream has a version or tag that is not known, */
-    POSTMIG_BAD_LENGTH = 9,  /* a length that no body of such a frame has, */
-    POSTMIG_BAD_FIELD = 10,  /* or another field with a value that no frame has there */
+    POSTMIG_NO_ROOM = 1,      /* out is too short: *written is the length that is needed */
+    POSTMIG_NOT_OPEN = 2,     /* the handle has no world; of a call on a decoder, no decoder */
+    POSTMIG_NOT_A_LINE = 3,   /* the text is not a line; of a whole text, *written is the number of its first line that is not one */
+    POSTMIG_NO_MEMORY = 4,    /* malloc failed */
+    POSTMIG_NO_CPU = 5,       /* there are 1 to 16 processors */
+    POSTMIG_NO_FRAME = 6,     /* no frame waits: the stream has to continue */
+    POSTMIG_FRAMES_WAIT = 7,  /* frames wait: postmig_frames_next has to take them first */
+    POSTMIG_BAD_TAG = 8,      /* the stream has a version or tag that is not known, */
+    POSTMIG_BAD_LENGTH = 9,   /* a length that no body of such a frame has, */
+    POSTMIG_BAD_FIELD = 10,   /* or another field with a value that no frame has there */
     POSTMIG_NO_QUESTION = 15, /* no question has this number */
 
-    POSTMIG_REFUSED = 64, /* an answer from here on is a refusal, and nothing changed. The first that applies is given, in this order: */
+    POSTMIG_REFUSED = 64,                   /* an answer from here on is a refusal, and nothing changed. The first that applies is given, in this order: */
     POSTMIG_REFUSED_NO_CPU = 65,            /* the guest has no such processor */
     POSTMIG_REFUSED_BUSY = 66,              /* the processor has a command under way */
     POSTMIG_REFUSED_NOT_ASLEEP = 67,        /* the processor has no load or store to retry */
@@ -42,7 +42,7 @@ enum {
     POSTMIG_REFUSED_PAGES_LEFT = 78,        /* owed pages are still to be pushed */
     POSTMIG_REFUSED_COUNT_USED = 79,        /* a count is at its greatest value */
     /* 80, out of memory, is answered as POSTMIG_NO_MEMORY */
-    POSTMIG_REFUSED_URGENT_FIRST = 81       /* an End came, and frames of the urgent wire have to be taken first: hand it in again then */
+    POSTMIG_REFUSED_URGENT_FIRST = 81 /* an End came, and frames of the urgent wire have to be taken first: hand it in again then */
 };
 
 /* Writes the name of a refusal, as a script's output has it ("Phase" of 69), for any status from POSTMIG_REFUSED on.
@@ -54,7 +54,10 @@ uint32_t postmig_refusal_name(uint32_t status, uint8_t *out, size_t room, size_t
 typedef struct {
     void *at;
 } postmig_handle;
-#define POSTMIG_NONE { 0 }
+#define POSTMIG_NONE \
+    {                \
+        0            \
+    }
 
 /* Frees what the handle has, if it has anything. Calling it twice is fine. */
 void postmig_free(postmig_handle *handle);
@@ -90,7 +93,12 @@ uint32_t postmig_world_would(postmig_handle *world, const uint8_t *line, size_t 
 
 /* What postmig_world_show is asked for: what the processors do and wait for; what is queued, step by step; the owed pages, and where their copies
    are; the frames on the three wires; the pages of both nodes; or all of these. */
-enum { POSTMIG_CPUS = 0, POSTMIG_QUEUES = 1, POSTMIG_OWED = 2, POSTMIG_WIRES = 3, POSTMIG_PAGES = 4, POSTMIG_ALL = 5 };
+enum { POSTMIG_CPUS = 0,
+       POSTMIG_QUEUES = 1,
+       POSTMIG_OWED = 2,
+       POSTMIG_WIRES = 3,
+       POSTMIG_PAGES = 4,
+       POSTMIG_ALL = 5 };
 
 /* Writes what a world holds as it is now: the text of `postmig show`, its progress first. The pages of POSTMIG_PAGES and POSTMIG_ALL are those
    with a byte from the address start up to, and without, end: 0 and UINT64_MAX are all. What the last line printed stays. It takes memory for
@@ -98,7 +106,11 @@ enum { POSTMIG_CPUS = 0, POSTMIG_QUEUES = 1, POSTMIG_OWED = 2, POSTMIG_WIRES = 3
    POSTMIG_NO_QUESTION. POSTMIG_NO_ROOM and POSTMIG_NO_MEMORY: the world did not change, and the call may be made again. */
 uint32_t postmig_world_show(postmig_handle *world, uint32_t what, uint64_t start, uint64_t end, uint8_t *out, size_t room, size_t *written);
 
-enum { POSTMIG_IDLE = 0, POSTMIG_PRECOPY = 1, POSTMIG_SWITCHING = 2, POSTMIG_POSTCOPY = 3, POSTMIG_COMPLETE = 4 };
+enum { POSTMIG_IDLE = 0,
+       POSTMIG_PRECOPY = 1,
+       POSTMIG_SWITCHING = 2,
+       POSTMIG_POSTCOPY = 3,
+       POSTMIG_COMPLETE = 4 };
 
 /* How far the migration of a world has come. */
 typedef struct {

@@ -7,7 +7,9 @@
    Each call that makes a step writes the step's effect. Where it answers anything but POSTMIG_OK nothing changed, unless it says otherwise.
    A call named next or check changes nothing: it says what the step would answer.
 
-   A page is its number: its first address divided by 4096, 0x10 up to 0xfffff. An address is one of the guest. */
+   A page is its number: its first address divided by 4096, 0x10 up to 0xfffff. An address is one of the guest.
+
+   What the driver must do for each answer is the table WHAT IS DUE at the end. */
 #ifndef POSTMIG_NODE_H
 #define POSTMIG_NODE_H
 #include "postmig.h"
@@ -23,72 +25,72 @@ enum {
     POSTMIG_NO_TRACE = 14,      /* the node has no trace */
 
     /* refusals beside those of a world, POSTMIG_REFUSED_.. of postmig.h, where nothing changed either */
-    POSTMIG_REFUSED_OUT_OF_PLACE = 82,      /* no such frame may come now */
-    POSTMIG_REFUSED_BAD_FRAME = 83,         /* what the frame says does not fit what the destination has */
-    POSTMIG_REFUSED_BAD_OWED = 84           /* a Recv contradicts the source */
+    POSTMIG_REFUSED_OUT_OF_PLACE = 82, /* no such frame may come now */
+    POSTMIG_REFUSED_BAD_FRAME = 83,    /* what the frame says does not fit what the destination has: its pages, its number of processors */
+    POSTMIG_REFUSED_BAD_OWED = 84      /* a Recv contradicts the source */
 };
 
 /* EFFECTS */
 
 /* What a step did. The comment names the fields that are set beside kind; all others are 0. */
 enum {
-    POSTMIG_DID_ANSWER = 1,       /* a command was answered: cpu, reply, value */
-    POSTMIG_DID_SLEEP = 2,        /* a processor sleeps on the page of its load or store: cpu */
-    POSTMIG_DID_ENTER_CALL = 3,   /* a processor is in a map call until that many messages have been read: cpu, count */
-    POSTMIG_DID_START = 4,        /* number: the epoch */
-    POSTMIG_DID_ROUND = 5,        /* number: the round; count: its pages to be sent */
-    POSTMIG_DID_SEND_PAGE = 6,    /* addr */
-    POSTMIG_DID_SEND_ZERO = 7,    /* the same. In the world of zeros each page is one of zeros; the caller may send it as a Page */
-    POSTMIG_DID_SEND_RUN = 8,     /* addr: of the first page; count: of pages */
-    POSTMIG_DID_READ_FAULT = 9,   /* addr; number: 1 of a write-protect fault, 0 of a missing page */
-    POSTMIG_DID_READ_EVENT = 10,  /* number: POSTMIG_EVENT_..; addr, other, length. More events of the call are unread */
-    POSTMIG_DID_READ_LAST = 11,   /* the last event of a map call: the same, and cpu, reply, value of that call */
-    POSTMIG_DID_UNPROTECT = 12,   /* addr: its protection was cleared, its sleepers woken */
-    POSTMIG_DID_ZERO = 13,        /* addr: a missing page was made zeros, its sleepers woken */
-    POSTMIG_DID_WAKE = 14,        /* addr: it is present, its sleepers were woken */
-    POSTMIG_DID_FORGET = 15,      /* addr: it is no longer mapped or registered, its sleepers were woken */
-    POSTMIG_DID_REQUEST = 16,     /* addr: where it is owed; other: the address of its page at the source. Its sleepers sleep on */
-    POSTMIG_DID_SWITCH = 17,      /* count: pages owed; number: pages discarded */
-    POSTMIG_DID_MOVE = 18,        /* (a world's alone) length */
+    POSTMIG_DID_ANSWER = 1,      /* a command was answered: cpu, reply, value */
+    POSTMIG_DID_SLEEP = 2,       /* a processor sleeps on the page of its load or store: cpu */
+    POSTMIG_DID_ENTER_CALL = 3,  /* a processor is in a map call until that many messages have been read: cpu, count */
+    POSTMIG_DID_START = 4,       /* number: the epoch */
+    POSTMIG_DID_ROUND = 5,       /* number: the round; count: its pages to be sent */
+    POSTMIG_DID_SEND_PAGE = 6,   /* addr */
+    POSTMIG_DID_SEND_ZERO = 7,   /* the same. In the world of zeros each page is one of zeros; the caller may send it as a Page */
+    POSTMIG_DID_SEND_RUN = 8,    /* addr: of the first page; count: of pages */
+    POSTMIG_DID_READ_FAULT = 9,  /* addr; number: 1 of a write-protect fault, 0 of a missing page */
+    POSTMIG_DID_READ_EVENT = 10, /* number: POSTMIG_EVENT_..; addr, other, length. More events of the call are unread */
+    POSTMIG_DID_READ_LAST = 11,  /* the last event of a map call: the same, and cpu, reply, value of that call */
+    POSTMIG_DID_UNPROTECT = 12,  /* addr: its protection was cleared, its sleepers woken */
+    POSTMIG_DID_ZERO = 13,       /* addr: a missing page was made zeros, its sleepers woken */
+    POSTMIG_DID_WAKE = 14,       /* addr: it is present, its sleepers were woken */
+    POSTMIG_DID_FORGET = 15,     /* addr: it is no longer mapped or registered, its sleepers were woken */
+    POSTMIG_DID_REQUEST = 16,    /* addr: where it is owed; other: the address of its page at the source. Its sleepers sleep on */
+    POSTMIG_DID_SWITCH = 17,     /* count: pages owed; number: pages discarded */
+    POSTMIG_DID_MOVE = 18,       /* (a world's alone) length */
     POSTMIG_DID_TAKE_ADVISE = 19,
-    POSTMIG_DID_TAKE_PAGE = 20,   /* (a world's alone) addr */
-    POSTMIG_DID_TAKE_ZERO = 21,   /* addr: its page at the source. Of a Zero and of the head of a Page */
-    POSTMIG_DID_TAKE_RUN = 22,    /* addr: of the first page; count: of pages */
-    POSTMIG_DID_TAKE_DISCARD = 23,/* count: of pages */
-    POSTMIG_DID_TAKE_PACKAGE = 24,/* count: of pages owed */
+    POSTMIG_DID_TAKE_PAGE = 20,    /* (a world's alone) addr */
+    POSTMIG_DID_TAKE_ZERO = 21,    /* addr: its page at the source. Of a Zero and of the head of a Page */
+    POSTMIG_DID_TAKE_RUN = 22,     /* addr: of the first page; count: of pages */
+    POSTMIG_DID_TAKE_DISCARD = 23, /* count: of pages */
+    POSTMIG_DID_TAKE_PACKAGE = 24, /* count: of pages owed */
     POSTMIG_DID_TAKE_END = 25,
     POSTMIG_DID_TAKE_RESUME = 26,
-    POSTMIG_DID_TAKE_REQUEST = 27,/* addr: of the requested page at the source */
-    POSTMIG_DID_TAKE_RECV = 28,   /* number: 0 the destination has not run, 1 it runs, 2 it has taken End; count: of pages that it needs */
+    POSTMIG_DID_TAKE_REQUEST = 27, /* addr: of the requested page at the source */
+    POSTMIG_DID_TAKE_RECV = 28,    /* number: 0 the destination has not run, 1 it runs, 2 it has taken End; count: of pages that it needs */
     POSTMIG_DID_TAKE_DONE = 29,
-    POSTMIG_DID_INSTALL = 30,     /* addr: where the copy goes; other: the address of its page at the source */
-    POSTMIG_DID_DROP = 31,        /* other: the address of its page at the source: the copy is owed nowhere */
-    POSTMIG_DID_DEQUEUE = 32,     /* addr: of the requested page at the source */
+    POSTMIG_DID_INSTALL = 30, /* addr: where the copy goes; other: the address of its page at the source */
+    POSTMIG_DID_DROP = 31,    /* other: the address of its page at the source: the copy is owed nowhere */
+    POSTMIG_DID_DEQUEUE = 32, /* addr: of the requested page at the source */
     POSTMIG_DID_END = 33,
-    POSTMIG_DID_BREAK = 34,       /* (a world's alone) */
-    POSTMIG_DID_NOTICE = 35,      /* number: 0 at the source, 1 at the destination */
-    POSTMIG_DID_RESUME = 36       /* number: the new epoch */
+    POSTMIG_DID_BREAK = 34,  /* (a world's alone) */
+    POSTMIG_DID_NOTICE = 35, /* number: 0 at the source, 1 at the destination */
+    POSTMIG_DID_RESUME = 36  /* number: the new epoch */
 };
 
 /* The events of an address space, by the numbers of struct uffd_msg. */
 enum {
-    POSTMIG_EVENT_REMAP = 0x14, /* addr: from; other: to; length: in bytes */
-    POSTMIG_EVENT_REMOVE = 0x15,/* addr: the first address; other: the address after the last byte */
-    POSTMIG_EVENT_UNMAP = 0x16  /* the same */
+    POSTMIG_EVENT_REMAP = 0x14,  /* addr: from; other: to; length: in bytes */
+    POSTMIG_EVENT_REMOVE = 0x15, /* addr: the first address; other: the address after the last byte */
+    POSTMIG_EVENT_UNMAP = 0x16   /* the same */
 };
 
 /* The replies to a command. */
 enum {
-    POSTMIG_REPLY_VALUE = 1,     /* value: what a load read */
+    POSTMIG_REPLY_VALUE = 1, /* value: what a load read */
     POSTMIG_REPLY_DONE = 2,
-    POSTMIG_REPLY_AT = 3,        /* value: the address of the mapping */
-    POSTMIG_REPLY_SEGV = 4,      /* value: 1 if the page is mapped, else 0 */
+    POSTMIG_REPLY_AT = 3,   /* value: the address of the mapping */
+    POSTMIG_REPLY_SEGV = 4, /* value: 1 if the page is mapped, else 0 */
     POSTMIG_REPLY_BAD_ACCESS = 5,
-    POSTMIG_REPLY_REFUSED = 6    /* value: the errno of Linux */
+    POSTMIG_REPLY_REFUSED = 6 /* value: the errno of Linux */
 };
 
 typedef struct {
-    uint32_t kind;   /* POSTMIG_DID_.. */
+    uint32_t kind; /* POSTMIG_DID_.. */
     uint32_t cpu;
     uint32_t number;
     uint32_t count;
@@ -96,7 +98,7 @@ typedef struct {
     uint64_t other;
     uint64_t length;
     uint64_t value;
-    uint32_t reply;  /* POSTMIG_REPLY_.. */
+    uint32_t reply; /* POSTMIG_REPLY_.. */
 } postmig_effect;
 
 /* COMMANDS of the guest's processors */
@@ -109,8 +111,12 @@ enum {
     POSTMIG_MREMAP = 5,  /* addr, length: the old one; new_length, may_move, place: ANYWHERE or FIXED, target */
     POSTMIG_DONTNEED = 6 /* addr, length */
 };
-enum { POSTMIG_PROT_NONE = 0, POSTMIG_PROT_READ = 1, POSTMIG_PROT_READ_WRITE = 2 };
-enum { POSTMIG_ANYWHERE = 0, POSTMIG_FIXED = 1, POSTMIG_NO_REPLACE = 2 };
+enum { POSTMIG_PROT_NONE = 0,
+       POSTMIG_PROT_READ = 1,
+       POSTMIG_PROT_READ_WRITE = 2 };
+enum { POSTMIG_ANYWHERE = 0,
+       POSTMIG_FIXED = 1,
+       POSTMIG_NO_REPLACE = 2 };
 
 /* A command. Fields that its kind does not name are not read. */
 typedef struct {
@@ -122,7 +128,7 @@ typedef struct {
     uint64_t addr;
     uint64_t length;
     uint64_t new_length;
-    uint64_t target;   /* the address of a place other than POSTMIG_ANYWHERE */
+    uint64_t target; /* the address of a place other than POSTMIG_ANYWHERE */
     uint64_t value;
 } postmig_command;
 
@@ -155,6 +161,24 @@ uint32_t postmig_node_trace_count(postmig_handle *node, size_t *lines);
 /* Takes the first line that waits in the trace, with its line feed: *written bytes, 0 if none waits. POSTMIG_NO_ROOM: *written is the length
    of the line, and it still waits; so it does at POSTMIG_NO_MEMORY. POSTMIG_NO_TRACE. */
 uint32_t postmig_node_trace_take(postmig_handle *node, uint8_t *out, size_t room, size_t *written);
+
+/* The states of a processor. */
+enum {
+    POSTMIG_PROCESSOR_IDLE = 0,   /* it can be issued a command */
+    POSTMIG_PROCESSOR_ASLEEP = 1, /* it waits for the page of its command */
+    POSTMIG_PROCESSOR_WOKEN = 2,  /* it has to be retried */
+    POSTMIG_PROCESSOR_IN_CALL = 3 /* it is in a map call until its messages are read */
+};
+
+typedef struct {
+    uint32_t state;          /* POSTMIG_PROCESSOR_.. */
+    uint32_t messages;       /* in a map call: how many of its messages are unread; else 0 */
+    postmig_command command; /* asleep or woken: its load or store; else its kind is 0 */
+} postmig_processor;
+
+/* What a processor of the guest does. After the Package those of the destination have the commands that the source's had. So a driver needs no
+   list of its own: a fault is issued to one that is idle, and after each step that wakes the woken ones are retried. NO_CPU. */
+uint32_t postmig_node_processor(postmig_handle *node, uint8_t cpu, postmig_processor *processor);
 
 /* THE SOURCE */
 
@@ -224,29 +248,29 @@ uint32_t postmig_source_back(postmig_handle *source, const uint8_t *bytes, size_
 uint32_t postmig_source_notice(postmig_handle *source, postmig_effect *effect);
 
 /* Begins the next epoch, over a new channel. Resume waits. The source stays paused until it takes the Recv. PHASE unless it is paused,
-   COUNT_USED. The caller makes it only once the destination has noticed too, as a new connection with it shows. */
+   COUNT_USED. The caller makes it once it has lost its own channel and has another, whatever the destination knows. */
 uint32_t postmig_source_resume(postmig_handle *source, postmig_effect *effect);
 
 enum {
-    POSTMIG_SOURCE_IDLE = 0,     /* no migration has begun */
-    POSTMIG_SOURCE_PRECOPY = 1,  /* it runs the processors, in rounds */
-    POSTMIG_SOURCE_STOPPED = 2,  /* it has stopped them, and sends what is owed */
-    POSTMIG_SOURCE_PAUSED = 3,   /* it has noticed a break, and not taken a Recv since */
-    POSTMIG_SOURCE_RELEASED = 4  /* the migration is complete */
+    POSTMIG_SOURCE_IDLE = 0,    /* no migration has begun */
+    POSTMIG_SOURCE_PRECOPY = 1, /* it runs the processors, in rounds */
+    POSTMIG_SOURCE_STOPPED = 2, /* it has stopped them, and sends what is owed */
+    POSTMIG_SOURCE_PAUSED = 3,  /* it has noticed a break, and not taken a Recv since */
+    POSTMIG_SOURCE_RELEASED = 4 /* the migration is complete */
 };
 
 typedef struct {
-    uint32_t phase;      /* POSTMIG_SOURCE_.. */
-    uint32_t switched;   /* 1 once it has stopped the processors for good */
+    uint32_t phase;    /* POSTMIG_SOURCE_.. */
+    uint32_t switched; /* 1 once it has stopped the processors for good */
     uint32_t epoch;
-    uint32_t rounds;     /* made */
-    uint32_t remaining;  /* owed pages not sent in this epoch */
-    uint32_t waiting;    /* frames that wait for postmig_node_frame */
-    uint64_t asked;      /* requests not dequeued */
-    uint64_t held;       /* faults read and not resolved */
-    uint64_t changing;   /* unread events */
+    uint32_t rounds;    /* made */
+    uint32_t remaining; /* owed pages not sent in this epoch */
+    uint32_t waiting;   /* 1 if frames wait for postmig_node_frame, else 0 */
+    uint64_t asked;     /* requests not dequeued */
+    uint64_t held;      /* faults read and not resolved */
+    uint64_t changing;  /* unread events */
     uint64_t pages_sent;
-    uint64_t faults;     /* read */
+    uint64_t faults; /* read */
 } postmig_source_state;
 
 /* It counts the pages that remain, which takes the longer the larger the guest is: it is no call for every page. */
@@ -308,11 +332,11 @@ enum {
 };
 
 typedef struct {
-    uint32_t phase;     /* POSTMIG_DESTINATION_.. */
-    uint32_t has_run;   /* 1 once it has taken a Package */
+    uint32_t phase;   /* POSTMIG_DESTINATION_.. */
+    uint32_t has_run; /* 1 once it has taken a Package */
     uint32_t epoch;
     uint32_t owed;      /* pages that it still has to get */
-    uint32_t waiting;   /* frames that wait for postmig_node_frame */
+    uint32_t waiting;   /* 1 if frames wait for postmig_node_frame, else 0 */
     uint64_t requests;  /* pages requested and not installed */
     uint64_t arrivals;  /* copies that wait to be installed */
     uint64_t changing;  /* unread events */
@@ -326,15 +350,34 @@ uint32_t postmig_destination_counts(postmig_handle *destination, postmig_destina
 /* Where a page of the source is owed at the destination now. POSTMIG_NO_PAGE if nowhere. */
 uint32_t postmig_destination_home(postmig_handle *destination, uint32_t origin, uint32_t *page);
 
+/* The states of a page at the destination. */
+enum {
+    POSTMIG_PAGE_UNMAPPED = 0, /* all are, until the Package is taken */
+    POSTMIG_PAGE_MISSING = 1,  /* it is zeros once it is touched */
+    POSTMIG_PAGE_PRESENT = 2,  /* with the Package: the copy that was kept last, unless a Discard or a Resume has taken it away */
+    POSTMIG_PAGE_OWED = 3      /* its contents come from the source */
+};
+
+typedef struct {
+    uint32_t count; /* of pages, side by side */
+    uint32_t prot;  /* of each, POSTMIG_PROT_..; of unmapped ones 0 */
+    uint32_t state; /* of each, POSTMIG_PAGE_.. */
+} postmig_pages;
+
+/* What the page `from` is, and how many pages from there on are alike: the page after them is not, or is 0x100000. So what a Package maps, what
+   it owes, and what the Discards before it have left, is found by a walk from 0x10 on, by *pages.count at a time, to the end of the guest's
+   memory. It takes the longer the more pages are alike. POSTMIG_NO_PAGE from page 0x100000 on; POSTMIG_NO_MEMORY. */
+uint32_t postmig_destination_pages(postmig_handle *destination, uint32_t from, postmig_pages *pages);
+
 /* HEADS OF FRAMES, without a handle */
 
-/* Writes the 16 bytes in front of the 4096 of a Page. */
+/* Writes the 16 bytes in front of the 4096 of a Page. Of a page that no node has they are the head of no frame. */
 uint32_t postmig_page_head(uint32_t epoch, uint32_t page, uint8_t *out, size_t room, size_t *written);
 
-/* Writes the 20 bytes in front of those of a Run of 1 to 64 pages. */
+/* Writes the 20 bytes in front of those of a Run of 1 to 64 pages. POSTMIG_NOT_A_FRAME for another number of pages. */
 uint32_t postmig_run_head(uint32_t epoch, uint32_t first, uint32_t count, uint8_t *out, size_t room, size_t *written);
 
-/* Writes a Zero, which has 16 bytes. */
+/* Writes a Zero, which has 16 bytes. POSTMIG_NOT_A_FRAME for a page that no node has; POSTMIG_NO_MEMORY. */
 uint32_t postmig_zero_frame(uint32_t epoch, uint32_t page, uint8_t *out, size_t room, size_t *written);
 
 /* Of the frame at the front of these bytes, of which at least 12 are there: how many bytes it has without those of its pages, and how many
@@ -350,7 +393,7 @@ uint32_t postmig_frame_lengths(const uint8_t *bytes, size_t length, size_t *head
                back, notice (notice source), resume
    destination take (deliver), take_urgent (udeliver), read (dread), act (dact), install, install_run (an install for each copy), notice
                (notice dest)
-   none        new, next_.., check_.., counts, home, node_frame, node_trace, node_trace_count,
+   none        new, next_.., check_.., counts, home, pages, processor, node_frame, node_trace, node_trace_count,
                node_trace_take, heads of frames; break is the caller's
 
    AN ORDER OF CALLS
@@ -358,11 +401,101 @@ uint32_t postmig_frame_lengths(const uint8_t *bytes, size_t length, size_t *head
    source      new; issue mmap, issue a store of 0 to each present page; start; { round; { next_run, (protect, copy), run_sent, (send) } }
                with, for each real fault, issue, read, next_act, (ioctl), act, retry; switch; { back | serve, push_urgent |
                next_remaining, push }; end; back of Done.
-   destination new; { take }; after POSTMIG_DID_TAKE_PACKAGE retry of each processor that waited; { take | take_urgent | next_install,
-               (ioctl), install | for each real fault: issue or retry, read, next_act, (ioctl), act, retry if woken }; take of End.
+   destination new; { take }; after POSTMIG_DID_TAKE_PACKAGE the walk of destination_pages, and retry of each processor that waited;
+               { take | take_urgent | next_install, (ioctl), install, retry | for each real fault: issue, read, next_act, (ioctl), act,
+               retry }; take of End.
    after each call that says that a frame waits: node_frame.
    a break     both: drop what is unread and what waits in node_frame; notice. source: resume, send the Resume. destination: take it, send
-               the Recv and the Requests. source: back of the Recv. */
+               the Recv and the Requests. source: back of the Recv.
+
+   WHAT IS DUE
+
+   A node decides; its driver moves the bytes, calls the kernel, and carries the frames. PREMISE: which definition of crates/mig_laws/specs asks
+   that of a driver: of Processes.antt and Orders.antt, or with D of Drivers.antt (two_drivers_are_a_world); or kernel: what the kernel has is
+   then what the node has, which no law says and docs/LINUX.md measures. FOUND BY, where it is not done: node, it refuses a later call; run, the kernel returns what no node expects, a word
+   of the guest is wrong, or a side does not end, each as in live/; merge, live/merge --judge of both traces; nobody. What run finds it may find
+   late, or in one migration of several.
+
+   Each copy and each zero page that is put wakes, and so does the end of a protection; where none of these is due UFFDIO_WAKE is. To RETRY is to
+   call _retry for each processor that postmig_node_processor calls woken, and _read of the fault of each that sleeps again, all before the next
+   act or install: its thread is awake by then.
+
+                                                                                                      PREMISE             FOUND BY
+   Before the start
+    1  Both nodes begin with the same number of processors.                                           first_processes     node
+    2  No node of a migration is begun anew, but a destination before the switch, by a Notice         first_processes,    nobody
+       and a Resume. After the switch no other destination.                                           D IsNewThere
+    3  The three events are asked for before the first UFFDIO_REGISTER. All memory is                 D MeetsNoFault      run
+       registered before the kernel is asked what is present; then the source is issued the mmap,
+       and a store of 0 to each present page. Nothing else makes a page present later.
+    4  Each store that is issued is one of 0.                                                         D entered           nobody
+
+   Each call
+    5  One call of a node at a time, and of the guest one map call (docs/LINUX.md).                   kernel              nobody
+    6  next_.., then the call of the kernel, then the step, with nothing of that page in between.     kernel              run
+       EAGAIN: nothing was done, or only the first pages were put; the messages are read, and the
+       node is asked again about the rest.
+    7  POSTMIG_NO_MEMORY: the call is made again. (Of a Run its first pages may be kept: the same     IsHere, IsThere     nobody
+       frame is handed in again, or the migration ends.)
+    8  What waits in node_frame is sent before the pages of a later call. Only push_urgent's go       TakesFront,         node, merge
+       on the urgent connection.                                                                      TakesUrgentFront
+    9  A frame is handed in whole, once, and in the order in which it was sent; its bytes are those   TakesFront,         merge; of bytes run
+       that were sent.                                                                                D IsDoneThere
+
+   Accesses and faults
+   10  A load or store that meets no fault is not issued, and takes effect in memory alone. So the    D MeetsNoFault      run
+       driver itself touches no missing page of the guest, and no huge page makes one present.
+       (One that may be given back meanwhile is read without a fault: pread of /proc/self/mem.)
+   11  A fault of the kernel is issued to an idle processor, or is that of one which sleeps on the    kernel              run
+       page already; DID_SLEEP: read of its fault. DID_ANSWER: the page is there by now. The kernel
+       is asked, as for DID_WAKE. Where no processor is idle the driver keeps the fault until one
+       is, or its page has been woken; it reads on.
+   12  Each message is handed in once and in order, but one: with each REMAP a kernel sends an        kernel              run
+       UNMAP of the old range, after it, which is left out. DID_ENTER_CALL: count reads, one for
+       each of the others. (A fault that is kept is an access of when it is issued: events may pass
+       it, and wake it if they are of its page.)
+   13  DID_READ_EVENT, DID_READ_LAST: UFFDIO_WAKE of the range, of REMAP the old one; retry.          D tries_again       run, merge
+       (The range is unmapped, moved or cleared once the thread's call returns, and not before.)
+   14  DID_UNPROTECT: before it UFFDIO_WRITEPROTECT of the page without a mode; retry.                kernel              run
+   15  DID_ZERO: before it UFFDIO_ZEROPAGE; retry. EEXIST: a REMOVE was read and has not cleared      D zeroes            run
+       yet; it is tried again, as after EAGAIN.
+   16  DID_WAKE: before it the kernel is asked whether the page is there, since a REMOVE may be       kernel              run
+       read before it clears: UFFDIO_ZEROPAGE, and after EEXIST UFFDIO_WAKE; retry.
+   17  DID_FORGET: UFFDIO_WAKE of the page; retry.                                                    kernel              run
+   18  DID_REQUEST: node_frame, a Request may wait.                                                   TakesFront          merge
+
+   The source
+   19  DID_SEND_RUN, DID_SEND_PAGE, DID_SEND_ZERO of a round: UFFDIO_WRITEPROTECT has returned        D filled            run
+       before the first byte is read, and the bytes are read before the next fault of the page is
+       acted on. They are the page's, which is sent as a Page or a Zero.
+   20  DID_SWITCH: before it each thread that can write guest memory has left it for good, devices    IsHere              run
+       too, and events are read until then; after it node_frame, Discard and Package wait.
+   21  DID_SEND_PAGE, DID_SEND_ZERO of a push: the bytes are those that the page had at the switch.   D filled            run
+       The source keeps its memory, unchanged by anybody, until DID_TAKE_DONE or a Recv that says
+       2; then it may go.
+
+   The destination
+   22  Before DID_TAKE_PACKAGE the newest copy of each page is kept.                                  D takes             run
+   23  DID_TAKE_PACKAGE: memory is mapped as postmig_destination_pages says, the kept copies are at   D takes             run
+       the present pages, all others are missing (what was there is given back); it is registered;
+       then retry, and the threads run. (A driver that cannot write there puts a kept copy at the
+       first fault of its page, or earlier, and forgets it when the page is given back. It puts
+       the rest before it turns the object off.)
+   24  DID_TAKE_ZERO since then: the bytes wait, in the order of the frames of both wires.            D comes             run
+   25  DID_INSTALL: before it UFFDIO_COPY or UFFDIO_ZEROPAGE with the bytes of that frame; retry.     D puts              run
+       DID_DROP: they are dropped, and nobody is woken.
+   26  DID_TAKE_END: the destination listens until somebody knows that the source is released,        none: Done may      nobody
+       since Done may be lost; without a channel that may come again, until Done was sent. The        be lost
+       object is read until each kept copy is put and the ranges are unregistered (PROTOCOL.md).
+
+   A lost channel
+   27  All that was not taken of it is dropped, received and unsent bytes and what waits in           IsLossHere,         node, merge
+       node_frame, before the notice: DID_NOTICE. None before a start.                                IsLossThere
+   28  An urgent connection belongs to one epoch.                                                     IsOpening           node, merge
+   29  DID_RESUME: over the next channel, which the destination joins.                                IsOpening,          node
+                                                                                                      IsJoining
+   30  A destination that has taken End makes no notice of a lost channel, unless a Resume comes      IsSettled           merge
+       over the next one: the source may be released. */
 
 #ifdef __cplusplus
 }

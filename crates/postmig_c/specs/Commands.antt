@@ -10,6 +10,12 @@ use Rattle.postmig_c.specs.declared.commands.CommandNumbers.{CommandNumbers}
 abbrev pub prot_of : ℕ → Option Prot
 prot_of number = if number == 0 then Some Prot.NoAccess else if number == 1 then Some Prot.Read else if number == 2 then Some Prot.ReadWrite else None
 
+-- the number of a protection
+abbrev pub prot_number : Prot → ℕ
+prot_number Prot.NoAccess = 0
+prot_number Prot.Read = 1
+prot_number Prot.ReadWrite = 2
+
 -- a place by its number
 abbrev pub place_of : ℕ → ℕ → Option Place
 place_of number target = if number == 0 then Some Place.Anywhere else if number == 1 then Some (Place.Fixed target) else if number == 2 then Some (Place.NoReplace target) else None

@@ -12,6 +12,8 @@ pub mod Lines
 pub mod Reasons
 pub mod Shown
 pub mod Heads
+pub mod Pages
+pub mod Processors
 pub mod Questions
 pub mod Traces
 pub mod Runs

@@ -1,7 +1,9 @@
 //! Commands of processors, in numbers.
 
 ghost use Rattle.std.specs.Prelude.{◌≡◌};
-ghost use Rattle.postmig_c.specs.Commands.{command_of, fixed_of, place_of, prot_of, width_of};
+ghost use Rattle.std.specs.declared.option.Option.TheVariants.{Some as Just};
+ghost use Rattle.mig_base.specs.declared.command.Command.TheVariants.{Mmap};
+ghost use Rattle.postmig_c.specs.Commands.{command_of, fixed_of, place_of, prot_number, prot_of, width_of};
 
 use mig_base::{Command, Place, Prot};
 
@@ -30,6 +32,20 @@ pub struct CommandNumbers {
     pub value: u64,
 }
 
+/// Numbers that no command has.
+pub const NO_COMMAND: CommandNumbers = CommandNumbers {
+    kind: 0,
+    width: 0,
+    prot: 0,
+    place: 0,
+    may_move: 0,
+    addr: 0,
+    length: 0,
+    new_length: 0,
+    target: 0,
+    value: 0,
+};
+
 /// A protection by its number.
 fn prot_of(number: u32) -> Option<Prot>
     ensures { result ≡ prot_of number }
@@ -39,6 +55,18 @@ fn prot_of(number: u32) -> Option<Prot>
         1 => Some(Prot::Read),
         2 => Some(Prot::ReadWrite),
         _ => None,
+    }
+}
+
+/// The number of a protection.
+pub fn prot_number(prot: Prot) -> u32
+    ensures number { result ≡ prot_number prot }
+    ensures prot { prot_of result ≡ Just prot }
+{
+    match prot {
+        Prot::NoAccess => 0,
+        Prot::Read => 1,
+        Prot::ReadWrite => 2,
     }
 }
 
@@ -113,5 +141,98 @@ pub fn command_of(numbers: &CommandNumbers) -> Option<Command>
         }
         6 => Some(Command::DontNeed { addr, len }),
         _ => None,
+    }
+}
+
+/// The number of a place, and its target; 0 if it has none.
+fn place_numbers(place: Place) -> (u32, u64)
+    ensures { place_of result.0 result.1 ≡ Just place }
+{
+    match place {
+        Place::Anywhere => (0, 0),
+        Place::Fixed(target) => (1, target),
+        Place::NoReplace(target) => (2, target),
+    }
+}
+
+/// The number of the place of an mremap, and its target; 0 if it has none.
+fn fixed_numbers(fixed: Option<u64>) -> (u32, u64)
+    ensures { fixed_of result.0 result.1 ≡ Just fixed }
+{
+    match fixed {
+        None => (0, 0),
+        Some(target) => (1, target),
+    }
+}
+
+/// The numbers of an mmap.
+fn mmap_numbers(len: u64, prot: Prot, place: Place) -> CommandNumbers
+    ensures { command_of result ≡ Just (Mmap len prot place) }
+{
+    let (place, target) = place_numbers(place);
+    CommandNumbers {
+        kind: 3,
+        prot: prot_number(prot),
+        place,
+        length: len,
+        target,
+        ..NO_COMMAND
+    }
+}
+
+/// The numbers of a command.
+pub fn command_numbers(command: Command) -> CommandNumbers
+    ensures { command_of result ≡ Just command }
+{
+    match command {
+        Command::Load { addr, width } => CommandNumbers {
+            kind: 1,
+            width: u32::from(width),
+            addr,
+            ..NO_COMMAND
+        },
+        Command::Store { addr, width, value } => CommandNumbers {
+            kind: 2,
+            width: u32::from(width),
+            addr,
+            value,
+            ..NO_COMMAND
+        },
+        Command::Mmap {
+            addr_len,
+            prot,
+            place,
+        } => mmap_numbers(addr_len, prot, place),
+        Command::Munmap { addr, len } => CommandNumbers {
+            kind: 4,
+            addr,
+            length: len,
+            ..NO_COMMAND
+        },
+        Command::Mremap {
+            addr,
+            old_len,
+            new_len,
+            may_move,
+            fixed,
+        } => {
+            let (place, target) = fixed_numbers(fixed);
+            CommandNumbers {
+                kind: 5,
+                place,
+                may_move: u32::from(may_move),
+                addr,
+                length: old_len,
+                new_length: new_len,
+                target,
+                ..NO_COMMAND
+            }
+        }
+        Command::DontNeed { addr, len } => CommandNumbers {
+            kind: 6,
+            addr,
+            length: len,
+            ..NO_COMMAND
+        },
     }
 }

@@ -21,6 +21,8 @@ mod handle;
 mod heads;
 mod node_calls;
 mod numbers;
+mod pages;
+mod processors;
 mod questions;
 mod queue;
 mod reasons;

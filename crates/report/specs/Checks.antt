@@ -1,10 +1,12 @@
 -- What a check finds: the first entry whose reply is not that of one flat memory.
-use Rattle.std.specs.Prelude.{◌≡◌, ◌≢◌, ℕ, Bool, true, false, not, List, Some, take, slice_get}
+use Rattle.std.specs.Prelude.{◌≡◌, ◌≢◌, ℕ, ◌*◌, ◌/◌, ◌==◌, ◌&&◌, Bool, true, false, not, List, Option, Some, None, take, slice_get}
+use Rattle.mig_base.specs.declared.TheConstants.{PAGE_SIZE}
 use Rattle.mig_base.specs.declared.command.Reply.{Reply}
 use Rattle.mig_base.specs.declared.command.Entry.{Entry}
 use Rattle.mig_base.specs.declared.command.Command.{Command}
 use Rattle.mig_base.specs.declared.command.Command.TheVariants.{Load, Store, DontNeed}
-use Rattle.mig_base.specs.Flat.{Memory, reply_of, IsFlatRun, memory_of}
+use Rattle.mig_base.specs.Flat.{Cell, Memory, reply_of, IsFlatRun, memory_of}
+use Rattle.mig_base.specs.Tests.{is_every}
 use Rattle.mig_model.specs.Space.{is_made}
 use Rattle.uffd_ioctl.specs.Spaces.{is_refused}
 use Rattle.report.specs.declared.check.CheckFault.{CheckFault}
@@ -21,10 +23,20 @@ pub record FirstWrong (entries : List Entry) (index : ℕ) (expected : Reply) : 
   pub answers : expected ≡ reply_of (memory_of (take index entries)) entry.command
   pub differs : entry.reply ≢ expected
 
--- whether one flat memory may need room for a command: for a store that is made, or for a mapping that mmap, munmap or mremap changes
+-- whether an address has no other byte than zero
+abbrev pub is_zero : Option Cell → Bool
+is_zero None = true
+is_zero (Some cell) = cell.byte == 0
+
+-- whether a page of a memory reads as zeros
+abbrev pub is_page_of_zeros : Memory → ℕ → Bool
+is_page_of_zeros memory page = is_every (λ addr. is_zero (memory addr)) (PAGE_SIZE * page) PAGE_SIZE
+
+-- whether one flat memory may need room for a command: for a store that is made to a page of zeros, of which it may have no bytes, or for
+-- a mapping that mmap, munmap or mremap changes
 abbrev pub may_need_room : Memory → Command → Bool
 may_need_room memory (Load addr width) = false
-may_need_room memory (Store addr width value) = is_made (reply_of memory (Store addr width value))
+may_need_room memory (Store addr width value) = is_made (reply_of memory (Store addr width value)) && is_page_of_zeros memory (addr / PAGE_SIZE)
 may_need_room memory (DontNeed addr len) = false
 may_need_room memory command = not (is_refused (reply_of memory command))
 

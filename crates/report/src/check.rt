@@ -22,8 +22,8 @@ pub enum CheckFault {
 }
 
 /// Replays entries on one flat memory, kept in pages: it takes memory only for the areas and for the pages that are stored to, so
-/// `NoMemory` comes only at a store that is made, or at an mmap, munmap or mremap that is not refused. The processors of the entries do not
-/// matter.
+/// `NoMemory` comes only at a store that is made to a page of zeros, or at an mmap, munmap or mremap that is not refused. The processors
+/// of the entries do not matter.
 pub fn check(alloc: Global, entries: &[Entry]) -> Result<(), CheckFault>
     ensures ok { OnOk result (IsFlatRun entries.now) }
     ensures wrong { IfErr result (λ fault. IsFaultOf entries.now fault) }

@@ -1,8 +1,9 @@
 -- What a command that is tried enters.
 use Rattle.std.proofs.lemmas.Bool.Decides.{nat_tests}
-use Rattle.std.proofs.Common.{◌≡◌, ◌⊎◌, inl, inr, ℕ, Some, List, ◌++◌, refl, sym, ap, ◌∙◌, arith, append-nil, subst}
+use Rattle.std.proofs.Common.{◌≡◌, ◌⊎◌, ⊎_elim, inl, inr, ℕ, Some, List, ◌++◌, refl, sym, ap, ◌∙◌, arith, append-nil, subst}
 use Rattle.std.specs.Prelude.{Ok, Err}
 use Rattle.std.proofs.lemmas.Option.{same_Some}
+use Rattle.std.proofs.lemmas.Bool.{cases_eq}
 use Rattle.mig_base.specs.Commands.{is_access}
 use Rattle.mig_base.specs.declared.command.Command.{Command}
 use Rattle.mig_base.specs.declared.command.Entry.{Entry}
@@ -21,7 +22,7 @@ use Rattle.mig_model.proofs.steps.StepLemmas.{next-refused}
 use Rattle.mig_model.proofs.steps.StepCases.{made-effect}
 use Rattle.mig_model.specs.Promises.{IsReached}
 use Rattle.rig.specs.declared.section.Tried.{Tried}
-use Rattle.rig.specs.Sections.{IsEntered, IsSomeOutcome, IsReplyTo, IsToldOf, IsTried, entries_by}
+use Rattle.rig.specs.Sections.{IsEntered, IsServed, IsSomeOutcome, IsReplyTo, IsToldOf, IsTried, entries_by}
 
 entered_by : (entries : List Entry) (cpu : ℕ) (command : Command) (took : Took) → IsEntered (try_effect cpu took) entries (entries ++ entries_of cpu command took) cpu command
 entered_by entries cpu command (Answer reply) = refl
@@ -74,7 +75,10 @@ unfolding IsReplyTo
 told_of old new step cpu command (Tried.Replied reply) reached try entered = (old, new, step, try.0, reached, try.1, entered)
 told_of old new step cpu command Tried.Asleep reached try entered = tt
 
--- the outcome of a Serve that was made in the right epoch
-pub served : (old new : World) (result : Outcome) → IsReached old → (result ≡ Err Refusal.StaleEpoch) ⊎ Happens old Step.Serve result new → (result ≡ Err Refusal.StaleEpoch) ⊎ IsSomeOutcome Step.Serve result
-served old new result reached (inl stale) = inl stale
-served old new result reached (inr happens) = inr (new, (old, reached, happens))
+-- a Serve that is made in one epoch alone
+pub served : (epoch : ℕ) (new : World) (result : Outcome) → IsServed epoch result new → (result ≡ Err Refusal.StaleEpoch) ⊎ IsSomeOutcome Step.Serve result
+served epoch new result is =
+    ⊎_elim
+    (λ (same : epoch ≡ is.0.source.epoch). inr (new, (is.0, is.1, is.3 same)))
+    (λ (other : epoch ≡ is.0.source.epoch → ⊥). inl (is.2 other).0)
+    (cases_eq epoch is.0.source.epoch)

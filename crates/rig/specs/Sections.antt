@@ -1,5 +1,5 @@
 -- Sections of the lock: each makes at most one step, and what that step enters in the transcript.
-use Rattle.std.specs.Prelude.{◌≡◌, ℕ, ⊤, Bool, true, false, List, [], ◌∷◌, ◌++◌, Result, Ok, Err}
+use Rattle.std.specs.Prelude.{◌≡◌, ◌≢◌, ℕ, ⊤, Bool, true, false, List, [], ◌∷◌, ◌++◌, Result, Ok, Err}
 use Rattle.mig_base.specs.declared.command.Command.{Command}
 use Rattle.mig_base.specs.declared.command.Entry.{Entry}
 use Rattle.mig_base.specs.declared.command.Reply.{Reply}
@@ -19,6 +19,13 @@ IsMade step outcome new = (old : World) × IsReached old × Happens old step out
 -- some world that steps can reach gives this outcome to the step
 abbrev pub IsSomeOutcome : Step → Outcome → Type 0
 IsSomeOutcome step outcome = (new : World) × IsMade step outcome new
+
+-- the same of a Serve that is made in this epoch alone: in another it is refused as StaleEpoch, and no step is made
+abbrev pub IsServed : ℕ → Outcome → World → Type 0
+IsServed epoch outcome new =
+    (old : World) × IsReached old
+    × (epoch ≢ old.source.epoch → (outcome ≡ Err Refusal.StaleEpoch) × (new ≡ old))
+    × (epoch ≡ old.source.epoch → Happens old Step.Serve outcome new)
 
 -- what became of a command, by the effect of its step: it has a reply, also where a map call still waits for its messages, or it sleeps
 abbrev pub IsTriedAs : Effect → Tried → Type 0

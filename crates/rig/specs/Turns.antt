@@ -1,8 +1,11 @@
 -- The turns of the workers: the kind of step that each asks for, and the steps that it makes.
-use Rattle.std.specs.Prelude.{◌≡◌, ◌⊎◌, ◌%◌, ℕ, List, [], ◌∷◌, length, IfSome, Contains}
+use Rattle.std.specs.Prelude.{◌≡◌, ◌⊎◌, ◌%◌, ℕ, Bool, true, false, if◌then◌else◌, Option, Some, None, Ok, Err, List, [], ◌∷◌, length, IfSome, Contains}
 use Rattle.std.specs.List.{slice_get}
+use Rattle.mig_base.specs.declared.refusal.Refusal.{Refusal}
 use Rattle.mig_base.specs.declared.schedule.Side.{Side}
 use Rattle.mig_base.specs.declared.schedule.Step.{Step}
+use Rattle.mig_base.specs.declared.schedule.Ticket.{Ticket}
+use Rattle.mig_model.specs.Runs.{Outcome}
 use Rattle.rig.specs.declared.gate.StepKind.{StepKind}
 use Rattle.rig.specs.declared.gate.Worker.{Worker}
 
@@ -56,3 +59,32 @@ abbrev pub IsStepOf : Worker → Step → Type 0
 IsStepOf Worker.Serve step = (kind_of step ≡ StepKind.Serve) ⊎ (kind_of step ≡ StepKind.PushUrgent)
 IsStepOf Worker.Push step = kind_of step ≡ StepKind.Push
 IsStepOf worker step = Contains (steps_of worker) step
+
+-- the ticket of a push
+abbrev pub ticket_of : Step → Option Ticket
+ticket_of (Step.Push ticket) = Some ticket
+ticket_of (Step.PushUrgent ticket) = Some ticket
+ticket_of step = None
+
+-- whether a step of this kind is a push
+abbrev pub is_push : StepKind → Bool
+is_push StepKind.Push = true
+is_push StepKind.PushUrgent = true
+is_push kind = false
+
+-- whether a push that is refused so may be accepted later in its epoch
+abbrev pub may_succeed : Refusal → Bool
+may_succeed Refusal.NoMemory = true
+may_succeed Refusal.Broken = true
+may_succeed Refusal.Phase = true
+may_succeed refusal = false
+
+-- the ticket that a worker has to push again after a step
+abbrev pub due_after : Step → Outcome → Option Ticket
+due_after step (Ok effect) = None
+due_after step (Err refusal) = if may_succeed refusal then ticket_of step else None
+
+-- whether an outcome says that the epoch of the claims is over
+abbrev pub is_stale : Outcome → Bool
+is_stale (Err Refusal.StaleEpoch) = true
+is_stale outcome = false

@@ -55,9 +55,14 @@ pub enum Pass {
     Stop,
 }
 
-/// Decides what the workers do in their turns. A worker asks it before each turn, while the lock is free; its turns are counted from 0.
+/// Decides what the workers do in their turns.
 pub trait Gate {
-    fn pass(&self, who: Worker, next: StepKind, turn: u64) -> Pass;
+    ghost use Rattle.rig.specs.Turns.{Asks};
+
+    /// A worker asks this before each turn, while the lock is free: whether it may make a step of the kind that is next in its table, or,
+    /// if it sends owed pages, of a kind that it makes. Its turns are counted from 0.
+    fn pass(&self, who: Worker, next: StepKind, turn: u64) -> Pass
+        requires asks { Asks who turn next };
 }
 
 impl StepKind {

@@ -29,4 +29,4 @@ pub use crate::gate::{Gate, Pass, StepKind, Worker};
 pub use crate::rig::{CloseFault, Rig};
 pub use crate::seat::{Answer, CpuSeat};
 pub use crate::sending::{push_turns, serve_turns};
-pub use crate::turns::{Leave, Turns, dest_turns, source_turns};
+pub use crate::turns::{Leave, Turns, dest_turns, says_stale, source_turns, ticket_due};

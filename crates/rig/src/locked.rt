@@ -1,16 +1,16 @@
 //! The turns of a worker under the lock of a rig.
 
-ghost use Rattle.std.specs.Prelude.{◌≡◌, ◌⊎◌, Err};
+ghost use Rattle.std.specs.Prelude.{◌≡◌, ◌⊎◌, None, false, Err};
 ghost use Rattle.mig_base.specs.declared.schedule.Step.{Step};
 ghost use Rattle.rig.specs.declared.turns.Leave.{Leave};
 ghost use Rattle.rig.specs.Sections.{IsSomeOutcome};
 
 use crate::gate::{Gate, Pass, StepKind, Worker};
 use crate::rig::Rig;
-use crate::turns::{Leave, Turns};
+use crate::turns::{Leave, Turns, says_stale, ticket_due};
 use mig_base::effect::Effect;
 use mig_base::refusal::Refusal;
-use mig_base::schedule::Step;
+use mig_base::schedule::{Step, Ticket};
 use std::sync::Wait;
 
 /// A worker of a rig, which asks a gate and makes each step in one section of the lock.
@@ -22,6 +22,8 @@ pub(crate) struct Locked<'a, R, G> {
     who: Worker,
     turn: u64,
     leave: Leave,
+    due: Option<Ticket>,
+    stale: bool,
 }
 
 impl<'a, R: Wait, G: Gate> Locked<'a, R, G> {
@@ -30,6 +32,8 @@ impl<'a, R: Wait, G: Gate> Locked<'a, R, G> {
         ensures who { result.who ≡ who }
         ensures turn { result.turn ≡ 0 }
         ensures leave { result.leave ≡ Leave.Nothing }
+        ensures due { result.due ≡ None }
+        ensures stale { result.stale ≡ false }
     {
         Locked {
             rig,
@@ -38,6 +42,8 @@ impl<'a, R: Wait, G: Gate> Locked<'a, R, G> {
             who,
             turn: 0,
             leave: Leave::Nothing,
+            due: None,
+            stale: false,
         }
     }
 }
@@ -48,6 +54,10 @@ impl<R: Wait, G: Gate> Turns for Locked<'_, R, G> {
     ghost turn = { λ s. s.turn };
 
     ghost leave = { λ s. s.leave };
+
+    ghost due = { λ s. s.due };
+
+    ghost stale = { λ s. s.stale };
 
     fn pass(&mut self, next: StepKind) -> Pass {
         let pass = self.gate.pass(self.who, next, self.turn);
@@ -63,15 +73,22 @@ impl<R: Wait, G: Gate> Turns for Locked<'_, R, G> {
     fn make(&mut self, step: Step) -> Result<Effect, Refusal> {
         self.leave = Leave::Nothing;
         let (_world, outcome) = self.rig.make(self.rt, step);
+        self.due = ticket_due(step, &outcome);
+        self.stale |= says_stale(&outcome);
         outcome
     }
 
     fn serve(&mut self, epoch: u32) -> Result<Effect, Refusal> {
         self.leave = Leave::Nothing;
-        self.rig.serve(self.rt, epoch)
+        let (_world, outcome) = self.rig.serve(self.rt, epoch);
+        self.stale |= says_stale(&outcome);
+        outcome
     }
 
-    fn epoch(&self) -> u32 {
-        self.rig.epoch(self.rt)
+    fn is_over(&mut self, epoch: u32) -> bool {
+        let (_world, now) = self.rig.epoch(self.rt);
+        let is_over = now != epoch;
+        self.stale |= is_over;
+        is_over
     }
 }

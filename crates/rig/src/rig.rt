@@ -1,6 +1,6 @@
 //! A world under a lock, with processors and workers in threads of their own.
 
-ghost use Rattle.std.specs.Prelude.{◌≡◌, ◌⊎◌, ◌++◌, ◌∷◌, [], length, ◌<◌, ◌≤◌, ℕ, IfOk, IfErr, IfSome, OnOk, OnErr, true, false, Some, Err, All, ◌+◌, ◌↔◌, set, Bool, List};
+ghost use Rattle.std.specs.Prelude.{◌≡◌, ◌≢◌, ◌⊎◌, ◌++◌, ◌∷◌, [], length, ◌<◌, ◌≤◌, ℕ, IfOk, IfErr, IfSome, OnOk, OnErr, true, false, Some, Err, All, ◌+◌, ◌↔◌, set, Bool, List};
 ghost use Rattle.std.specs.List.{slice_get};
 ghost use Rattle.mig_base.specs.Flat.{IsFlatRun};
 ghost use Rattle.mig_base.specs.declared.command.Command.{Command};
@@ -8,7 +8,8 @@ ghost use Rattle.mig_base.specs.declared.schedule.Step.{Step};
 ghost use Rattle.pusher.specs.Seats.{IsSeatOf};
 ghost use Rattle.rig.specs.Claiming.{AreFound, IsLost};
 ghost use Rattle.rig.specs.Seats.{answers_of, list_of, seats_of, AreAnswered, SeatsAreRight, IsLeastWrong, calls_of};
-ghost use Rattle.rig.specs.Sections.{IsMade, IsSomeOutcome, IsReplyOf, IsReplyTo};
+ghost use Rattle.rig.specs.Sections.{IsMade, IsServed, IsSomeOutcome, IsReplyOf, IsReplyTo};
+ghost use Rattle.mig_base.specs.declared.refusal.Refusal.{Refusal};
 ghost use Rattle.std.specs.Sync.Mutex.{mutex_guard_value};
 
 mod commands;
@@ -123,11 +124,13 @@ impl Rig {
     }
 
     /// Makes a command as the seat's processor, and returns its reply once there is one: a load or store that sleeps is tried again when
-    /// it is woken, and a map call returns when its messages have been read. Waits while neither node runs the processors.
+    /// it is woken, and a map call returns when its messages have been read. Waits while neither node runs the processors: `Phase` does
+    /// not come.
     ///
     /// `Busy` if the processor still has a command: one from before the rig, or one whose retry was refused for lack of memory; see
-    /// [`finish`](Rig::finish). `NoMemory` if the seat has no room for the answer, or a step had no memory. In the second case a command
-    /// that has slept stays with the processor, and `finish` waits for its reply.
+    /// [`finish`](Rig::finish). `NoMemory` if the seat has no room for the answer, before any step, or if a step had no memory. Nothing
+    /// was entered then. Where the command has slept it stays with the processor, and `finish` waits for its reply; else the processor is
+    /// idle.
     pub fn call<R: Wait>(
         &self,
         rt: &R,
@@ -139,6 +142,7 @@ impl Rig {
             seat.new.answers ≡ seat.old.answers ++
             record { command = command; reply = reply } ∷ []) }
         ensures entered { IfOk result (λ reply. IsReplyOf seat.old.cpu reply) }
+        ensures waits { result ≢ Err Refusal.Phase }
         ensures err { OnErr result (seat.new ≡ seat.old) }
     {
         if seat.answers.try_reserve(1).is_err() {
@@ -155,7 +159,7 @@ impl Rig {
     }
 
     /// Waits for the reply to the outstanding load or store of the seat's processor. `NotAsleep` if it has none. `NoMemory` as for
-    /// [`call`](Rig::call).
+    /// [`call`](Rig::call): the command stays with the processor, and `finish` may be called again.
     pub fn finish<R: Wait>(&self, rt: &R, seat: &mut CpuSeat) -> Result<Reply, Refusal>
         ensures cpu { seat.new.cpu ≡ seat.old.cpu }
         ensures ok { IfOk result (λ reply.
@@ -163,6 +167,7 @@ impl Rig {
             (seat.new.answers ≡ seat.old.answers ++
             record { command = command; reply = reply } ∷ []) ×
             IsReplyTo seat.old.cpu command reply) }
+        ensures waits { result ≢ Err Refusal.Phase }
         ensures err { OnErr result (seat.new ≡ seat.old) }
     {
         if seat.answers.try_reserve(1).is_err() {
@@ -215,9 +220,14 @@ impl Rig {
         self.world.lock(rt).phase()
     }
 
-    /// Dequeues a request in one section of the lock. `StaleEpoch`, and no step, if the world's epoch is another.
-    pub(crate) fn serve<R: Wait>(&self, rt: &R, epoch: u32) -> Result<Effect, Refusal>
-        ensures { (result ≡ Err Refusal.StaleEpoch) ⊎ IsSomeOutcome Step.Serve result }
+    /// Dequeues a request in one section of the lock. `StaleEpoch`, and no step, if the world's epoch is another. The world that is still
+    /// locked is the one that the section has left.
+    pub(crate) fn serve<R: Wait>(
+        &self,
+        rt: &R,
+        epoch: u32,
+    ) -> (MutexGuard<'_, World>, Result<Effect, Refusal>)
+        ensures { IsServed epoch result.1 (mutex_guard_value result.0) }
     {
         let mut world = self.world.lock(rt);
         world.headline();
@@ -225,12 +235,16 @@ impl Rig {
         if outcome.is_ok() {
             self.changed.notify_all();
         }
-        outcome
+        (world, outcome)
     }
 
-    /// The epoch now. No step is made.
-    pub(crate) fn epoch<R: Wait>(&self, rt: &R) -> u32 {
-        self.world.lock(rt).epoch()
+    /// The epoch of the world, which is still locked. No step is made.
+    pub(crate) fn epoch<R: Wait>(&self, rt: &R) -> (MutexGuard<'_, World>, u32)
+        ensures { result.1 ≡ (mutex_guard_value result.0).source.epoch }
+    {
+        let world = self.world.lock(rt);
+        let epoch = world.epoch();
+        (world, epoch)
     }
 
     /// One step, in one section of the lock. The world that is still locked is the one that the step has left.

@@ -1,13 +1,14 @@
 //! The loops of the two workers that send the owed pages, and divide them by claims.
 
-ghost use Rattle.std.specs.Prelude.{◌≡◌, ◌≢◌, IfSome, IfNone};
+ghost use Rattle.std.specs.Prelude.{◌≡◌, ◌≢◌, ◌⊎◌, ◌^◌, ◌-◌, true, false, None, Some, IfSome, IfNone};
 ghost use Rattle.mig_base.specs.declared.schedule.Step.{Step};
 ghost use Rattle.pusher.specs.Seats.{IsSeatOf};
 ghost use Rattle.rig.specs.Claiming.{BeginsWith, Continues};
 ghost use Rattle.rig.specs.declared.gate.StepKind.{StepKind};
 ghost use Rattle.rig.specs.declared.gate.Worker.{Worker};
+ghost use Rattle.rig.specs.declared.sending.Held.{Held};
 ghost use Rattle.rig.specs.declared.turns.Leave.{Leave};
-ghost use Rattle.rig.specs.Turns.{IsStepOf, kind_of};
+ghost use Rattle.rig.specs.Turns.{IsStepOf, kind_of, ticket_of};
 
 use crate::gate::{Pass, StepKind};
 use crate::turns::Turns;
@@ -33,6 +34,10 @@ pub fn serve_turns<T: Turns>(turns: &mut T, claims: &Claims, mut seat: ClaimSeat
     requires who { T.who turns.old ≡ Worker.Serve }
     requires first { T.turn turns.old ≡ 0 }
     requires runs { T.leave turns.old ≢ Leave.Over }
+    requires none { T.due turns.old ≡ None }
+    ensures ended { (T.leave turns.new ≡ Leave.Over) ⊎
+        (T.stale turns.new ≡ true) ⊎
+        (T.turn turns.new ≡ 2 ^ 64 - 1) }
     ensures seat { IsSeatOf claims.now result }
     ensures share { result.share ≡ seat.share }
     ensures claimed { BeginsWith result.claimed seat.claimed }
@@ -63,6 +68,10 @@ pub fn push_turns<T: Turns>(turns: &mut T, claims: &Claims, mut seat: ClaimSeat)
     requires who { T.who turns.old ≡ Worker.Push }
     requires first { T.turn turns.old ≡ 0 }
     requires runs { T.leave turns.old ≢ Leave.Over }
+    requires none { T.due turns.old ≡ None }
+    ensures ended { (T.leave turns.new ≡ Leave.Over) ⊎
+        (T.stale turns.new ≡ true) ⊎
+        (T.turn turns.new ≡ 2 ^ 64 - 1) }
     ensures seat { IsSeatOf claims.now result }
     ensures share { result.share ≡ seat.share }
     ensures claimed { BeginsWith result.claimed seat.claimed }
@@ -99,11 +108,14 @@ fn serve<T: Turns>(
     requires who { T.who turns.old ≡ Worker.Serve }
     requires urgent { IfSome ticket (λ t. T.leave turns.old ≡ Leave.Step StepKind.PushUrgent) }
     requires serves { IfNone ticket (T.leave turns.old ≡ Leave.Step StepKind.Serve) }
+    requires held { IfSome (T.due turns.old) (λ due. ticket ≡ Some due) }
     ensures seat { IsSeatOf claims.now seat.new }
     ensures continued { Continues seat.old seat.new }
     ensures who { T.who turns.new ≡ T.who turns.old }
     ensures turn { T.turn turns.new ≡ T.turn turns.old }
     ensures leave { T.leave turns.new ≡ Leave.Nothing }
+    ensures held { IfSome (T.due turns.new) (λ due. result ≡ Held.Ticket (Some due)) }
+    ensures over { result ≡ Held.Over → T.stale turns.new ≡ true }
 {
     if let Some(ticket) = ticket {
         return send(turns, Step::PushUrgent(ticket), ticket);
@@ -122,14 +134,17 @@ fn serve<T: Turns>(
 fn push<T: Turns>(turns: &mut T, epoch: u32, ticket: Option<Ticket>) -> Held
     requires who { T.who turns.old ≡ Worker.Push }
     requires leave { T.leave turns.old ≡ Leave.Step StepKind.Push }
+    requires held { IfSome (T.due turns.old) (λ due. ticket ≡ Some due) }
     ensures who { T.who turns.new ≡ T.who turns.old }
     ensures turn { T.turn turns.new ≡ T.turn turns.old }
     ensures leave { T.leave turns.new ≢ Leave.Over }
+    ensures held { IfSome (T.due turns.new) (λ due. result ≡ Held.Ticket (Some due)) }
+    ensures over { result ≡ Held.Over → T.stale turns.new ≡ true }
 {
     if let Some(ticket) = ticket {
         return send(turns, Step::Push(ticket), ticket);
     }
-    if turns.epoch() != epoch {
+    if turns.is_over(epoch) {
         return Held::Over;
     }
     thread::yield_now();
@@ -140,9 +155,13 @@ fn push<T: Turns>(turns: &mut T, epoch: u32, ticket: Option<Ticket>) -> Held
 fn send<T: Turns>(turns: &mut T, step: Step, ticket: Ticket) -> Held
     requires step { IsStepOf (T.who turns.old) step }
     requires leave { T.leave turns.old ≡ Leave.Step (kind_of step) }
+    requires ticket { ticket_of step ≡ Some ticket }
+    requires held { IfSome (T.due turns.old) (λ due. ticket ≡ due) }
     ensures who { T.who turns.new ≡ T.who turns.old }
     ensures turn { T.turn turns.new ≡ T.turn turns.old }
     ensures leave { T.leave turns.new ≡ Leave.Nothing }
+    ensures held { IfSome (T.due turns.new) (λ due. result ≡ Held.Ticket (Some due)) }
+    ensures over { result ≡ Held.Over → T.stale turns.new ≡ true }
 {
     let outcome = turns.make(step);
     if outcome.is_ok() {

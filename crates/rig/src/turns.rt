@@ -1,19 +1,21 @@
 //! The turns of a worker, and the loop of one that makes the steps of a table.
 
-ghost use Rattle.std.specs.Prelude.{◌≡◌, ◌≢◌, ◌⊎◌, ◌<◌, ◌^◌, ◌-◌, ℕ, suc, Some, None, Err, length, Option};
+ghost use Rattle.std.specs.Prelude.{◌≡◌, ◌≢◌, ◌⊎◌, ◌<◌, ◌^◌, ◌-◌, ◌||◌, ℕ, Bool, suc, true, Some, None, Err, length, Option, IfSome};
 ghost use Rattle.mig_base.specs.declared.refusal.Refusal.{Refusal};
 ghost use Rattle.mig_base.specs.declared.schedule.Step.{Step};
+ghost use Rattle.mig_base.specs.declared.schedule.Ticket.{Ticket};
 ghost use Rattle.rig.specs.declared.gate.Pass.{Pass};
 ghost use Rattle.rig.specs.declared.gate.StepKind.{StepKind};
 ghost use Rattle.rig.specs.declared.gate.Worker.{Worker};
 ghost use Rattle.rig.specs.declared.turns.Leave.{Leave};
+ghost use Rattle.rig.specs.declared.turns.Taken.{Taken};
 ghost use Rattle.rig.specs.Sections.{IsSomeOutcome};
-ghost use Rattle.rig.specs.Turns.{Asks, IsStepOf, kind_of, steps_of};
+ghost use Rattle.rig.specs.Turns.{Asks, IsStepOf, due_after, is_push, is_stale, kind_of, steps_of, ticket_of};
 
 use crate::gate::{Pass, StepKind, Worker};
 use mig_base::effect::Effect;
 use mig_base::refusal::Refusal;
-use mig_base::schedule::{Side, Step};
+use mig_base::schedule::{Side, Step, Ticket};
 use std::thread;
 
 /// The most times that a worker yields between two rounds of its steps, which takes some tens of microseconds.
@@ -30,6 +32,16 @@ pub enum Leave {
     Over,
 }
 
+/// What came of a turn.
+enum Taken {
+    /// A step was made.
+    Step,
+    /// No step was made.
+    Nothing,
+    /// The worker was stopped.
+    Stop,
+}
+
 /// What the loop of a worker runs over: in each turn it asks whether it may make a step of the next kind, and then makes at most one, of
 /// that kind. Under the lock of a rig the gate decides, and each step is one section. Tests run the same loops over a world and a list of
 /// the kinds that were asked for.
@@ -41,12 +53,21 @@ pub trait Turns {
 
     ghost leave: { Self → Leave };
 
+    /// The ticket of a push that was refused and may be accepted later, if there is one. It is pushed before anything else is done.
+    ghost due: { Self → Option Ticket };
+
+    /// Whether the epoch of the worker's claims was found to be over.
+    ghost stale: { Self → Bool };
+
     /// Asks for a step of this kind, which begins the next turn. A worker that was stopped does not ask again.
     fn pass(&mut self, next: StepKind) -> Pass
         requires asks { Asks (who self.old) (turn self.old) next }
         requires runs { leave self.old ≢ Leave.Over }
         requires few { turn self.old < 2 ^ 64 - 1 }
+        requires again { IfSome (due self.old) (λ ticket. is_push next ≡ true) }
         ensures who { who self.new ≡ who self.old }
+        ensures due { due self.new ≡ due self.old }
+        ensures stale { stale self.new ≡ stale self.old }
         ensures turn { turn self.new ≡ suc (turn self.old) }
         ensures go { result ≡ Pass.Go → leave self.new ≡ Leave.Step next }
         ensures skip { result ≡ Pass.Skip → leave self.new ≡ Leave.Nothing }
@@ -56,21 +77,32 @@ pub trait Turns {
     fn make(&mut self, step: Step) -> Result<Effect, Refusal>
         requires step { IsStepOf (who self.old) step }
         requires leave { leave self.old ≡ Leave.Step (kind_of step) }
+        requires again { IfSome (due self.old) (λ ticket. ticket_of step ≡ Some ticket) }
         ensures who { who self.new ≡ who self.old }
         ensures turn { turn self.new ≡ turn self.old }
         ensures leave { leave self.new ≡ Leave.Nothing }
+        ensures due { due self.new ≡ due_after step result }
+        ensures stale { stale self.new ≡ stale self.old || is_stale result }
         ensures outcome { IsSomeOutcome step result };
 
     /// Makes a Serve, if the world is in this epoch; `StaleEpoch`, and no step, if not.
     fn serve(&mut self, epoch: u32) -> Result<Effect, Refusal>
         requires leave { leave self.old ≡ Leave.Step StepKind.Serve }
+        requires again { due self.old ≡ None }
         ensures who { who self.new ≡ who self.old }
         ensures turn { turn self.new ≡ turn self.old }
         ensures leave { leave self.new ≡ Leave.Nothing }
+        ensures due { due self.new ≡ None }
+        ensures stale { stale self.new ≡ stale self.old || is_stale result }
         ensures outcome { (result ≡ Err Refusal.StaleEpoch) ⊎ IsSomeOutcome Step.Serve result };
 
-    /// The epoch of the world now. No step is made.
-    fn epoch(&self) -> u32;
+    /// Whether the world is in another epoch than this one. No step is made.
+    fn is_over(&mut self, epoch: u32) -> bool
+        ensures who { who self.new ≡ who self.old }
+        ensures turn { turn self.new ≡ turn self.old }
+        ensures leave { leave self.new ≡ leave self.old }
+        ensures due { due self.new ≡ due self.old }
+        ensures stale { stale self.new ≡ stale self.old || result };
 }
 
 /// The loop of the source's worker: Round, Send, SourceRead, SourceAct, DeliverBack, End and Notice in turn, over and over, until it is
@@ -79,6 +111,7 @@ pub fn source_turns<T: Turns>(turns: &mut T)
     requires who { T.who turns.old ≡ Worker.Source }
     requires first { T.turn turns.old ≡ 0 }
     requires runs { T.leave turns.old ≢ Leave.Over }
+    requires none { T.due turns.old ≡ None }
     ensures ended { (T.leave turns.new ≡ Leave.Over) ⊎ (T.turn turns.new ≡ 2 ^ 64 - 1) }
 {
     take_turns(
@@ -101,6 +134,7 @@ pub fn dest_turns<T: Turns>(turns: &mut T)
     requires who { T.who turns.old ≡ Worker.Dest }
     requires first { T.turn turns.old ≡ 0 }
     requires runs { T.leave turns.old ≢ Leave.Over }
+    requires none { T.due turns.old ≡ None }
     ensures ended { (T.leave turns.new ≡ Leave.Over) ⊎ (T.turn turns.new ≡ 2 ^ 64 - 1) }
 {
     take_turns(
@@ -123,26 +157,50 @@ fn take_turns<T: Turns>(turns: &mut T, steps: &[Step])
     requires table { steps.now ≡ steps_of (T.who turns.old) }
     requires first { T.turn turns.old ≡ 0 }
     requires runs { T.leave turns.old ≢ Leave.Over }
+    requires none { T.due turns.old ≡ None }
     ensures ended { (T.leave turns.new ≡ Leave.Over) ⊎ (T.turn turns.new ≡ 2 ^ 64 - 1) }
 {
     let count = steps.len() as u64;
     let mut is_idle = true;
     let mut rest = 1;
     for turn in 0..u64::MAX {
-        let step = steps[(turn % count) as usize];
-        match turns.pass(StepKind::of(step)) {
-            Pass::Go => {
-                if turns.make(step).is_ok() {
-                    is_idle = false;
-                }
-            }
-            Pass::Skip => {}
-            Pass::Stop => return,
+        match take_turn(turns, steps[(turn % count) as usize]) {
+            Taken::Step => is_idle = false,
+            Taken::Nothing => {}
+            Taken::Stop => return,
         }
         if turn % count == count - 1 {
             rest = if is_idle { rest_after(rest) } else { 1 };
             is_idle = true;
         }
+    }
+}
+
+/// Asks for a step of the worker's table, and makes it if it may.
+#[tactic(auto, using(crate::proofs::TurnLemmas::due_none))]
+fn take_turn<T: Turns>(turns: &mut T, step: Step) -> Taken
+    requires step { IsStepOf (T.who turns.old) step }
+    requires asks { Asks (T.who turns.old) (T.turn turns.old) (kind_of step) }
+    requires runs { T.leave turns.old ≢ Leave.Over }
+    requires few { T.turn turns.old < 2 ^ 64 - 1 }
+    requires none { T.due turns.old ≡ None }
+    requires no_push { ticket_of step ≡ None }
+    ensures who { T.who turns.new ≡ T.who turns.old }
+    ensures turn { T.turn turns.new ≡ suc (T.turn turns.old) }
+    ensures none { T.due turns.new ≡ None }
+    ensures runs { result ≢ Taken.Stop → T.leave turns.new ≢ Leave.Over }
+    ensures stop { result ≡ Taken.Stop → T.leave turns.new ≡ Leave.Over }
+{
+    match turns.pass(StepKind::of(step)) {
+        Pass::Go => {
+            if turns.make(step).is_ok() {
+                Taken::Step
+            } else {
+                Taken::Nothing
+            }
+        }
+        Pass::Skip => Taken::Nothing,
+        Pass::Stop => Taken::Stop,
     }
 }
 
@@ -152,4 +210,24 @@ fn rest_after(rest: u32) -> u32 {
         thread::yield_now();
     }
     rest.saturating_mul(2).min(LONGEST_REST)
+}
+
+/// The ticket of a push that was refused and may be accepted later: its worker pushes it again.
+pub fn ticket_due(step: Step, outcome: &Result<Effect, Refusal>) -> Option<Ticket>
+    ensures { result ≡ due_after step outcome.now }
+{
+    match (step, outcome) {
+        (
+            Step::Push(ticket) | Step::PushUrgent(ticket),
+            Err(Refusal::NoMemory | Refusal::Broken | Refusal::Phase),
+        ) => Some(ticket),
+        _ => None,
+    }
+}
+
+/// Whether an outcome says that the epoch of the claims is over.
+pub fn says_stale(outcome: &Result<Effect, Refusal>) -> bool
+    ensures { result ≡ is_stale outcome.now }
+{
+    matches!(outcome, Err(Refusal::StaleEpoch))
 }

@@ -4,8 +4,10 @@
 mod claims;
 mod gates;
 mod memory;
+mod one_step;
 mod outcomes;
 mod processors;
+mod refusals;
 mod seats;
 pub mod setup;
 mod steps;

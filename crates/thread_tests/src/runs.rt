@@ -1,13 +1,15 @@
-//! Runs with and without a cut. One that is refused memory has written nothing; it is made once more, and then has to succeed.
+//! Runs with and without a cut: what they write, and the world that they have run. One that is refused memory has written nothing; it is
+//! made once more, and then has to succeed.
 ghost use Rattle.std.specs.Prelude.{◌≤◌};
 
 use engine::RunFault;
-use mig_base::WorldPhase;
+use mig_base::{Command, LOW, Place, Prot, WorldPhase};
+use rig::{Answer, CpuSeat};
 use std::alloc::Global;
 use std::sync::Wait;
 use std::test::Fail;
 use std::thread::Threads;
-use threads::{Run, run_threads, run_world};
+use threads::{Run, run_threads};
 
 /// A run, made once more if it was refused memory and has written nothing.
 fn run<R: Threads + Wait + Sync>(
@@ -16,18 +18,17 @@ fn run<R: Threads + Wait + Sync>(
     out: &mut Vec<u8>,
     cpus: u8,
     cut: bool,
-) -> Result<bool, RunFault>
+) -> Result<Run, RunFault>
     requires low { 1 ≤ cpus }
     requires high { cpus ≤ 16 }
 {
-    let answer = run_threads(rt, alloc, out, cpus, 8, cut);
-    if answer == Err(RunFault::NoMemory) && out.is_empty() {
-        return run_threads(rt, alloc, out, cpus, 8, cut);
+    match run_threads(rt, alloc, out, cpus, 8, cut) {
+        Err(RunFault::NoMemory) if out.is_empty() => run_threads(rt, alloc, out, cpus, 8, cut),
+        ended => ended,
     }
-    answer
 }
 
-/// Whether a run writes just this.
+/// Whether a run writes just this, and has the world of a whole migration.
 fn is_reported<R: Threads + Wait + Sync>(
     rt: &R,
     alloc: Global,
@@ -39,8 +40,68 @@ fn is_reported<R: Threads + Wait + Sync>(
         return false;
     }
     let mut out = Vec::new(alloc);
-    let answer = run(rt, alloc, &mut out, cpus, cut);
-    answer == Ok(true) && out.as_slice() == wanted.as_bytes()
+    match run(rt, alloc, &mut out, cpus, cut) {
+        Ok(run) => {
+            out.as_slice() == wanted.as_bytes()
+                && is_complete(&run, cpus, if cut { 2 } else { 1 })
+                && have_called(&run.seats)
+        }
+        Err(_) => false,
+    }
+}
+
+/// Whether the world is that of a whole migration in this epoch, to which each worker has come.
+fn is_complete(run: &Run, cpus: u8, epoch: u32) -> bool {
+    let asked = run.asked;
+    let have_come = asked.source > 0 && asked.dest > 0 && asked.serve > 0 && asked.push > 0;
+    have_come
+        && run.fault.is_none()
+        && run.world.phase() == WorldPhase::Complete
+        && run.world.epoch() == epoch
+        && run.world.counts().sent > 0
+        && run.world.transcript().len() == 17 * usize::from(cpus)
+}
+
+/// The n-th of the calls of a processor with eight stores: it maps eight pages, stores 1 to 8 at their first bytes, and loads these.
+fn call(cpu: u8, n: u64) -> Command {
+    let first = LOW + 16384 * u64::from(cpu);
+    match n {
+        0 => Command::Mmap {
+            addr_len: 32768,
+            prot: Prot::ReadWrite,
+            place: Place::Fixed(first),
+        },
+        1..=8 => Command::Store {
+            addr: first + 4096 * (n - 1),
+            width: 8,
+            value: n,
+        },
+        _ => Command::Load {
+            addr: first.wrapping_add(4096 * (n % 32)).wrapping_sub(4096 * 9),
+            width: 8,
+        },
+    }
+}
+
+/// Whether the answers are to those calls, in order.
+fn are_to_calls(cpu: u8, answers: &[Answer]) -> bool {
+    let mut n = 0;
+    for answer in answers {
+        if answer.command != call(cpu, n) {
+            return false;
+        }
+        n = n.wrapping_add(1);
+    }
+    n == 17
+}
+
+fn have_called(seats: &[CpuSeat]) -> bool {
+    for seat in seats {
+        if !are_to_calls(seat.cpu(), seat.answers()) {
+            return false;
+        }
+    }
+    true
 }
 
 /// The numbers of processors, whether the channel is cut, and what is written.
@@ -73,40 +134,9 @@ fn are_reported<R: Threads + Wait + Sync>(rt: &R, alloc: Global) -> bool {
     true
 }
 
+/// A cut brings the world into its second epoch.
 #[test]
 fn each_run_is_reported(rt: HostRuntime) -> Result<(), Fail> {
     assert!(rt; are_reported(&rt, rt.alloc()));
-    Ok(())
-}
-
-/// A run of two processors, made once more where memory was refused.
-fn run_of_two<R: Threads + Wait + Sync>(rt: &R, alloc: Global, cut: bool) -> Option<Run> {
-    match run_world(rt, alloc, 2, 8, cut) {
-        Ok(run) => Some(run),
-        Err(_) => run_world(rt, alloc, 2, 8, cut).ok(),
-    }
-}
-
-/// Whether the world that comes back is that of a whole migration, in this epoch.
-fn is_complete(run: &Run, epoch: u32) -> bool {
-    run.fault.is_none()
-        && run.world.phase() == WorldPhase::Complete
-        && run.world.epoch() == epoch
-        && run.world.counts().sent > 0
-        && run.world.transcript().len() == 34
-}
-
-fn is_migrated<R: Threads + Wait + Sync>(rt: &R, alloc: Global, cut: bool, epoch: u32) -> bool {
-    match run_of_two(rt, alloc, cut) {
-        Some(run) => is_complete(&run, epoch),
-        None => false,
-    }
-}
-
-/// A cut brings the world into its second epoch.
-#[test]
-fn a_run_migrates(rt: HostRuntime) -> Result<(), Fail> {
-    assert!(rt; is_migrated(&rt, rt.alloc(), false, 1));
-    assert!(rt; is_migrated(&rt, rt.alloc(), true, 2));
     Ok(())
 }

@@ -34,17 +34,28 @@ impl Write for Narrow {
     }
 }
 
-/// A run of one processor with one store and one load. It is made once more if it was refused memory and has written nothing.
+/// A run of one processor with one store and one load: whether nothing was found wrong. It is made once more if it was refused memory and
+/// has written nothing.
 fn run<R: Threads + Wait + Sync>(
     rt: &R,
     alloc: Global,
     out: &mut Narrow,
 ) -> Result<bool, RunFault> {
-    let answer = run_threads(rt, alloc, out, 1, 1, false);
-    if answer == Err(RunFault::NoMemory) && out.bytes.is_empty() {
-        return run_threads(rt, alloc, out, 1, 1, false);
+    match run_once(rt, alloc, out) {
+        Err(RunFault::NoMemory) if out.bytes.is_empty() => run_once(rt, alloc, out),
+        ended => ended,
     }
-    answer
+}
+
+fn run_once<R: Threads + Wait + Sync>(
+    rt: &R,
+    alloc: Global,
+    out: &mut Narrow,
+) -> Result<bool, RunFault> {
+    match run_threads(rt, alloc, out, 1, 1, false) {
+        Ok(run) => Ok(run.fault.is_none()),
+        Err(fault) => Err(fault),
+    }
 }
 
 /// Whether the report of a run ends where such a writer does.

@@ -24,8 +24,3 @@ printed (Ok done) old mid new seats all entries others fault same told first las
     let whole : new ≡ old ++ report_lines seats (length entries) fault = last ∙ ap (λ m. m ++ verdict) first ∙ append_assoc old (seat_lines seats) verdict in
     subst (λ (es : List Entry). new ≡ old ++ report_lines all (length es) fault) told (subst (λ (ss : List Seat). new ≡ old ++ report_lines ss (length entries) fault) same whole)
 printed (Err fault) old mid new seats all entries others found same told first last = tt
-
--- the answer of a test of a fault
-pub answer_is : (found answer : Bool) → found ≡ not answer → answer ≡ not found
-answer_is found true is = sym (ap not is)
-answer_is found false is = sym (ap not is)

@@ -1,6 +1,5 @@
 -- The report of a run in threads.
-use Rattle.std.specs.Prelude.{◌≡◌, ℕ, ◌<◌, suc, ⊤, Bool, List, [], ◌∷◌, ◌++◌, length, codes, Option, Some, None}
-use Rattle.std.specs.Option.{is_none}
+use Rattle.std.specs.Prelude.{◌≡◌, ℕ, ◌<◌, suc, ⊤, List, [], ◌∷◌, ◌++◌, length, codes, Option, Some, None}
 use Rattle.std.specs.Fmt.{decimal}
 use Rattle.std.specs.Io.KnownBytes.{Appends}
 use Rattle.mig_base.specs.Flat.{IsFlatRun}
@@ -11,6 +10,7 @@ use Rattle.rig.specs.Seats.{Seat, answers_of, list_of, calls_of}
 use Rattle.engine.specs.declared.fault.RunFault.{RunFault}
 use Rattle.engine.specs.declared.fault.RunFault.TheVariants as faults
 use Rattle.engine.specs.Engine.{Front}
+use Rattle.threads.specs.Calls.{AreCalls, calls_with}
 
 -- the line of a seat: the number of its processor, and the number of its calls that were answered
 abbrev pub seat_line : Seat → List ℕ
@@ -38,10 +38,12 @@ fault_name close.Claims = codes "Claims"
 abbrev pub fault_line : CloseFault → List ℕ
 fault_line fault = codes "close fault " ++ fault_name fault ++ 10 ∷ []
 
--- the seats are those of the processors from this one on, in order, and each has this number of answers
+-- the seats are those of the processors from this one on, in order, and each has the answers to all calls of its processor, which makes
+-- this number of stores
 abbrev pub AreFrom : ℕ → ℕ → List Seat → Type 0
-AreFrom cpu calls [] = ⊤
-AreFrom cpu calls (seat ∷ seats) = (seat.cpu ≡ cpu) × (length seat.answers ≡ calls) × AreFrom (suc cpu) calls seats
+AreFrom cpu stores [] = ⊤
+AreFrom cpu stores (seat ∷ seats) =
+    (seat.cpu ≡ cpu) × (length seat.answers ≡ calls_with stores) × AreCalls seat.cpu stores 0 seat.answers × AreFrom (suc cpu) stores seats
 
 -- the transcript is that of one flat memory, has the answers of each seat in their order, and no other entries
 pub record IsHistory (seats : List Seat) (world : World) : Type 0 where
@@ -58,26 +60,23 @@ verdict_lines entries (Some fault) = count_line entries ++ fault_line fault
 abbrev pub report_lines : List Seat → ℕ → Option CloseFault → List ℕ
 report_lines seats entries fault = seat_lines seats ++ verdict_lines entries fault
 
--- a text is the report of some run with this number of processors, each of which makes this number of calls; the answer is whether nothing
--- was found wrong
-pub record IsReport (cpus calls : ℕ) (answer : Bool) (text : List ℕ) : Type 0 where
-  pub seats : List Seat
-  pub world : World
-  pub fault : Option CloseFault
+-- the seats, the world and the fault of a run that has ended, with this number of processors, each of which makes this number of stores
+pub record IsWholeRun (cpus stores : ℕ) (seats : List Seat) (world : World) (fault : Option CloseFault) : Type 0 where
   pub all : length seats ≡ cpus
-  pub each : AreFrom 0 calls seats
+  pub each : AreFrom 0 stores seats
   pub flat : IsFlatRun world.transcript
   pub history : fault ≡ None → IsHistory seats world
-  pub answers : answer ≡ is_none fault
-  pub lines : text ≡ report_lines seats (length world.transcript) fault
 
--- the report was written
-abbrev pub Reports : ℕ → ℕ → Bool → Option (List ℕ) → Option (List ℕ) → Type 0
-Reports cpus calls answer before after = (text : List ℕ) × IsReport cpus calls answer text × Appends before after text
+-- the report of such a run was written
+pub record Reports (cpus stores : ℕ) (seats : List Seat) (world : World) (fault : Option CloseFault) (before after : Option (List ℕ)) : Type 0 where
+  pub run : IsWholeRun cpus stores seats world fault
+  pub lines : Appends before after (report_lines seats (length world.transcript) fault)
 
--- a run ends without a whole report: if memory ran out, nothing was written; if writing failed, the first part of a report was
+-- a run ends without a whole report: if memory ran out, nothing was written; if writing failed, the first part of the report of a run was
 abbrev pub ThreadsStop : ℕ → ℕ → RunFault → Option (List ℕ) → Option (List ℕ) → Type 0
-ThreadsStop cpus calls (faults.Line n) before after = ⊥
-ThreadsStop cpus calls faults.ReadFault before after = ⊥
-ThreadsStop cpus calls faults.WriteFault before after = (answer : Bool) × (text : List ℕ) × IsReport cpus calls answer text × Front text before after
-ThreadsStop cpus calls faults.NoMemory before after = Appends before after []
+ThreadsStop cpus stores (faults.Line n) before after = ⊥
+ThreadsStop cpus stores faults.ReadFault before after = ⊥
+ThreadsStop cpus stores faults.WriteFault before after =
+    (seats : List Seat) × (world : World) × (fault : Option CloseFault)
+    × IsWholeRun cpus stores seats world fault × Front (report_lines seats (length world.transcript) fault) before after
+ThreadsStop cpus stores faults.NoMemory before after = Appends before after []

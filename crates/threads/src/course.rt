@@ -16,11 +16,30 @@ pub struct Course {
     is_over: AtomicBool,
     /// Whether a thread could not be started, or memory for one was refused.
     is_lacking: AtomicBool,
+    /// How often each worker has asked for a turn.
+    source: AtomicU64,
+    dest: AtomicU64,
+    serve: AtomicU64,
+    push: AtomicU64,
+}
+
+/// How often each worker of a run has asked for a turn: in each epoch at least once, if it was started.
+#[derive(Clone, Copy, Debug, PartialEq, Eq)]
+pub struct Asked {
+    /// The worker of the source.
+    pub source: u64,
+    /// The worker of the destination.
+    pub dest: u64,
+    /// Those that served requests, one in each epoch.
+    pub serve: u64,
+    /// Those that pushed pages, one in each epoch.
+    pub push: u64,
 }
 
 impl Gate for Course {
     /// Stops the workers once the run is over, and skips the source's End while a cut may come.
-    fn pass(&self, _who: Worker, next: StepKind, _turn: u64) -> Pass {
+    fn pass(&self, who: Worker, next: StepKind, _turn: u64) -> Pass {
+        self.asked_by(who).fetch_add(1, Ordering::SeqCst);
         if self.is_over() {
             Pass::Stop
         } else if next == StepKind::End && !self.may_end.load(Ordering::SeqCst) {
@@ -39,6 +58,30 @@ impl Course {
             may_end: AtomicBool::new(false),
             is_over: AtomicBool::new(false),
             is_lacking: AtomicBool::new(false),
+            source: AtomicU64::new(0),
+            dest: AtomicU64::new(0),
+            serve: AtomicU64::new(0),
+            push: AtomicU64::new(0),
+        }
+    }
+
+    /// Where the turns of a worker are counted.
+    fn asked_by(&self, who: Worker) -> &AtomicU64 {
+        match who {
+            Worker::Source => &self.source,
+            Worker::Dest => &self.dest,
+            Worker::Serve => &self.serve,
+            Worker::Push => &self.push,
+        }
+    }
+
+    /// How often each worker has asked for a turn so far.
+    pub fn asked(&self) -> Asked {
+        Asked {
+            source: self.source.load(Ordering::SeqCst),
+            dest: self.dest.load(Ordering::SeqCst),
+            serve: self.serve.load(Ordering::SeqCst),
+            push: self.push.load(Ordering::SeqCst),
         }
     }
 

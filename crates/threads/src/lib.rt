@@ -16,4 +16,5 @@ mod run;
 mod sending;
 mod summary;
 
+pub use crate::course::Asked;
 pub use crate::run::{Run, run_threads, run_world};

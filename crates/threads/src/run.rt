@@ -1,13 +1,12 @@
 //! One run, from the new world to the report.
 
-ghost use Rattle.std.specs.Prelude.{◌≡◌, ◌≤◌, ◌+◌, ◌*◌, [], None, length, IfOk, IfErr, string_bytes};
+ghost use Rattle.std.specs.Prelude.{◌≡◌, ◌≤◌, [], None, length, IfOk, IfErr};
 ghost use Rattle.engine.specs.declared.fault.RunFault.TheVariants.{NoMemory as OutOfMemory};
 ghost use Rattle.mig_base.specs.Flat.{IsFlatRun};
-ghost use Rattle.threads.specs.Report.{AreFrom, IsHistory, IsReport, Reports, ThreadsStop};
+ghost use Rattle.threads.specs.Report.{AreFrom, IsHistory, Reports, ThreadsStop};
 
-use crate::course::Course;
+use crate::course::{Asked, Course};
 use crate::driver::{Cut, Plan, run_all};
-use crate::processor::calls_with;
 use crate::summary::{are_whole, claims_in, print_run};
 use engine::RunFault;
 use engine::line_runner::write_out;
@@ -27,6 +26,8 @@ pub struct Run {
     pub world: World,
     /// What `Rig::close` has found wrong, if anything.
     pub fault: Option<CloseFault>,
+    /// How often the workers have asked for turns.
+    pub asked: Asked,
 }
 
 /// Runs a guest of `cpus` processors, 1 to 16, through a whole migration, each processor and each worker in a thread of its own. Each
@@ -43,7 +44,7 @@ pub fn run_world<R: Threads + Wait + Sync>(
     requires low { 1 ≤ cpus }
     requires high { cpus ≤ 16 }
     ensures all { IfOk result (λ run. length run.seats.items ≡ cpus) }
-    ensures each { IfOk result (λ run. AreFrom 0 (1 + 2 * calls) run.seats.items) }
+    ensures each { IfOk result (λ run. AreFrom 0 calls run.seats.items) }
     ensures flat { IfOk result (λ run. IsFlatRun run.world.transcript) }
     ensures history { IfOk result (λ run. run.fault ≡ None → IsHistory run.seats.items run.world) }
     ensures err { IfErr result (λ fault. fault ≡ OutOfMemory) }
@@ -57,24 +58,27 @@ pub fn run_world<R: Threads + Wait + Sync>(
     let Some((seats, sent)) = run_all(rt, alloc, &rig, &course, seats, plan) else {
         return Err(RunFault::NoMemory);
     };
-    if !are_whole(&seats, cpus, calls_with(calls) as usize) {
+    if !are_whole(&seats, cpus, calls) {
         return Err(RunFault::NoMemory);
     }
+    let asked = course.asked();
     match rig.close_with(&seats, claims_in(sent)) {
         Ok(world) => Ok(Run {
             seats,
             world,
             fault: None,
+            asked,
         }),
         Err((fault, world)) => Ok(Run {
             seats,
             world,
             fault: Some(fault),
+            asked,
         }),
     }
 }
 
-/// Makes a run and writes its report. Returns whether the tests of `Rig::close` passed.
+/// Makes a run, writes its report, and returns the run. Its `fault` is what the tests of `Rig::close` have found, if anything.
 ///
 /// `NoMemory` comes if memory is refused or a thread cannot be started: nothing is written then. `WriteFault` comes if a write fails; the
 /// first part of the report may be written then.
@@ -85,39 +89,19 @@ pub fn run_threads<R: Threads + Wait + Sync, W: Write>(
     cpus: u8,
     calls: u16,
     cut: bool,
-) -> Result<bool, RunFault>
+) -> Result<Run, RunFault>
     requires low { 1 ≤ cpus }
     requires high { cpus ≤ 16 }
-    ensures ok { IfOk result (λ answer.
-        Reports cpus (1 + 2 * calls) answer (W.contents writer.old) (W.contents writer.new)) }
+    ensures ok { IfOk result (λ run. Reports cpus calls run.seats.items run.world run.fault
+        (W.contents writer.old) (W.contents writer.new)) }
     ensures fault { IfErr result (λ fault.
-        ThreadsStop cpus (1 + 2 * calls) fault (W.contents writer.old) (W.contents writer.new)) }
-{
-    let mut text = String::new(alloc);
-    let answer = run_and_print(rt, alloc, cpus, calls, cut, &mut text)?;
-    write_out(writer, text.as_bytes())?;
-    Ok(answer)
-}
-
-/// Makes a run, and fills an empty text with its report. Returns whether nothing was found wrong.
-fn run_and_print<R: Threads + Wait + Sync>(
-    rt: &R,
-    alloc: Global,
-    cpus: u8,
-    calls: u16,
-    cut: bool,
-    text: &mut String,
-) -> Result<bool, RunFault>
-    requires low { 1 ≤ cpus }
-    requires high { cpus ≤ 16 }
-    requires empty { string_bytes text.old ≡ [] }
-    ensures ok { IfOk result (λ answer.
-        IsReport cpus (1 + 2 * calls) answer (string_bytes text.new)) }
-    ensures err { IfErr result (λ fault. fault ≡ OutOfMemory) }
+        ThreadsStop cpus calls fault (W.contents writer.old) (W.contents writer.new)) }
 {
     let run = run_world(rt, alloc, cpus, calls, cut)?;
-    print_run(text, &run)?;
-    Ok(run.fault.is_none())
+    let mut text = String::new(alloc);
+    print_run(&mut text, &run)?;
+    write_out(writer, text.as_bytes())?;
+    Ok(run)
 }
 
 /// When a run with a cut breaks the channel: right after the switch if the number of processors is odd, else once the destination runs.

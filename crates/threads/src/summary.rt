@@ -3,29 +3,50 @@
 ghost use Rattle.std.specs.Prelude.{◌≡◌, ◌++◌, true, OnOk, IfOk, IfErr, IfSome, string_bytes, length};
 ghost use Rattle.engine.specs.declared.fault.RunFault.TheVariants.{NoMemory as OutOfMemory};
 ghost use Rattle.pusher.specs.Seats.{IsSeatOf};
+ghost use Rattle.threads.specs.Calls.{AreCalls, calls_with as calls_of};
 ghost use Rattle.threads.specs.Report.{seat_line, seat_lines, count_line, agreed_line, fault_name, fault_line, report_lines, AreFrom};
 
+use crate::processor::{calls_with, nth_command};
 use crate::run::Run;
 use crate::sending::EpochClaims;
 use engine::RunFault;
 use pusher::{ClaimSeat, Claims};
 use rig::{CloseFault, CpuSeat};
 
-/// Whether the seats are those of all `cpus` processors, in order, and each has `calls` answers.
-pub(crate) fn are_whole(seats: &[CpuSeat], cpus: u8, calls: usize) -> bool
+/// Whether the seats are those of all `cpus` processors, in order, and each has the answers to all calls of its processor.
+pub(crate) fn are_whole(seats: &[CpuSeat], cpus: u8, stores: u16) -> bool
     ensures all { result ≡ true → length seats.now ≡ cpus }
-    ensures each { result ≡ true → AreFrom 0 calls seats.now }
+    ensures each { result ≡ true → AreFrom 0 stores seats.now }
 {
     let mut rest = seats;
     let mut cpu: usize = 0;
     while let [seat, behind @ ..] = rest {
-        if usize::from(seat.cpu()) != cpu || seat.answers().len() != calls {
+        if usize::from(seat.cpu()) != cpu || !has_all_calls(seat, stores) {
             return false;
         }
         rest = behind;
         cpu += 1;
     }
     cpu == usize::from(cpus)
+}
+
+/// Whether a seat has the answers to all calls of its processor.
+fn has_all_calls(seat: &CpuSeat, stores: u16) -> bool
+    ensures count { result ≡ true → length seat.now.answers ≡ calls_of stores }
+    ensures calls { result ≡ true → AreCalls seat.now.cpu stores 0 seat.now.answers }
+{
+    let cpu = seat.cpu();
+    let calls = calls_with(stores);
+    let mut rest = seat.answers();
+    let mut n = 0;
+    while let [answer, behind @ ..] = rest {
+        if n == calls || answer.command != nth_command(cpu, n, stores) {
+            return false;
+        }
+        rest = behind;
+        n += 1;
+    }
+    n == calls
 }
 
 /// Appends a line for each seat to a text.

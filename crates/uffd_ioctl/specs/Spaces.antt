@@ -1,7 +1,7 @@
 -- The machine's space that a space of the code means.
-use Rattle.std.specs.Prelude.{ℕ, ◌*◌, ◌==◌, ◌&&◌, not, nat_lt, Bool, true, false, if◌then◌else◌, Result, Ok, Err, refl}
+use Rattle.std.specs.Prelude.{ℕ, ◌*◌, ◌/◌, ◌==◌, ◌&&◌, not, nat_lt, Bool, true, false, if◌then◌else◌, Result, Ok, Err, refl}
 use Rattle.std.specs.Ordering.{nat_cmp}
-use Rattle.std.specs.FinMap.{FinMap, contains_key}
+use Rattle.std.specs.FinMap.{FinMap, contains_key, get}
 use Rattle.std.specs.FinSet as set
 use Rattle.std.specs.FinSet.{FinSet}
 use Rattle.std.specs.Coded.{Coded, code_by, coded×, coded_ℕ}
@@ -9,19 +9,19 @@ use Rattle.mig_base.specs.declared.Prot.{Prot}
 use Rattle.mig_base.specs.declared.TheConstants.{PAGE_SIZE}
 use Rattle.mig_base.specs.declared.command.Errno.{Errno}
 use Rattle.mig_base.specs.declared.command.Command.{Command}
-use Rattle.mig_base.specs.declared.command.Command.TheVariants.{DontNeed}
+use Rattle.mig_base.specs.declared.command.Command.TheVariants.{Store, DontNeed}
 use Rattle.mig_base.specs.declared.command.Reply.{Reply}
 use Rattle.mig_base.specs.declared.command.Reply.TheVariants.{Refused}
 use Rattle.mig_base.specs.declared.command.Access.{Access}
 use Rattle.mig_base.specs.declared.command.Access.TheVariants.{Answered, Missing, Protected}
-use Rattle.mig_base.specs.Bytes.{contents}
-use Rattle.mig_base.specs.Commands.{is_access, is_store, page_of}
+use Rattle.mig_base.specs.Bytes.{low_bytes}
+use Rattle.mig_base.specs.Commands.{is_access, page_of}
 use Rattle.mig_base.specs.Flat.{Memory, after, reply_of}
 use Rattle.mig_model.specs.Host.{Host, coded_host, memory}
 use Rattle.mig_base.specs.Userfault.{Object, fresh_object, enabled_with, registered_where, waits_fault}
 use Rattle.mig_model.specs.Space.{Space, access_of, is_made, queued_by}
 use Rattle.mig_model.specs.Ioctls.{event_features, mode_of}
-use Rattle.mig_model.specs.Wire.{is_zeros}
+use Rattle.page_table.specs.Bytes.{write_needs_room}
 use Rattle.page_table.specs.Views.{Pages}
 use Rattle.userfault.specs.Codes.{coded_object}
 use Rattle.uffd_ioctl.specs.declared.fault.IoctlFault.{IoctlFault}
@@ -50,10 +50,14 @@ abbrev pub assembled_object : FinMap nat_cmp Prot → ℕ → Object
 assembled_object areas bits =
     if bits == 0 then fresh_object else registered_where (enabled_with fresh_object event_features) (λ page. contains_key areas page) (mode_of bits)
 
--- whether an access with this outcome may need memory: to queue a page fault that is not unread yet, or to give bytes of their own to a
--- page that reads as zeros before the store
+-- whether a store that is made may need memory: to make a missing page present, or to store another number than 0 to a page of zeros
+abbrev pub store_needs_room : Host → Command → Bool
+store_needs_room host (Store addr width value) = write_needs_room (get host.bytes (addr / PAGE_SIZE)) (low_bytes value width)
+store_needs_room host command = false
+
+-- whether an access with this outcome may need memory: to queue a page fault that is not unread yet, or for a store that is made
 abbrev pub needs_room_by : Access → Space → Command → Bool
-needs_room_by (Answered reply) space command = is_made reply && is_store command && is_zeros (contents space.host.bytes (page_of command))
+needs_room_by (Answered reply) space command = is_made reply && store_needs_room space.host command
 needs_room_by Missing space command = not (waits_fault space.object.faults (PAGE_SIZE * page_of command) false)
 needs_room_by Protected space command = not (waits_fault space.object.faults (PAGE_SIZE * page_of command) true)
 

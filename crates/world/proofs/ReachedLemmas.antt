@@ -37,3 +37,10 @@ world_happens old new step result is happens =
     (λ (h : (result ≡ outcome old step) × (new ≡ next old step)). subst IsWorld (sym h.1) (world_next old step is))
     (λ (h : (result ≡ Err Refusal.NoMemory) × (may_lack step (outcome old step) ≡ true) × (new ≡ old)). subst IsWorld (sym h.2) is)
     happens
+
+pub reached_happens : (old new : World) (step : Step) (result : Outcome) → IsReached old → Happens old step result new → IsReached new
+reached_happens old new step result reached happens =
+    ⊎_elim
+    (λ (h : (result ≡ outcome old step) × (new ≡ next old step)). subst IsReached (sym h.1) (next_reached old step reached).0)
+    (λ (h : (result ≡ Err Refusal.NoMemory) × (may_lack step (outcome old step) ≡ true) × (new ≡ old)). subst IsReached (sym h.2) reached)
+    happens

@@ -34,18 +34,22 @@ entered n cpu command (Call reply left) entries below all = All-push (λ e. e.cp
 not_below_zero : (k : ℕ) → k < 0 → ⊥
 not_below_zero k below = omega arith
 
-is_there : (cpu count n : ℕ) → not (nat_lt cpu count) ≡ false → count ≡ n → cpu < n
+pub is_there : (cpu count n : ℕ) → not (nat_lt cpu count) ≡ false → count ≡ n → cpu < n
 is_there cpu count n there many = grind (arith, nat_tests)
 
 -- a processor that waits is there
-waits_there : (processors : List CpuState) (k : ℕ) (command : Command) → outstanding (processor_at processors k) ≡ Some command → k < length processors
+pub waits_there : (processors : List CpuState) (k : ℕ) (command : Command) → outstanding (processor_at processors k) ≡ Some command → k < length processors
 waits_there [] k command waits = absurd (none-some command waits)
 waits_there (p ∷ ps) zero command waits = omega arith
 waits_there (p ∷ ps) (suc k) command waits = let rest : k < length ps = waits_there ps k command waits in omega arith
 
-guest_many : (ran : Bool) (from to : Guest) (n : ℕ) → length from.cpus ≡ n → length to.cpus ≡ n → length (guest_by ran from to).cpus ≡ n
+pub guest_many : (ran : Bool) (from to : Guest) (n : ℕ) → length from.cpus ≡ n → length to.cpus ≡ n → length (guest_by ran from to).cpus ≡ n
 guest_many true from to n here there = there
 guest_many false from to n here there = here
+
+-- the guest has as many processors as the source
+pub guest_count : (world : World) → IsReached world → length (guest_of world).cpus ≡ length world.source.guest.cpus
+guest_count world reached = guest_many world.destination.has_run world.source.guest world.destination.guest (length world.source.guest.cpus) refl (as_many world reached)
 
 made_within : (world : World) (step : Step) (n : ℕ) → length (guest_of world).cpus ≡ n → AreBelow n world.transcript → MakesWorld (λ new. AreBelow n new.transcript) world step
 made_within world (Step.Issue cpu command) n many all = λ there idle may. entered n cpu command (took_by (is_access command) (guest_of world).space command) world.transcript (is_there cpu _ n there many) all

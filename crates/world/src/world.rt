@@ -8,7 +8,7 @@ ghost use Rattle.mig_model.specs.Runs.{Happens, IsRun};
 ghost use Rattle.mig_model.specs.Views.{new_world_with};
 ghost use Rattle.vcpu.specs.Answers.{is_count};
 ghost use Rattle.world.specs.Answers.{new_refusal};
-ghost use Rattle.world.specs.Core.{CoreFirst, CoreStep};
+ghost use Rattle.world.specs.Core.{CoreFirst, CoreRun, CoreStep};
 ghost use Rattle.world.specs.Headline.{Headline};
 
 mod views;
@@ -64,7 +64,7 @@ impl World {
         ensures refused { IfErr result (λ refusal.
             (refusal ≡ Refusal.NoMemory) ⊎ (new_world_with cpus 0 0 ≡ Err refusal)) }
         ensures no_cpu { (result ≡ Err Refusal.NoCpu) ↔ (is_count cpus ≡ false) }
-        ensures core { IfOk result CoreFirst }
+        ensures core { IfOk result (λ world. CoreFirst cpus world) }
         ensures headline { IfOk result Headline }
     {
         World::with_counts(alloc, cpus, 0, 0)
@@ -76,7 +76,7 @@ impl World {
         ensures refused { IfErr result (λ refusal.
             (refusal ≡ Refusal.NoMemory) ⊎ (new_world_with cpus epoch rounds ≡ Err refusal)) }
         ensures no_cpu { (result ≡ Err Refusal.NoCpu) ↔ (is_count cpus ≡ false) }
-        ensures core { IfOk result CoreFirst }
+        ensures core { IfOk result (λ world. CoreFirst cpus world) }
         ensures headline { IfOk result Headline }
     {
         let source = match Source::new(alloc, cpus, epoch, rounds) {
@@ -138,6 +138,8 @@ impl World {
         alloc: Global,
         steps: &[Step],
     ) -> Result<Vec<Result<Effect, Refusal>>, NoMemory>
+        ensures core { IfOk result (λ outcomes.
+            CoreRun self.old steps.now outcomes.items self.new) }
         ensures run { IfOk result (λ outcomes. IsRun self.old steps.now outcomes.items self.new) }
         ensures headline { Headline self.new }
         ensures err { OnErr result (self.new ≡ self.old) }

@@ -309,6 +309,41 @@ pub reply_kept : (world : World) (step : Step) (cpu : ℕ) (reply : Reply) → I
     (call_reply (processor_at (guest_of (next world step)).cpus cpu) ≡ Some reply) ⊎ HandsOver world step cpu reply
 reply_kept world step cpu reply reached h = handed_by world step cpu reply h (call_answer world step cpu reply (kept-reached world reached) (are_sound_calls world reached) h)
 
+-- a call begins by this effect
+abbrev Begins : Effect → ℕ → Type 0
+Begins effect k = (left : ℕ) × (effect ≡ Effect.InCall k left)
+
+begins_by : (took : Took) (command : Command) (cpu : ℕ) (reply : Reply) → call_reply (processor_after command took) ≡ Some reply → Begins (try_effect cpu took) cpu
+begins_by (Took.Answer given) command cpu reply h = absurd (none-some reply h)
+begins_by Sleep command cpu reply h = absurd (none-some reply h)
+begins_by (Call given left) command cpu reply h = (left, refl)
+
+-- a processor that is in a call was in it before, or began it by this step
+abbrev ArisesBy : World → ℕ → Reply → Effect → World → Type 0
+ArisesBy world k reply effect new = reply_at (guest_of new).cpus k ≡ Some reply → (reply_at (guest_of world).cpus k ≡ Some reply) ⊎ Begins effect k
+
+arises_tried : (world : World) (k : ℕ) (reply : Reply) (made : Made) → Tries world made → ArisesBy world k reply made.effect made.world
+arises_tried world k reply made t h =
+    let took = took_by (is_access t.command) (guest_of world).space t.command in
+    ⊎_elim
+    (λ (own : (t.cpu ≡ k) × (call_reply (processor_after t.command took) ≡ Some reply)).
+    let begins = begins_by took t.command t.cpu reply own.1 in
+    inr (begins.0, t.effect ∙ begins.1 ∙ ap (λ j. Effect.InCall j begins.0) own.0))
+    (λ (rest : (t.cpu ≡ k → ⊥) × (reply_at (guest_of world).cpus k ≡ Some reply)). inl rest.1)
+    (set_either (guest_of world).cpus t.cpu k (processor_after t.command took) reply t.free
+    (sym (ap call_reply (tried_at world t.cpu t.command k)) ∙ sym (ap (λ w. reply_at (guest_of w).cpus k) t.is) ∙ h))
+
+arises_answer : (world : World) (step : Step) (k : ℕ) (reply : Reply) → IsSoundWorld world → AreSoundCalls world → Holds (λ made. ArisesBy world k reply made.effect made.world) (answer world step)
+arises_answer world step k reply kept all =
+    by_test (is_try step)
+    (λ tries. holds-map (Tries world) _ (answer world step) (λ made t. arises_tried world k reply made t) (holds-made _ world step (is_tried world step tries)))
+    (λ other. holds-map (GoesOn world) _ (answer world step) (λ made g h. inl (g.calls.was k reply h)) (goes_on world step kept all other))
+
+pub reply_arises : (world : World) (step : Step) (effect : Effect) (cpu : ℕ) (reply : Reply) → IsReached world → outcome world step ≡ Ok effect → call_reply (processor_at (guest_of (next world step)).cpus cpu) ≡ Some reply →
+    (call_reply (processor_at (guest_of world).cpus cpu) ≡ Some reply) ⊎ ((left : ℕ) × (effect ≡ Effect.InCall cpu left))
+reply_arises world step effect cpu reply reached is =
+    holds-effect (ArisesBy world cpu reply) world step effect (arises_answer world step cpu reply (kept-reached world reached) (are_sound_calls world reached)) is
+
 -- what is handed over is that reply
 abbrev LastTold : World → Effect → World → Type 0
 LastTold world effect new = (event : Message) (k : ℕ) (reply : Reply) → effect ≡ Effect.ReadLast event k reply → (processor_at (guest_of world).cpus k ≡ CpuState.InCall reply 1) × (processor_at (guest_of new).cpus k ≡ CpuState.Idle)

@@ -1,7 +1,8 @@
 //! The commands of processors: what is done from the first section of a call to its last. Each of these functions returns with the world
 //! locked, so that its contract can say how it left the world.
 
-ghost use Rattle.std.specs.Prelude.{◌≡◌, IfOk, false};
+ghost use Rattle.std.specs.Prelude.{◌≡◌, ◌≢◌, IfOk, Err, false};
+ghost use Rattle.mig_base.specs.declared.refusal.Refusal.{Refusal};
 ghost use Rattle.std.specs.Sync.Mutex.{mutex_guard_value};
 ghost use Rattle.mig_model.specs.Views.{cpu_state};
 ghost use Rattle.rig.specs.Sections.{IsReplyOf, IsReplyTo, IsToldOf, is_calling};
@@ -24,6 +25,7 @@ impl Rig {
         command: Command,
     ) -> (MutexGuard<'_, World>, Result<Reply, Refusal>)
         ensures entered { IfOk result.1 (λ reply. IsReplyOf cpu reply) }
+        ensures waits { result.1 ≢ Err Refusal.Phase }
         ensures out { IfOk result.1 (λ reply.
             is_calling (cpu_state (mutex_guard_value result.0) cpu) ≡ false) }
     {
@@ -49,7 +51,8 @@ impl Rig {
         cpu: u8,
         command: Command,
     ) -> (MutexGuard<'_, World>, Result<Tried, Refusal>)
-        ensures { IfOk result.1 (λ tried. IsToldOf cpu command tried) }
+        ensures told { IfOk result.1 (λ tried. IsToldOf cpu command tried) }
+        ensures waits { result.1 ≢ Err Refusal.Phase }
     {
         let mut world = self.world.lock(rt);
         for _ in rt.forever() {
@@ -73,6 +76,7 @@ impl Rig {
         cpu: u8,
     ) -> (MutexGuard<'_, World>, Result<Answer, Refusal>)
         ensures entered { IfOk result.1 (λ answer. IsReplyTo cpu answer.command answer.reply) }
+        ensures waits { result.1 ≢ Err Refusal.Phase }
         ensures out { IfOk result.1 (λ answer.
             is_calling (cpu_state (mutex_guard_value result.0) cpu) ≡ false) }
     {

@@ -132,21 +132,24 @@ impl<C: Clock> Gate for StoreFirst<C> {
     }
 }
 
-/// Rests the worker's thread before its first SourceRead, and stops it when told to.
+/// Rests the worker's thread before its first SourceRead, and stops it when told to. It notes whether that came before the first read.
 #[derive(Drop)]
 pub struct LateReader<C> {
     pub clock: C,
     pub rested: AtomicBool,
+    pub early: AtomicBool,
     pub done: AtomicBool,
 }
 
 impl<C: Clock> Gate for LateReader<C> {
     fn pass(&self, _who: Worker, next: StepKind, _turn: u64) -> Pass {
-        if self.done.load(Ordering::SeqCst) {
-            return Pass::Stop;
-        }
         if next == StepKind::SourceRead && !self.rested.swap(true, Ordering::SeqCst) {
             thread::sleep(&self.clock, Duration::from_millis(50));
+            let early = self.done.load(Ordering::SeqCst);
+            self.early.store(early, Ordering::SeqCst);
+        }
+        if self.rested.load(Ordering::SeqCst) && self.done.load(Ordering::SeqCst) {
+            return Pass::Stop;
         }
         Pass::Go
     }

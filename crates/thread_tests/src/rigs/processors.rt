@@ -210,10 +210,12 @@ fn late_load<R: Threads + Wait + Sync, C: Clock + Sync + Drop>(
     let gate = LateReader {
         clock,
         rested: AtomicBool::new(false),
+        early: AtomicBool::new(false),
         done: AtomicBool::new(false),
     };
     let seat = rig.seat(0).ok()?;
-    read_late(rt, &gate, rig, seat)
+    let (seat, held) = read_late(rt, &gate, rig, seat)?;
+    Some((seat, held && !gate.early.load(Ordering::SeqCst)))
 }
 
 /// Whether all is as wanted in a rig whose migration has begun, in the same way.
@@ -228,7 +230,7 @@ fn is_load_after_unmap<R: Threads + Wait + Sync, C: Clock + Sync + Drop>(
     Some(held && closed.is_whole(4))
 }
 
-/// A map call returns once its messages are read: the next call finds the processor idle.
+/// A map call returns once the worker has read its messages, and not before: the next call finds the processor idle.
 #[test]
 fn a_map_call_waits_until_its_messages_are_read(rt: HostRuntime) -> Result<(), Fail> {
     let held = match is_load_after_unmap(&rt, rt.alloc(), rt) {

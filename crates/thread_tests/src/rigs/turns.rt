@@ -1,5 +1,5 @@
 //! The loops of the workers over a world in memory that keeps the kinds of step that they ask for.
-ghost use Rattle.std.specs.Prelude.{◌≡◌, IfSome, IfOk};
+ghost use Rattle.std.specs.Prelude.{◌≡◌, None, IfSome, IfOk};
 ghost use Rattle.pusher.specs.Seats.{IsSeatOf};
 
 use super::claims::held;
@@ -9,10 +9,11 @@ use crate::claims::rows::ascending;
 use mig_base::NoMemory;
 use mig_base::effect::Effect;
 use mig_base::refusal::Refusal;
-use mig_base::schedule::Step;
+use mig_base::schedule::{Step, Ticket};
 use pusher::{ClaimSeat, Claims};
 use rig::{
-    Leave, Pass, StepKind, Turns, Worker, dest_turns, push_turns, serve_turns, source_turns,
+    Leave, Pass, StepKind, Turns, Worker, dest_turns, push_turns, says_stale, serve_turns,
+    source_turns, ticket_due,
 };
 use std::alloc::Global;
 use std::test::Fail;
@@ -27,6 +28,8 @@ struct Listed {
     who: Worker,
     turn: u64,
     leave: Leave,
+    due: Option<Ticket>,
+    stale: bool,
     world: World,
     kinds: [StepKind; MOST],
     count: usize,
@@ -37,11 +40,14 @@ impl Listed {
         ensures who { result.who ≡ who }
         ensures turn { result.turn ≡ 0 }
         ensures leave { result.leave ≡ Leave.Nothing }
+        ensures due { result.due ≡ None }
     {
         Listed {
             who,
             turn: 0,
             leave: Leave::Nothing,
+            due: None,
+            stale: false,
             world,
             kinds: [StepKind::Retry; MOST],
             count: 0,
@@ -55,6 +61,10 @@ impl Turns for Listed {
     ghost turn = { λ s. s.turn };
 
     ghost leave = { λ s. s.leave };
+
+    ghost due = { λ s. s.due };
+
+    ghost stale = { λ s. s.stale };
 
     fn pass(&mut self, next: StepKind) -> Pass {
         self.turn += 1;
@@ -71,20 +81,28 @@ impl Turns for Listed {
     fn make(&mut self, step: Step) -> Result<Effect, Refusal> {
         self.leave = Leave::Nothing;
         self.world.headline();
-        self.world.step(step)
+        let outcome = self.world.step(step);
+        self.due = ticket_due(step, &outcome);
+        self.stale |= says_stale(&outcome);
+        outcome
     }
 
     fn serve(&mut self, epoch: u32) -> Result<Effect, Refusal> {
         self.leave = Leave::Nothing;
         if self.world.epoch() != epoch {
+            self.stale = true;
             return Err(Refusal::StaleEpoch);
         }
         self.world.headline();
-        self.world.step(Step::Serve)
+        let outcome = self.world.step(Step::Serve);
+        self.stale |= says_stale(&outcome);
+        outcome
     }
 
-    fn epoch(&self) -> u32 {
-        self.world.epoch()
+    fn is_over(&mut self, epoch: u32) -> bool {
+        let is_over = self.world.epoch() != epoch;
+        self.stale |= is_over;
+        is_over
     }
 }
 
@@ -172,6 +190,7 @@ fn serves(alloc: Global, turns: &mut Listed) -> bool
     requires who { turns.old.who ≡ Worker.Serve }
     requires turn { turns.old.turn ≡ 0 }
     requires leave { turns.old.leave ≡ Leave.Nothing }
+    requires due { turns.old.due ≡ None }
 {
     let Some((claims, seat)) = both_claims(alloc) else {
         return false;
@@ -188,6 +207,7 @@ fn pushes(alloc: Global, turns: &mut Listed) -> bool
     requires who { turns.old.who ≡ Worker.Push }
     requires turn { turns.old.turn ≡ 0 }
     requires leave { turns.old.leave ≡ Leave.Nothing }
+    requires due { turns.old.due ≡ None }
 {
     let Some((claims, seat)) = both_claims(alloc) else {
         return false;

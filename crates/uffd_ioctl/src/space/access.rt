@@ -2,14 +2,12 @@
 
 ghost use Rattle.std.specs.Prelude.{◌≡◌, ◌/◌, ◌<◌, IfOk, IfSome, OnOk, OnErr, IsTrue, true, false};
 ghost use Rattle.std.specs.FinMap as map;
-ghost use Rattle.mig_base.specs.Bytes.{contents};
 ghost use Rattle.mig_base.specs.Flat.{reply_of, number_at, is_aligned as is_form};
 ghost use Rattle.mig_base.specs.declared.TheConstants.{HIGH};
 ghost use Rattle.mig_model.specs.Host.{memory, host_changed};
 ghost use Rattle.mig_base.specs.Commands.{is_access};
 ghost use Rattle.mig_model.specs.Space as machine;
-ghost use Rattle.mig_model.specs.Wire.{is_zeros};
-ghost use Rattle.uffd_ioctl.specs.Spaces.{memory_after, needs_room};
+ghost use Rattle.uffd_ioctl.specs.Spaces.{memory_after, needs_room, store_needs_room};
 
 use super::Space;
 use crate::access::{is_made, number};
@@ -25,10 +23,8 @@ impl Space {
     /// protected page registered for write-protect faults: the processor sleeps, and a message is queued, unless one of the same kind
     /// for the page is unread. Any other access is answered as one flat memory answers it. A load leaves a missing page missing.
     ///
-    /// A store to a page of zeros needs memory unless it stores zeros, and a store to a missing page in any case.
-    ///
-    /// `NoMemory` only if the access needs memory, to queue a page fault or for the bytes of a page that read as zeros before the store;
-    /// it changes nothing.
+    /// `NoMemory` only if the access needs memory: to queue a page fault, for a store to a missing page, and for a store of another number
+    /// than 0 to a page of zeros. It changes nothing.
     pub fn access(&mut self, cpu: u8, command: Command) -> Result<Access, NoMemory>
         requires { is_access command ≡ true }
         ensures access { IfOk result (λ access. access ≡ machine.access_of self.old command) }
@@ -126,8 +122,8 @@ impl Space {
         }
     }
 
-    /// Writes the `width` bytes of a number at an address, and makes their page present. `NoMemory`, which comes only if the page reads
-    /// as zeros, changes nothing.
+    /// Writes the `width` bytes of a number at an address, and makes their page present. `NoMemory`, which comes only if the page is
+    /// missing, or is a page of zeros that gets another number than 0, changes nothing.
     fn write(&mut self, addr: Addr, width: u8, value: u64) -> Result<(), NoMemory>
         requires high { addr < HIGH }
         requires aligned { is_form addr width ≡ true }
@@ -137,8 +133,8 @@ impl Space {
               host = host_changed self.old.host (Command.Store addr width value)
                   Reply.Done;
             }) }
-        ensures zeros { OnErr result (is_zeros (contents self.old.host.bytes (addr / 4096)) ≡
-            true) }
+        ensures needs { OnErr result
+            (store_needs_room self.old.host (Command.Store addr width value) ≡ true) }
         ensures err { OnErr result (self.new ≡ self.old) }
     {
         let page = (addr / PAGE_SIZE) as PageNo;

@@ -16,6 +16,6 @@ returns c = record {
   whole =
       subst (λ (b : Bool). FitsLog c.certified_verdict-verdict.result b) (ap (λ (r : EntryReader). r.whole) c.deref.ensures ∙ c.in_ok-log.ensures.whole)
       (certified_whole _ _ _ _ c.certified_verdict-verdict.ensures c.verdict_of-judgement.ensures.log);
-  goes = certified_goes _ _ _ c.certified_verdict-verdict.ensures c.verdict_of-judgement.ensures.plain;
-  shows = certificate_before c.args.read.entries c.deref-5.result.now _ (λ lines has. subst (λ (r : EntryReader). HasRead lines r) (sym c.deref-5.ensures) (c.in_ok-log.ensures.read lines has)) c.in_ok-certificate.ensures;
+  goes = certified_goes _ _ _ _ c.certified_verdict-verdict.ensures c.verdict_of-judgement.ensures.plain c.verdict_of-judgement.ensures.work c.in_ok-certificate.ensures.work;
+  shows = certificate_before c.args.read.entries c.deref-5.result.now _ (λ lines has. subst (λ (r : EntryReader). HasRead lines r) (sym c.deref-5.ensures) (c.in_ok-log.ensures.read lines has)) c.in_ok-certificate.ensures.is;
 }

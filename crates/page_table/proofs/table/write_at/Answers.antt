@@ -1,5 +1,5 @@
-use Rattle.std.proofs.Common.{◌∙◌, ap, subst, cond, eqb, unwrap_or, OnErr, ◌≡◌, ◌/◌, ◌%◌, arith}
-use Rattle.mig_base.specs.Bytes.{zero_page}
+use Rattle.std.proofs.Common.{◌∙◌, ap, subst, cond, eqb, OnErr, ◌≡◌, ◌/◌, ◌%◌, true, arith}
+use Rattle.page_table.specs.Bytes.{write_needs_room}
 use Rattle.page_table.specs.Leaves.{Cell, cell_in, cell_at, stored_cell}
 use Rattle.page_table.proofs.TableLemmas.{at_own_place, one_cell}
 use Rattle.page_table.proofs.table.write_at.Goals as goal
@@ -20,8 +20,8 @@ returns-clause-stored c =
     ∙ ap (λ x. cond (eqb i (c.args.page % 1024)) (stored_cell c.place_write.result x c.args.offset c.args.bytes.now) (cell_in c.index_mut-place.result.now i)) (at_own_place c.args.places.now.items c.index_mut-place.result.now c.args.page inside c.index_mut-place.ensures.value)
     ∙ ap (λ o. cond (eqb i (c.args.page % 1024)) cell (cell_in o i)) (read_place c.args.places.now.items (c.args.page / 1024) c.index_mut-place.result.now inside c.index_mut-place.ensures.value))
 
-pub returns-clause-zeros : goal.returns-clause-zeros
-returns-clause-zeros c =
+pub returns-clause-needs : goal.returns-clause-needs
+returns-clause-needs c =
     let inside = place_inside c.args.places.now.items c.args.page c.requires.there in
-    subst (λ x. OnErr c.place_write.result (unwrap_or x.0 zero_page ≡ zero_page))
-    (at_own_place c.args.places.now.items c.index_mut-place.result.now c.args.page inside c.index_mut-place.ensures.value) c.place_write.ensures.zeros
+    subst (λ x. OnErr c.place_write.result (write_needs_room x.0 c.args.bytes.now ≡ true))
+    (at_own_place c.args.places.now.items c.index_mut-place.result.now c.args.page inside c.index_mut-place.ensures.value) c.place_write.ensures.needs

@@ -1,9 +1,10 @@
 -- The host holds the memory of the entries before the index, so what it answers is expected.
-use Rattle.std.proofs.Common.{◌≡◌, ◌≢◌, rules, ap, ◌∙◌, sym, get_or}
+use Rattle.std.proofs.Common.{◌≡◌, ◌≢◌, rules, ap, ◌∙◌, sym, take, get_or}
 use Rattle.std.proofs.lemmas.Option.{slice_get-get_or}
 use Rattle.mig_base.specs.declared.command.Entry.{Entry}
-use Rattle.mig_base.specs.Flat.{reply_of, after}
+use Rattle.mig_base.specs.Flat.{reply_of, after, memory_of}
 use Rattle.report.proofs.CheckLemmas.{no_entry, run_more, memory_more}
+use Rattle.report.proofs.RoomLemmas.{memory_needs}
 use Rattle.report.proofs.check.replay.Goals as goal
 
 pub loop-index-init : goal.loop-index-init
@@ -19,6 +20,17 @@ returns-then-ne-clause-wrong c =
       before = c.loop-index.invariant.run;
       answers = c.in-Ok.ensures.reply ∙ ap (λ m. reply_of m entry.command) c.loop-index.invariant.memory;
       differs = differs;
+    }
+
+pub returns-in_default-clause-wrong : goal.returns-in_default-clause-wrong
+returns-in_default-clause-wrong c =
+    let entry : Entry = get_or c.args.entries.now c.loop-index.index no_entry in
+    record {
+      index = c.loop-index.index;
+      entry = entry;
+      inside = slice_get-get_or c.args.entries.now c.loop-index.index no_entry c.loop-index-test.true;
+      before = c.loop-index.invariant.run;
+      needs = memory_needs c.loop-index.host (memory_of (take c.loop-index.index c.args.entries.now)) entry.command c.loop-index.invariant.memory c.in_default.ensures.needs;
     }
 
 pub loop-index-preserved : goal.loop-index-preserved

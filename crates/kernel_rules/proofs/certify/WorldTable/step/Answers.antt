@@ -1,12 +1,13 @@
 use Rattle.std.proofs.Common.{◌≡◌, Option, Bor, subst, sym}
 use Rattle.std.specs.Prelude.{option_map, IfOk}
 use Rattle.kernel_rules.specs.declared.run.Entry.{Entry}
-use Rattle.kernel_rules.specs.Certified.{Place, moved_by}
+use Rattle.kernel_rules.specs.Certified.{Place, find_of, moved_by, protected_by}
 use Rattle.kernel_rules.specs.Faults.{leaves, queues, sees}
+use Rattle.kernel_rules.specs.MapCalls.{clears, tells}
 use Rattle.kernel_rules.specs.Held.{kernel_of}
 use Rattle.kernel_rules.specs.Runs.{Event, event_of}
 use Rattle.kernel_rules.specs.Worlds.{if_made, place_of}
-use Rattle.kernel_rules.proofs.Places.{effect_moved, leaves_moved, line_moved, queues_moved, rule_step, sees_moved}
+use Rattle.kernel_rules.proofs.Places.{clears_moved, effect_moved, kernel_step, leaves_moved, line_moved, protects_moved, queues_moved, rule_step, sees_moved, tells_moved}
 use Rattle.kernel_rules.proofs.certify.WorldTable.step.Goals as goal
 
 abbrev event_seen : Option (Bor Entry) → Option Event
@@ -37,3 +38,19 @@ pub returns-in-Leaves-clause-step : goal.returns-in-Leaves-clause-step
 returns-in-Leaves-clause-step c =
     rule_step c.args.self.now c.leaves.new.self (leaves (kernel_of c.args.self.now.kernel) c.in-Leaves.thread) (moved_by (event_seen c.args.seen) (place_of c.args.self.now) c.args.step) c.leaves.result
     (leaves_moved (event_seen c.args.seen) (place_of c.args.self.now) c.args.step c.in-Leaves.thread c.in-Leaves.is) c.leaves.ensures.step
+
+pub returns-in-Tells-clause-step : goal.returns-in-Tells-clause-step
+returns-in-Tells-clause-step c =
+    rule_step c.args.self.now c.tells.new.self (tells (kernel_of c.args.self.now.kernel) c.in-Tells.key) (moved_by (event_seen c.args.seen) (place_of c.args.self.now) c.args.step) c.tells.result
+    (tells_moved (event_seen c.args.seen) (place_of c.args.self.now) c.args.step c.in-Tells.key c.in-Tells.is) (rw c.from.ensures at c.tells.ensures.step)
+
+pub returns-in-Clears-clause-step : goal.returns-in-Clears-clause-step
+returns-in-Clears-clause-step c =
+    rule_step c.args.self.now c.clears.new.self (clears (kernel_of c.args.self.now.kernel) c.in-Clears.key) (moved_by (event_seen c.args.seen) (place_of c.args.self.now) c.args.step) c.clears.result
+    (clears_moved (event_seen c.args.seen) (place_of c.args.self.now) c.args.step c.in-Clears.key c.in-Clears.is) (rw c.from-in-Clears.ensures at c.clears.ensures.step)
+
+pub returns-in-Protects-clause-step : goal.returns-in-Protects-clause-step
+returns-in-Protects-clause-step c =
+    kernel_step c.args.self.now c.protects.new.self (protected_by (kernel_of c.args.self.now.kernel) (find_of c.args.self.now.begun.items c.in-Protects.key) c.in-Protects.page)
+    (moved_by (event_seen c.args.seen) (place_of c.args.self.now) c.args.step) c.protects.result
+    (protects_moved (event_seen c.args.seen) (place_of c.args.self.now) c.args.step c.in-Protects.key c.in-Protects.page c.in-Protects.is) c.protects.ensures.same c.protects.ensures.step

@@ -2,7 +2,7 @@ use Rattle.std.proofs.Common.{◌∙◌, ◌++◌, ap, refl, true}
 use Rattle.std.specs.Prelude.{filter_map}
 use Rattle.kernel_rules.specs.Faults.{left_unanswered}
 use Rattle.kernel_rules.specs.declared.fault.Fault.{Fault}
-use Rattle.kernel_rules.proofs.Quiet.{all_over}
+use Rattle.kernel_rules.proofs.Replies.{all_over}
 use Rattle.kernel_rules.proofs.kernel_table.KernelTable.end_all_faults.Goals as goal
 
 pub returns-clause-over : goal.returns-clause-over

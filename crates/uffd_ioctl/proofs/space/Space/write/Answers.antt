@@ -1,12 +1,12 @@
 use Rattle.std.proofs.Common.{ap, sym, subst, ◌∙◌, ◌/◌, ◌≡◌, true}
-use Rattle.std.specs.FinMap.{contains_key}
-use Rattle.mig_base.specs.Bytes.{contents}
+use Rattle.std.specs.FinMap.{contains_key, get}
+use Rattle.mig_base.specs.Bytes.{low_bytes}
 use Rattle.mig_base.proofs.PageSetViews.{on_any_err}
 use Rattle.mig_model.specs.Space.{IsSoundSpace}
-use Rattle.mig_model.specs.Wire.{is_zeros}
+use Rattle.page_table.specs.Bytes.{write_needs_room}
 use Rattle.uffd_ioctl.specs.Spaces.{machine_space}
 use Rattle.uffd_ioctl.proofs.AnswerLemmas.{digits_of, digits_fit}
-use Rattle.uffd_ioctl.proofs.AccessLemmas.{all_zeros, sound_written, written_space}
+use Rattle.uffd_ioctl.proofs.AccessLemmas.{sound_written, written_space}
 use Rattle.uffd_ioctl.proofs.space.Space.write.Goals as goal
 
 pub write-requires-clause-inside : goal.write-requires-clause-inside
@@ -16,10 +16,12 @@ write-requires-clause-inside c =
 pub invariant_of-self : goal.invariant_of-self
 invariant_of-self c = subst (λ pages. IsSoundSpace (machine_space c.self.inside.areas pages c.self.inside.object)) (sym c.in_err-write.ensures.err) c.self.invariant
 
-pub returns-in_err-write-clause-zeros : goal.returns-in_err-write-clause-zeros
-returns-in_err-write-clause-zeros c =
+pub returns-in_err-write-clause-needs : goal.returns-in_err-write-clause-needs
+returns-in_err-write-clause-needs c =
+    let stored = digits_of c.write_u64.new.buf c.from.result c.args.width c.args.value c.write_u64.ensures c.from.ensures in
     on_any_err c.from_residual.result
-    (ap (λ s. is_zeros (contents s.host.bytes (c.args.addr / 4096))) (sym c.self.view_is) ∙ ap is_zeros c.in_err-write.ensures.zeros ∙ all_zeros)
+    (ap (λ s. write_needs_room (get s.host.bytes (c.args.addr / 4096)) (low_bytes c.args.value c.args.width)) (sym c.self.view_is)
+    ∙ ap (write_needs_room (get c.self.inside.pages.bytes (c.args.addr / 4096))) (sym stored) ∙ c.in_err-write.ensures.needs)
 
 pub invariant_of-self-2 : goal.invariant_of-self-2
 invariant_of-self-2 c =

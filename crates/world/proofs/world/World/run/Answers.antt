@@ -1,6 +1,7 @@
 use Rattle.std.proofs.Common.{arith, subst}
 use Rattle.std.proofs.lemmas.List.{take_all}
 use Rattle.mig_model.specs.Runs.{IsRun}
+use Rattle.world.proofs.CoreLemmas.{core_run}
 use Rattle.world.proofs.RunLemmas.{IsRun-more}
 use Rattle.world.proofs.world.World.run.Goals as goal
 
@@ -11,6 +12,11 @@ loop-step-preserved c = record {
   count = omega (arith, c.loop-step.invariant.count, c.push_reserved.ensures.len);
   room = omega (arith, c.loop-step.invariant.room, c.push_reserved.ensures.capacity);
 }
+
+pub returns-clause-core : goal.returns-clause-core
+returns-clause-core c =
+    core_run c.args.self.now c.loop-step.self c.args.steps.now c.loop-step.outcomes.items c.headline.ensures.reached
+    (subst (λ steps. IsRun c.args.self.now steps c.loop-step.outcomes.items c.loop-step.self) (take_all c.loop-step.step-index c.args.steps.now c.loop-step-test.false) c.loop-step.invariant.run)
 
 pub returns-clause-run : goal.returns-clause-run
 returns-clause-run c = subst (λ steps. IsRun c.args.self.now steps c.loop-step.outcomes.items c.loop-step.self) (take_all c.loop-step.step-index c.args.steps.now c.loop-step-test.false) c.loop-step.invariant.run

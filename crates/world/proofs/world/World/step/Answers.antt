@@ -8,7 +8,7 @@ pub invariant_of-self : goal.invariant_of-self
 invariant_of-self c = world_happens (world_of c.self.inside.parts) _ c.args.step _ c.self.invariant c.step.ensures
 
 pub returns-clause-core : goal.returns-clause-core
-returns-clause-core c = rw (← c.self.view_is) (core_happens (world_of c.self.inside.parts) _ c.args.step _ c.self.invariant c.step.ensures)
+returns-clause-core c = rw (← c.self.view_is) (core_happens (world_of c.self.inside.parts) _ c.args.step _ c.self.invariant.reached c.step.ensures)
 
 pub returns-clause-happens : goal.returns-clause-happens
 returns-clause-happens c = rw (← c.self.view_is) c.step.ensures

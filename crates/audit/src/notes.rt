@@ -1,0 +1,109 @@
+//! What is noted of a run for findings.
+
+use call_log::pages::Range;
+use kernel_rules::Difference;
+use mig_base::NoMemory;
+use std::alloc::Global;
+
+/// Pages that were registered, and still missing when that ended: by a call, or by the end of the log.
+#[derive(Clone, Copy)]
+pub(crate) struct Owed {
+    pub(crate) call: Option<u32>,
+    pub(crate) space: u64,
+    pub(crate) range: Range,
+}
+
+/// A call that was refused with EAGAIN, the first page of which no later call was to put.
+#[derive(Clone, Copy)]
+pub(crate) struct Again {
+    pub(crate) call: u32,
+    pub(crate) space: u32,
+    pub(crate) page: u64,
+}
+
+/// A fault that a call has resolved, from the read that returned it on.
+#[derive(Clone, Copy)]
+pub(crate) struct Waited {
+    pub(crate) read: u64,
+    /// The call that woke its thread.
+    pub(crate) by: u32,
+    pub(crate) flags: u64,
+}
+
+/// Calls are named by their places in the log.
+#[derive(Drop)]
+pub(crate) struct Notes {
+    pub(crate) waits: Vec<Waited>,
+    pub(crate) again: Vec<Again>,
+    /// The map calls an event of which was never read.
+    pub(crate) untold: Vec<u64>,
+    /// The calls by which registrations of owed pages ended, or the end of the log, each with the number of pages that were owed before.
+    pub(crate) ended: Vec<(usize, Option<u32>)>,
+    pub(crate) owed: Vec<Owed>,
+    /// The reads whose fault nobody has resolved.
+    pub(crate) unanswered: Vec<u64>,
+    /// The calls that stopped at a page which the log had put, and at another one that was there.
+    pub(crate) twice: Vec<u64>,
+    pub(crate) before: Vec<u64>,
+    /// The calls on pages that are not registered.
+    pub(crate) outside: Vec<u64>,
+    pub(crate) differs: Vec<Difference>,
+}
+
+impl Notes {
+    pub(crate) fn new(alloc: Global) -> Notes {
+        Notes {
+            waits: Vec::new(alloc),
+            again: Vec::new(alloc),
+            untold: Vec::new(alloc),
+            ended: Vec::new(alloc),
+            owed: Vec::new(alloc),
+            unanswered: Vec::new(alloc),
+            twice: Vec::new(alloc),
+            before: Vec::new(alloc),
+            outside: Vec::new(alloc),
+            differs: Vec::new(alloc),
+        }
+    }
+
+    /// A call is to put the pages of a range: those that were refused with EAGAIN are tried again.
+    pub(crate) fn note_tried(&mut self, space: u32, range: Range) {
+        self.again.retain(|again| again.space != space || !range.contains(again.page));
+    }
+
+    /// Adds what a kernel has at the end of a log.
+    pub(crate) fn add_last(&mut self, rules: &kernel_rules::Kernel) -> Result<(), NoMemory> {
+        self.unanswered.extend_from_slice(rules.unanswered())?;
+        self.twice.extend_from_slice(rules.twice())?;
+        self.before.extend_from_slice(rules.there_before())?;
+        self.outside.extend_from_slice(rules.outside())?;
+        self.differs.extend_from_slice(rules.differs())?;
+        for (place, (space, page)) in rules.owed().iter().enumerate() {
+            let call = self.ender(place);
+            self.owe(call, *space, *page)?;
+        }
+        Ok(())
+    }
+
+    /// The call by which the registration of the owed page at a place ended.
+    fn ender(&self, place: usize) -> Option<u32> {
+        let after = self.ended.partition_point(|one| one.0 <= place);
+        self.ended.get(after.checked_sub(1)?)?.1
+    }
+
+    /// Notes that a page is owed, by a call or by the end of the log.
+    fn owe(&mut self, call: Option<u32>, space: u64, page: u64) -> Result<(), NoMemory> {
+        if let Some(last) = self.owed.last_mut() {
+            if last.call == call && last.space == space && last.range.end() == page {
+                last.range.count = last.range.count.saturating_add(1);
+                return Ok(());
+            }
+        }
+        let range = Range {
+            first: page,
+            count: 1,
+        };
+        self.owed.push(Owed { call, space, range })?;
+        Ok(())
+    }
+}

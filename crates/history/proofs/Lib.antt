@@ -1,0 +1,6 @@
+pub mod Agreeing
+pub mod Apart
+pub mod Forks
+pub mod Locations
+pub mod Sources
+pub mod TickLists

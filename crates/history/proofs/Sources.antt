@@ -1,0 +1,203 @@
+-- A value that is found was left: in an order that explains a history, some operation before the reader left it, and none between them left
+-- anything else.
+use Rattle.std.proofs.Common.{◌≡◌, ◌⊎◌, ℕ, zero, suc, ◌<◌, ◌≤◌, Option, Some, None, unwrap_or, List, [], ◌∷◌, ◌++◌, true, refl, sym, ap, ◌∙◌, subst, inl, inr, arith, length, get_or}
+use Rattle.std.specs.List.{All, Contains}
+use Rattle.std.specs.List.Sorted.{IsPermutation}
+use Rattle.std.proofs.lemmas.Bool.{cases_lt}
+use Rattle.std.proofs.lemmas.List.{get_or_default}
+use Rattle.std.proofs.lemmas.List.Elements.{All-head, All-tail}
+use Rattle.std.proofs.lemmas.List.Sorted.{All-permutation, Contains-permutation}
+use Rattle.mig_base.specs.declared.command.Entry.{Entry}
+use Rattle.mig_base.specs.Flat.{Memory, no_memory, after, IsRunFrom, memory_from}
+use Rattle.history.specs.declared.operation.Operation.{Operation}
+use Rattle.history.specs.Histories.{entries, entries_of, MayPrecede, Explains}
+use Rattle.history.specs.Contradictions.{found_at, left_at, keeps_whole, Disturbs, CannotGive, HasNoSource}
+use Rattle.history.proofs.Locations.{Shows, now_at, IsPlace, step_at, place_of}
+
+-- Runs in two parts
+
+run_parts : (m : Memory) (xs ys : List Entry) → IsRunFrom m (xs ++ ys) → IsRunFrom m xs × IsRunFrom (memory_from m xs) ys
+run_parts m [] ys run = (tt, run)
+run_parts m (x ∷ xs) ys run = let rest = run_parts (after m x.command) xs ys run.1 in ((run.0, rest.0), rest.1)
+
+-- each value that an operation found at the place was there
+pub Traces : ℕ → Option ℕ → List Operation → Type 0
+Traces place before [] = Unit {0}
+Traces place before (x ∷ xs) = ((value : ℕ) → found_at place x.action ≡ Some value → before ≡ Some value) × Traces place (now_at place x.action before) xs
+
+traces : (m : Memory) (place size : ℕ) (before : Option ℕ) (order : List Operation) → IsPlace place size → All (λ x. keeps_whole place size x.action ≡ true) order → Shows m place size before → IsRunFrom m (entries order) → Traces place before order
+unfolding Traces
+traces m place size before [] is whole shows run = tt
+traces m place size before (x ∷ xs) is whole shows run =
+    let parts = run_parts m (entries_of x.thread x.action) (entries xs) run in
+    let step = step_at m place size x.thread before x.action is (All-head (λ y. keeps_whole place size y.action ≡ true) x xs whole) shows parts.0 in
+    (step.finds, traces (memory_from m (entries_of x.thread x.action)) place size (now_at place x.action before) xs is (All-tail (λ y. keeps_whole place size y.action ≡ true) x xs whole) step.shows parts.1)
+
+-- Who left a value
+
+-- the operation at `from` left the value that is there at `at`
+pub record Left (place : ℕ) (order : List Operation) (d : Operation) (at value : ℕ) : Type 0 where
+  pub from : ℕ
+  pub before : from < at
+  pub leaves : left_at place (get_or order from d).action ≡ Some (Some value)
+  pub untouched : (q : ℕ) → from < q → q < at → left_at place (get_or order q d).action ≡ None
+
+later_none : (place : ℕ) (x : Operation) (xs : List Operation) (d : Operation) (from at : ℕ) → ((q : ℕ) → from < q → q < at → left_at place (get_or xs q d).action ≡ None) → (q : ℕ) → suc from < q → q < suc at → left_at place (get_or (x ∷ xs) q d).action ≡ None
+later_none place x xs d from at h zero l m = absurd (omega arith)
+later_none place x xs d from at h (suc q) l m = h q (omega arith) (omega arith)
+
+first_none : (place : ℕ) (x : Operation) (xs : List Operation) (d : Operation) (at : ℕ) → ((q : ℕ) → q < at → left_at place (get_or xs q d).action ≡ None) → (q : ℕ) → 0 < q → q < suc at → left_at place (get_or (x ∷ xs) q d).action ≡ None
+first_none place x xs d at h zero l m = absurd (omega arith)
+first_none place x xs d at h (suc q) l m = h q (omega arith)
+
+all_none : (place : ℕ) (x : Operation) (xs : List Operation) (d : Operation) (at : ℕ) → left_at place x.action ≡ None → ((q : ℕ) → q < at → left_at place (get_or xs q d).action ≡ None) → (q : ℕ) → q < suc at → left_at place (get_or (x ∷ xs) q d).action ≡ None
+all_none place x xs d at here h zero m = here
+all_none place x xs d at here h (suc q) m = h q (omega arith)
+
+-- the value was left by an operation, or it was there at first and none has left anything
+Given : ℕ → Option ℕ → List Operation → Operation → ℕ → ℕ → Type 0
+Given place before order d at value = Left place order d at value ⊎ ((before ≡ Some value) × ((q : ℕ) → q < at → left_at place (get_or order q d).action ≡ None))
+
+given_first : (place : ℕ) (before : Option ℕ) (x : Operation) (xs : List Operation) (d : Operation) (at value : ℕ) (left : Option (Option ℕ)) → left_at place x.action ≡ left → unwrap_or left before ≡ Some value
+    → ((q : ℕ) → q < at → left_at place (get_or xs q d).action ≡ None) → Given place before (x ∷ xs) d (suc at) value
+unfolding Given
+given_first place before x xs d at value None e is none = inr (is, all_none place x xs d at e none)
+given_first place before x xs d at value (Some now) e is none = inl (record { from = 0; before = omega arith; leaves = e ∙ ap (λ (n : Option ℕ). Some n) is; untouched = first_none place x xs d at none })
+
+given : (place : ℕ) (before : Option ℕ) (order : List Operation) (d : Operation) (at value : ℕ) → Traces place before order → at < length order → found_at place (get_or order at d).action ≡ Some value → Given place before order d at value
+unfolding Traces Given
+given place before [] d at value trace inside found = absurd (omega arith)
+given place before (x ∷ xs) d zero value trace inside found = inr (trace.0 value found, λ q l. absurd (omega arith))
+given place before (x ∷ xs) d (suc at) value trace inside found = elim (given place (now_at place x.action before) xs d at value trace.1 (omega arith) found) [
+  | inl left ↦ inl (record { from = suc left.from; before = omega (arith, left.before); leaves = left.leaves; untouched = later_none place x xs d left.from at left.untouched })
+  | inr first ↦ given_first place before x xs d at value (left_at place x.action) refl first.0 first.1
+]
+
+-- where nothing is mapped at first, an operation left what is found
+pub left_by : (place size : ℕ) (order : List Operation) (d : Operation) (at value : ℕ) → IsPlace place size → All (λ x. keeps_whole place size x.action ≡ true) order → IsRunFrom no_memory (entries order) → at < length order
+    → found_at place (get_or order at d).action ≡ Some value → Left place order d at value
+unfolding Given
+left_by place size order d at value is whole run inside found = elim (given place None order d at value (traces no_memory place size None order is whole refl run) inside found) [
+  | inl left ↦ left
+  | inr first ↦ let none : None ≡ Some value = first.0 in cc
+]
+
+-- The order and the intervals
+
+-- an operation of the history is at some index of the order
+pub record IsAt (order : List Operation) (d x : Operation) : Type 0 where
+  pub at : ℕ
+  pub inside : at < length order
+  pub is : get_or order at d ≡ x
+
+pub place_in : (history order : List Operation) (d x : Operation) → IsPermutation history order → Contains history x → IsAt order d x
+place_in history order d x same there =
+    let it = Contains-permutation history order x same there in
+    record { at = it.0; inside = it.1; is = get_or_default order it.0 d x it.1 ∙ it.2 }
+
+-- one that had ended when another began is before it
+pub comes_first : (history order : List Operation) (d x y : Operation) (i j : ℕ) → Explains history order → i < length order → j < length order → get_or order i d ≡ x → get_or order j d ≡ y → x.end < y.begin → i < j
+comes_first history order d x y i j explains in_i in_j is_x is_y ended = elim (cases_lt i j) [
+  | inl less ↦ less
+  | inr least ↦ elim (cases_lt j i) [
+    | inl less ↦
+        let may = explains.agrees j i d less in_i in
+        let began : y.begin ≤ x.end = subst (λ (a : Operation). a.begin ≤ x.end) is_y (subst (λ (b : Operation). (get_or order j d).begin ≤ b.end) is_x may.began) in
+        absurd (omega arith)
+    | inr most ↦
+        let same : i ≡ j = omega arith in
+        let timed : x.begin < x.end = subst (λ (a : Operation). a.begin < a.end) is_x (explains.timed i d in_i) in
+        let one : x ≡ y = sym is_x ∙ ap (λ n. get_or order n d) same ∙ is_y in
+        let begins : x.begin ≡ y.begin = ap (λ (a : Operation). a.begin) one in
+        absurd (omega arith)
+  ]
+]
+
+-- A value without a source
+
+-- an operation that disturbs a value is not between the one that left it and one that found it
+undisturbed : (place size : ℕ) (order : List Operation) (d : Operation) (at value mid : ℕ) → IsPlace place size → All (λ x. keeps_whole place size x.action ≡ true) order → IsRunFrom no_memory (entries order) → at < length order
+    → (left : Left place order d at value) → left.from < mid → mid < at → Disturbs place value (get_or order mid d) → ⊥
+undisturbed place size order d at value mid is whole run inside left after_it before_it disturbs = elim disturbs [
+  | inl leaves ↦ leaves (left.untouched mid after_it before_it)
+  | inr finds ↦
+      let other = left_by place size order d mid finds.0 is whole run (omega arith) finds.1 in
+      elim (cases_lt left.from other.from) [
+        | inl less ↦
+            let none : left_at place (get_or order other.from d).action ≡ None = left.untouched other.from less (omega (arith, other.before)) in
+            let some = other.leaves in
+            cc
+        | inr most ↦ elim (cases_lt other.from left.from) [
+          | inl less ↦
+              let none : left_at place (get_or order left.from d).action ≡ None = other.untouched left.from less after_it in
+              let some = left.leaves in
+              cc
+          | inr least ↦
+              let same : other.from ≡ left.from = omega arith in
+              let both : Some (Some finds.0) ≡ Some (Some value) = sym other.leaves ∙ ap (λ n. left_at place (get_or order n d).action) same ∙ left.leaves in
+              finds.2 (cc)
+        ]
+      ]
+]
+
+-- the source of what a reader found is one that could not have given it
+pub no_source : (history order : List Operation) (place size value : ℕ) (reader : Operation) (between : Option Operation) → HasNoSource history place size value reader between → Explains history order → ⊥
+no_source history order place size value reader None wrong explains =
+    let is = place_of place size wrong.location.aligned in
+    let whole = All-permutation (λ x. keeps_whole place size x.action ≡ true) history order explains.all wrong.location.whole in
+    let at = place_in history order reader reader explains.all wrong.reads in
+    let found : found_at place (get_or order at.at reader).action ≡ Some value = ap (λ (x : Operation). found_at place x.action) at.is ∙ wrong.found in
+    let left = left_by place size order reader at.at value is whole explains.flat at.inside found in
+    let sources = All-permutation (λ x. left_at place x.action ≡ Some (Some value) → CannotGive None reader x) history order explains.all wrong.sources in
+    let within : left.from < length order = omega (arith, left.before, at.inside) in
+    let after_it : reader.end < (get_or order left.from reader).begin = sources left.from reader within left.leaves in
+    let turned = comes_first history order reader reader (get_or order left.from reader) at.at left.from explains at.inside within at.is refl after_it in
+    absurd (omega (arith, left.before))
+no_source history order place size value reader (Some between) wrong explains =
+    let is = place_of place size wrong.location.aligned in
+    let whole = All-permutation (λ x. keeps_whole place size x.action ≡ true) history order explains.all wrong.location.whole in
+    let at = place_in history order reader reader explains.all wrong.reads in
+    let mid = place_in history order reader between explains.all wrong.disturbed.0 in
+    let found : found_at place (get_or order at.at reader).action ≡ Some value = ap (λ (x : Operation). found_at place x.action) at.is ∙ wrong.found in
+    let left = left_by place size order reader at.at value is whole explains.flat at.inside found in
+    let sources = All-permutation (λ x. left_at place x.action ≡ Some (Some value) → CannotGive (Some between) reader x) history order explains.all wrong.sources in
+    let within : left.from < length order = omega (arith, left.before, at.inside) in
+    elim (sources left.from reader within left.leaves) [
+      | inl after_it ↦
+          let turned = comes_first history order reader reader (get_or order left.from reader) at.at left.from explains at.inside within at.is refl after_it in
+          absurd (omega (arith, left.before))
+      | inr before_it ↦
+          let first = comes_first history order reader (get_or order left.from reader) between left.from mid.at explains within mid.inside refl mid.is before_it in
+          let second = comes_first history order reader between reader mid.at at.at explains mid.inside at.inside mid.is at.is wrong.disturbed.1 in
+          undisturbed place size order reader at.at value mid.at is whole explains.flat at.inside left first second (subst (λ (x : Operation). Disturbs place value x) (sym mid.is) wrong.disturbed.2)
+    ]
+
+-- Clocks
+
+pub never_backward : (history order : List Operation) (x : Operation) → Contains history x → x.end ≤ x.begin → Explains history order → ⊥
+never_backward history order x there back explains =
+    let at = place_in history order x x explains.all there in
+    let timed : x.begin < x.end = subst (λ (a : Operation). a.begin < a.end) at.is (explains.timed at.at x at.inside) in
+    omega arith
+
+pub never_overlap : (history order : List Operation) (x y : Operation) → Contains history x → Contains history y → x.thread ≡ y.thread → (x.line ≡ y.line → ⊥) → y.begin < x.end → x.begin < y.end → Explains history order → ⊥
+never_overlap history order x y x_there y_there same other one_way other_way explains =
+    let a = place_in history order x x explains.all x_there in
+    let b = place_in history order x y explains.all y_there in
+    elim (cases_lt a.at b.at) [
+      | inl less ↦
+          let may = explains.agrees a.at b.at x less b.inside in
+          let after : MayPrecede x y = subst (λ (p : Operation). MayPrecede p y) a.is (subst (λ (q : Operation). MayPrecede (get_or order a.at x) q) b.is may) in
+          let ended = after.one_thread same in
+          absurd (omega (arith, ended))
+      | inr least ↦ elim (cases_lt b.at a.at) [
+        | inl less ↦
+            let may = explains.agrees b.at a.at x less a.inside in
+            let after : MayPrecede y x = subst (λ (p : Operation). MayPrecede p x) b.is (subst (λ (q : Operation). MayPrecede (get_or order b.at x) q) a.is may) in
+            let ended = after.one_thread (sym same) in
+            absurd (omega (arith, ended))
+        | inr most ↦
+            let one : a.at ≡ b.at = omega arith in
+            other (ap (λ (p : Operation). p.line) (sym a.is ∙ ap (λ n. get_or order n x) one ∙ b.is))
+      ]
+    ]

@@ -1,0 +1,98 @@
+-- How operations contradict each other: what makes an order of all of them impossible. A location is an address with a width, in bytes.
+use Rattle.std.specs.Prelude.{◌≡◌, ◌≢◌, ℕ, ◌<◌, ◌⊎◌, ◌==◌, not, Bool, true, Option, Some, None, IfSome, List, if◌then◌else◌}
+use Rattle.std.specs.List.{All, Contains}
+use Rattle.mig_base.specs.Ranges.{in_range, rounded}
+use Rattle.mig_base.specs.Flat.{is_aligned, overlaps}
+use Rattle.history.specs.declared.operation.Action.{Action}
+use Rattle.history.specs.declared.operation.Action.TheVariants.{Load, Store, Swap, Map, Unmap, Discard}
+use Rattle.history.specs.declared.operation.Operation.{Operation}
+
+-- the value that an action found at an address, if it is one that reads there
+abbrev pub found_at : ℕ → Action → Option ℕ
+found_at place (Load addr width value) = if addr == place then Some value else None
+found_at place (Store addr width value) = None
+found_at place (Swap addr width value found) = if addr == place then Some found else None
+found_at place (Map addr len) = None
+found_at place (Unmap addr len) = None
+found_at place (Discard addr len) = None
+
+-- what an action left at an address: a value, or nothing where it unmapped the page; None if it left there what was there
+abbrev pub left_at : ℕ → Action → Option (Option ℕ)
+left_at place (Load addr width value) = None
+left_at place (Store addr width value) = if addr == place then Some (Some value) else None
+left_at place (Swap addr width value found) = if addr == place then Some (Some value) else None
+left_at place (Map addr len) = if in_range addr (rounded len) place then Some (Some 0) else None
+left_at place (Unmap addr len) = if in_range addr (rounded len) place then Some None else None
+left_at place (Discard addr len) = if in_range addr (rounded len) place then Some (Some 0) else None
+
+-- whether an access and a location are the same bytes, or share none
+abbrev pub is_apart_or_same : ℕ → ℕ → ℕ → ℕ → Bool
+is_apart_or_same place size addr width = (if addr == place then width == size else not (overlaps addr width place size))
+
+-- whether an action is an access to the whole location, or to none of it, or a map call
+abbrev pub keeps_whole : ℕ → ℕ → Action → Bool
+keeps_whole place size (Load addr width value) = is_apart_or_same place size addr width
+keeps_whole place size (Store addr width value) = is_apart_or_same place size addr width
+keeps_whole place size (Swap addr width value found) = is_apart_or_same place size addr width
+keeps_whole place size (Map addr len) = true
+keeps_whole place size (Unmap addr len) = true
+keeps_whole place size (Discard addr len) = true
+
+-- an aligned location whose bytes no operation of a history reads or writes in parts
+pub record IsLocation (history : List Operation) (place size : ℕ) : Type 0 where
+  pub aligned : is_aligned place size ≡ true
+  pub whole : All (λ operation. keeps_whole place size operation.action ≡ true) history
+
+-- one operation had ended when another began
+abbrev pub Before : Operation → Operation → Type 0
+Before first second = first.end < second.begin
+
+-- a value cannot be at the location both before and after the operation, if none brought it back: the operation found another there, or
+-- left something there
+abbrev pub Disturbs : ℕ → ℕ → Operation → Type 0
+Disturbs place value operation =
+    (left_at place operation.action ≢ None) ⊎ ((other : ℕ) × (found_at place operation.action ≡ Some other) × (other ≢ value))
+
+-- `reader` cannot have found what `source` left: `source` began when it had ended, or an operation that disturbs the value came between
+abbrev pub CannotGive : Option Operation → Operation → Operation → Type 0
+CannotGive None reader source = Before reader source
+CannotGive (Some between) reader source = Before reader source ⊎ Before source between
+
+-- no operation can have given `reader` the value that it found. That is the contradiction
+--   never-written: no operation left the value
+--   future: each that left it began when the reader had ended
+--   stale, survived: or had ended when another began, which left another value, found another, or cleared the page, and which had ended
+--     when the reader began
+--   zeros: the same, of the value 0, which a map call leaves
+pub record HasNoSource (history : List Operation) (place size value : ℕ) (reader : Operation) (between : Option Operation) : Type 0 where
+  pub location : IsLocation history place size
+  pub reads : Contains history reader
+  pub found : found_at place reader.action ≡ Some value
+  pub disturbed : IfSome between (λ it. Contains history it × Before it reader × Disturbs place value it)
+  pub sources : All (λ source. left_at place source.action ≡ Some (Some value) → CannotGive between reader source) history
+
+-- clock: two operations of one thread of which neither had ended when the other began, or one that ended before it began
+abbrev pub Overlap : Operation → Operation → Type 0
+Overlap first second = (first.thread ≡ second.thread) × (second.begin < first.end) × (first.begin < second.end)
+
+-- an operation that left the value was not between two others: it is `only`, or where none is given it had ended before both began, or
+-- began when both had ended
+abbrev pub IsOutside : Option Operation → Operation → Operation → Operation → Type 0
+IsOutside None first second source = (Before source first × Before source second) ⊎ (Before first source × Before second source)
+IsOutside (Some only) first second source = source ≡ only
+
+-- forked: two exchanges found one value, each left another, and nobody can have brought the value back between them
+pub record IsFork (history : List Operation) (place size value : ℕ) (first second : Operation) (only : Option Operation) : Type 0 where
+  pub location : IsLocation history place size
+  pub first_there : Contains history first
+  pub second_there : Contains history second
+  pub apart : first.line ≢ second.line
+  pub first_found : found_at place first.action ≡ Some value
+  pub second_found : found_at place second.action ≡ Some value
+  pub first_left : Option ℕ
+  pub first_leaves : left_at place first.action ≡ Some first_left
+  pub first_other : first_left ≢ Some value
+  pub second_left : Option ℕ
+  pub second_leaves : left_at place second.action ≡ Some second_left
+  pub second_other : second_left ≢ Some value
+  pub sources : All (λ source. left_at place source.action ≡ Some (Some value) → IsOutside only first second source) history

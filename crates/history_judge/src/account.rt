@@ -1,0 +1,217 @@
+//! What contradicts an order, in words.
+
+use grammar::EntryText;
+use history::{Action, Contradiction, NEVER, Operation};
+use history_order::entries_of;
+use std::alloc::AllocError;
+
+/// What is said of a contradiction.
+#[derive(Clone, Copy)]
+struct Account {
+    /// The index of the operation at fault.
+    at: usize,
+    /// Its kind.
+    kind: &'static str,
+    /// Why no order has it.
+    why: &'static str,
+    /// The indices of the others that show it, the first first.
+    others: [Option<usize>; 2],
+}
+
+/// What is said of an operation that ended before it began, and of two that overlap.
+const BACKWARD: &str = "it ended before it began:";
+
+const OVERLAP: &str = "one thread made both, and neither had ended when the other began:";
+
+/// What is said of two exchanges that found one value.
+const FORKED: &str = "two exchanges found one value, and no call brought it back between them:";
+
+/// What is said of a value that no operation can have given.
+const NEVER_WRITTEN: &str = "no operation stored this value:";
+
+const ELSEWHERE: &str = "this value was stored only at another address:";
+
+const FUTURE: &str = "its value was stored by operations that began when it had ended:";
+
+const UNMAPPED: &str = "zeros, although no map call on its page had begun when it ended:";
+
+const STALE: &str = "its value was stored first, and then another was there, before it began:";
+
+const SURVIVED: &str = "its value was stored before this call cleared the page:";
+
+const ZEROS: &str =
+    "zeros, although a value was there before it began, and no call cleared the page after that:";
+
+/// The address that an action reads, and the value that it found there.
+fn read_by(action: Action) -> Option<(u64, u64)> {
+    match action {
+        Action::Load { addr, value, .. } => Some((addr, value)),
+        Action::Swap { addr, found, .. } => Some((addr, found)),
+        _ => None,
+    }
+}
+
+/// The address at which an action stores, and the value.
+fn stored_by(action: Action) -> Option<(u64, u64)> {
+    match action {
+        Action::Store { addr, value, .. } | Action::Swap { addr, value, .. } => Some((addr, value)),
+        _ => None,
+    }
+}
+
+/// The index of the first operation that stores this value at this address, or where that is not given, at any.
+fn storing(operations: &[Operation], addr: Option<u64>, value: u64) -> Option<usize> {
+    for (index, operation) in operations.iter().enumerate() {
+        if let Some((at, stored)) = stored_by(operation.action)
+            && stored == value
+            && addr.unwrap_or(at) == at
+        {
+            return Some(index);
+        }
+    }
+    None
+}
+
+/// Whether an operation is a map call.
+fn is_call(operation: &Operation) -> bool {
+    matches!(
+        operation.action,
+        Action::Map { .. } | Action::Unmap { .. } | Action::Discard { .. }
+    )
+}
+
+/// What is said of a value that was found without a source.
+fn account_of_read(
+    operations: &[Operation],
+    at: usize,
+    between: Option<usize>,
+    read: (u64, u64),
+) -> Account {
+    let (addr, value) = read;
+    let source = storing(operations, Some(addr), value);
+    let Some(middle) = between else {
+        let (kind, why, other) = match source {
+            Some(source) => ("future", FUTURE, Some(source)),
+            None if value == 0 => ("zeros", UNMAPPED, None),
+            None => match storing(operations, None, value) {
+                Some(other) => ("elsewhere", ELSEWHERE, Some(other)),
+                None => ("never-written", NEVER_WRITTEN, None),
+            },
+        };
+        return Account {
+            at,
+            kind,
+            why,
+            others: [other, None],
+        };
+    };
+    let call = match operations.get(middle) {
+        Some(operation) => is_call(operation),
+        None => false,
+    };
+    let (kind, why) = if value == 0 {
+        ("zeros", ZEROS)
+    } else if call {
+        ("survived", SURVIVED)
+    } else {
+        ("stale", STALE)
+    };
+    Account {
+        at,
+        kind,
+        why,
+        others: [source, between],
+    }
+}
+
+/// What is said of a contradiction.
+fn account_of(operations: &[Operation], contradiction: Contradiction) -> Account {
+    match contradiction {
+        Contradiction::Backward { at } => Account {
+            at,
+            kind: "clock",
+            why: BACKWARD,
+            others: [None, None],
+        },
+        Contradiction::Overlap { first, second } => Account {
+            at: second,
+            kind: "clock",
+            why: OVERLAP,
+            others: [Some(first), None],
+        },
+        Contradiction::Fork {
+            first,
+            second,
+            only,
+        } => Account {
+            at: second,
+            kind: "forked",
+            why: FORKED,
+            others: [only, Some(first)],
+        },
+        Contradiction::NoSource { reader, between } => {
+            let read = match operations.get(reader) {
+                Some(operation) => read_by(operation.action),
+                None => None,
+            };
+            account_of_read(operations, reader, between, read.unwrap_or((0, 0)))
+        }
+    }
+}
+
+/// Appends an operation as the entries of a transcript that it is, and its line feed.
+fn write_entries(text: &mut String, operation: &Operation) -> Result<(), AllocError> {
+    let (first, second) = entries_of(operation);
+    let first = EntryText(first);
+    match second {
+        None => write!(text, "{first}\n"),
+        Some(second) => {
+            let second = EntryText(second);
+            write!(text, "{first} and at once {second}\n")
+        }
+    }
+}
+
+/// Appends the line of an operation that shows a contradiction.
+fn write_shown(text: &mut String, operation: &Operation) -> Result<(), AllocError> {
+    let line = operation.line;
+    let begin = operation.begin;
+    let end = operation.end;
+    if end == NEVER {
+        write!(text, "    line {line}, from {begin} on: ")?;
+    } else {
+        write!(text, "    line {line}, from {begin} to {end}: ")?;
+    }
+    write_entries(text, operation)
+}
+
+/// Appends what is said of a contradiction: `NAME:LINE: KIND: ENTRY`, and if it is to be explained why, with the operations that show it.
+pub(crate) fn write_account(
+    text: &mut String,
+    name: &str,
+    operations: &[Operation],
+    contradiction: Contradiction,
+    explains: bool,
+) -> Result<(), AllocError> {
+    let account = account_of(operations, contradiction);
+    let Some(operation) = operations.get(account.at) else {
+        return Ok(());
+    };
+    let line = operation.line;
+    let kind = account.kind;
+    write!(text, "{name}:{line}: {kind}: ")?;
+    write_entries(text, operation)?;
+    if !explains {
+        return Ok(());
+    }
+    let why = account.why;
+    write!(text, "  {why}\n")?;
+    for other in account.others {
+        if let Some(other) = other
+            && let Some(shown) = operations.get(other)
+        {
+            write_shown(text, shown)?;
+        }
+    }
+    write_shown(text, operation)
+}
