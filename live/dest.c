@@ -70,9 +70,7 @@ static void begin(struct dest *dest, const struct options *options)
 static void open_door(struct dest *dest, const struct options *options)
 {
     if (options->feed) {
-        door_none(&dest->door);
-        stream_open(&dest->main, feed_start(options->feed), NULL, &(struct cut)NO_CUT);
-        dest_claim(dest, CLAIM_BOUND);
+        door_feed(&dest->door, feed_start(options->feed), &dest->own);
         return;
     }
     door_open(&dest->door, &options->address, options->buffer, &dest->own);
@@ -157,6 +155,34 @@ static bool turn(struct dest *dest)
     return dest->is_over;
 }
 
+/* WAITS FOR THE OPERATOR */
+
+static struct dest *keeper;
+
+static bool wait_for_orders(uint32_t milliseconds)
+{
+    struct pollfd files[OPERATOR_FILES];
+
+    operator_files(files);
+    (void)poll(files, OPERATOR_FILES, (int)milliseconds); /* a shorter wait is as good */
+    dest_obey(keeper);
+    return keeper->is_over;
+}
+
+/* The guest, or what has come of it, is here alone. What cannot be tried again leaves it as it is: threads that need no page run on. */
+static int keep_all(const char *why)
+{
+    keeper->held = why;
+    stream_close(&keeper->main);
+    stream_close(&keeper->urgent);
+    log_event("destination: " HELD);
+    while (!wait_for_orders(1000))
+        continue;
+    return STATUS_REFUSED;
+}
+
+const struct keeping dest_bound = { keep_all, wait_for_orders };
+
 /* HOW IT ENDS */
 
 static void handle_guest(struct dest *dest)
@@ -188,6 +214,9 @@ static void leave_guest(struct dest *dest)
 {
     uint64_t until = kernel_now() + dest->options->after * 1000000ull;
 
+    if (!dest->is_handed) /* (it ends with this process) */
+        live_keep((struct keeping){ NULL, NULL });
+    dest->is_over = false; /* another word of the operator ends a wait for the monitor, or for memory */
     while (kernel_now() < until)
         handle_guest(dest);
     if (!dest->is_handed) {
@@ -196,7 +225,8 @@ static void leave_guest(struct dest *dest)
     }
     while (watch_put_kept(&dest->watch, KEPT_AT_A_TIME))
         watch_handle(&dest->watch);
-    handed_leave(&dest->handed);
+    handed_leave(&dest->handed, wait_for_orders);
+    live_keep((struct keeping){ NULL, NULL });
 }
 
 static void say_figures(struct dest *dest)
@@ -215,32 +245,6 @@ static void say_figures(struct dest *dest)
                 dest->figures.late_breaks, dest->door.turned_away, dest->state.epoch, dest->figures.busy);
 }
 
-static struct dest *keeper;
-
-static bool wait_for_orders(uint32_t milliseconds)
-{
-    struct pollfd files[OPERATOR_FILES];
-
-    operator_files(files);
-    (void)poll(files, OPERATOR_FILES, (int)milliseconds); /* a shorter wait is as good */
-    dest_obey(keeper);
-    return keeper->is_over;
-}
-
-/* The guest, or what has come of it, is here alone. What cannot be tried again leaves it as it is: threads that need no page run on. */
-static int keep_all(const char *why)
-{
-    keeper->held = why;
-    stream_close(&keeper->main);
-    stream_close(&keeper->urgent);
-    log_event("destination: " HELD);
-    while (!wait_for_orders(1000))
-        continue;
-    return STATUS_REFUSED;
-}
-
-const struct keeping dest_bound = { keep_all, wait_for_orders };
-
 int dest_run(const struct options *options)
 {
     static struct dest dest;
@@ -255,16 +259,15 @@ int dest_run(const struct options *options)
     open_door(&dest, options);
     while (!turn(&dest))
         continue;
-    live_keep((struct keeping){ NULL, NULL });
     dest_look(&dest);
     if (!dest_has_all(&dest) && options->feed)
         log_figures("fed status=%d\n", feed_end());
     if (!dest_has_all(&dest))
         lose(dest.state.has_run ? "the source is gone for good, and %u pages with it: the guest is lost" : "it ends before the switch",
              dest.state.owed);
-    operator_close();
     door_close(&dest.door);
     leave_guest(&dest);
+    operator_close();
     if (options->feed)
         log_figures("fed status=%d\n", feed_end());
     say_figures(&dest);

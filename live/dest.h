@@ -14,11 +14,10 @@
 
 /* What the source that is served has a claim to. It grows; a new node takes back what is below CLAIM_BOUND. */
 enum claim {
-    CLAIM_NONE,     /* it has sent nothing: another one takes its place once it is idle, */
-    CLAIM_SENDS,    /* or is turned away while it is not */
-    CLAIM_BOUND,    /* it may have switched: no other one is served, */
-    CLAIM_PROMISED, /* as was said to it, */
-    CLAIM_TOLD      /* and on this channel */
+    CLAIM_NONE,  /* it has sent nothing: another one takes its place once it is idle, */
+    CLAIM_SENDS, /* or is turned away while it is not */
+    CLAIM_BOUND, /* it may have switched: no other one is served, and only `abandon` ends this side; */
+    CLAIM_TOLD   /* and it was told so on this channel */
 };
 
 /* What a turn has left to do, for which poll(2) is not to wait. */

@@ -24,7 +24,7 @@ static void lose_channel(struct dest *dest, const char *why)
     dest->left = LEFT_NOTHING;
     dest->is_refused = false;
     if (dest->claim == CLAIM_TOLD)
-        dest->claim = CLAIM_PROMISED;
+        dest->claim = CLAIM_BOUND;
     node_drop_frames(&dest->node);
     dest->is_over |= dest->options->feed != NULL;
     log_event("destination: %s, epoch %u: %s", dest_source(dest), dest->source.epoch, why);
@@ -109,6 +109,10 @@ void dest_look_at_door(struct dest *dest)
         take_channel(dest, &fresh, &hello);
     if (stream_is_open(&dest->main))
         take_urgent_channel(dest);
+    else if (dest->options->feed && !door_has_newcomer(&dest->door)) {
+        log_event("destination: the command has ended, or has said no hello that fits");
+        dest->is_over = true;
+    }
 }
 
 /* Sends and receives. False once either connection is broken. */
@@ -122,7 +126,7 @@ static bool exchange(struct dest *dest)
 
 static bool is_silent(const struct dest *dest, struct stream *stream, uint64_t took)
 {
-    return stream_is_open(stream) && stream->beats && beat_listen(stream, took) > beat_limit(dest->options->silence, dest->silences);
+    return stream_is_open(stream) && stream->beats && !dest->options->feed && beat_listen(stream, took) > beat_limit(dest->options->silence, dest->silences);
 }
 
 void dest_use_channel(struct dest *dest)

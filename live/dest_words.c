@@ -31,7 +31,7 @@ static const char *reason_to_stay(const struct dest *dest)
 {
     if (dest->held)
         return operator_ends_held();
-    if (dest_has_all(dest) || (!dest->state.has_run && dest->claim < CLAIM_PROMISED))
+    if (dest_has_all(dest) || (!dest->state.has_run && dest->claim < CLAIM_BOUND))
         return NULL;
     if (dest->state.has_run)
         return "the guest runs here, and pages of it are still at the source";

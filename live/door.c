@@ -17,12 +17,19 @@
 #define MOST_WAITING 128  /* connections that the kernel has made */
 #define MOST_ACCEPTED 64u /* by one look */
 
-void door_none(struct door *door)
+static void begin(struct door *door, const struct hello *own)
 {
     memset(door, 0, sizeof *door);
+    door->own = own;
     door->file = -1;
     for (uint32_t i = 0; i < MOST_NEWCOMERS; i++)
         door->newcomer[i].file = -1;
+}
+
+void door_feed(struct door *door, int file, const struct hello *own)
+{
+    begin(door, own);
+    door->newcomer[0] = (struct newcomer){ .file = file, .deadline = UINT64_MAX };
 }
 
 /* (a connection is made for the program once something has come on it) */
@@ -42,9 +49,8 @@ static int listen_by_tcp(const struct address *address, uint32_t buffer)
 
 void door_open(struct door *door, const struct address *address, uint32_t buffer, const struct hello *own)
 {
-    door_none(door);
+    begin(door, own);
     door->address = address;
-    door->own = own;
     door->file = address_is_unix(address) ? local_listen(address, MOST_WAITING) : listen_by_tcp(address, buffer);
     if (address_is_unix(address) && !socket_set_up(door->file, buffer))
         refuse_errno(errno, "an option of a socket");
@@ -138,6 +144,15 @@ static struct newcomer *place_for(struct door *door, const struct in6_addr *host
     return first;
 }
 
+/* Nobody more is there, or one has gone again; or a newcomer cannot be accepted, which is said once for each reason. */
+static void note_lack(struct door *door, int error)
+{
+    if (error == EAGAIN || error == ECONNABORTED || error == EINTR || error == door->lack || door->file < 0)
+        return;
+    door->lack = error;
+    log_event("nobody can be accepted at %s: %s (%s)", door->address->text, strerrorname_np(error), strerror(error));
+}
+
 /* A few at most, so that who waits is looked at in between. */
 static void accept_some(struct door *door)
 {
@@ -149,8 +164,10 @@ static void accept_some(struct door *door)
         struct in6_addr host;
         struct tls *tls;
 
-        if (file < 0) /* nobody more, or one that has gone again */
+        if (file < 0) {
+            note_lack(door, errno);
             return;
+        }
         if ((address_is_unix(door->address) && !local_is_own(file)) || !tls_new(&tls, file, TLS_LISTENS)) {
             (void)close(file); /* nothing was written */
             door->turned_away++;
@@ -176,6 +193,8 @@ static void refuse_newcomer(struct door *door, struct newcomer *newcomer, const 
     else
         (void)send(newcomer->file, bytes, sizeof bytes, MSG_NOSIGNAL | MSG_DONTWAIT);
     newcomer->is_refused = true;
+    if (newcomer->deadline == UINT64_MAX)
+        newcomer->deadline = kernel_now() + (uint64_t)PATIENCE_MS * MILLION;
     door->turned_away++;
     log_event("a source is refused: %s", reason);
 }

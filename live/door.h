@@ -33,13 +33,14 @@ struct door {
     struct in6_addr known; /* the host of the source that was let in, */
     bool is_known;         /* if one was */
     uint64_t turned_away;
+    int lack; /* why nobody could be accepted, as it was said last; an errno */
 };
 
 /* Listens there. A busy address is refused. */
 void door_open(struct door *door, const struct address *address, uint32_t buffer, const struct hello *own);
 
-/* No door: nobody comes. */
-void door_none(struct door *door);
+/* Nobody listens: the one newcomer is the program at this file, which has all the time that it takes for its hello. */
+void door_feed(struct door *door, int file, const struct hello *own);
 
 /* The port, where the kernel has chosen it. */
 uint16_t door_port(const struct door *door);

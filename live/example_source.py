@@ -1,8 +1,9 @@
 #!/usr/bin/env python3
 """A source of your own, as small as it can be: live dest --feed live/example_source.py --memory 4M
 
-Its standard output is the wire to the destination, its standard input the wire back: frames of version 2, as docs/FORMATS.md has them. It
-sends half of a guest's memory while the guest could still run, then the Package, and after it the rest: each page that is asked for first.
+Its standard output is the wire to the destination, its standard input the wire back: a hello, and then frames of
+version 2, as docs/FORMATS.md has them. It sends half of a guest's memory while the guest could still run, then the
+Package, and after it the rest: each page that is asked for first.
 What is of this guest is in `Guest`; a program with a guest of its own has that in its place. The options are those of the destination.
 """
 
@@ -14,6 +15,7 @@ import sys
 import threading
 
 LOW_PAGE, MOST_OF_RUN, EPOCH = 0x10, 64, 1
+HELLO_BYTES, REASON = 192, 80
 ADVISE, PAGE, ZERO, DISCARD, PACKAGE, END, RUN, REQUEST, DONE = 1, 2, 3, 4, 5, 6, 8, 0x81, 0x83
 READ_WRITE, WAITS_FOR_NOTHING = 2, 0
 
@@ -59,8 +61,11 @@ def runs(pages):
 
 
 def write(data):
-    while data:
-        data = data[os.write(1, data):]
+    try:
+        while data:
+            data = data[os.write(1, data):]
+    except (BrokenPipeError, ConnectionResetError):
+        sys.exit("the destination has ended")
 
 
 def send(tag, body=b""):
@@ -108,6 +113,14 @@ def listen(asked):
         asked.put(struct.unpack(">I", body)[0] if tag == REQUEST else None)
 
 
+def greet(pages, threads):
+    """Says the hello, and ends with the destination's reason where the two do not fit."""
+    write(struct.pack(">6sBBIQIIHHQIHH144x", b"pmlive", 2, 0, EPOCH, 1, 0, pages, 1, threads, 0, pages, threads, 0))
+    reason = read(HELLO_BYTES)[REASON:].rstrip(b"\0").decode("ascii")
+    if reason:
+        sys.exit(f"the destination refuses: {reason}")
+
+
 def main():
     parser = argparse.ArgumentParser()
     for name, usual in (("memory", "256M"), ("threads", 4), ("seed", 1), ("cold", 4), ("given", 0), ("shared", 0)):
@@ -118,6 +131,7 @@ def main():
     memory = {LOW_PAGE + number: data for number in range(count) if (data := guest.page(number))}
     early = {page: data for page, data in memory.items() if page < LOW_PAGE + count // 2}
     changed = [page for page in early if page % 16 == 0]  # (nothing changes here: these are sent again as if it did)
+    greet(count, options.threads)
     send(ADVISE)
     send_runs(early)
     owed = {page: data for page, data in memory.items() if page not in early or page in changed}

@@ -235,21 +235,26 @@ bool handed_has_stopped(struct handed *handed)
     return handed->has_stopped;
 }
 
-void handed_leave(struct handed *handed)
+void handed_leave(struct handed *handed, bool (*meanwhile)(uint32_t milliseconds))
 {
     struct pollfd files[] = { { .fd = handed->monitor, .events = POLLIN }, { .fd = handed->userfault, .events = POLLIN } };
     struct uffd_msg unread[MOST_UNREAD];
+    bool is_ended = false;
 
     if (handed_has_stopped(handed))
         refuse("the guest has stopped, and was not asked to");
     for (uint32_t i = 0; i < handed->ranges; i++)
         kernel_unregister(handed->userfault, handed_page(handed, handed->range[i].offset / PAGE_BYTES), handed->range[i].bytes);
     handed_say(handed, HANDED_STOP);
-    while (!handed_has_stopped(handed)) {
+    log_event("all pages are put: waiting until the monitor says that its threads have stopped");
+    while (!is_ended && !handed_has_stopped(handed)) {
         (void)poll(files, 2, 100); /* what is there is read in any case */
         while (kernel_read(handed->userfault, unread, MOST_UNREAD))
             continue;
+        is_ended = meanwhile && meanwhile(0);
     }
+    if (is_ended)
+        log_event("the operator ends the wait: the monitor has all pages, and has not said that its threads have stopped");
     (void)close(handed->userfault); /* nothing was written to it */
     (void)close(handed->monitor);   /* nor waits for the monitor */
     free(handed->kept);

@@ -68,7 +68,8 @@ void handed_say(const struct handed *handed, char what);
 bool handed_has_stopped(struct handed *handed);
 
 /* All its pages are there: the memory is left to the kernel. Who waits there is woken, the monitor hears that its threads are to stop, and messages are
-   read until it has: a thread that gives pages back waits until its message was read. Then the connection ends. */
-void handed_leave(struct handed *handed);
+   read until it has said that they have: a thread that gives pages back waits until its message was read. Then the connection ends. It ends sooner
+   once `meanwhile` returns true, which is asked ten times a second; NULL: nobody is asked. */
+void handed_leave(struct handed *handed, bool (*meanwhile)(uint32_t milliseconds));
 
 #endif

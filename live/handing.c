@@ -17,6 +17,7 @@
 int handing_connect(const struct address *address, uint32_t patience)
 {
     uint64_t limit = kernel_now() + patience * (uint64_t)NANOSECONDS;
+    int error = 0;
 
     while (kernel_now() < limit) {
         int file = socket(AF_UNIX, SOCK_STREAM | SOCK_CLOEXEC, 0);
@@ -25,10 +26,11 @@ int handing_connect(const struct address *address, uint32_t patience)
             refuse_errno(errno, "a socket");
         if (!connect(file, (const struct sockaddr *)&address->name, address->length))
             return file;
+        error = errno;
         (void)close(file);      /* nothing was written */
         (void)poll(NULL, 0, 2); /* a shorter sleep is as good */
     }
-    lose("no handler at %s", address->text);
+    lose("no handler at %s for %" PRIu32 " s: %s (%s)", address->text, patience, strerrorname_np(error), strerror(error));
 }
 
 static size_t write_list(char *text, const struct handed_range *ranges, uint32_t count)
@@ -64,8 +66,7 @@ void handing_give(int handler, int userfault, const struct handed_range *ranges,
 
 void handing_say(int handler, char what)
 {
-    if (send(handler, &what, 1, MSG_NOSIGNAL) != 1)
-        lose("the handler has ended: the guest is lost");
+    (void)send(handler, &what, 1, MSG_NOSIGNAL);
 }
 
 void handing_hear(int handler, char wanted, const char *otherwise)
@@ -76,6 +77,8 @@ void handing_hear(int handler, char wanted, const char *otherwise)
     do
         got = recv(handler, &what, 1, 0);
     while (got < 0 && errno == EINTR);
+    if (got == 1 && what != wanted && wanted)
+        lose("the handler says 0x%02x, and not `%c`", (unsigned char)what, wanted);
     if (got < 0 || what != wanted)
         lose("%s", otherwise);
 }

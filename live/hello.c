@@ -16,7 +16,15 @@ static const uint8_t GREETING[7] = { 'p', 'm', 'l', 'i', 'v', 'e', 2 }; /* with 
 
 void hello_begin(struct hello *own, const struct options *options, bool has_guest)
 {
-    *own = (struct hello){ .flags = HELLO_BEATS | HELLO_BINDS | (has_guest ? HELLO_HAS_GUEST : 0), .pages = options->plan.pages, .areas = 1, .threads = options->plan.threads, .guest = guest_number(&options->plan), .most_pages = MOST_PAGES, .most_threads = MOST_THREADS };
+    *own = (struct hello){
+        .flags = HELLO_BEATS | HELLO_BINDS | (has_guest ? HELLO_HAS_GUEST : 0),
+        .pages = options->plan.pages,
+        .areas = 1,
+        .threads = options->plan.threads,
+        .guest = guest_number(&options->plan),
+        .most_pages = MOST_PAGES,
+        .most_threads = MOST_THREADS,
+    };
     memcpy(own->migration, options->migration, sizeof own->migration);
     if (getrandom(&own->instance, sizeof own->instance, 0) != (ssize_t)sizeof own->instance)
         refuse_errno(errno, "getrandom");

@@ -201,7 +201,7 @@ def hostile_source(program):
         dest = pair.Side([str(program), "dest", "--listen", "127.0.0.1:0", *MEMORY])
         dest.listening.wait(pair.PATIENCE)
         with socket.create_connection(("127.0.0.1", dest.number("listening", "port")), 5) as source:
-            source.sendall(hello() + text)
+            source.sendall(hello(flags=5) + text)
             while source.recv(4096):
                 pass
             dest.ask_end()
@@ -289,6 +289,25 @@ def monitor_dies_after_the_switch(program):
     return wrong
 
 
+def monitor_that_never_stops(program):
+    """It has all pages. The handler says for whom it waits, and another word ends it; the monitor loses nothing."""
+    for word in ("end", "abandon", ""):
+        three = pair.Migration([*MEMORY, *QUIET, "--progress"], ["--rounds", "0"], [], program, is_handed=True)
+        source = three.source.end()
+        three.monitor.process.send_signal(signal.SIGSTOP)
+        three.dest.ask_end()
+        waits = three.dest.says("waiting until the monitor says that its threads have stopped")
+        is_there = waits and three.dest.status("phase") == "ended" and three.dest.is_running()
+        three.dest.order(word) if word else three.dest.ask_end()
+        handler = three.dest.end()
+        three.monitor.process.send_signal(signal.SIGCONT)
+        wrong = expect([("source", source, pair.DONE, ""), ("handler", handler, pair.DONE, "the operator ends the wait"),
+                        ("monitor", three.monitor.end(), pair.DONE, "")])
+        if wrong or not is_there:
+            return wrong or f"it does not wait: {handler}"
+    return None
+
+
 def handler_dies_after_the_switch(program):
     three = handed_after_the_switch(program)
     three.dest.process.send_signal(signal.SIGKILL)
@@ -329,10 +348,12 @@ def example(*words):
 
 
 def source_of_somebody_else(program):
-    """The example; one of another guest; and one that is cut off before the switch and after it."""
-    cut = f"{example()} 2>/dev/null | head -c"
+    """The example; one of another guest, or that does not fit; and one that is cut off before the switch and after it."""
+    cut = f"{example()} 2>/dev/null | stdbuf -o0 head -c"
     return expect([("dest", fed(program, "dest", example(), ["--check-owed"]), pair.DONE, "wrong_loads=0 wrong_pages=0"),
                    ("dest of another guest", fed(program, "dest", example("--seed", "2")), pair.REFUSED, "this guest was started with other"),
+                   ("dest and one more thread", fed(program, "dest", example("--threads", "4")), pair.LOST,
+                    "the destination refuses: --threads: source 4, destination 3"),
                    ("dest before the switch", fed(program, "dest", f"{cut} 300000"), pair.LOST, "it ends before the switch"),
                    ("dest after the switch", fed(program, "dest", f"{cut} 700000"), pair.LOST, "the guest is lost")])
 
@@ -347,7 +368,7 @@ def source_of_somebody_else_for_a_monitor(program):
 
 def no_other_side(program):
     return expect([("dest", fed(program, "dest", "exit 3"), pair.LOST, "fed status=3"),
-                   ("dest", fed(program, "dest", "echo this is no frame"), pair.LOST, "stream fault BadTag"),
+                   ("dest", fed(program, "dest", "echo this is no hello"), pair.LOST, "has said no hello that fits"),
                    ("source", fed(program, "source", "exit 3"), pair.LOST, "its memory is right"),
                    ("source", fed(program, "source", "exec cat"), pair.LOST, "refused OutOfPlace")])
 
@@ -365,9 +386,9 @@ def both_are_fed(program):
 CASES = (
     destination_dies_before_the_switch, another_destination_before_the_switch, destination_dies_after_the_switch,
     another_destination_after_the_switch, source_dies_before_the_switch, source_dies_after_the_switch, frozen_destination, strangers,
-    old_epoch, hostile_source, hostile_destination, hostile_monitor, monitor_dies_after_the_switch, handler_dies_after_the_switch,
-    pages_given_back_under_each_other, source_of_somebody_else, source_of_somebody_else_for_a_monitor, no_other_side,
-    both_are_fed,
+    old_epoch, hostile_source, hostile_destination, hostile_monitor, monitor_dies_after_the_switch,
+    monitor_that_never_stops, handler_dies_after_the_switch, pages_given_back_under_each_other, source_of_somebody_else,
+    source_of_somebody_else_for_a_monitor, no_other_side, both_are_fed,
 )
 
 

@@ -190,23 +190,26 @@ def another_source_before_the_switch(program):
 
 
 # A Discard of nothing, and a Package of 8 MiB, of which one page is owed, with four processors that wait for nothing.
-SWITCH = bytes.fromhex("0204000000000001000000040000000002050000000000010000001e00000001000000100000080002000000010000001000000001") + b"\4" + bytes(4)
+DISCARD = bytes.fromhex("02040000000000010000000400000000")
+PACKAGE = bytes.fromhex("02050000000000010000001e00000001000000100000080002000000010000001000000001") + b"\4" + bytes(4)
 
 
 def another_source_after_the_promise(program):
-    """Once a source may have switched nobody takes its place: it has asked, it does not know how, or it has done so without."""
-    for flags, sign, reply in ((5, b"\1", b"\1"), (0, b"", b""), (5, hurt.ADVISE + SWITCH, b"")):
+    """Once a source may have switched nobody takes its place, and a signal does not end the destination: it has asked,
+    it does not know how, it has sent its Discard, or it has switched without."""
+    discard = hurt.ADVISE + DISCARD
+    for flags, sign, reply in ((5, b"\1", b"\1"), (0, b"", b""), (0, discard, b""), (5, discard + PACKAGE, b"")):
         with listening(program) as (dest, place, source_of), first(place, flags, sign) as connection:
             if reply and connection.recv(1) != reply:
                 return "the promise is not made"
-            if SWITCH in sign and not dest.says("running"):
+            if PACKAGE in sign and not dest.says("running"):
                 return "the guest does not run"
             connection.close()
             time.sleep(1.5)  # (for longer than it may be silent)
             wrong = hurt.expect([("another source", source_of().end(), pair.LOST, "this destination serves another source")])
             dest.ask_end()
-            if wrong or (sign and not dest.says("the signal is refused")):
-                return wrong or dest.text
+            if wrong or not dest.says("the signal is refused: the"):
+                return wrong or f"{flags}, {sign[:40]}: the signal is not refused: {dest.said}"
     return None
 
 

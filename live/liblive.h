@@ -6,6 +6,7 @@
 #define LIBLIVE_H
 
 #include "feed.h"    /* a program as the other side: frames over its standard input and output */
+#include "greet.h"   /* hellos, by which both sides know before the first page that they fit */
 #include "handing.h" /* the monitor: its memory is handed over; and handed.h, the handler: it is taken, and copies are kept */
 #include "kernel.h"  /* userfaultfd(2), ioctl_userfaultfd(2), pagemap, madvise(2) */
 #include "node.h"    /* calls of either node, and the frames that wait in it; and wire.h, the bytes of a connection */

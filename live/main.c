@@ -233,7 +233,16 @@ static const struct option monitor_options[] = {
 };
 
 static const struct option bare_options[] = {
-    { "memory", required_argument, NULL, MEMORY }, { "buffer", required_argument, NULL, BUFFER }, { "threads", required_argument, NULL, THREADS }, { "seed", required_argument, NULL, SEED }, { "cold", required_argument, NULL, COLD_STORES }, { "batch", required_argument, NULL, BATCH }, { "pause", required_argument, NULL, PAUSE }, { "no-urgent", no_argument, NULL, NO_URGENT }, { "no-priority", no_argument, NULL, NO_PRIORITY }, { NULL, 0, NULL, 0 }
+    { "memory", required_argument, NULL, MEMORY },
+    { "buffer", required_argument, NULL, BUFFER },
+    { "threads", required_argument, NULL, THREADS },
+    { "seed", required_argument, NULL, SEED },
+    { "cold", required_argument, NULL, COLD_STORES },
+    { "batch", required_argument, NULL, BATCH },
+    { "pause", required_argument, NULL, PAUSE },
+    { "no-urgent", no_argument, NULL, NO_URGENT },
+    { "no-priority", no_argument, NULL, NO_PRIORITY },
+    { NULL, 0, NULL, 0 }
 };
 
 static void set_number(struct options *options, int option, const char *name, const char *text)
@@ -368,7 +377,18 @@ static void read_options(struct options *options, const struct option *known, in
 {
     int option, index = 0;
 
-    *options = (struct options){ .plan = { .pages = 65536, .threads = 4, .seed = 1, .cold = 4 }, .pace = { .batch = 64, .pause = 200 }, .buffer = 65536, .silence = 5, .goes_first = true, .rounds = 3, .target = 1000, .has_urgent = true, .before = 20, .after = known == source_options ? FOREVER : 50 };
+    *options = (struct options){
+        .plan = { .pages = 65536, .threads = 4, .seed = 1, .cold = 4 },
+        .pace = { .batch = 64, .pause = 200 },
+        .buffer = 65536,
+        .silence = 5,
+        .goes_first = true,
+        .rounds = 3,
+        .target = 1000,
+        .has_urgent = true,
+        .before = 20,
+        .after = known == source_options ? FOREVER : 50,
+    };
     while ((option = getopt_long(count, words, "", known, &index)) != -1) {
         if (option == '?')
             exit(STATUS_REFUSED);
@@ -414,7 +434,13 @@ int main(int count, char **words)
         const char *name;
         const struct option *known;
         int (*run)(const struct options *);
-    } roles[] = { { "source", source_options, source_run }, { "dest", dest_options, dest_run }, { "handler", handler_options, dest_run }, { "monitor", monitor_options, monitor_run }, { "bare", bare_options, bare_run } };
+    } roles[] = {
+        { "source", source_options, source_run },
+        { "dest", dest_options, dest_run },
+        { "handler", handler_options, dest_run },
+        { "monitor", monitor_options, monitor_run },
+        { "bare", bare_options, bare_run },
+    };
     const char *name = count > 1 ? words[1] : "";
 
     live_begin();

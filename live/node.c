@@ -15,7 +15,13 @@
 static const char *answer_text(uint32_t status)
 {
     static const char *const words[] = {
-        [POSTMIG_NO_ROOM] = "no room", [POSTMIG_NOT_OPEN] = "no such node", [POSTMIG_NO_MEMORY] = "no memory for the node", [POSTMIG_NO_CPU] = "no such processor", [POSTMIG_NOT_A_FRAME] = "not the bytes of one frame that may come here", [POSTMIG_NOT_A_COMMAND] = "no command", [POSTMIG_NO_PAGE] = "no such page"
+        [POSTMIG_NO_ROOM] = "no room",
+        [POSTMIG_NOT_OPEN] = "no such node",
+        [POSTMIG_NO_MEMORY] = "no memory for the node",
+        [POSTMIG_NO_CPU] = "no such processor",
+        [POSTMIG_NOT_A_FRAME] = "not the bytes of one frame that may come here",
+        [POSTMIG_NOT_A_COMMAND] = "no command",
+        [POSTMIG_NO_PAGE] = "no such page",
     };
     bool is_known = status < sizeof words / sizeof *words && words[status];
     static char text[TEXT_BYTES];
@@ -66,7 +72,7 @@ static uint32_t decode(const struct frame *frame, postmig_frame *numbers)
 
 void node_sum_frame(bool is_sent, const struct frame *frame)
 {
-    postmig_frame numbers;
+    postmig_frame numbers = { 0 };
     uint32_t status;
 
     if (!sums_are_made())
@@ -78,7 +84,7 @@ void node_sum_frame(bool is_sent, const struct frame *frame)
 
 bool node_is_resume(const struct frame *frame)
 {
-    postmig_frame numbers;
+    postmig_frame numbers = { 0 };
 
     return decode(frame, &numbers) == POSTMIG_OK && numbers.tag == TAG_RESUME;
 }
@@ -86,7 +92,7 @@ bool node_is_resume(const struct frame *frame)
 const char *node_fault(uint32_t status, const struct frame *frame)
 {
     static char text[2 * TEXT_BYTES];
-    postmig_frame numbers;
+    postmig_frame numbers = { 0 };
     uint32_t fault = status == POSTMIG_NOT_A_FRAME ? decode(frame, &numbers) : POSTMIG_OK;
     const char *name = fault == POSTMIG_BAD_TAG ? "stream fault BadTag"
         : fault == POSTMIG_BAD_LENGTH           ? "stream fault BadLength"

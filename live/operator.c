@@ -16,7 +16,8 @@
 #define MOST_LINE 64u
 #define MOST_WAITING 16 /* connections that the kernel has made */
 #define WATCH_NS 1000000000u
-#define LOOK_NS 10000000u /* a turn of the loop may take microseconds */
+#define LOOK_NS 10000000u  /* a turn of the loop may take microseconds */
+#define MOST_AT_A_TIME 16u /* orders, between which nothing else is done */
 
 struct client {
     int file; /* -1: none */
@@ -29,11 +30,13 @@ static struct {
     int door, signals;
     const struct address *address;
     struct client client[MOST_CLIENTS];
-    uint32_t turn;      /* the place that was taken last from somebody */
+    uint32_t turn;      /* the place that was taken last from somebody, */
+    uint32_t heard;     /* and that of the client that was heard last */
     uint64_t next;      /* when those who watch are told again; */
     uint64_t next_look; /* and when an order is looked for again */
+    uint32_t in_a_row;  /* of them */
     bool is_warned;     /* a signal to a side that does nothing more was refused */
-} operator= { .door = -1, .signals = -1 };
+} orders = { .door = -1, .signals = -1 };
 
 static const char *const words[] = { "status", "watch", "cancel", "end", "abandon", "rate", "push-rate", "patience" };
 
@@ -43,8 +46,8 @@ static void watch_signals(void)
 
     if (sigemptyset(&set) || sigaddset(&set, SIGTERM) || sigaddset(&set, SIGINT) || pthread_sigmask(SIG_BLOCK, &set, NULL))
         refuse("signals cannot be blocked");
-    operator.signals = signalfd(-1, &set, SFD_NONBLOCK | SFD_CLOEXEC);
-    if (operator.signals<0)
+    orders.signals = signalfd(-1, &set, SFD_NONBLOCK | SFD_CLOEXEC);
+    if (orders.signals < 0)
         refuse_errno(errno, "signalfd");
     (void)signal(SIGHUP, SIG_IGN); /* a terminal that goes takes no guest with it; it always succeeds */
 }
@@ -52,20 +55,20 @@ static void watch_signals(void)
 void operator_open(const struct address *control)
 {
     for (uint32_t i = 0; i < MOST_CLIENTS; i++)
-        operator.client[i].file = - 1;
+        orders.client[i].file = -1;
     watch_signals();
     if (!control->text)
         return;
-    operator.address = control;
-    operator.door = local_listen(control, MOST_WAITING);
+    orders.address = control;
+    orders.door = local_listen(control, MOST_WAITING);
 }
 
 void operator_files(struct pollfd *files)
 {
-    *files++ = (struct pollfd){ .fd = operator.signals, .events = POLLIN };
-    *files++ = (struct pollfd){ .fd = operator.door, .events = POLLIN };
+    *files++ = (struct pollfd){ .fd = orders.signals, .events = POLLIN };
+    *files++ = (struct pollfd){ .fd = orders.door, .events = POLLIN };
     for (uint32_t i = 0; i < MOST_CLIENTS; i++)
-        *files++ = (struct pollfd){ .fd = operator.client[i].file, .events = POLLIN };
+        *files++ = (struct pollfd){ .fd = orders.client[i].file, .events = POLLIN };
 }
 
 static void drop(struct client *client)
@@ -78,16 +81,16 @@ static void drop(struct client *client)
 static struct client *place_for_client(void)
 {
     for (uint32_t i = 0; i < MOST_CLIENTS; i++)
-        if (operator.client[i].file<0)
-            return &operator.client[i];
-    operator.turn =(operator.turn + 1) % MOST_CLIENTS;
-    drop(&operator.client[operator.turn]);
-    return &operator.client[operator.turn];
+        if (orders.client[i].file < 0)
+            return &orders.client[i];
+    orders.turn = (orders.turn + 1) % MOST_CLIENTS;
+    drop(&orders.client[orders.turn]);
+    return &orders.client[orders.turn];
 }
 
 static void accept_client(void)
 {
-    int file = operator.door<0 ? -1 : accept4(operator.door, NULL, NULL, SOCK_NONBLOCK | SOCK_CLOEXEC);
+    int file = orders.door < 0 ? -1 : accept4(orders.door, NULL, NULL, SOCK_NONBLOCK | SOCK_CLOEXEC);
 
     if (file < 0)
         return;
@@ -150,23 +153,33 @@ static bool hear(struct client *client, struct order *order)
     return client->file >= 0 && next_line(client, order);
 }
 
-bool operator_next(struct order *order)
+/* Signals go first, and clients in turns. */
+static bool take_next(struct order *order)
 {
     struct signalfd_siginfo info;
-    uint64_t now = kernel_now();
 
-    if (now < operator.next_look)
-        return false;
     *order = (struct order){ .word = WORD_SIGNAL };
-    if (operator.signals >= 0 && read(operator.signals, &info, sizeof info) == (ssize_t)sizeof info)
+    if (orders.signals >= 0 && read(orders.signals, &info, sizeof info) == (ssize_t)sizeof info)
         return true;
     accept_client();
     for (uint32_t i = 0; i < MOST_CLIENTS; i++) {
-        order->client = i;
-        if (hear(&operator.client[i], order))
+        order->client = orders.heard = (orders.heard + 1) % MOST_CLIENTS;
+        if (hear(&orders.client[order->client], order))
             return true;
     }
-    operator.next_look = now + LOOK_NS;
+    return false;
+}
+
+bool operator_next(struct order *order)
+{
+    uint64_t now = kernel_now();
+
+    if (now < orders.next_look)
+        return false;
+    if (orders.in_a_row++ < MOST_AT_A_TIME && take_next(order))
+        return true;
+    orders.in_a_row = 0;
+    orders.next_look = now + LOOK_NS;
     return false;
 }
 
@@ -195,8 +208,8 @@ void operator_answer(const struct order *order, const char *json)
 {
     if (order->word == WORD_SIGNAL)
         return;
-    operator.client[order->client].watches |= order->word == WORD_WATCH;
-    send_line(&operator.client[order->client], json);
+    orders.client[order->client].watches |= order->word == WORD_WATCH;
+    send_line(&orders.client[order->client], json);
 }
 
 void operator_done(const struct order *order)
@@ -212,22 +225,22 @@ void operator_refuse(const struct order *order, const char *reason)
     if (order->word == WORD_SIGNAL)
         log_event("the signal is refused: %s", reason);
     else
-        send_line(&operator.client[order->client], json);
+        send_line(&orders.client[order->client], json);
 }
 
 bool operator_abandons(const struct order *order)
 {
-    bool was_warned = operator.is_warned;
+    bool was_warned = orders.is_warned;
 
-    if (order->word != WORD_SIGNAL || operator.address)
+    if (order->word != WORD_SIGNAL || orders.address)
         return order->word == WORD_ABANDON;
-    operator.is_warned = true;
+    orders.is_warned = true;
     return was_warned;
 }
 
 const char *operator_ends_held(void)
 {
-    return operator.address ? "it has stopped, and keeps what it has: abandon ends it" : "it has stopped, and keeps what it has: another signal ends it";
+    return orders.address ? "it has stopped, and keeps what it has: abandon ends it" : "it has stopped, and keeps what it has: another signal ends it";
 }
 
 bool operator_is_watched(void)
@@ -236,26 +249,26 @@ bool operator_is_watched(void)
     bool is_watched = false;
 
     for (uint32_t i = 0; i < MOST_CLIENTS; i++)
-        is_watched |= operator.client[i].file >= 0 && operator.client[i].watches;
-    if (!is_watched || now < operator.next)
+        is_watched |= orders.client[i].file >= 0 && orders.client[i].watches;
+    if (!is_watched || now < orders.next)
         return false;
-    operator.next = now + WATCH_NS;
+    orders.next = now + WATCH_NS;
     return true;
 }
 
 void operator_tell(const char *json)
 {
     for (uint32_t i = 0; i < MOST_CLIENTS; i++)
-        if (operator.client[i].watches)
-            send_line(&operator.client[i], json);
+        if (orders.client[i].watches)
+            send_line(&orders.client[i], json);
 }
 
 void operator_close(void)
 {
     for (uint32_t i = 0; i < MOST_CLIENTS; i++)
-        if (operator.client[i].file >= 0)
-            drop(&operator.client[i]);
-    if (operator.door >= 0)
-        local_close(operator.door, operator.address);
-    operator.door = - 1;
+        if (orders.client[i].file >= 0)
+            drop(&orders.client[i]);
+    if (orders.door >= 0)
+        local_close(orders.door, orders.address);
+    orders.door = -1;
 }

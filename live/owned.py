@@ -8,6 +8,7 @@ import signal
 import subprocess
 import tempfile
 
+import hurt
 import pair
 
 EXAMPLES = pair.FOLDER.parent / "examples/monitor"
@@ -74,4 +75,19 @@ def a_monitor_and_a_source_for_the_handler_of_live(program):
         return folder.finish(handler, ["./monitor", folder.door, str(PAGES), "there"]) or folder.differ()
 
 
-CASES = (a_monitor_a_handler_and_a_source, a_handler_for_the_monitor_and_the_source_of_live, a_monitor_and_a_source_for_the_handler_of_live)
+def too_few_processors(program):
+    """What would be refused at the Package is refused before the switch, and the guest runs on."""
+    guest = ["--memory", SIZE, "--threads", "4"]
+    text = "--threads: source 4, destination 2"
+    with Folder(program, "handler") as folder:
+        source = pair.Side([program, "source", *guest, *pair.KEPT, "--feed", f"{folder.at}/handler {folder.door} {PAGES} 2"])
+        monitor = pair.Side([program, "monitor", "--connect", folder.door, *guest])
+        kept = source.end()
+        return hurt.expect([("source", kept, pair.LOST, text), ("source", kept, pair.LOST, "its memory is right"),
+                            ("monitor", monitor.end(), pair.LOST, "before the guest was to run")])
+
+
+CASES = (
+    a_monitor_a_handler_and_a_source, a_handler_for_the_monitor_and_the_source_of_live,
+    a_monitor_and_a_source_for_the_handler_of_live, too_few_processors,
+)

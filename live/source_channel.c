@@ -18,6 +18,12 @@
 #define MOST_RETRY_NS 1000000000u /* and twice as long each time up to this, */
 #define CALM_BYTES (32u << 10)    /* unless the last channel has carried this number of bytes, or lived for a second */
 
+/* Who the destination is, for people. */
+static const char *destination_of(const struct source *source)
+{
+    return source->options->feed ? "the command" : source->options->address.text;
+}
+
 /* Why there is no connection. It is written once, until a destination replies. */
 static void note_break(struct source *source, const char *why, int error)
 {
@@ -32,7 +38,7 @@ static void note_break(struct source *source, const char *why, int error)
     if (!strcmp(text, source->why))
         return;
     memcpy(source->why, text, sizeof text);
-    log_event("source: %s, epoch %u: %s", source->options->feed ? "the command" : source->options->address.text, source->state.epoch, text);
+    log_event("source: %s, epoch %u: %s", destination_of(source), source->state.epoch, text);
 }
 
 /* What came is no destination's. Before the switch the migration ends. After it another one may come. */
@@ -43,14 +49,21 @@ static void reject(struct source *source, const char *why)
     source->is_over |= !source->state.switched;
 }
 
-static bool open_stream(struct source *source, struct stream *stream, enum channel channel, const struct cut *cut)
+static void say_hello(const struct source *source, struct stream *stream, enum channel channel)
 {
     struct hello hello = source->own;
-    int file = wire_connect(&source->options->address, source->options->buffer);
-    struct tls *tls;
 
     hello.channel = channel;
     hello.epoch = source->state.epoch;
+    hello_write(&hello, stream_room(stream, HELLO_BYTES));
+    stream->out.end += HELLO_BYTES;
+}
+
+static bool open_stream(struct source *source, struct stream *stream, enum channel channel, const struct cut *cut)
+{
+    int file = wire_connect(&source->options->address, source->options->buffer);
+    struct tls *tls;
+
     if (file < 0 || !tls_new(&tls, file, TLS_CONNECTS)) {
         note_break(source, "no connection", errno);
         if (file >= 0)
@@ -58,8 +71,7 @@ static bool open_stream(struct source *source, struct stream *stream, enum chann
         return false;
     }
     stream_open(stream, file, tls, cut);
-    hello_write(&hello, stream_room(stream, HELLO_BYTES));
-    stream->out.end += HELLO_BYTES;
+    say_hello(source, stream, channel);
     return true;
 }
 
@@ -71,13 +83,13 @@ void channel_switched(struct source *source)
     urgent_cut->out = urgent_cut->post != NEVER ? urgent_cut->post : urgent_cut->out;
 }
 
-/* The program that takes the part of the destination. It says no hello. */
+/* The program that takes the part of the destination. */
 static void open_feed(struct source *source)
 {
     static const struct cut never = NO_CUT;
 
     stream_open(&source->main, feed_start(source->options->feed), NULL, &never);
-    source->is_answered = true;
+    say_hello(source, &source->main, MAIN);
     source->channels++;
 }
 
@@ -175,7 +187,7 @@ static void take_hello(struct source *source)
     source->does_bind = source->main.beats && hello.flags & HELLO_BINDS;
     *source->why = 0;
     stream_take(&source->main, HELLO_BYTES);
-    log_event("source: %s, epoch %u: connected", source->options->address.text, source->state.epoch);
+    log_event("source: %s, epoch %u: connected", destination_of(source), source->state.epoch);
 }
 
 static void take_back(struct source *source, size_t length)

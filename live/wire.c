@@ -21,7 +21,8 @@
 #define MOST_RECEIVED (128u << 10) /* by one call, so that faults are read in between */
 #define LEAST_SEGMENT 1024u
 #define MOST_SEGMENT 16384u
-#define DEAD_AFTER_MS 5000 /* a peer that acknowledges nothing for so long is gone */
+#define MOST_BACKLOG (128 << 10) /* bytes that the kernel takes before it can send them: a page that is asked for may wait after these */
+#define DEAD_AFTER_MS 5000       /* a peer that acknowledges nothing for so long is gone */
 
 /* ADDRESSES */
 
@@ -106,7 +107,8 @@ static int segment_of(uint32_t buffer)
 
 static bool set_tcp_options(int file)
 {
-    return set_option(file, IPPROTO_TCP, TCP_NODELAY, 1) && set_option(file, IPPROTO_TCP, TCP_USER_TIMEOUT, DEAD_AFTER_MS) &&
+    return set_option(file, IPPROTO_TCP, TCP_NODELAY, 1) && set_option(file, IPPROTO_TCP, TCP_NOTSENT_LOWAT, MOST_BACKLOG) &&
+        set_option(file, IPPROTO_TCP, TCP_USER_TIMEOUT, DEAD_AFTER_MS) &&
         set_option(file, SOL_SOCKET, SO_KEEPALIVE, 1) && set_option(file, IPPROTO_TCP, TCP_KEEPIDLE, 2) &&
         set_option(file, IPPROTO_TCP, TCP_KEEPINTVL, 1) && set_option(file, IPPROTO_TCP, TCP_KEEPCNT, 3);
 }

@@ -32,7 +32,7 @@ ROWS = (
     (52, ("the source", "precopy dirty_log", 6), ("the destination", "fault_handler owed_pages", 6)),
     (52, ("frames, and the wires that carry them", "wires frame_decoder page_stream", 12)),
     (52, ("a guest's memory with its userfault object, and its processors", "guest uffd_ioctl userfault area_map page_table vcpu", 12)),
-    (52, ("the machine and the flat memory: what is proved, in definitions and laws", "mig_model mig_base frame_texts", 12)),
+    (52, ("the machine and the flat memory: what is proved, in definitions and laws", "mig_model mig_laws mig_base frame_texts", 12)),
 )
 WIDTH, COLUMN, COLUMNS, GAP, RISE, LETTER = 748, 60, 12, 12, 26, 7.0
 STYLE = (

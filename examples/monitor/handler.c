@@ -107,6 +107,7 @@ static void exchange(void)
 int main(int count, char **words)
 {
     struct address address;
+    struct hello own;
 
     if (count != 4)
         refuse("use: handler unix:PATH PAGES PROCESSORS");
@@ -116,6 +117,8 @@ int main(int count, char **words)
     guest.plan = (struct guest_plan){ .pages = (uint32_t)strtoul(words[2], NULL, 10), .threads = (uint32_t)strtoul(words[3], NULL, 10) };
     node_expect(postmig_destination_new((uint8_t)guest.plan.threads, &node.handle), "postmig_destination_new");
     handed_accept(&monitor, &address, guest.plan.pages);
+    greet_begin(&own, guest.plan.pages, guest.plan.threads);
+    greet_source(&channel, &own);
     watch_open(&watch, &node, &guest, &monitor);
     watch_keep_times(&watch);
     while (!has_ended || stream_unsent(&channel)) {
@@ -131,6 +134,6 @@ int main(int count, char **words)
     }
     while (watch_put_kept(&watch, 16))
         watch_handle(&watch);
-    handed_leave(&monitor);
+    handed_leave(&monitor, NULL);
     return STATUS_OK;
 }

@@ -125,12 +125,16 @@ static void write_memory(const char *name)
 int main(int count, char **words)
 {
     static uint32_t numbers[THREADS] = { 0, 1 };
+    struct hello own;
     pthread_t thread;
 
     if (count != 3 && count != 4)
         refuse("use: source PAGES FILE [COMMAND]");
     (void)signal(SIGPIPE, SIG_IGN); /* it always succeeds */
     guest.plan = (struct guest_plan){ .pages = (uint32_t)strtoul(words[1], NULL, 10), .threads = THREADS };
+    stream_open(&channel, count == 4 ? feed_start(words[3]) : feed_channel(), NULL, &(struct cut)NO_CUT);
+    greet_begin(&own, guest.plan.pages, THREADS);
+    greet_destination(&channel, &own);
     guest.memory = kernel_map((size_t)guest.plan.pages * PAGE_BYTES);
     watch_open(&watch, &node, &guest, NULL);
     watch.has_own_threads = true;
@@ -141,7 +145,6 @@ int main(int count, char **words)
     for (uint32_t i = 0; i < THREADS; i++)
         if (pthread_create(&thread, NULL, store, &numbers[i]) || pthread_detach(thread))
             refuse("a thread of the guest cannot be started");
-    stream_open(&channel, count == 4 ? feed_start(words[3]) : feed_channel(), NULL, &(struct cut)NO_CUT);
     node_expect(postmig_source_start(&node.handle, &effect), "postmig_source_start");
     send_all();
     for (int i = 0; i < ROUNDS; i++)

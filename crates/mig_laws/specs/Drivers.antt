@@ -1,5 +1,6 @@
 -- Two drivers. The node of each holds no byte of a page: each line is entered there without bytes, and the driver keeps the bytes of the guest.
--- What it does with them is said here, by what its node answers; and which accesses of the guest are entered at no node.
+-- What it does with them is said here, by what its node answers; and which accesses of the guest are entered at no node. Nothing else
+-- touches the guest's memory: the deeds are all that happens.
 use Rattle.std.specs.Prelude.{◌≡◌, ℕ, zero, suc, ◌+◌, ◌/◌, Bool, true, false, if◌then◌else◌, Option, Some, None, Ok, List, [], ◌∷◌, ◌++◌, map, length, get_or, set, replicate}
 use Rattle.std.specs.Ordering.{nat_cmp}
 use Rattle.std.specs.FinMap as finmap

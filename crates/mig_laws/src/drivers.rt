@@ -17,11 +17,12 @@ ghost use Rattle.mig_laws.specs.Replacements.{AreChanges};
 ghost use Rattle.mig_laws.specs.Sides.{Line};
 
 /// The headline of two drivers. Their nodes hold no byte. Each driver does its part: it keeps the bytes of its guest, fills the frames that
-/// its node sends, puts what came where its node says, and enters each access that meets a fault. Before the switch another destination may
-/// take the place of the first one. Then both are the two nodes of a world with all bytes, which has the accesses that met no fault as well,
-/// and the bytes are the drivers' own. So what is proved of every world holds of what the drivers have. The commands of the guest, with the
-/// replies that it got, are the run of one flat memory, and the guest sees the last of it. No copy or page of zeros is put over a page that
-/// is present. Once the source is released, the destination's driver alone has that memory, and no page is owed.
+/// its node sends, puts what came where its node says, and enters each access that meets a fault. Nothing else touches the guest's memory.
+/// Before the switch another destination may take the place of the first one. Then, whenever the processes are settled, both are the two
+/// nodes of a world with all bytes, which has the accesses that met no fault as well, and the bytes are the drivers' own. So what is proved
+/// of every world holds of what the drivers have. The commands of the guest, with the replies that it got, are the run of one flat memory,
+/// and the guest sees the last of it. No copy or page of zeros is put over a page that is present, where it is put at such a time. Once the
+/// source is released, the destination's driver alone has that memory, and no page is owed.
 pub fn two_drivers_are_a_world()
     ensures processes { (cpus epoch rounds : ℕ) (deeds : List Deed) (new : Drivers) →
         AreDeeds cpus (first_drivers cpus epoch rounds) deeds new → (last : Processes) ×

@@ -1,4 +1,4 @@
-//! Laws that follow from the machine of `mig_model`. Of the other crates `node_laws` alone uses them.
+//! Laws that follow from the machine of `mig_model`, for nodes in processes of their own (`nodes`, `slice_laws`).
 //!
 //! Contents do not matter. A map of bytes that keeps 0 acts on all that has contents: `specs/Contents.antt` says how on pages, numbers,
 //! commands, spaces and guests, `specs/Worlds.antt` on nodes, frames, worlds, steps and answers, and `specs/Nodes.antt` on what a step of

@@ -3,3 +3,8 @@ pub mod HeadLemmas
 pub mod Sayings
 pub mod Waiting
 pub mod Taking
+pub mod Accepted
+pub mod SourceLines
+pub mod DestinationLines
+pub mod WithoutBytes
+pub mod RunsAgain

@@ -4,3 +4,4 @@ pub mod Heads
 pub mod SourceCalls
 pub mod DestinationCalls
 pub mod Traces
+pub mod Lines

@@ -13,7 +13,6 @@ use Rattle.mig_model.specs.SourceSteps.{run_bound}
 use Rattle.grammar.specs.Orders.{order_of}
 use Rattle.grammar.specs.Printed.{outcome_line}
 use Rattle.grammar.specs.Texts.{order_text}
-use Rattle.nodes.specs.Nodes.{PostingDestination, PostingSource, coded_posting_destination, coded_posting_source}
 use Rattle.nodes.specs.contracts.trace.TraceLine as line
 use Rattle.nodes.specs.declared.steps.DestinationStep.{DestinationStep}
 use Rattle.nodes.specs.declared.steps.SourceStep.{SourceStep}
@@ -119,11 +118,6 @@ pub record Traced (Node : Type 0) : Type 0 where
 abbrev pub coded_trace : Coded Trace
 coded_trace = coded_option (coded_list line.the_row.coded)
 
--- the code of a source with its trace
-abbrev pub coded_traced_source : Coded (Traced PostingSource)
-coded_traced_source = code_by (PostingSource × Trace) (coded× coded_posting_source coded_trace) (λ t. (t.node, t.trace)) (λ p. record { node = p.0; trace = p.1 }) (λ _. refl)
-
--- the code of a destination with its trace
-abbrev pub coded_traced_destination : Coded (Traced PostingDestination)
-coded_traced_destination =
-    code_by (PostingDestination × Trace) (coded× coded_posting_destination coded_trace) (λ t. (t.node, t.trace)) (λ p. record { node = p.0; trace = p.1 }) (λ _. refl)
+-- the code of a node with its trace
+abbrev pub coded_traced : {Node : Type 0} → Coded Node → Coded (Traced Node)
+coded_traced {Node} code = code_by (Node × Trace) (coded× code coded_trace) (λ t. (t.node, t.trace)) (λ p. record { node = p.0; trace = p.1 }) (λ _. refl)

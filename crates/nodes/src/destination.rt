@@ -6,36 +6,22 @@ ghost use Rattle.mig_model.specs.NodeSteps.{IsRefusedFor, acted};
 ghost use Rattle.mig_model.specs.Wire.{empty_wire};
 ghost use Rattle.vcpu.specs.Answers.{is_count};
 ghost use Rattle.nodes.specs.DestinationCalls.{answer};
+ghost use Rattle.nodes.specs.Lines.{RanByPhase};
 
 mod frames;
 mod steps;
 
+use crate::posting::Posting;
 use crate::steps::DestinationStep;
 use fault_handler::Destination;
 use mig_base::effect::Effect;
 use mig_base::refusal::Refusal;
 use std::alloc::Global;
-use std::marker::Model;
 use vcpu::NewFault;
 use wires::Wire;
 
-/// A destination, and the frames that it has sent back and that nobody has taken yet. A call that is refused changes neither.
-#[derive(Drop)]
-pub struct DestinationNode {
-    alloc: Global,
-    node: Destination,
-    wire: Wire,
-}
-
-impl Model for DestinationNode {
-    ghost use Rattle.nodes.specs.Nodes.{PostingDestination, coded_posting_destination};
-
-    ghost Value = { PostingDestination };
-
-    ghost coded = { coded_posting_destination };
-
-    ghost view = { λ d. record { node = d.node; wire = d.wire.wire } };
-}
+/// A destination, and the frames that it has sent back and that nobody has taken yet.
+pub type DestinationNode = Posting<Destination>;
 
 impl DestinationNode {
     /// A destination of `cpus` idle processors, which knows of no migration. `NoCpu` unless there are 1 to 16 processors; `NoMemory` if
@@ -43,6 +29,7 @@ impl DestinationNode {
     pub fn new(alloc: Global, cpus: u8) -> Result<Self, NewFault>
         ensures ok { IfOk result (λ made.
             made ≡ record { node = first_destination cpus; wire = empty_wire }) }
+        ensures phase { IfOk result (λ made. RanByPhase made.node) }
         ensures no_cpu { (result ≡ Err NewFault.NoCpu) ↔ (is_count cpus ≡ false) }
     {
         let node = Destination::new(alloc, cpus)?;
@@ -67,26 +54,5 @@ impl DestinationNode {
             DestinationStep::Install => self.install(),
             DestinationStep::Notice => self.notice(),
         }
-    }
-
-    /// The destination.
-    pub fn node(&self) -> &Destination
-        ensures { result.now ≡ self.now.node }
-    {
-        &self.node
-    }
-
-    /// The frames that wait: their bytes are those of the wire.
-    pub fn sent(&self) -> &Wire
-        ensures { result.now.wire ≡ self.now.wire }
-    {
-        &self.wire
-    }
-
-    /// Drops the frames that wait: they were taken, or the channel is broken.
-    pub fn drop_sent(&mut self)
-        ensures { self.new ≡ record self.old { wire = empty_wire } }
-    {
-        self.wire.clear();
     }
 }

@@ -1,4 +1,4 @@
-//! Frames that are put on a wire, and what a destination answers to a frame.
+//! A node with the frames that it has sent, how frames are put on its wire, and what a destination answers to a frame.
 
 ghost use Rattle.std.specs.Prelude.{◌≡◌, ◌≤◌, ◌+◌, ◌++◌, length, map, option_to_list, IfOk, OnOk};
 ghost use Rattle.std.specs.Option.{IfSome};
@@ -15,7 +15,49 @@ use mig_base::phase::Received;
 use page_stream::Frame;
 use recovery::{report_received, rerequest};
 use std::alloc::Global;
+use std::marker::Model;
 use wires::Wire;
+
+/// A node, and the frames that it has sent and that nobody has taken yet. A call that is refused changes neither.
+#[derive(Drop)]
+pub struct Posting<N> {
+    pub(crate) alloc: Global,
+    pub(crate) node: N,
+    pub(crate) wire: Wire,
+}
+
+impl<N> Model for Posting<N> {
+    ghost use Rattle.nodes.specs.Nodes.{Posting as Posts, coded_posting};
+
+    ghost Value = { Posts N };
+
+    ghost coded = { coded_posting N.code };
+
+    ghost view = { λ p. record { node = p.node; wire = p.wire.wire } };
+}
+
+impl<N> Posting<N> {
+    /// The node.
+    pub fn node(&self) -> &N
+        ensures { result.now ≡ self.now.node }
+    {
+        &self.node
+    }
+
+    /// The frames that wait: their bytes are those of the wire.
+    pub fn sent(&self) -> &Wire
+        ensures { result.now.wire ≡ self.now.wire }
+    {
+        &self.wire
+    }
+
+    /// Drops the frames that wait: they were taken, or the channel is broken.
+    pub fn drop_sent(&mut self)
+        ensures { self.new ≡ record self.old { wire = machine.empty_wire } }
+    {
+        self.wire.clear();
+    }
+}
 
 /// Makes room on a wire for what the destination answers to a frame: to an End, which it answers when it takes the frame, and to a Resume,
 /// whose answers are returned.

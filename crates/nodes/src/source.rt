@@ -12,32 +12,17 @@ mod back;
 mod quiet;
 mod sending;
 
+use crate::posting::Posting;
 use crate::steps::SourceStep;
 use mig_base::effect::Effect;
 use mig_base::refusal::Refusal;
 use precopy::Source;
 use std::alloc::Global;
-use std::marker::Model;
 use vcpu::NewFault;
 use wires::Wire;
 
-/// A source, and the frames that it has sent and that nobody has taken yet. A call that is refused changes neither.
-#[derive(Drop)]
-pub struct SourceNode {
-    alloc: Global,
-    node: Source,
-    wire: Wire,
-}
-
-impl Model for SourceNode {
-    ghost use Rattle.nodes.specs.Nodes.{PostingSource, coded_posting_source};
-
-    ghost Value = { PostingSource };
-
-    ghost coded = { coded_posting_source };
-
-    ghost view = { λ s. record { node = s.node; wire = s.wire.wire } };
-}
+/// A source, and the frames that it has sent and that nobody has taken yet.
+pub type SourceNode = Posting<Source>;
 
 impl SourceNode {
     /// A source of `cpus` idle processors, on which nothing is mapped and no migration has begun. Its counts of epochs and of rounds begin
@@ -78,26 +63,5 @@ impl SourceNode {
             SourceStep::Notice => self.notice(),
             SourceStep::Resume => self.resume(),
         }
-    }
-
-    /// The source.
-    pub fn node(&self) -> &Source
-        ensures { result.now ≡ self.now.node }
-    {
-        &self.node
-    }
-
-    /// The frames that wait: their bytes are those of the wire.
-    pub fn sent(&self) -> &Wire
-        ensures { result.now.wire ≡ self.now.wire }
-    {
-        &self.wire
-    }
-
-    /// Drops the frames that wait: they were taken, or the channel is broken.
-    pub fn drop_sent(&mut self)
-        ensures { self.new ≡ record self.old { wire = empty_wire } }
-    {
-        self.wire.clear();
     }
 }

@@ -412,9 +412,10 @@ uint32_t postmig_frame_lengths(const uint8_t *bytes, size_t length, size_t *head
 
    A node decides; its driver moves the bytes, calls the kernel, and carries the frames. PREMISE: which definition of crates/mig_laws/specs asks
    that of a driver: of Processes.antt and Orders.antt, or with D of Drivers.antt (two_drivers_are_a_world); or kernel: what the kernel has is
-   then what the node has, which no law says and docs/LINUX.md measures. FOUND BY, where it is not done: node, it refuses a later call; run, the kernel returns what no node expects, a word
-   of the guest is wrong, or a side does not end, each as in live/; merge, live/merge --judge of both traces; nobody. What run finds it may find
-   late, or in one migration of several.
+   then what the node has, which no law says and docs/LINUX.md measures. FOUND BY, where it is not done: node, it refuses a later call; run, the
+   kernel returns what no node expects, a word of the guest is wrong, or a side does not end, each as in live/; merge, live/merge --judge of both
+   traces; nobody. What run finds it may find late, or in one migration of several. The laws are of all that happens to the guest: nothing else
+   touches its memory.
 
    Each copy and each zero page that is put wakes, and so does the end of a protection; where none of these is due UFFDIO_WAKE is. To RETRY is to
    call _retry for each processor that postmig_node_processor calls woken, and _read of the fault of each that sleeps again, all before the next
@@ -427,7 +428,9 @@ uint32_t postmig_frame_lengths(const uint8_t *bytes, size_t length, size_t *head
        and a Resume. After the switch no other destination.                                           D IsNewThere
     3  The three events are asked for before the first UFFDIO_REGISTER. All memory is                 D MeetsNoFault      run
        registered before the kernel is asked what is present; then the source is issued the mmap,
-       and a store of 0 to each present page. Nothing else makes a page present later.
+       and a store of 0 to each present page. Nothing else makes a page present later. Each map
+       call is issued, also one that sends no message (a new mapping, growth in place), and so is
+       the first access to each page that it has mapped; or the guest maps nothing new.
     4  Each store that is issued is one of 0.                                                         D entered           nobody
 
    Each call
@@ -435,15 +438,17 @@ uint32_t postmig_frame_lengths(const uint8_t *bytes, size_t length, size_t *head
     6  next_.., then the call of the kernel, then the step, with nothing of that page in between.     kernel              run
        EAGAIN: nothing was done, or only the first pages were put; the messages are read, and the
        node is asked again about the rest.
-    7  POSTMIG_NO_MEMORY: the call is made again. (Of a Run its first pages may be kept: the same     IsHere, IsThere     nobody
-       frame is handed in again, or the migration ends.)
+    7  POSTMIG_NO_MEMORY: the call is made again. (Of a Run its first pages may be kept: the same     D IsDoneHere,       nobody
+       frame is handed in again, or the migration ends.)                                              D IsDoneThere
     8  What waits in node_frame is sent before the pages of a later call. Only push_urgent's go       TakesFront,         node, merge
        on the urgent connection.                                                                      TakesUrgentFront
-    9  A frame is handed in whole, once, and in the order in which it was sent; its bytes are those   TakesFront,         merge; of bytes run
-       that were sent.                                                                                D IsDoneThere
+    9  A frame is handed in whole (of a Page or a Run its head), once, and in the order in which it   TakesFront,         merge; of bytes run
+       was sent; its bytes are those that were sent.                                                  D IsDoneThere
 
    Accesses and faults
-   10  A load or store that meets no fault is not issued, and takes effect in memory alone. So the    D MeetsNoFault      run
+   10  A load or store of a present page, which if it is a store is not write-protected at the        D MeetsNoFault      run
+       node, takes effect in memory alone, and is not issued. A processor is idle meanwhile: begin
+       with more of them than threads can wait, as long as another thread may run. And the
        driver itself touches no missing page of the guest, and no huge page makes one present.
        (One that may be given back meanwhile is read without a fault: pread of /proc/self/mem.)
    11  A fault of the kernel is issued to an idle processor, or is that of one which sleeps on the    kernel              run
@@ -468,8 +473,9 @@ uint32_t postmig_frame_lengths(const uint8_t *bytes, size_t length, size_t *head
    19  DID_SEND_RUN, DID_SEND_PAGE, DID_SEND_ZERO of a round: UFFDIO_WRITEPROTECT has returned        D filled            run
        before the first byte is read, and the bytes are read before the next fault of the page is
        acted on. They are the page's, which is sent as a Page or a Zero.
-   20  DID_SWITCH: before it each thread that can write guest memory has left it for good, devices    IsHere              run
-       too, and events are read until then; after it node_frame, Discard and Package wait.
+   20  DID_SWITCH: before it each thread that can write guest memory has left it for good, devices    D IsAccessHere,     run
+       too, and events are read until then; after it node_frame, Discard and Package wait. The        D filled
+       accesses with which processors wait go with the Package.
    21  DID_SEND_PAGE, DID_SEND_ZERO of a push: the bytes are those that the page had at the switch.   D filled            run
        The source keeps its memory, unchanged by anybody, until DID_TAKE_DONE or a Recv that says
        2; then it may go.
@@ -478,7 +484,8 @@ uint32_t postmig_frame_lengths(const uint8_t *bytes, size_t length, size_t *head
    22  Before DID_TAKE_PACKAGE the newest copy of each page is kept.                                  D takes             run
    23  DID_TAKE_PACKAGE: memory is mapped as postmig_destination_pages says, the kept copies are at   D takes             run
        the present pages, all others are missing (what was there is given back); it is registered;
-       then retry, and the threads run. (A driver that cannot write there puts a kept copy at the
+       then retry, and the threads run: one that waited as a processor makes its access again as       D IsAccessThere
+       the same one. (A driver that cannot write there puts a kept copy at the
        first fault of its page, or earlier, and forgets it when the page is given back. It puts
        the rest before it turns the object off.)
    24  DID_TAKE_ZERO since then: the bytes wait, in the order of the frames of both wires.            D comes             run
@@ -493,7 +500,7 @@ uint32_t postmig_frame_lengths(const uint8_t *bytes, size_t length, size_t *head
        node_frame, before the notice: DID_NOTICE. None before a start.                                IsLossThere
    28  An urgent connection belongs to one epoch.                                                     IsOpening           node, merge
    29  DID_RESUME: over the next channel, which the destination joins.                                IsOpening,          node
-                                                                                                      IsJoining
+                                                                                                      IsJoining, IsSettled
    30  A destination that has taken End makes no notice of a lost channel, unless a Resume comes      IsSettled           merge
        over the next one: the source may be released. */
 

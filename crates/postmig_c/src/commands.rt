@@ -2,7 +2,7 @@
 
 ghost use Rattle.std.specs.Prelude.{◌≡◌};
 ghost use Rattle.std.specs.declared.option.Option.TheVariants.{Some as Just};
-ghost use Rattle.mig_base.specs.declared.command.Command.TheVariants.{Mmap};
+ghost use Rattle.mig_base.specs.declared.command.Command.TheVariants.{Mmap, Mremap};
 ghost use Rattle.postmig_c.specs.Commands.{command_of, fixed_of, place_of, prot_number, prot_of, width_of};
 
 use mig_base::{Command, Place, Prot};
@@ -180,6 +180,29 @@ fn mmap_numbers(len: u64, prot: Prot, place: Place) -> CommandNumbers
     }
 }
 
+/// The numbers of an mremap.
+fn mremap_numbers(
+    addr: u64,
+    old_len: u64,
+    new_len: u64,
+    may_move: bool,
+    fixed: Option<u64>,
+) -> CommandNumbers
+    ensures { command_of result ≡ Just (Mremap addr old_len new_len may_move fixed) }
+{
+    let (place, target) = fixed_numbers(fixed);
+    CommandNumbers {
+        kind: 5,
+        place,
+        may_move: u32::from(may_move),
+        addr,
+        length: old_len,
+        new_length: new_len,
+        target,
+        ..NO_COMMAND
+    }
+}
+
 /// The numbers of a command.
 pub fn command_numbers(command: Command) -> CommandNumbers
     ensures { command_of result ≡ Just command }
@@ -215,19 +238,7 @@ pub fn command_numbers(command: Command) -> CommandNumbers
             new_len,
             may_move,
             fixed,
-        } => {
-            let (place, target) = fixed_numbers(fixed);
-            CommandNumbers {
-                kind: 5,
-                place,
-                may_move: u32::from(may_move),
-                addr,
-                length: old_len,
-                new_length: new_len,
-                target,
-                ..NO_COMMAND
-            }
-        }
+        } => mremap_numbers(addr, old_len, new_len, may_move, fixed),
         Command::DontNeed { addr, len } => CommandNumbers {
             kind: 6,
             addr,

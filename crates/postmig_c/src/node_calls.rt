@@ -11,7 +11,7 @@ use crate::handle::{Content, Handle};
 use crate::room::hand_over;
 use crate::status::{DONE, NO_FRAME, NO_MEMORY, NOT_OPEN};
 use mig_base::NoMemory;
-use nodes::{TracedDestination, TracedSource};
+use nodes::{Posting, Traced};
 use std::alloc::Global;
 use wires::Wire;
 
@@ -42,28 +42,10 @@ fn show_wire(alloc: Global, wire: &Wire, out: &mut [u8], written: &mut usize) ->
     }
 }
 
-/// Takes the frames that wait in a source.
-fn take_sent(alloc: Global, node: &mut TracedSource, out: &mut [u8], written: &mut usize) -> u32
-    ensures all { result ≡ 0 → Fills (texts Two node.old.node.wire.frames) written.new out.new }
-    ensures taken { result ≡ 0 → node.new ≡
-        record node.old { node = record node.old.node { wire = empty_wire } } }
-    ensures long { result ≡ 1 →
-        IsTooLong (texts Two node.old.node.wire.frames) written.new out.new }
-    ensures none { result ≡ 6 → node.old.node.wire.frames ≡ [] }
-    ensures kept { result ≢ 0 → node.new ≡ node.old }
-    ensures range { (result ≡ 0) ⊎ (result ≡ 1) ⊎ (result ≡ 4) ⊎ (result ≡ 6) }
-{
-    let status = show_wire(alloc, node.node().sent(), out, written);
-    if status == DONE {
-        node.drop_sent();
-    }
-    status
-}
-
-/// Takes the frames that wait in a destination.
-fn take_sent_back(
+/// Takes the frames that wait in a node.
+fn take_sent<N>(
     alloc: Global,
-    node: &mut TracedDestination,
+    node: &mut Traced<Posting<N>>,
     out: &mut [u8],
     written: &mut usize,
 ) -> u32
@@ -108,7 +90,7 @@ pub extern "C" fn postmig_node_frame(
     };
     let status = match &mut *content {
         Content::Source(node) => take_sent(alloc, node, out, written),
-        Content::Destination(node) => take_sent_back(alloc, node, out, written),
+        Content::Destination(node) => take_sent(alloc, node, out, written),
         _ => NOT_OPEN,
     };
     *handle = Handle::of(content);

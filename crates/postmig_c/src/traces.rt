@@ -11,22 +11,11 @@ use crate::handle::{Content, Handle};
 use crate::room::hand_over;
 use crate::status::{DONE, NO_MEMORY, NO_TRACE, NOT_OPEN};
 use mig_base::NoMemory;
-use nodes::{TraceLine, TracedDestination, TracedSource};
+use nodes::{TraceLine, Traced};
 use std::alloc::Global;
 
-/// Begins or ends the trace of a source.
-fn turn_source(alloc: Global, node: &mut TracedSource, on: bool)
-    ensures { node.new ≡ record node.old { trace = turned on node.old.trace } }
-{
-    if on {
-        node.begin_trace();
-    } else {
-        node.end_trace(alloc);
-    }
-}
-
-/// Begins or ends the trace of a destination.
-fn turn_destination(alloc: Global, node: &mut TracedDestination, on: bool)
+/// Begins or ends the trace of a node.
+fn turn<N>(alloc: Global, node: &mut Traced<N>, on: bool)
     ensures { node.new ≡ record node.old { trace = turned on node.old.trace } }
 {
     if on {
@@ -52,11 +41,11 @@ pub extern "C" fn postmig_node_trace(alloc: Global, handle: &mut Handle, on: boo
     };
     let status = match &mut *content {
         Content::Source(node) => {
-            turn_source(alloc, node, on);
+            turn(alloc, node, on);
             DONE
         }
         Content::Destination(node) => {
-            turn_destination(alloc, node, on);
+            turn(alloc, node, on);
             DONE
         }
         _ => NOT_OPEN,
@@ -109,37 +98,8 @@ fn show_line(alloc: Global, line: TraceLine, out: &mut [u8], written: &mut usize
     }
 }
 
-/// Takes the first line of the trace of a source.
-fn take_line(alloc: Global, node: &mut TracedSource, out: &mut [u8], written: &mut usize) -> u32
-    ensures all { result ≡ 0 → ShowsLine node.old.trace written.new out.new }
-    ensures taken { result ≡ 0 →
-        node.new ≡ record node.old { trace = without_line node.old.trace } }
-    ensures long { result ≡ 1 → HasLongLine node.old.trace written.new out.new }
-    ensures off { result ≡ 14 → node.old.trace ≡ Nothing }
-    ensures kept { result ≢ 0 → node.new ≡ node.old }
-    ensures range { (result ≡ 0) ⊎ (result ≡ 1) ⊎ (result ≡ 4) ⊎ (result ≡ 14) }
-{
-    if !node.has_trace() {
-        return NO_TRACE;
-    }
-    let Some(line) = node.first_line() else {
-        *written = 0;
-        return DONE;
-    };
-    let status = show_line(alloc, line, out, written);
-    if status == DONE {
-        node.drop_line();
-    }
-    status
-}
-
-/// Takes the first line of the trace of a destination.
-fn take_line_there(
-    alloc: Global,
-    node: &mut TracedDestination,
-    out: &mut [u8],
-    written: &mut usize,
-) -> u32
+/// Takes the first line of the trace of a node.
+fn take_line<N>(alloc: Global, node: &mut Traced<N>, out: &mut [u8], written: &mut usize) -> u32
     ensures all { result ≡ 0 → ShowsLine node.old.trace written.new out.new }
     ensures taken { result ≡ 0 →
         node.new ≡ record node.old { trace = without_line node.old.trace } }
@@ -188,7 +148,7 @@ pub extern "C" fn postmig_node_trace_take(
     };
     let status = match &mut *content {
         Content::Source(node) => take_line(alloc, node, out, written),
-        Content::Destination(node) => take_line_there(alloc, node, out, written),
+        Content::Destination(node) => take_line(alloc, node, out, written),
         _ => NOT_OPEN,
     };
     *handle = Handle::of(content);

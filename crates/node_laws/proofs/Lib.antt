@@ -1,2 +1,0 @@
-pub mod SourceLines
-pub mod DestinationLines

@@ -1,0 +1,15 @@
+use Rattle.std.proofs.Common.{◌≡◌, rules}
+use Rattle.mig_model.specs.NodeSteps.{acted}
+use Rattle.nodes.specs.DestinationCalls.{answer}
+use Rattle.nodes.proofs.DestinationLines.{step-line, step-order}
+use Rattle.nodes.proofs.traced_destination.TracedDestination.step.Goals as goal
+
+pub returns-clause-logged : goal.returns-clause-logged
+returns-clause-logged c =
+    let made : answer c.args.step c.args.self.now.node ≡ acted c.in_ok-effect.effect c.step.new.self = search rules in
+    step-line c.args.step c.args.self.now.node c.in_ok-effect.effect c.step.new.self made
+
+pub returns-clause-phase : goal.returns-clause-phase
+returns-clause-phase c =
+    let made : answer c.args.step c.args.self.now.node ≡ acted c.in_ok-effect.effect c.step.new.self = search rules in
+    step-order c.args.step c.args.self.now.node c.in_ok-effect.effect c.step.new.self made
