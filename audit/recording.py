@@ -3,6 +3,7 @@
 import os
 import pathlib
 import platform
+import re
 import shutil
 import signal
 import struct
@@ -10,7 +11,6 @@ import subprocess
 import sys
 import tempfile
 
-import convert
 import uffdlog
 
 FOLDER = pathlib.Path(__file__).resolve().parent
@@ -169,32 +169,35 @@ def require_strace():
         raise CannotRecord("strace is needed for this, and it is not there (apt-get install strace)")
 
 
-def convert_trace(trace, log, words, process=None):
-    """Makes a log of what strace has written. A line that cannot be read is printed with its number; the trace is kept then."""
-    wrong = 0
-    with open(trace, "rb") as file, open(log, "w", encoding="ascii") as out:
-        out.write(head("strace", "log", words))
-        for number, reason in convert.convert(file, out, process=process):
-            wrong += 1
-            say(f"{trace}:{number}: {reason}")
-    return wrong
+THREAD = re.compile(rb"(\d+) +([\d.]+) ")
+MADE = re.compile(rb"(?:clone3?|fork|vfork)(?:\(| resumed).* = (\d+)(?: |$)")
 
 
-def by_strace(log, options, words, process=None):
-    """Records by strace. Returns the status of what ran."""
+def threads_before(trace, process):
+    """Lines for the threads of a process that no line of strace's has made: they were there before, and share all with its first one."""
+    made, first, seen = {b"%d" % process}, None, {}
+    with open(trace, "rb") as file:
+        for line in file:
+            if found := THREAD.match(line):
+                first = first or found[2]
+                seen.setdefault(found[1], None)
+            if found := MADE.search(line.rstrip(b"\n")):
+                made.add(found[1])
+    shared = b"clone(child_stack=NULL, flags=CLONE_VM|CLONE_FS|CLONE_FILES|CLONE_SIGHAND|CLONE_THREAD)"
+    return [b"%d %s %s = %s <0.000000>\n" % (process, first, shared, it) for it in seen if it not in made]
+
+
+def by_strace(log, options):
+    """Records by strace, whose text is the log. Returns the status of what ran."""
     require_strace()
-    trace = f"{log}.strace"
-    status = run_to_end([*STRACE, "-o", trace, *options], passed=(signal.SIGINT, signal.SIGTERM))
-    if not os.path.exists(trace):
+    status = run_to_end([*STRACE, "-o", log, *options], passed=(signal.SIGINT, signal.SIGTERM))
+    if not os.path.exists(log) or not os.path.getsize(log):
         raise CannotRecord(f"strace has status {status} and wrote nothing")
-    if wrong := convert_trace(trace, log, words, process):
-        raise CannotRecord(f"{wrong} lines of {trace} cannot be read, and {log} has 'lost' there")
-    os.unlink(trace)
     return status
 
 
 def strace(log, words):
-    return by_strace(log, ["--seccomp-bpf", "--", found_program(words[0]), *words[1:]], words)
+    return by_strace(log, ["--seccomp-bpf", "--", found_program(words[0]), *words[1:]])
 
 
 def attach(log, process):
@@ -202,7 +205,11 @@ def attach(log, process):
     require_strace()
     if not os.path.isdir(f"/proc/{process}"):
         raise CannotRecord(f"there is no process {process}")
-    with open(f"/proc/{process}/cmdline", "rb") as file:
-        words = [os.fsdecode(word) for word in file.read().split(b"\0")[:-1]]
     say(f"process {process} is recorded until it ends, or until this is interrupted")
-    return by_strace(log, ["-p", str(process)], words, process)
+    status = by_strace(log, ["-p", str(process)])
+    if before := threads_before(log, process):
+        with open(log, "rb") as file:
+            text = file.read()
+        with open(log, "wb") as file:
+            file.writelines([*before, text])
+    return status

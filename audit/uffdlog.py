@@ -37,7 +37,7 @@ class Unreadable(Exception):
 def no_log(line):
     """Why an input is no log whose first line is this."""
     if STRACE.match(line[:LONGEST_LINE + 1]):
-        return "not a log, but what strace writes: audit/from-strace makes a log of it"
+        return "not a log, but what strace writes, which uffd-audit judges as it is"
     return "not a log: the first line is not 'uffdlog 1'"
 
 

@@ -1,5 +1,5 @@
 /* The same guest, connections and calls of the kernel without a node: what a migration costs beside it is the node's and the driver's. One process
-   has both sides. */
+   has both sides, of each slice in two threads. */
 #include <errno.h>
 #include <inttypes.h>
 #include <poll.h>
@@ -14,6 +14,7 @@
 #include "kernel.h"
 #include "log.h"
 #include "roles.h"
+#include "slices.h"
 #include "wire.h"
 
 #define HEAD_BYTES 16u
@@ -26,9 +27,13 @@
 
 struct bare {
     const struct options *options;
+    struct slices *slices;
+    struct guest *guest;
+    uint32_t slice, pages;
+    char text[32]; /* of the address */
     struct address address;
-    struct guest guest; /* at `to` */
-    char *from;
+    struct door door;
+    char *from, *to;        /* of this slice */
     uint32_t next, sent;    /* as a source, it continues after the page that was asked for last */
     bool *is_sent, *is_put; /* each page; */
     uint64_t *waited_since; /* and since when somebody waits for it, or 0 */
@@ -38,6 +43,7 @@ struct bare {
     struct stream main, urgent; /* of the putting side */
     struct samples waits;
     uint64_t busy_sending, busy_putting; /* nanoseconds of processor time */
+    uint64_t took;                       /* and of time */
 };
 
 static void expect(bool is_whole)
@@ -52,7 +58,7 @@ static void send_page(struct bare *bare, struct stream *stream, uint32_t page)
 {
     uint8_t *out = stream_room(stream, FRAME_BYTES);
 
-    bare->next = (page + 1) % bare->options->plan.pages;
+    bare->next = (page + 1) % bare->pages;
     if (bare->is_sent[page])
         return;
     bare->is_sent[page] = true;
@@ -97,7 +103,7 @@ static void *send_all(void *argument)
 {
     struct bare *bare = argument;
     struct stream main = NO_STREAM, urgent = NO_STREAM;
-    uint32_t pages = bare->options->plan.pages;
+    uint32_t pages = bare->pages;
 
     connect_there(bare, &main);
     connect_there(bare, &urgent);
@@ -129,7 +135,7 @@ static void *send_all(void *argument)
 
 static char *page_at(const struct bare *bare, uint32_t page)
 {
-    return bare->guest.memory + (size_t)page * PAGE_BYTES;
+    return bare->to + (size_t)page * PAGE_BYTES;
 }
 
 static void put_page(struct bare *bare, uint32_t page, const uint8_t *bytes)
@@ -161,14 +167,14 @@ static void put_some(struct bare *bare, struct stream *stream)
 
 static void take_fault(struct bare *bare, const struct uffd_msg *message)
 {
-    uint64_t at = message->arg.pagefault.address - (uintptr_t)bare->guest.memory;
-    uint32_t page = (uint32_t)(at / PAGE_BYTES), thread = guest_thread_of(&bare->guest, message->arg.pagefault.feat.ptid);
+    uint64_t at = message->arg.pagefault.address - (uintptr_t)bare->to;
+    uint32_t page = (uint32_t)(at / PAGE_BYTES), thread = guest_thread_of(bare->guest, message->arg.pagefault.feat.ptid);
 
     if (bare->is_put[page]) {
         if (kernel_wake(bare->userfault, page_at(bare, page)))
             refuse("UFFDIO_WAKE");
     } else if (!bare->waited_since[page]) {
-        bare->waited_since[page] = guest_access_begun(&bare->guest, thread);
+        bare->waited_since[page] = guest_access_begun(bare->guest, thread);
         bare->waiting++;
         memcpy(stream_room(&bare->main, REQUEST_BYTES), &page, REQUEST_BYTES);
         bare->main.out.end += REQUEST_BYTES;
@@ -190,7 +196,7 @@ static void put_all(struct bare *bare)
 {
     uint64_t begun = kernel_thread_time();
 
-    while (bare->put < bare->options->plan.pages) {
+    while (bare->put < bare->pages) {
         struct pollfd files[] = { stream_waits(&bare->main), stream_waits(&bare->urgent), { .fd = bare->userfault, .events = POLLIN } };
         bool has_more = stream_length(&bare->main) >= FRAME_BYTES || stream_length(&bare->urgent) >= FRAME_BYTES;
 
@@ -202,12 +208,14 @@ static void put_all(struct bare *bare)
         put_some(bare, &bare->main);
     }
     bare->busy_putting = kernel_thread_time() - begun;
-    guest_ask_stop(&bare->guest);
-    while (!guest_has_stopped(&bare->guest)) { /* faults that were read late */
+    slice_completes(bare->slices, bare->slice);
+    if (slices_are_complete(bare->slices))
+        guest_ask_stop(bare->guest);
+    while (!guest_has_stopped(bare->guest)) { /* faults that were read late */
         take_faults(bare);
         (void)poll(NULL, 0, 1); /* a shorter wait is as good */
     }
-    guest_join(&bare->guest);
+    guest_join(bare->guest);
 }
 
 static void accept_one(const struct door *door, struct stream *stream)
@@ -230,67 +238,103 @@ static void accept_one(const struct door *door, struct stream *stream)
 /* THE START */
 
 /* Listens at a port of the kernel's choice. */
-static void open_door(struct bare *bare, struct door *door)
+static void open_door(struct bare *bare)
 {
-    static char text[32];
-
     address_read(&bare->address, "127.0.0.1:0");
-    door_open(door, &bare->address, bare->options->buffer, NULL);
-    (void)snprintf(text, sizeof text, "127.0.0.1:%u", door_port(door)); /* it fits */
-    address_read(&bare->address, text);
+    door_open(&bare->door, &bare->address, bare->options->buffer, NULL);
+    (void)snprintf(bare->text, sizeof bare->text, "127.0.0.1:%u", door_port(&bare->door)); /* it fits */
+    address_read(&bare->address, bare->text);
+}
+
+static void prepare(struct bare *bare, struct slices *slices, uint32_t slice, char *from)
+{
+    size_t first = (size_t)slice_first(slices, slice) * PAGE_BYTES;
+
+    bare->slices = slices;
+    bare->guest = &slices->guest;
+    bare->slice = slice;
+    bare->pages = slice_pages(slices, slice);
+    bare->main = bare->urgent = (struct stream)NO_STREAM;
+    bare->from = from + first;
+    bare->to = slices->guest.memory + first;
+    bare->is_sent = calloc(bare->pages, sizeof *bare->is_sent);
+    bare->is_put = calloc(bare->pages, sizeof *bare->is_put);
+    bare->waited_since = calloc(bare->pages, sizeof *bare->waited_since);
+    if (!bare->is_sent || !bare->is_put || !bare->waited_since)
+        refuse("no memory for the list of pages");
+    bare->userfault = kernel_open_userfault();
+    kernel_register(bare->userfault, bare->to, (size_t)bare->pages * PAGE_BYTES, false);
+    open_door(bare);
 }
 
 /* What the memory has before the first operation is at `from`; the guest finds none of it. */
-static void begin(struct bare *bare, const struct options *options)
+static void begin(struct bare *bares, struct slices *slices, const struct options *options)
 {
     const size_t bytes = (size_t)options->plan.pages * PAGE_BYTES;
+    char *from = kernel_map(bytes);
 
-    *bare = (struct bare){ .options = options, .main = NO_STREAM, .urgent = NO_STREAM };
-    bare->is_sent = calloc(options->plan.pages, sizeof *bare->is_sent);
-    bare->is_put = calloc(options->plan.pages, sizeof *bare->is_put);
-    bare->waited_since = calloc(options->plan.pages, sizeof *bare->waited_since);
-    if (!bare->is_sent || !bare->is_put || !bare->waited_since)
-        refuse("no memory for the list of pages");
-    bare->from = kernel_map(bytes);
-    guest_open(&bare->guest, &options->plan, &options->pace, bare->from);
-    guest_fill(&bare->guest);
-    bare->guest.memory = kernel_map(bytes);
-    bare->userfault = kernel_open_userfault();
-    kernel_register(bare->userfault, bare->guest.memory, bytes, false);
-    guest_make(&bare->guest);
+    guest_open(&slices->guest, &options->plan, &options->pace, from);
+    guest_fill(&slices->guest);
+    slices->guest.memory = kernel_map(bytes);
+    slices_begin(slices, options);
+    for (uint32_t i = 0; i < slices->count; i++) {
+        bares[i].options = options;
+        prepare(&bares[i], slices, i, from);
+    }
+    guest_make(&slices->guest);
+}
+
+static void run_slice(void *side)
+{
+    struct bare *bare = side;
+    pthread_t sender;
+    uint64_t begun;
+    int error = pthread_create(&sender, NULL, send_all, bare);
+
+    if (error)
+        refuse_errno(error, "a thread cannot be started");
+    accept_one(&bare->door, &bare->main);
+    accept_one(&bare->door, &bare->urgent);
+    if (bare->options->goes_first)
+        (void)kernel_go_first(); /* as much as is allowed */
+    slices_meet(bare->slices);
+    begun = kernel_now();
+    if (!bare->slice)
+        guest_start(bare->guest);
+    put_all(bare);
+    bare->took = kernel_now() - begun;
+    stream_close(&bare->main);
+    stream_close(&bare->urgent);
+    error = pthread_join(sender, NULL);
+    if (error)
+        refuse_errno(error, "a thread does not end");
+    door_close(&bare->door);
+    kernel_unregister(bare->userfault, bare->to, (size_t)bare->pages * PAGE_BYTES);
+}
+
+static void add_figures(struct bare *all, const struct bare *one)
+{
+    all->took = one->took > all->took ? one->took : all->took;
+    all->busy_sending += one->busy_sending;
+    all->busy_putting += one->busy_putting;
+    for (size_t i = 0; i < one->waits.count; i++)
+        samples_add(&all->waits, one->waits.value[i]);
 }
 
 int bare_run(const struct options *options)
 {
-    static struct bare bare;
-    static struct door door;
-    uint64_t begun, took;
-    pthread_t sender;
-    int error;
+    static struct slices slices;
+    struct bare *bares = calloc(options->slices, sizeof *bares);
 
-    begin(&bare, options);
-    open_door(&bare, &door);
-    error = pthread_create(&sender, NULL, send_all, &bare);
-    if (error)
-        refuse_errno(error, "a thread cannot be started");
-    accept_one(&door, &bare.main);
-    accept_one(&door, &bare.urgent);
-    if (options->goes_first)
-        (void)kernel_go_first(); /* as much as is allowed */
-    begun = kernel_now();
-    guest_start(&bare.guest);
-    put_all(&bare);
-    took = kernel_now() - begun;
-    stream_close(&bare.main);
-    stream_close(&bare.urgent);
-    error = pthread_join(sender, NULL);
-    if (error)
-        refuse_errno(error, "a thread does not end");
-    door_close(&door);
-    kernel_unregister(bare.userfault, bare.guest.memory, (size_t)options->plan.pages * PAGE_BYTES);
-    log_figures("bare pages=%u took=%" PRIu64 " sending=%" PRIu64 " putting=%" PRIu64, options->plan.pages, took, bare.busy_sending,
-                bare.busy_putting);
-    log_figures(" waits=%zu p50=%.1f p99=%.1f most=%.1f\n", bare.waits.count, samples_part(&bare.waits, 500), samples_part(&bare.waits, 990),
-                samples_part(&bare.waits, 1000));
-    return guest_verdict(&bare.guest);
+    if (!bares)
+        refuse("no memory for %u slices", options->slices);
+    begin(bares, &slices, options);
+    slices_run(&slices, run_slice, bares, sizeof *bares);
+    for (uint32_t i = 1; i < slices.count; i++)
+        add_figures(bares, &bares[i]);
+    log_figures("bare pages=%u took=%" PRIu64 " sending=%" PRIu64 " putting=%" PRIu64, options->plan.pages, bares->took, bares->busy_sending,
+                bares->busy_putting);
+    log_figures(" waits=%zu p50=%.1f p99=%.1f most=%.1f\n", bares->waits.count, samples_part(&bares->waits, 500), samples_part(&bares->waits, 990),
+                samples_part(&bares->waits, 1000));
+    return guest_verdict(&slices.guest);
 }

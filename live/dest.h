@@ -1,4 +1,4 @@
-/* A destination: the state of `live dest` and `live handler`, and what its parts do. Each part is a file. */
+/* A destination: the state of a slice of `live dest` and `live handler`, and what its parts do. Each part is a file. */
 #ifndef DEST_H
 #define DEST_H
 
@@ -7,6 +7,7 @@
 #include "figures.h"
 #include "handed.h"
 #include "options.h"
+#include "slices.h"
 #include "watch.h"
 #include "wire.h"
 
@@ -16,7 +17,7 @@
 enum claim {
     CLAIM_NONE,  /* it has sent nothing: another one takes its place once it is idle, */
     CLAIM_SENDS, /* or is turned away while it is not */
-    CLAIM_BOUND, /* it may have switched: no other one is served, and only `abandon` ends this side; */
+    CLAIM_BOUND, /* once each slice is bound it may have switched: no other one is served, and only `abandon` ends this side; */
     CLAIM_TOLD   /* and it was told so on this channel */
 };
 
@@ -29,8 +30,10 @@ enum left {
 
 struct dest {
     const struct options *options;
+    struct slices *slices;
+    struct guest *guest;
+    uint32_t slice; /* which one this is */
     struct node node;
-    struct guest guest;
     struct handed handed; /* its memory, where it is a monitor's */
     bool is_handed;
     struct watch watch;
@@ -39,22 +42,21 @@ struct dest {
     enum left left;                  /* of this turn */
     uint32_t unasked;                /* turns since poll(2) */
     uint32_t told;                   /* the phase that was written last */
-    const char *held;                /* why nothing is done any more, or NULL */
-    bool is_over;                    /* the program that takes the part of the source has ended, or the operator ends this one */
+    bool is_held;                    /* nothing is done any more */
 
     /* the channel */
     struct door door;
     bool is_at_door; /* somebody may be */
     struct stream main, urgent;
-    struct batch batch;          /* of the main one, whose stream is empty while a part of a page is here */
-    uint32_t channels;           /* taken until now */
-    struct hello own;            /* what is said of this process, */
-    struct hello source;         /* and the last hello of the source */
-    enum claim claim;            /* of that source, */
-    uint64_t last_frame, opened; /* since when nothing came of it, and its channel: ns */
-    uint32_t silences;           /* channels in a row on which nothing was heard */
-    bool is_first_frame;         /* of this channel: none was taken, */
-    bool is_refused;             /* or one was refused */
+    struct batch batch;  /* of the main one, whose stream is empty while a part of a page is here */
+    uint32_t channels;   /* taken until now */
+    struct hello own;    /* what is said of this process, */
+    struct hello source; /* and the last hello of the source */
+    enum claim claim;    /* of that source */
+    uint64_t opened;     /* its channel: ns */
+    uint32_t silences;   /* channels in a row on which nothing was heard */
+    bool is_first_frame; /* of this channel: none was taken, */
+    bool is_refused;     /* or one was refused */
 
     struct samples waits;
     struct {
@@ -67,6 +69,8 @@ struct dest {
 
 /* Takes the state anew from the node. */
 void dest_look(struct dest *dest);
+/* Says how far this slice is, for what is said of all. */
+void dest_says(struct dest *dest);
 /* This turn has that left to do, or more. */
 void dest_leave(struct dest *dest, enum left left);
 
@@ -97,7 +101,7 @@ void dest_install_all(struct dest *dest, const uint8_t *pages, const uint64_t *o
 /* Receives and takes frames. Each is false once the connection is broken. */
 bool dest_take_main(struct dest *dest);
 bool dest_take_urgent(struct dest *dest);
-/* A node to which nothing has happened. */
+/* A node to which nothing has happened. (Where other slices are not bound, this one's source was not to switch.) */
 void dest_renew_node(struct dest *dest);
 /* The source has a claim to this from now on. */
 void dest_claim(struct dest *dest, enum claim claim);
@@ -113,10 +117,8 @@ void dest_look_at_door(struct dest *dest);
 
 /* dest_words.c: the operator */
 void dest_obey(struct dest *dest);
-/* Whether no page is at the source any more. */
-bool dest_has_all(const struct dest *dest);
 
-/* dest.c: what is done once the guest may be nowhere else, where the kernel or the node has said what was not expected */
-extern const struct keeping dest_bound;
+/* dest.c: what is done once the guest may be nowhere else, where the kernel or the node has said what was not expected; and before it */
+extern const struct keeping dest_bound, dest_free;
 
 #endif

@@ -26,7 +26,8 @@ static void lose_channel(struct dest *dest, const char *why)
     if (dest->claim == CLAIM_TOLD)
         dest->claim = CLAIM_BOUND;
     node_drop_frames(&dest->node);
-    dest->is_over |= dest->options->feed != NULL;
+    if (dest->options->feed)
+        dest->slices->is_over = true;
     log_event("destination: %s, epoch %u: %s", dest_source(dest), dest->source.epoch, why);
     dest->figures.breaks += phase != POSTMIG_DESTINATION_ENDED;
     dest->figures.late_breaks += phase == POSTMIG_DESTINATION_RUNNING;
@@ -40,21 +41,27 @@ static void begin_anew(struct dest *dest)
 {
     if (stream_is_open(&dest->main))
         lose_channel(dest, "another source takes the place of one that sends nothing");
+    dest->claim = CLAIM_NONE;
+    live_keep(dest_free);
     dest_renew_node(dest);
 }
 
 /* The connection of a source takes the place of the one that it had. */
-static void take_channel(struct dest *dest, const struct stream *fresh, const struct hello *source)
+static void take_channel(struct dest *dest, struct stream *fresh, const struct hello *source)
 {
     const struct options *options = dest->options;
     struct hello own = dest->own;
 
     own.epoch = source->epoch;
+    if (!dest->slice && !slices_serve(dest->slices, source->instance)) { /* the last slice was bound just now */
+        stream_close(fresh);
+        return;
+    }
     if (dest->source.instance && source->instance != dest->source.instance)
         begin_anew(dest);
     else if (stream_is_open(&dest->main))
         lose_channel(dest, "the source has come again");
-    stream_open(&dest->main, fresh->file, fresh->tls, dest->channels < options->cuts ? &options->cut[dest->channels].main : &fresh->cut);
+    stream_open(&dest->main, fresh->file, fresh->tls, dest->channels < options->cuts[dest->slice] ? &options->cut[dest->slice][dest->channels].main : &fresh->cut);
     hello_write(&own, stream_room(&dest->main, HELLO_BYTES));
     dest->main.out.end += HELLO_BYTES;
     dest->main.beats = source->flags & HELLO_BEATS;
@@ -63,7 +70,7 @@ static void take_channel(struct dest *dest, const struct stream *fresh, const st
     log_event("destination: %s, epoch %u: connected", dest_source(dest), source->epoch);
     dest->source = *source;
     dest->is_first_frame = true;
-    dest->last_frame = dest->last_turn;
+    dest->slices->last_frame = dest->last_turn;
     if (!dest->main.beats || !(source->flags & HELLO_BINDS))
         dest_claim(dest, CLAIM_BOUND); /* nothing says when it switches */
 }
@@ -71,9 +78,14 @@ static void take_channel(struct dest *dest, const struct stream *fresh, const st
 /* What becomes of other sources: the one that is served may have switched, or sends its pages; or it has sent nothing for a moment, or for longer. */
 static enum others others_at_door(const struct dest *dest)
 {
-    bool is_idle = dest->last_turn - dest->last_frame > (uint64_t)dest->options->silence * 1000000000u; /* (a turn may have been long) */
+    uint64_t last = dest->slices->last_frame;
+    bool is_idle = dest->last_turn > last && dest->last_turn - last > (uint64_t)dest->options->silence * 1000000000u; /* (a turn may have been long) */
 
-    if (dest->claim >= CLAIM_BOUND || (stream_is_open(&dest->main) && dest->claim == CLAIM_SENDS && !is_idle))
+    if (slices_are_bound(dest->slices))
+        return OTHERS_GO;
+    if (dest->slice) /* the first slice has decided */
+        return OTHERS_COME;
+    if (stream_is_open(&dest->main) && dest->claim >= CLAIM_SENDS && !is_idle)
         return OTHERS_GO;
     return is_idle ? OTHERS_COME : OTHERS_WAIT;
 }
@@ -91,8 +103,8 @@ static void take_urgent_channel(struct dest *dest)
     if (!door_take(&dest->door, &wanted, &dest->urgent, &hello))
         return;
     dest->urgent.beats = dest->main.beats;
-    if (dest->channels <= options->cuts)
-        dest->urgent.cut = options->cut[dest->channels - 1].urgent;
+    if (dest->channels <= options->cuts[dest->slice])
+        dest->urgent.cut = options->cut[dest->slice][dest->channels - 1].urgent;
 }
 
 /* A source that comes again has a later epoch. */
@@ -107,11 +119,12 @@ void dest_look_at_door(struct dest *dest)
     door_look(&dest->door);
     if (door_take(&dest->door, &wanted, &fresh, &hello))
         take_channel(dest, &fresh, &hello);
+    door_pass(&dest->door, dest->source.instance);
     if (stream_is_open(&dest->main))
         take_urgent_channel(dest);
     else if (dest->options->feed && !door_has_newcomer(&dest->door)) {
         log_event("destination: the command has ended, or has said no hello that fits");
-        dest->is_over = true;
+        dest->slices->is_over = true;
     }
 }
 

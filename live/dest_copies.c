@@ -47,13 +47,13 @@ bool dest_is_of_guest(const struct dest *dest, const postmig_effect *effect)
     uint64_t first = effect->addr / PAGE_BYTES, pages = effect->kind == POSTMIG_DID_TAKE_RUN ? effect->count : 1;
 
     return (effect->kind != POSTMIG_DID_TAKE_ZERO && effect->kind != POSTMIG_DID_TAKE_RUN) ||
-        (first >= LOW_PAGE && first - LOW_PAGE + pages <= dest->guest.plan.pages);
+        (first >= LOW_PAGE && first - LOW_PAGE + pages <= dest->watch.pages);
 }
 
 bool dest_settle_copies(struct dest *dest, uint32_t owed)
 {
-    static struct kernel_range given[RANGES_AT_A_TIME];
-    uint32_t end = LOW_PAGE + dest->guest.plan.pages;
+    static _Thread_local struct kernel_range given[RANGES_AT_A_TIME];
+    uint32_t end = LOW_PAGE + dest->watch.pages;
     postmig_pages run;
     size_t count = 0;
 
@@ -78,13 +78,13 @@ bool dest_settle_copies(struct dest *dest, uint32_t owed)
 
 void dest_check_owed(struct dest *dest)
 {
-    uint32_t pages = dest->guest.plan.pages, home;
+    uint32_t pages = dest->watch.pages, home;
     uint64_t *entries;
 
     while (!(entries = calloc(pages, sizeof *entries)))
         lack(0, "no memory for the entries of %u pages", pages);
     if (!dest->is_handed)
-        kernel_pagemap(dest->guest.memory, pages, entries);
+        kernel_pagemap(dest->watch.memory, pages, entries);
     for (uint32_t i = 0; i < pages; i++) {
         bool is_there = dest->is_handed ? dest->handed.kept[i] != NOT_KEPT : entry_is_present(entries[i]);
 

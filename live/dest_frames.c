@@ -13,30 +13,35 @@ void dest_claim(struct dest *dest, enum claim claim)
     if (claim <= dest->claim)
         return;
     dest->claim = claim;
-    if (claim >= CLAIM_BOUND)
-        live_keep(dest_bound);
+    if (claim < CLAIM_BOUND)
+        return;
+    (void)slice_binds(dest->slices, dest->slice, dest->source.instance); /* a promise was asked for before */
+    live_keep(dest_bound);
 }
 
 void dest_renew_node(struct dest *dest)
 {
-    node_do(postmig_destination_new((uint8_t)dest->guest.plan.threads, &dest->node.handle));
-    trace_begin_again(&dest->node, dest->guest.plan.threads);
+    node_do(postmig_destination_new((uint8_t)dest->own.processors, &dest->node.handle));
+    trace_begin_again(&dest->node, dest->own.processors);
     if (dest->claim < CLAIM_BOUND)
         dest->claim = CLAIM_NONE;
     dest_look(dest);
 }
 
-/* The memory is registered before the first thread runs: by a monitor, before it was handed over. */
+/* The memory is registered before the first thread runs: by a monitor, before it was handed over. The threads run once all slices have come here. */
 static void run_guest(struct dest *dest)
 {
+    if (atomic_load(&dest->guest->is_started))
+        refuse("the guest runs, and a slice of it has no Package yet");
     if (dest->options->checks_owed)
         dest_check_owed(dest);
     watch_take_over(&dest->watch);
     if (dest->is_handed) {
         handed_say(&dest->handed, HANDED_RUN);
     } else {
-        kernel_register(dest->watch.userfault, dest->guest.memory, (size_t)dest->guest.plan.pages * PAGE_BYTES, false);
-        guest_start(&dest->guest);
+        kernel_register(dest->watch.userfault, dest->watch.memory, watch_bytes(&dest->watch), false);
+        trace_moment("package", kernel_now());
+        slice_has_package(dest->slices);
     }
     dest->figures.run = kernel_now();
     dest->figures.busy = kernel_thread_time();
@@ -62,6 +67,7 @@ static void carry_out(struct dest *dest, const postmig_effect *effect, const str
         break;
     case POSTMIG_DID_TAKE_END:
         dest->figures.end = kernel_now();
+        slice_completes(dest->slices, dest->slice);
         dest->figures.busy = kernel_thread_time() - dest->figures.busy;
         if (dest->main.cut.post != NEVER)
             dest->main.cut.out = dest->main.cut.post;
@@ -113,7 +119,7 @@ static bool take(struct dest *dest, const struct frame *frame)
     dest_claim(dest, effect.kind == POSTMIG_DID_TAKE_DISCARD || effect.kind == POSTMIG_DID_TAKE_PACKAGE ? CLAIM_BOUND : CLAIM_SENDS);
     carry_out(dest, &effect, frame);
     dest->is_first_frame = false;
-    dest->last_frame = dest->last_turn;
+    dest->slices->last_frame = dest->last_turn;
     if (effect.kind != POSTMIG_DID_TAKE_ZERO && effect.kind != POSTMIG_DID_TAKE_RUN) {
         node_sum_frame(false, frame);
         dest_look(dest);
@@ -160,6 +166,8 @@ static void take_pages(struct dest *dest)
 /* As it asks for before it switches. */
 static void promise(struct dest *dest)
 {
+    if (!slice_binds(dest->slices, dest->slice, dest->source.instance)) /* another source serves the other slices */
+        return;
     if (dest->claim < CLAIM_TOLD)
         beat_put(&dest->main, BINDS);
     dest_claim(dest, CLAIM_TOLD);

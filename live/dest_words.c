@@ -9,29 +9,26 @@
 
 static void tell_status(struct dest *dest, char *json, size_t room)
 {
-    if (!dest->held)
-        dest_look(dest);
+    struct progress all;
+
+    if (!dest->is_held)
+        dest_says(dest);
+    all = slices_say(dest->slices, POSTMIG_DESTINATION_PAUSED);
     (void)snprintf(json, room,
                    "{\"side\":\"destination\",\"migration\":\"%s\",\"phase\":\"%s\",\"runs\":%s,\"connected\":%s,\"epoch\":%u,"
-                   "\"left\":%u,\"installed\":%" PRIu64 ",\"faults\":%" PRIu64 ",\"waits\":%u,\"breaks\":%" PRIu64 ","
+                   "\"left\":%" PRIu64 ",\"installed\":%" PRIu64 ",\"faults\":%" PRIu64 ",\"waits\":%u,\"breaks\":%" PRIu64 ","
                    "\"turned_away\":%" PRIu64 ",\"dropped_lines\":%" PRIu64 ",\"stopped_by\":\"%s\"}",
-                   dest->own.migration, dest_phases[dest->state.phase], dest->state.has_run ? "true" : "false",
-                   stream_is_open(&dest->main) ? "true" : "false", dest->state.epoch, dest->state.owed, dest->state.installed,
-                   dest->watch.faults, watch_sleepers(&dest->watch), dest->figures.breaks, dest->door.turned_away, log_dropped(),
-                   operator_text(dest->held)); /* it fits */
-}
-
-bool dest_has_all(const struct dest *dest)
-{
-    return dest->state.phase == POSTMIG_DESTINATION_ENDED || dest->figures.end != 0;
+                   dest->own.migration, dest_phases[all.phase], all.has_run ? "true" : "false", all.is_connected ? "true" : "false", all.epoch,
+                   all.left, all.moved, all.faults, all.waits, all.breaks, all.turned_away, log_dropped(),
+                   operator_text(dest->slices->held)); /* it fits */
 }
 
 /* Why it is not to end, or NULL: pages are still at the source, or the guest may be nowhere else. */
-static const char *reason_to_stay(const struct dest *dest)
+static const char *reason_to_stay(struct dest *dest)
 {
-    if (dest->held)
+    if (dest->slices->held)
         return operator_ends_held();
-    if (dest_has_all(dest) || (!dest->state.has_run && dest->claim < CLAIM_BOUND))
+    if (slices_are_complete(dest->slices) || !slices_are_bound(dest->slices))
         return NULL;
     if (dest->state.has_run)
         return "the guest runs here, and pages of it are still at the source";
@@ -47,11 +44,11 @@ static void obey(struct dest *dest, const struct order *order)
         tell_status(dest, json, sizeof json);
         operator_answer(order, json);
     } else if (order->word == WORD_END || order->word == WORD_SIGNAL || order->word == WORD_ABANDON) {
-        if (dest->held ? !operator_abandons(order) : reason && order->word != WORD_ABANDON) {
+        if (dest->slices->held ? !operator_abandons(order) : reason && order->word != WORD_ABANDON) {
             operator_refuse(order, reason);
             return;
         }
-        dest->is_over = true;
+        dest->slices->is_over = true;
         operator_done(order);
     } else {
         operator_refuse(order, order->word == WORD_UNKNOWN ? "no such word" : "that is said to the source");

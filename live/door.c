@@ -3,6 +3,7 @@
 
 #include <arpa/inet.h>
 #include <errno.h>
+#include <fcntl.h>
 #include <netinet/in.h>
 #include <netinet/tcp.h>
 #include <string.h>
@@ -24,6 +25,20 @@ static void begin(struct door *door, const struct hello *own)
     door->file = -1;
     for (uint32_t i = 0; i < MOST_NEWCOMERS; i++)
         door->newcomer[i].file = -1;
+    for (uint32_t i = 0; i < MOST_SLICES; i++)
+        door->passes[i] = -1;
+}
+
+void door_behind(struct door *door, struct door *first, const struct hello *own)
+{
+    int files[2];
+
+    begin(door, own);
+    if (pipe2(files, O_NONBLOCK | O_CLOEXEC))
+        refuse_errno(errno, "a pipe");
+    door->address = first->address;
+    door->file = files[0];
+    first->passes[own->slice] = files[1];
 }
 
 void door_feed(struct door *door, int file, const struct hello *own)
@@ -153,6 +168,15 @@ static void note_lack(struct door *door, int error)
     log_event("nobody can be accepted at %s: %s (%s)", door->address->text, strerrorname_np(error), strerror(error));
 }
 
+/* Of those that the first door has passed on. */
+static void take_passed(struct door *door)
+{
+    struct newcomer newcomer;
+
+    while (read(door->file, &newcomer, sizeof newcomer) == (ssize_t)sizeof newcomer)
+        *place_for(door, &newcomer.host) = newcomer;
+}
+
 /* A few at most, so that who waits is looked at in between. */
 static void accept_some(struct door *door)
 {
@@ -228,7 +252,10 @@ static bool read_hello(struct newcomer *newcomer)
 
 void door_look(struct door *door)
 {
-    accept_some(door);
+    if (door->own->slice)
+        take_passed(door);
+    else
+        accept_some(door);
     for (struct newcomer *it = door->newcomer; it < door->newcomer + MOST_NEWCOMERS; it++)
         if (it->file >= 0 && (!read_hello(it) || kernel_now() > it->deadline))
             turn_away(door, it);
@@ -239,13 +266,32 @@ static bool is_other(const struct wanted *wanted, const struct newcomer *newcome
     return wanted->instance && newcomer->hello.instance != wanted->instance;
 }
 
+/* It waits for another slice. */
+static bool is_to_pass(const struct door *door, const struct newcomer *newcomer)
+{
+    return newcomer->hello.slices == door->own->slices && newcomer->hello.slice != door->own->slice;
+}
+
+/* (as many bytes as this are written at once, or none) */
+void door_pass(struct door *first, uint64_t instance)
+{
+    for (struct newcomer *it = first->newcomer; it < first->newcomer + MOST_NEWCOMERS; it++) {
+        if (it->file < 0 || it->is_refused || it->length < HELLO_BYTES || it->hello.instance != instance || !is_to_pass(first, it))
+            continue;
+        if (write(first->passes[it->hello.slice], it, sizeof *it) == (ssize_t)sizeof *it)
+            it->file = -1;
+    }
+}
+
 /* Why a source is not let in, or NULL. */
 static const char *reason_against(const struct door *door, const struct wanted *wanted, const struct newcomer *newcomer)
 {
-    static char reason[MOST_OF_REASON + 1];
+    static _Thread_local char reason[MOST_OF_REASON + 1];
 
     if (is_other(wanted, newcomer) && wanted->others == OTHERS_GO)
         return "this destination serves another source";
+    if (is_to_pass(door, newcomer))
+        return NULL;
     return hello_unlike(&newcomer->hello, door->own, reason) ? reason : NULL;
 }
 
@@ -269,6 +315,8 @@ bool door_take(struct door *door, const struct wanted *wanted, struct stream *st
         reason = reason_against(door, wanted, it);
         if (reason) {
             refuse_newcomer(door, it, reason);
+        } else if (is_to_pass(door, it)) {
+            continue;
         } else if (it->hello.epoch < wanted->least && !is_other(wanted, it)) {
             turn_away(door, it);
         } else if (!is_there && is_wanted(wanted, it)) {
@@ -307,7 +355,7 @@ bool door_has_newcomer(const struct door *door)
 
 const char *door_source(const struct door *door)
 {
-    static char text[INET6_ADDRSTRLEN];
+    static _Thread_local char text[INET6_ADDRSTRLEN];
 
     if (address_is_unix(door->address))
         return door->address->text;
@@ -321,7 +369,7 @@ void door_close(struct door *door)
             turn_away(door, &door->newcomer[i]);
     if (door->file < 0)
         return;
-    if (address_is_unix(door->address))
+    if (address_is_unix(door->address) && !door->own->slice)
         local_close(door->file, door->address);
     else
         (void)close(door->file); /* it carried nothing */

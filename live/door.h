@@ -8,6 +8,7 @@
 #include <stdint.h>
 
 #include "hello.h"
+#include "live.h"
 #include "wire.h"
 
 #define MOST_NEWCOMERS 64u
@@ -30,8 +31,9 @@ struct door {
     const struct address *address;
     const struct hello *own; /* what each source is compared with, and answered */
     struct newcomer newcomer[MOST_NEWCOMERS];
-    struct in6_addr known; /* the host of the source that was let in, */
-    bool is_known;         /* if one was */
+    struct in6_addr known;   /* the host of the source that was let in, */
+    bool is_known;           /* if one was */
+    int passes[MOST_SLICES]; /* to the doors behind this one, by their slices; -1: none */
     uint64_t turned_away;
     int lack; /* why nobody could be accepted, as it was said last; an errno */
 };
@@ -41,6 +43,12 @@ void door_open(struct door *door, const struct address *address, uint32_t buffer
 
 /* Nobody listens: the one newcomer is the program at this file, which has all the time that it takes for its hello. */
 void door_feed(struct door *door, int file, const struct hello *own);
+
+/* The door of a further slice: who comes there was let in by the first one's, which passes it on. */
+void door_behind(struct door *door, struct door *first, const struct hello *own);
+
+/* Has those go on to their slices' doors that belong to this source, which the first slice serves. */
+void door_pass(struct door *first, uint64_t instance);
 
 /* The port, where the kernel has chosen it. */
 uint16_t door_port(const struct door *door);

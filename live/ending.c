@@ -2,7 +2,6 @@
 #include "live.h"
 
 #include <poll.h>
-#include <pthread.h>
 #include <stdarg.h>
 #include <stdio.h>
 #include <stdlib.h>
@@ -15,8 +14,8 @@
 #define LEAST_NAP_MS 10u
 #define MOST_NAP_MS 1000u
 
-static struct {
-    pthread_t driver; /* the thread that has the node */
+static _Thread_local struct {
+    bool is_driver; /* this thread has a node */
     struct keeping keeping;
     char lack[MOST_TEXT]; /* what was said last, */
     uint32_t nap_ms;      /* and for how long was waited last */
@@ -24,7 +23,7 @@ static struct {
 
 void live_begin(void)
 {
-    ending.driver = pthread_self();
+    ending.is_driver = true;
 }
 
 void live_keep(struct keeping keeping)
@@ -38,7 +37,7 @@ static _Noreturn void end(enum status status, const char *why)
     int (*keep)(const char *) = status == STATUS_REFUSED ? ending.keeping.keep : NULL;
 
     log_say("%s", why);
-    if (pthread_equal(ending.driver, pthread_self())) {
+    if (ending.is_driver) {
         ending.keeping = (struct keeping){ NULL, NULL };
         if (keep)
             status = (enum status)keep(why);
@@ -95,7 +94,7 @@ void lack(int error, const char *format, ...)
     va_start(arguments, format);
     write_reason(text, error, format, arguments);
     va_end(arguments);
-    if (!ending.keeping.meanwhile || !pthread_equal(ending.driver, pthread_self()))
+    if (!ending.keeping.meanwhile || !ending.is_driver)
         end(STATUS_REFUSED, text);
     if (strcmp(text, ending.lack)) {
         log_event("%s: it is tried until there is", text);

@@ -41,7 +41,7 @@ class Guest:
             plan = 0
             for value in self.plan:
                 plan = self.mix(plan ^ value)
-            words = [0] * 16 + [plan | 1] + [0] * 495
+            words = [0] * 255 + [plan | 1] + [0] * 256
         elif part < 15:
             words = None if part < 10 else [0] * 512
         else:

@@ -40,7 +40,7 @@ double samples_part(struct samples *samples, uint32_t of)
 
 bool progress_is_due(void)
 {
-    static uint64_t next;
+    static _Thread_local uint64_t next;
     uint64_t now = kernel_now();
 
     if (now < next)

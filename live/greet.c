@@ -13,9 +13,10 @@ void greet_begin(struct hello *own, uint32_t pages, uint32_t processors)
         .instance = 1,
         .pages = pages,
         .areas = 1,
-        .threads = processors,
+        .processors = processors,
+        .slices = 1,
         .most_pages = MOST_PAGES,
-        .most_threads = MOST_THREADS,
+        .most_processors = MOST_PROCESSORS,
     };
 }
 

@@ -17,9 +17,9 @@
 #include "log.h"
 
 #define PERIOD 64u
-#define SLOTS 16u /* words of a page that are stored to */
+#define SLOTS 16u       /* words of a page that are stored to, */
+#define MORE_SLOTS 256u /* where there are more threads than these */
 #define WORDS (PAGE_BYTES / 8)
-#define WORDS_OF_SLOT (WORDS / SLOTS)
 #define PLAN_WORD MOST_THREADS /* of page 0: the plan, in one number */
 #define HOT_PART 8u
 #define BALLOON_PART 16u
@@ -62,6 +62,11 @@ static __attribute__((noinline)) void store_word(const struct guest *guest, uint
     history_store(thread, begin, address_of(page, word), value);
 }
 
+uint32_t plan_processors(const struct guest_plan *plan)
+{
+    return plan->threads < MOST_PROCESSORS ? plan->threads : MOST_PROCESSORS;
+}
+
 uint64_t guest_number(const struct guest_plan *plan)
 {
     uint64_t number = mix(plan->pages);
@@ -98,17 +103,19 @@ static uint64_t first_word(const struct guest *guest, uint32_t page, uint32_t wo
 }
 
 /* The word of a page that is stored to as its slot. */
-static uint32_t word_of_slot(uint32_t page, uint32_t slot)
+static uint32_t word_of_slot(const struct guest *guest, uint32_t page, uint32_t slot)
 {
-    return slot * WORDS_OF_SLOT + (uint32_t)(mix(page) % WORDS_OF_SLOT);
+    uint32_t words = WORDS / guest->slots;
+
+    return slot * words + (uint32_t)(mix(page) % words);
 }
 
 /* Adds what the driver has done, since `begin`, to the words of a page that the threads use. For the history each slot is a thread's: they are
    used within one interval. */
 static void add_slots(const struct guest *guest, uint32_t page, uint64_t begin, void (*add)(uint32_t, uint64_t, uint64_t, uint64_t))
 {
-    for (uint32_t slot = 0; slot < SLOTS && history_is_open(); slot++) {
-        uint32_t word = page ? word_of_slot(page, slot) : slot;
+    for (uint32_t slot = 0; slot < guest->slots && history_is_open(); slot++) {
+        uint32_t word = page ? word_of_slot(guest, page, slot) : slot;
 
         add(slot, begin, address_of(page, word), *word_at(guest, page, word));
     }
@@ -176,7 +183,7 @@ static void set_track(struct track *track, uint32_t count, uint32_t first_page, 
 
 static uint32_t slots_of_thread(const struct guest *guest)
 {
-    return SLOTS / guest->plan.threads;
+    return guest->slots / guest->plan.threads;
 }
 
 /* The hot pages are after page 0, the cold ones after them, then those that are given back by any thread, and the balloon is at the end. */
@@ -255,7 +262,7 @@ static struct place place_of(const struct guest_thread *thread, const struct tra
         page = track->first_page + (uint32_t)(item / each);
         slot = thread->number + threads * (uint32_t)(item % each);
     }
-    return (struct place){ page, word_of_slot(page, slot) };
+    return (struct place){ page, word_of_slot(thread->guest, page, slot) };
 }
 
 static uint64_t value_of(const struct guest_thread *thread, uint64_t operation)
@@ -300,7 +307,7 @@ static void set_own_slots(const struct guest *guest, uint32_t page, uint64_t *wo
         uint64_t item = (uint64_t)(at / threads) * SLOTS + slot;
 
         if (item < track->items)
-            words[word_of_slot(page, slot)] = right_value(thread, track, item, thread->next);
+            words[word_of_slot(guest, page, slot)] = right_value(thread, track, item, thread->next);
     }
 }
 
@@ -314,7 +321,7 @@ static void set_shared_slots(const struct guest *guest, uint32_t page, uint64_t 
         uint64_t item = (uint64_t)(page - track->first_page) * each + slot / threads;
 
         if (track->count)
-            words[word_of_slot(page, slot)] = right_value(thread, track, item, thread->next);
+            words[word_of_slot(guest, page, slot)] = right_value(thread, track, item, thread->next);
     }
 }
 
@@ -336,7 +343,7 @@ static void set_common_slots(const struct guest *guest, uint32_t page, uint64_t 
         const struct guest_thread *thread = &guest->thread[slot % threads];
         const struct track *track = &thread->track[COMMON];
         uint64_t item = (uint64_t)(page - track->first_page) * each + slot / threads;
-        uint32_t word = word_of_slot(page, slot);
+        uint32_t word = word_of_slot(guest, page, slot);
 
         if (last_before(track, item, thread->next))
             words[word] = right_value(thread, track, item, thread->next);
@@ -482,6 +489,7 @@ static void *run_thread(void *argument)
     }
     if (thread->operations) /* else it is there */
         store_word(guest, thread->number, 0, thread->number, thread->next);
+    thread->left = kernel_now();
     atomic_fetch_add(&guest->stopped, 1);
     return NULL;
 }
@@ -492,6 +500,7 @@ void guest_open(struct guest *guest, const struct guest_plan *plan, const struct
     guest->plan = *plan;
     guest->pace = *pace;
     guest->memory = memory;
+    guest->slots = plan->threads <= SLOTS ? SLOTS : MORE_SLOTS;
     guest->balloon_pages = plan->given ? plan->pages / BALLOON_PART : 0;
     guest->balloon_page = plan->pages - guest->balloon_pages;
     guest->common_pages = plan->shared ? plan->pages / COMMON_PART : 0;
@@ -527,6 +536,7 @@ static void raise_event(int event)
 
 void guest_start(struct guest *guest)
 {
+    atomic_store(&guest->started, kernel_now());
     atomic_store(&guest->is_started, true);
     raise_event(guest->start_event);
 }
@@ -542,8 +552,19 @@ bool guest_has_stopped(struct guest *guest)
     return atomic_load(&guest->stopped) == guest->plan.threads;
 }
 
+uint64_t guest_stopped_at(const struct guest *guest)
+{
+    uint64_t last = 0;
+
+    for (uint32_t i = 0; i < guest->plan.threads; i++)
+        last = guest->thread[i].left > last ? guest->thread[i].left : last;
+    return last;
+}
+
 void guest_join(struct guest *guest)
 {
+    if (atomic_exchange(&guest->is_joined, true))
+        return;
     for (uint32_t i = 0; i < guest->plan.threads; i++) {
         int error = pthread_join(guest->thread[i].handle, NULL);
 
@@ -572,9 +593,7 @@ uint64_t guest_wrong_loads(const struct guest *guest)
 
 bool guest_shares(const struct guest *guest, uint32_t first, uint32_t count)
 {
-    uint32_t page = first - LOW_PAGE;
-
-    return page < guest->balloon_page && page + count > guest->common_page && guest->common_pages;
+    return first < guest->balloon_page && first + count > guest->common_page && guest->common_pages;
 }
 
 uint64_t guest_access_begun(const struct guest *guest, uint32_t thread)

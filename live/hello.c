@@ -20,10 +20,11 @@ void hello_begin(struct hello *own, const struct options *options, bool has_gues
         .flags = HELLO_BEATS | HELLO_BINDS | (has_guest ? HELLO_HAS_GUEST : 0),
         .pages = options->plan.pages,
         .areas = 1,
-        .threads = options->plan.threads,
+        .processors = plan_processors(&options->plan),
+        .slices = options->slices,
         .guest = guest_number(&options->plan),
         .most_pages = MOST_PAGES,
-        .most_threads = MOST_THREADS,
+        .most_processors = MOST_PROCESSORS,
     };
     memcpy(own->migration, options->migration, sizeof own->migration);
     if (getrandom(&own->instance, sizeof own->instance, 0) != (ssize_t)sizeof own->instance)
@@ -55,10 +56,12 @@ void hello_write(const struct hello *hello, uint8_t *bytes)
     write_number(bytes + 20, hello->flags, 4);
     write_number(bytes + 24, hello->pages, 4);
     write_number(bytes + 28, hello->areas, 2);
-    write_number(bytes + 30, hello->threads, 2);
+    write_number(bytes + 30, hello->processors, 2);
     write_number(bytes + 32, hello->guest, 8);
     write_number(bytes + 40, hello->most_pages, 4);
-    write_number(bytes + 44, hello->most_threads, 2);
+    write_number(bytes + 44, hello->most_processors, 2);
+    bytes[46] = (uint8_t)(hello->slices - 1);
+    bytes[47] = (uint8_t)hello->slice;
     memcpy(bytes + NAME_AT, hello->migration, strlen(hello->migration));
     memcpy(bytes + REASON_AT, hello->reason, strlen(hello->reason));
 }
@@ -89,11 +92,13 @@ bool hello_read(struct hello *hello, const uint8_t *bytes, uint32_t length)
     hello->flags = (uint32_t)read_number(bytes + 20, 4);
     hello->pages = (uint32_t)read_number(bytes + 24, 4);
     hello->areas = (uint32_t)read_number(bytes + 28, 2);
-    hello->threads = (uint32_t)read_number(bytes + 30, 2);
+    hello->processors = (uint32_t)read_number(bytes + 30, 2);
     hello->guest = read_number(bytes + 32, 8);
     hello->most_pages = (uint32_t)read_number(bytes + 40, 4);
-    hello->most_threads = (uint32_t)read_number(bytes + 44, 2);
-    return !bytes[46] && !bytes[47] && !(hello->flags & ~FLAGS) && read_text(hello->migration, bytes + NAME_AT, MOST_OF_NAME) &&
+    hello->most_processors = (uint32_t)read_number(bytes + 44, 2);
+    hello->slices = bytes[46] + 1u;
+    hello->slice = bytes[47];
+    return hello->slice < hello->slices && !(hello->flags & ~FLAGS) && read_text(hello->migration, bytes + NAME_AT, MOST_OF_NAME) &&
         read_text(hello->reason, bytes + REASON_AT, MOST_OF_REASON);
 }
 
@@ -112,17 +117,19 @@ bool hello_unlike(const struct hello *source, const struct hello *destination, c
         (void)snprintf(reason, MOST_OF_REASON + 1, "--migration: source `%s`, destination `%s`", source->migration, destination->migration);
         return true;
     }
-    if (is_unlike(reason, "pages of --memory", source->pages, destination->pages) ||
+    if (is_unlike(reason, "--slices", source->slices, destination->slices) ||
+        is_unlike(reason, "number of the slice", source->slice, destination->slice) ||
+        is_unlike(reason, "pages of --memory", source->pages, destination->pages) ||
         is_unlike(reason, "areas of memory", source->areas, destination->areas) ||
-        is_unlike(reason, "--threads", source->threads, destination->threads))
+        is_unlike(reason, "--threads", source->processors, destination->processors))
         return true;
-    if (source->pages > destination->most_pages || source->threads > destination->most_threads) {
+    if (source->pages > destination->most_pages || source->processors > destination->most_processors) {
         (void)snprintf(reason, MOST_OF_REASON + 1, "the guest is too large: the destination has at most %u pages, %u threads",
-                       destination->most_pages, destination->most_threads); /* it fits */
+                       destination->most_pages, destination->most_processors); /* it fits */
         return true;
     }
     if (!(source->flags & destination->flags & HELLO_HAS_GUEST) || source->guest == destination->guest)
         return false;
-    (void)snprintf(reason, MOST_OF_REASON + 1, "another guest: --seed, --cold, --given or --shared differ"); /* it fits */
+    (void)snprintf(reason, MOST_OF_REASON + 1, "another guest: --threads, --seed, --cold, --given or --shared differ"); /* it fits */
     return true;
 }

@@ -22,17 +22,18 @@ struct hello {
     uint32_t epoch;
     uint64_t instance; /* a number of this process, made at random */
     uint32_t flags;
-    uint32_t pages; /* of the guest, */
-    uint32_t areas, threads;
-    uint64_t guest;                    /* and what it does */
-    uint32_t most_pages, most_threads; /* of the node */
+    uint32_t pages; /* of the slice, */
+    uint32_t areas, processors;
+    uint64_t guest;                       /* and what it does */
+    uint32_t most_pages, most_processors; /* of the node */
+    uint32_t slices, slice;               /* how many the guest has, and which one this is */
     char migration[MOST_OF_NAME + 1];
     char reason[MOST_OF_REASON + 1]; /* why this side refuses the other; empty: it does not */
 };
 
 struct options;
 
-/* That of this process: of its options, with a new number. has_guest: its guest is that of this program. */
+/* That of this process: of its options, with a new number, for the first slice. has_guest: its guest is that of this program. */
 void hello_begin(struct hello *own, const struct options *options, bool has_guest);
 
 void hello_write(const struct hello *hello, uint8_t *bytes);

@@ -276,7 +276,7 @@ int kernel_wake(int userfault, char *at)
 /* (a fault of the kernel's own, in the place of the process, does not wait for a userfaultfd: the call fails) */
 bool kernel_peek(const char *at, size_t bytes, void *to)
 {
-    static int file = -1;
+    static _Thread_local int file = -1;
     size_t done = 0;
 
     if (file < 0 && (file = open("/proc/self/mem", O_RDONLY | O_CLOEXEC)) < 0)
@@ -304,7 +304,7 @@ size_t kernel_read(int userfault, struct uffd_msg *messages, size_t most)
 
 void kernel_pagemap(const char *at, size_t pages, uint64_t *entries)
 {
-    static int file = -1;
+    static _Thread_local int file = -1;
     size_t length = pages * sizeof *entries, done = 0;
 
     if (file < 0 && (file = open("/proc/self/pagemap", O_RDONLY | O_CLOEXEC)) < 0)
@@ -322,7 +322,7 @@ void kernel_pagemap(const char *at, size_t pages, uint64_t *entries)
 /* This process, for process_madvise(2); -1 where the kernel has no such thing. */
 static int self(void)
 {
-    static int pidfd = -2;
+    static _Thread_local int pidfd = -2;
 
     if (pidfd == -2)
         pidfd = (int)syscall(SYS_pidfd_open, getpid(), 0);

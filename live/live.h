@@ -6,11 +6,13 @@
 #include <stdint.h>
 
 #define PAGE_BYTES 4096u
-/* The first page of a guest, and how many it may have: the bounds of the model. */
+/* The first page of a slice, and how many it may have, with its processors: the bounds of the model. */
 #define LOW_PAGE 0x10u
 #define LEAST_PAGES 256u   /* 1 MiB */
-#define MOST_PAGES 262144u /* 1 GiB */
-#define MOST_THREADS 16u
+#define MOST_PAGES 262144u /* 1 GiB, of a slice */
+#define MOST_SLICES 32u
+#define MOST_PROCESSORS 16u /* of a node: places in which threads wait */
+#define MOST_THREADS 255u
 
 /* How the program ends. */
 enum status {
@@ -29,10 +31,10 @@ _Noreturn void refuse_errno(int error, const char *format, ...) __attribute__((f
 /* The same with STATUS_LOST, whatever is to be kept. */
 _Noreturn void lose(const char *format, ...) __attribute__((format(printf, 1, 2)));
 
-/* The caller is the driver's thread, which has the node. */
+/* The caller is a thread of the driver, which has a node. What follows is of each such thread by itself. */
 void live_begin(void);
 
-/* What becomes of the process where something is refused in the driver's thread. `keep` gets the reason, once it is written, and returns the
+/* What becomes of the process where something is refused in this thread. `keep` gets the reason, once it is written, and returns the
    status of the program; NULL: it ends at once. */
 struct keeping {
     int (*keep)(const char *why);

@@ -35,6 +35,8 @@ static struct {
     bool is_open, is_writing; /* the first line is being written */
 } ring = { .lock = PTHREAD_MUTEX_INITIALIZER };
 
+static _Thread_local char slice_name[16]; /* what lines of this thread begin with, for people */
+
 /* Whether all of it was written. */
 static bool write_all(const struct line *line)
 {
@@ -152,8 +154,8 @@ static size_t print(char *text, size_t room, const char *format, va_list argumen
 
 void log_figures(const char *format, ...)
 {
-    static char text[LINE_BYTES];
-    static size_t length;
+    static _Thread_local char text[LINE_BYTES];
+    static _Thread_local size_t length;
     va_list arguments;
 
     va_start(arguments, format);
@@ -169,11 +171,16 @@ void log_figures(const char *format, ...)
 static void say(const char *before, const char *format, va_list arguments)
 {
     char text[LINE_BYTES];
-    size_t length = (size_t)snprintf(text, sizeof text, "live: %s", before);
+    size_t length = (size_t)snprintf(text, sizeof text, "live: %s%s", before, slice_name);
 
     length += print(text + length, sizeof text - 1 - length, format, arguments);
     text[length++] = '\n';
     put(STDERR_FILENO, text, length);
+}
+
+void log_slice(uint32_t slice)
+{
+    (void)snprintf(slice_name, sizeof slice_name, "slice %u: ", slice); /* it fits */
 }
 
 void log_say(const char *format, ...)

@@ -10,13 +10,16 @@
    written at once. */
 void log_open(void);
 
-/* Adds to the line of figures, of the driver's thread alone; one that ends with a line feed goes to the standard output. Those that begin with
+/* Adds to the line of figures of this thread; one that ends with a line feed goes to the standard output. Those that begin with
    `progress` take no more than half of the memory. */
 void log_figures(const char *format, ...) __attribute__((format(printf, 1, 2)));
 
 /* A line `live: TEXT` for the standard error, of any thread; and one with the time of day in front of the text. */
 void log_say(const char *format, ...) __attribute__((format(printf, 1, 2)));
 void log_event(const char *format, ...) __attribute__((format(printf, 1, 2)));
+
+/* Lines of this thread for the standard error name this slice from now on. */
+void log_slice(uint32_t slice);
 
 /* Waits until all is written, for two seconds at most. */
 void log_flush(void);

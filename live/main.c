@@ -23,8 +23,9 @@ static const char USAGE[] =
     "ADDRESS is HOST:PORT (port 0: one that is free), or unix:PATH. Without --psk HOST is one of loopback.\n"
     "\n"
     "of both, and the same for both:\n"
-    "  --memory SIZE     of the guest, 1M to 1G (256M)\n"
-    "  --threads N       of the guest, 1 to 16 (4)\n"
+    "  --memory SIZE     of the guest, 1M to 32G (256M)\n"
+    "  --slices N        of this memory, 1 to 32, each of at most 1G, which migrate side by side (as many as memory needs)\n"
+    "  --threads N       of the guest, 1 to 255 (4)\n"
     "  --seed N          of what it does (1)\n"
     "  --cold N          of 64 operations, stores outside of the hot eighth of memory (4)\n"
     "  --given N         of 64 operations, pages that are given back (0)\n"
@@ -34,7 +35,8 @@ static const char USAGE[] =
     "  --pause US        for this number of microseconds (200)\n"
     "  --buffer BYTES    of a socket in the kernel (65536; 0: the kernel's choice)\n"
     "  --cut CHANNEL:DIRECTION:BYTES,..   of the next epoch, for tests: main or urgent is cut after these bytes, in, out, or out\n"
-    "                    since the switch, or of a destination since the End (post); `none` leaves an epoch whole\n"
+    "                    since the switch, or of a destination since the End (post); `none` leaves an epoch whole. K/ before the list:\n"
+    "                    of slice K, counted from 0 on\n"
     "  --feed COMMAND    takes the part of the other side: frames go to its standard input and come from its standard output. There\n"
     "                    is no --connect or --listen then, and no second epoch\n"
     "  --migration NAME  that both sides must have alike, at most 32 letters: with one key for several migrations each has its own\n"
@@ -86,8 +88,8 @@ static uint32_t pages_of(const char *text)
     if (sscanf(text, "%5llu%c%c", &value, &unit, &rest) != 2 || (unit != 'M' && unit != 'G'))
         refuse("--memory %s: a size such as 64M or 1G is needed", text);
     bytes = value << (unit == 'M' ? 20 : 30);
-    if (bytes / PAGE_BYTES > MOST_PAGES)
-        refuse("--memory %s: the guest is too large: it has at most 1G, %u pages", text, MOST_PAGES);
+    if (bytes / PAGE_BYTES > MOST_SLICES * MOST_PAGES)
+        refuse("--memory %s: the guest is too large: it has at most %u slices of 1G, %u pages each", text, MOST_SLICES, MOST_PAGES);
     if (bytes / PAGE_BYTES < LEAST_PAGES)
         refuse("--memory %s: the guest is too small: it has at least 1M", text);
     return (uint32_t)(bytes / PAGE_BYTES);
@@ -118,15 +120,22 @@ static void read_cut(struct cuts *cuts, const char *text)
     *place = bytes;
 }
 
-/* A list of those of one epoch. */
+/* A list of those of one epoch, of one slice. */
 static void read_cuts(struct options *options, char *text)
 {
-    struct cuts *cuts = &options->cut[options->cuts];
+    char *rest = strchr(text, '/');
+    uint32_t slice = 0;
+    struct cuts *cuts;
 
-    if (options->cuts++ == MOST_CUTS)
+    if (rest) {
+        *rest++ = 0;
+        slice = (uint32_t)number("cut", text, 0, MOST_SLICES - 1);
+    }
+    if (options->cuts[slice] == MOST_CUTS)
         refuse("--cut: at most %u epochs can be cut", MOST_CUTS);
+    cuts = &options->cut[slice][options->cuts[slice]++];
     *cuts = (struct cuts)NO_CUTS;
-    for (char *word = strtok(text, ","); word; word = strtok(NULL, ","))
+    for (char *word = strtok(rest ? rest : text, ","); word; word = strtok(NULL, ","))
         if (strcmp(word, "none"))
             read_cut(cuts, word);
 }
@@ -139,6 +148,7 @@ enum {
     CONNECT = 256,
     LISTEN,
     MEMORY,
+    SLICES,
     THREADS,
     SEED,
     COLD_STORES,
@@ -189,6 +199,7 @@ static const struct option source_options[] = {
     SHARED_OPTIONS,
     { "history", required_argument, NULL, HISTORY },
     { "connect", required_argument, NULL, CONNECT },
+    { "slices", required_argument, NULL, SLICES },
     { "rounds", required_argument, NULL, ROUNDS },
     { "target", required_argument, NULL, TARGET },
     { "no-urgent", no_argument, NULL, NO_URGENT },
@@ -204,6 +215,7 @@ static const struct option source_options[] = {
 
 static const struct option dest_options[] = {
     SHARED_OPTIONS,
+    { "slices", required_argument, NULL, SLICES },
     { "history", required_argument, NULL, HISTORY },
     { "listen", required_argument, NULL, LISTEN },
     { "after", required_argument, NULL, AFTER },
@@ -234,6 +246,7 @@ static const struct option monitor_options[] = {
 
 static const struct option bare_options[] = {
     { "memory", required_argument, NULL, MEMORY },
+    { "slices", required_argument, NULL, SLICES },
     { "buffer", required_argument, NULL, BUFFER },
     { "threads", required_argument, NULL, THREADS },
     { "seed", required_argument, NULL, SEED },
@@ -251,6 +264,7 @@ static void set_number(struct options *options, int option, const char *name, co
         int option;
         uint32_t *value, least, most;
     } numbers[] = {
+        { SLICES, &options->slices, 1, MOST_SLICES },
         { THREADS, &options->plan.threads, 1, MOST_THREADS },
         { SEED, &options->plan.seed, 0, UINT32_MAX },
         { COLD_STORES, &options->plan.cold, 0, 48 },
@@ -361,6 +375,24 @@ static void set_option(struct options *options, int option, const char *name, ch
     }
 }
 
+/* As many as memory needs, unless there are more. */
+static void set_slices(struct options *options)
+{
+    const struct guest_plan *plan = &options->plan;
+    uint32_t least = (plan->pages + MOST_PAGES - 1) / MOST_PAGES;
+
+    if (!options->slices)
+        options->slices = least;
+    if (options->slices < least)
+        refuse("--slices %u: the guest is too large: a slice has at most 1G, %u pages", options->slices, MOST_PAGES);
+    if (plan->pages / options->slices < LEAST_PAGES)
+        refuse("--slices %u: the guest is too small: a slice has at least 1M", options->slices);
+    if (plan->threads > plan->pages / LEAST_PAGES * MOST_PROCESSORS)
+        refuse("--threads %u: there are at most %u for each 1M of --memory", plan->threads, MOST_PROCESSORS);
+    if (options->slices > 1 && options->feed)
+        refuse("--feed takes one slice, and the guest has %u", options->slices);
+}
+
 static void check_address(const struct options *options)
 {
     if (options->has_key && options->feed)
@@ -406,7 +438,10 @@ static void read_options(struct options *options, const struct option *known, in
         refuse("--history: a history has no pages that one thread gives back while another uses them, as those of --shared");
     if (options->makes_sums && !options->trace)
         refuse("--sums go to the end of a trace: --trace FILE");
+    set_slices(options);
     check_address(options);
+    if (options->slices > 1 && known != source_options && known != dest_options && known != bare_options)
+        refuse("the guest is too large: it has one slice of at most 1G here");
     if (known == handler_options && !options->monitor.text)
         refuse("the place where a monitor hands over its memory is needed: --monitor unix:PATH");
     if (known == monitor_options && !address_is_unix(&options->address))

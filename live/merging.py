@@ -8,8 +8,16 @@ them. Lines that begin with # are comments; these count:
     # sum sent N SUM     of the bytes of the next frame without pages that was sent in epoch N, or taken
     # sum taken N SUM
     # sum page ADDR SUM  of the bytes of a page: those that were sent last, or at the destination put last
+    # slice K of N       the lines from here on are those of a slice's node; its section may come in several parts
+    # anew               the lines of this section that came before are those of a node that is no more
+    # stopped NS         of a slice: when the guest's last thread had left its memory,
+    # switched NS        and when the slice switched after that
+    # package NS         when the slice had taken its Package,
+    # runs NS            and when the guest ran after that, by one clock for all slices of a side
 
 A SUM has 16 hexadecimal digits; how it is made is the driver's, at both sides alike.
+
+Slices are merged one by one: each is a world. What a driver owes to all together is in the moments.
 
 What an order must keep:
 
@@ -59,6 +67,8 @@ READ = {
     "dact": re.compile(r"(requested 0x[0-9a-f]+ for|zeroed|woke|forgot) 0x[0-9a-f]+$"),
 }
 SAID = re.compile(r"# (cpus|epoch) (\d{1,10})$")
+SLICE = re.compile(r"# slice (\d{1,3}) of (\d{1,3})$")
+MOMENT = re.compile(r"# (stopped|switched|package|runs) (\d{1,20})$")
 SUM = re.compile(r"# sum (sent|taken|page) (\d{1,10}|0x[0-9a-f]{1,8}) ([0-9a-f]{16})$")
 # Frames that have no pages, by the first words that a step says of them.
 NO_PAGES = {"advise", "discard", "package", "end", "resume", "recv", "request", "done"}
@@ -77,10 +87,13 @@ class Trace:
     """The steps of one node: for each the number of its line, the name of its order, its answer, and the whole line."""
 
     def __init__(self, name, side, text):
-        self.name, self.side, self.cpus, self.steps, self.epochs = name, side, None, [], {}
+        """text: a whole file, or the lines of one section, each with its number."""
+        self.name, self.side, self.cpus, self.steps, self.epochs, self.moments = name, side, None, [], {}, {}
         self.sums = {"sent": {}, "taken": {}, "page": {}}
         orders, steps, most, resumes = ORDERS[side], self.steps, -1, 0
-        for number, line in enumerate(text.split("\n"), 1):
+        lines = list(enumerate(text.split("\n"), 1)) if isinstance(text, str) else text
+        self.first = lines[0][0] if lines else 1
+        for number, line in lines:
             order, arrow, answer = line.partition(" => ")
             if not arrow or line[0] == "#":
                 self.read_comment(number, line, resumes)
@@ -109,14 +122,16 @@ class Trace:
     def read_comment(self, number, line, resumes):
         if line.strip() and line[0] != "#":
             raise Unreadable(f"{self.name}:{number}: not a line `ORDER => ANSWER`: {line}")
-        said, summed = SAID.match(line), SUM.match(line)
+        said, summed, moment = SAID.match(line), SUM.match(line), MOMENT.match(line)
+        if moment:
+            self.moments[moment[1]] = int(moment[2])
         if summed and summed[1] == "page":
             self.sums["page"][int(summed[2], 16)] = summed[3]
         elif summed:
             self.sums[summed[1]].setdefault(int(summed[2]), []).append(summed[3])
         if said and said[1] == "epoch":
             self.epochs[resumes] = int(said[2])
-        elif said and number == 1:
+        elif said and number == self.first:
             self.cpus = int(said[2])
 
     def at(self, index):
@@ -137,10 +152,29 @@ def place(name, number):
     return f"{name}:{number}" if number else f"a destination before {name}"
 
 
+def sections(name, text):
+    """The lines of each slice, each with its number; of a guest in one slice all lines."""
+    lines, count = [], 1
+    found = {0: lines}
+    for number, line in enumerate(text.split("\n"), 1):
+        said = SLICE.match(line) if line[:8] == "# slice " else None
+        if said:
+            count, lines = int(said[2]), found.setdefault(int(said[1]), [])
+        elif line == "# anew":
+            lines.clear()
+        else:
+            lines.append((number, line))
+    lacking = [slice for slice in range(count) if not found.get(slice)]
+    if lacking or len(found) > count:
+        raise Unreadable(f"{name}: {count} slices, and no section of slice {lacking[0] if lacking else max(found)}")
+    return [found[slice] for slice in range(count)]
+
+
 def read(name, side):
+    """The traces of its slices."""
     try:
         with open(name, encoding="utf-8", newline="\n") as file:
-            return Trace(name, side, file.read())
+            return [Trace(name, side, lines) for lines in sections(name, file.read())]
     except (OSError, UnicodeDecodeError) as error:
         raise Unreadable(f"{name}: {getattr(error, 'strerror', None) or error}") from None
 
@@ -265,11 +299,6 @@ class Sums:
                 return f"{where}: the bytes that were put are not those that were sent last"
             self.pages += 1
         return None
-
-    def __str__(self):
-        if not self.frames and not self.pages:
-            return ""
-        return f"; {self.frames} frames without pages and {self.pages} pages have the bytes that were sent"
 
 
 class Requests:
@@ -603,5 +632,51 @@ class Script:
         return next((place(*origin) for origin in self.origins[line:] if origin), "the end")
 
 
+class Merged:
+    """The scripts of all slices, in their order."""
+
+    def __init__(self, sources, dests, seed=None, cpus=None):
+        self.scripts = []
+        if len(sources) != len(dests):
+            raise NoOrder(f"{sources[0].name}: {len(sources)} slices, {dests[0].name}: {len(dests)}")
+        for number, (source, dest) in enumerate(zip(sources, dests)):
+            try:
+                self.scripts.append(Script(source, dest, seed, cpus))
+            except NoOrder as none:
+                raise NoOrder(f"{slice_name(number, len(sources))}{none}") from None
+        self.differs = early(sources, "switched", "stopped", "switches before the guest has stopped") or (
+            early(dests, "runs", "package", "has no Package yet when the guest runs"))
+
+    def steps(self):
+        return sum(len(script.lines) - HEAD for script in self.scripts)
+
+    def judged(self, program):
+        """As of each script: the first that is wrong, with its slice; and what the slices owe to each other."""
+        for number, script in enumerate(self.scripts):
+            differs = script.judged(program)
+            if differs:
+                return f"{slice_name(number, len(self.scripts))}{differs}"
+        return self.differs
+
+    def __str__(self):
+        each = f" in each of {len(self.scripts)} slices, all judged" if len(self.scripts) > 1 else ""
+        frames, pages = (sum(getattr(script.sums, key) for script in self.scripts) for key in ("frames", "pages"))
+        same = f"; {frames} frames without pages and {pages} pages have the bytes that were sent"
+        return f"a run of the machine{each}: {self.steps()} steps{same if frames or pages else ''}"
+
+
+def slice_name(number, count):
+    return f"slice {number}: " if count > 1 else ""
+
+
+def early(traces, after, before, what):
+    """The slice for which `after`, of any slice, is not after its `before`, as a text, or None."""
+    first = min((trace.moments[after] for trace in traces if after in trace.moments), default=None)
+    for number, trace in enumerate(traces):
+        if first is not None and trace.moments.get(before, first) > first:
+            return f"{trace.name}: {slice_name(number, len(traces))}it {what}"
+    return None
+
+
 def merge_files(source, dest, seed=None, cpus=None):
-    return Script(read(source, SOURCE), read(dest, DEST), seed, cpus)
+    return Merged(read(source, SOURCE), read(dest, DEST), seed, cpus)

@@ -24,7 +24,7 @@ static const char *answer_text(uint32_t status)
         [POSTMIG_NO_PAGE] = "no such page",
     };
     bool is_known = status < sizeof words / sizeof *words && words[status];
-    static char text[TEXT_BYTES];
+    static _Thread_local char text[TEXT_BYTES];
     uint8_t name[TEXT_BYTES / 2];
     size_t length = 0;
 
@@ -91,7 +91,7 @@ bool node_is_resume(const struct frame *frame)
 
 const char *node_fault(uint32_t status, const struct frame *frame)
 {
-    static char text[2 * TEXT_BYTES];
+    static _Thread_local char text[2 * TEXT_BYTES];
     postmig_frame numbers = { 0 };
     uint32_t fault = status == POSTMIG_NOT_A_FRAME ? decode(frame, &numbers) : POSTMIG_OK;
     const char *name = fault == POSTMIG_BAD_TAG ? "stream fault BadTag"

@@ -38,6 +38,8 @@ static struct {
     bool is_warned;     /* a signal to a side that does nothing more was refused */
 } orders = { .door = -1, .signals = -1 };
 
+static _Thread_local bool has_word; /* the thread that has opened it; another one hears nothing */
+
 static const char *const words[] = { "status", "watch", "cancel", "end", "abandon", "rate", "push-rate", "patience" };
 
 static void watch_signals(void)
@@ -57,6 +59,7 @@ void operator_open(const struct address *control)
     for (uint32_t i = 0; i < MOST_CLIENTS; i++)
         orders.client[i].file = -1;
     watch_signals();
+    has_word = true;
     if (!control->text)
         return;
     orders.address = control;
@@ -65,10 +68,10 @@ void operator_open(const struct address *control)
 
 void operator_files(struct pollfd *files)
 {
-    *files++ = (struct pollfd){ .fd = orders.signals, .events = POLLIN };
-    *files++ = (struct pollfd){ .fd = orders.door, .events = POLLIN };
+    *files++ = (struct pollfd){ .fd = has_word ? orders.signals : -1, .events = POLLIN };
+    *files++ = (struct pollfd){ .fd = has_word ? orders.door : -1, .events = POLLIN };
     for (uint32_t i = 0; i < MOST_CLIENTS; i++)
-        *files++ = (struct pollfd){ .fd = orders.client[i].file, .events = POLLIN };
+        *files++ = (struct pollfd){ .fd = has_word ? orders.client[i].file : -1, .events = POLLIN };
 }
 
 static void drop(struct client *client)
@@ -174,7 +177,7 @@ bool operator_next(struct order *order)
 {
     uint64_t now = kernel_now();
 
-    if (now < orders.next_look)
+    if (!has_word || now < orders.next_look)
         return false;
     if (orders.in_a_row++ < MOST_AT_A_TIME && take_next(order))
         return true;
@@ -248,7 +251,7 @@ bool operator_is_watched(void)
     uint64_t now = kernel_now();
     bool is_watched = false;
 
-    for (uint32_t i = 0; i < MOST_CLIENTS; i++)
+    for (uint32_t i = 0; has_word && i < MOST_CLIENTS; i++)
         is_watched |= orders.client[i].file >= 0 && orders.client[i].watches;
     if (!is_watched || now < orders.next)
         return false;

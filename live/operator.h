@@ -32,7 +32,7 @@ struct order {
 #define OPERATOR_FILES (MOST_CLIENTS + 2u)
 #define MOST_JSON 1280u /* bytes of a line, of which a text has less than half */
 
-/* Blocks the signals, in all threads that are started later, and listens there if it has a text. */
+/* Blocks the signals, in all threads that are started later, and listens there if it has a text. This thread alone hears orders. */
 void operator_open(const struct address *control);
 
 /* What to wait for: OPERATOR_FILES of them. */

@@ -35,8 +35,9 @@ struct options {
     uint32_t silence;                 /* seconds without a byte, after which a connection counts as broken */
     char migration[MOST_OF_NAME + 1]; /* its name */
     struct address control;           /* where the operator has a word; no text: by signals alone */
-    uint32_t cuts;
-    struct cuts cut[MOST_CUTS]; /* of the first epochs */
+    uint32_t slices;
+    uint32_t cuts[MOST_SLICES];
+    struct cuts cut[MOST_SLICES][MOST_CUTS]; /* of the first epochs */
     bool shows_progress;
     bool goes_first;  /* the driver's thread runs before the guest's, where that is allowed */
     bool has_key;     /* connections are encrypted by it */

@@ -290,7 +290,8 @@ class Migration:
         for file in filter(os.path.exists, (*(self.traces or ()), *(self.accesses or ()))):
             shutil.copy(file, folder)
         if self.script:
-            (folder / "merged.test").write_text(self.script.text())
+            for number, script in enumerate(self.script.scripts):
+                (folder / f"merged-{number}.test").write_text(script.text())
         (folder / "wrong").write_text("\n".join(report) + "\n")
 
     def judge(self):

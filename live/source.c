@@ -18,47 +18,58 @@
 
 #define MOST_WAIT_MS 100u
 #define URGENT_NS 5000000u         /* after a request another one is likely */
+#define PATIENT_MS 5u              /* between two looks at whether the other slices are released */
 #define MOST_HELD 256u             /* turns in which faults wait, so that pages can be protected */
 #define MOST_OF_TURN_NS 200000000u /* that counts as waited: a longer turn had much to do for the guest, or the process did not run */
+
+static _Thread_local struct source *keeper;
 
 void source_look(struct source *source)
 {
     node_do(postmig_source_counts(&source->node.handle, &source->state));
 }
 
-static void begin(struct source *source, const struct options *options)
+/* What a slice needs before the guest runs. */
+static void prepare(struct source *source, struct slices *slices, uint32_t slice, const struct hello *own)
 {
-    postmig_effect effect;
+    uint32_t pages = slice_pages(slices, slice);
 
-    memset(source, 0, sizeof *source);
-    source->options = options;
+    source->slices = slices;
+    source->guest = &slices->guest;
+    source->slice = slice;
     source->main = source->urgent = (struct stream)NO_STREAM;
     source->node.is_source = true;
     source->cursor = LOW_PAGE;
-    source->contents = calloc(options->plan.pages, sizeof *source->contents);
+    source->contents = calloc(pages, sizeof *source->contents);
     source->run = malloc((size_t)MOST_OF_RUN * PAGE_BYTES);
     if (!source->contents || !source->run)
         refuse("no memory for the list of zeros");
-    guest_open(&source->guest, &options->plan, &options->pace, kernel_map((size_t)options->plan.pages * PAGE_BYTES));
-    watch_open(&source->watch, &source->node, &source->guest, NULL);
-    guest_fill(&source->guest);
-    guest_make(&source->guest);
-    watch_go_first("source", options->goes_first);
-    guest_start(&source->guest);
+    watch_open(&source->watch, &source->node, source->guest, NULL);
+    watch_slice(&source->watch, slice_first(slices, slice), pages);
+    source->own = *own;
+    source->own.slice = slice;
+    source->own.pages = pages;
+}
+
+/* The migration of a slice. */
+static void begin(struct source *source)
+{
+    const struct options *options = source->options;
+    uint32_t processors = source->own.processors;
+    postmig_effect effect;
+
+    keeper = source;
     live_keep(source_before_switch);
+    watch_go_first("source", options->goes_first);
     (void)poll(NULL, 0, (int)options->before); /* a shorter sleep is as good */
-    node_do(postmig_source_new((uint8_t)options->plan.threads, 0, 0, &source->node.handle));
+    node_do(postmig_source_new((uint8_t)processors, 0, 0, &source->node.handle));
     if (options->makes_sums)
-        sums_begin(options->plan.pages);
-    trace_begin(options->trace, &source->node, options->plan.threads);
+        sums_begin(source->own.pages);
+    trace_begin(&source->node, processors, source->slice, source->slices->count);
     source->figures.start = kernel_now();
     watch_enter_memory(&source->watch);
     node_do(postmig_source_start(&source->node.handle, &effect));
     source->last_turn = kernel_now();
-    source->patience = options->patience;
-    source->rate = options->rate;
-    source->push_rate = options->push_rate;
-    hello_begin(&source->own, options, true);
     source_look(source);
 }
 
@@ -86,7 +97,7 @@ static int time_to_wait(const struct source *source)
 
     if (!stream_is_open(&source->main))
         return left < MOST_WAIT_MS ? (int)left : (int)MOST_WAIT_MS;
-    return source->push_rate || source->state.phase == POSTMIG_SOURCE_PRECOPY ? 1 : (int)MOST_WAIT_MS;
+    return source->slices->push_rate || source->state.phase == POSTMIG_SOURCE_PRECOPY ? 1 : (int)MOST_WAIT_MS;
 }
 
 static void wait_for_more(const struct source *source)
@@ -114,14 +125,38 @@ uint64_t source_left(const struct source *source)
 
 const char *const source_phases[] = { "idle", "precopy", "stopped", "paused", "released" };
 
+void source_says(struct source *source)
+{
+    struct progress now;
+
+    source_look(source);
+    now = (struct progress){
+        .phase = source->state.phase,
+        .epoch = source->state.epoch,
+        .round = source->rounds,
+        .waits = watch_sleepers(&source->watch),
+        .is_connected = source->is_answered,
+        .left = source_left(source),
+        .moved = source->state.pages_sent,
+        .faults = source->watch.faults,
+        .breaks = source->figures.breaks,
+    };
+    slice_says(source->slices, source->slice, &now);
+}
+
 static void show_progress(struct source *source)
 {
-    if (!source->options->shows_progress || !progress_is_due())
+    struct progress all;
+    bool is_alone = source->slices->count == 1;
+
+    if ((is_alone && !source->options->shows_progress) || !progress_is_due())
         return;
-    source_look(source);
+    source_says(source);
+    if (source->slice || !source->options->shows_progress)
+        return;
+    all = slices_say(source->slices, POSTMIG_SOURCE_PAUSED);
     log_figures("progress source phase=%s left=%" PRIu64 " sent=%" PRIu64 " faults=%" PRIu64 " waits=%u epoch=%u round=%u breaks=%" PRIu64 "\n",
-                source_phases[source->state.phase], source_left(source), source->state.pages_sent, source->watch.faults,
-                watch_sleepers(&source->watch), source->state.epoch, source->rounds, source->figures.breaks);
+                source_phases[all.phase], all.left, all.moved, all.faults, all.waits, all.epoch, all.round, all.breaks);
 }
 
 /* Returns how long the last turn took. */
@@ -136,8 +171,8 @@ static uint64_t count_turn(struct source *source)
 
 static bool has_lost_patience(const struct source *source)
 {
-    uint64_t patience = source->patience != USUAL_PATIENCE ? source->patience : source->state.switched ? FOREVER
-                                                                                                       : PATIENT_S;
+    uint64_t set = source->slices->patience, patience = set != USUAL_PATIENCE ? set : source->slices->is_due ? FOREVER
+                                                                                                             : PATIENT_S;
 
     return patience != FOREVER && source->waited > patience * SECOND_NS;
 }
@@ -175,7 +210,7 @@ static void turn(struct source *source)
     if (stream_is_open(&source->main))
         channel_use(source, took);
     kernel_first(is_urgent(source));
-    has_more = !source->is_over && work(source);
+    has_more = !source->slices->is_over && work(source);
     if (stream_is_open(&source->urgent) && stream_unsent(&source->urgent) && !stream_send(&source->urgent))
         channel_lose(source, "the urgent connection is broken", source->urgent.error);
     trace_bound();
@@ -186,6 +221,32 @@ static void turn(struct source *source)
 }
 
 /* HOW IT ENDS */
+
+static uint64_t later(uint64_t one, uint64_t other)
+{
+    return one > other ? one : other;
+}
+
+/* Sums of all slices, in the first; moments are those of the first stop, and of the last slice that came so far. */
+static void add_figures(struct source *all, const struct source *one)
+{
+    all->figures.stop = all->figures.stop < one->figures.stop ? all->figures.stop : one->figures.stop;
+    all->figures.stopped = later(all->figures.stopped, one->figures.stopped);
+    all->figures.sent = later(all->figures.sent, one->figures.sent);
+    all->figures.released = later(all->figures.released, one->figures.released);
+    all->figures.owed += one->figures.owed;
+    all->figures.discards += one->figures.discards;
+    all->figures.pushed += one->figures.pushed;
+    all->figures.served += one->figures.served;
+    all->figures.zeros += one->figures.zeros;
+    all->figures.breaks += one->figures.breaks;
+    all->figures.lost_dones += one->figures.lost_dones;
+    all->figures.busy += one->figures.busy;
+    all->state.rounds = one->state.rounds > all->state.rounds ? one->state.rounds : all->state.rounds;
+    all->state.epoch = one->state.epoch > all->state.epoch ? one->state.epoch : all->state.epoch;
+    all->state.pages_sent += one->state.pages_sent;
+    watch_add(&all->watch, &one->watch);
+}
 
 static void say_figures(const struct source *source)
 {
@@ -202,6 +263,16 @@ static void say_figures(const struct source *source)
                 source->state.epoch, source->figures.busy);
 }
 
+/* Nobody watches the memory of this slice any more. */
+static void leave(struct source *source)
+{
+    stream_close(&source->main);
+    stream_close(&source->urgent);
+    trace_end();
+    kernel_unregister(source->watch.userfault, source->watch.memory, watch_bytes(&source->watch));
+    (void)close(source->watch.userfault); /* who waits for an event to be read continues */
+}
+
 /* Before the switch the guest runs on here, and nobody watches its memory any more. It ends by the operator's word, or after a given time; then
    all its memory is checked. */
 static int keep_guest(struct source *source)
@@ -209,94 +280,141 @@ static int keep_guest(struct source *source)
     uint64_t until = source->options->after == FOREVER ? UINT64_MAX : kernel_now() + source->options->after * 1000000ull;
     uint32_t wrong, page = 0;
 
-    source->is_over = true;
-    stream_close(&source->main);
-    stream_close(&source->urgent);
-    trace_end();
-    kernel_unregister(source->watch.userfault, source->guest.memory, (size_t)source->guest.plan.pages * PAGE_BYTES);
-    (void)close(source->watch.userfault); /* who waits for an event to be read continues */
     log_event("source: the guest runs on here%s", until == UINT64_MAX ? " until the operator ends it" : "");
-    while (kernel_now() < until && !source->is_to_end)
+    while (kernel_now() < until && !source->slices->is_to_end)
         source_wait_for_orders(source, until == UINT64_MAX ? 1000 : 10);
-    guest_ask_stop(&source->guest);
-    guest_join(&source->guest);
-    wrong = guest_check(&source->guest, &page);
-    log_figures("kept operations=%" PRIu64 " wrong_loads=%" PRIu64 " wrong_pages=%u\n", guest_operations(&source->guest),
-                guest_wrong_loads(&source->guest), wrong);
+    guest_ask_stop(source->guest);
+    guest_join(source->guest);
+    wrong = guest_check(source->guest, &page);
+    log_figures("kept operations=%" PRIu64 " wrong_loads=%" PRIu64 " wrong_pages=%u\n", guest_operations(source->guest),
+                guest_wrong_loads(source->guest), wrong);
     log_say("the guest has run on here, and its memory is %s", wrong ? "wrong" : "right");
     operator_close();
-    return wrong || guest_wrong_loads(&source->guest) ? STATUS_WRONG : STATUS_LOST;
+    return wrong || guest_wrong_loads(source->guest) ? STATUS_WRONG : STATUS_LOST;
 }
 
-static struct source *keeper;
-
-/* What is refused before the switch ends the migration, and not the guest. */
-static int keep_before_switch(const char *why)
-{
-    (void)why; /* it is written */
-    return keep_guest(keeper);
-}
-
-/* After it pages are here that are nowhere else. What cannot be tried again leaves them as they are. */
+/* Pages are here that are nowhere else. What cannot be tried again leaves them as they are. */
 static int keep_after_switch(const char *why)
 {
-    keeper->held = why;
+    keeper->is_held = true;
+    keeper->slices->held = why;
     keeper->is_answered = false;
     stream_close(&keeper->main);
     stream_close(&keeper->urgent);
     log_event("source: " HELD);
-    while (!keeper->is_over)
+    while (!keeper->slices->is_over)
         source_wait_for_orders(keeper, 1000);
+    if (keeper->slice)
+        trace_end();
+    slice_leave(keeper->slice);
     return STATUS_REFUSED;
+}
+
+/* What is refused before the first slice has switched ends the migration, and not the guest. */
+static int keep_before_switch(const char *why)
+{
+    if (!slices_fail(keeper->slices, keeper->is_to_switch))
+        return keep_after_switch(why);
+    leave(keeper);
+    slice_leave(keeper->slice);
+    slices_join(keeper->slices);
+    return keep_guest(keeper);
 }
 
 static bool wait_after_switch(uint32_t milliseconds)
 {
     source_wait_for_orders(keeper, milliseconds);
-    return keeper->is_over;
+    return keeper->slices->is_over;
 }
 
 const struct keeping source_before_switch = { keep_before_switch, NULL }, source_after_switch = { keep_after_switch, wait_after_switch };
 
 /* The switch was made, and nobody has said that the destination has all. */
-static _Noreturn void end_without_done(struct source *source)
+static _Noreturn void end_without_done(struct source *sources)
 {
-    source_look(source);
+    uint64_t left = 0;
+
+    for (uint32_t i = 0; i < sources->slices->count; i++)
+        left += sources[i].state.remaining;
     lose("the guest was switched to the destination, and no Done has come: whether it runs there is not known here, and it does not run here. "
-         "%u pages were not sent since the last break",
-         source->state.remaining);
+         "%" PRIu64 " pages were not sent since the last break",
+         left);
 }
 
 static void lose_patience(struct source *source)
 {
-    source->is_over = true;
+    if (!slices_give_up(source->slices))
+        source->slices->is_over = true;
     if (tls_last_fault())
         log_event("source: TLS: %s", tls_last_fault());
     log_event("source: no destination for %" PRIu64 " s: %s", source->waited / SECOND_NS, *source->why ? source->why : "it takes nothing");
 }
 
+/* A slice: its migration, up to its end. */
+static void run_slice(void *side)
+{
+    struct source *source = side;
+
+    begin(source);
+    while (source->state.phase != POSTMIG_SOURCE_RELEASED && !source->slices->is_over) {
+        turn(source);
+        if (has_lost_patience(source))
+            lose_patience(source);
+    }
+    if (source->slices->is_over && !source->slices->switched) {
+        leave(source);
+        return;
+    }
+    source->figures.released = kernel_now();
+    source->figures.busy = kernel_thread_time() - source->figures.busy;
+    source_look(source);
+    source_says(source);
+    slice_completes(source->slices, source->slice);
+    while (!source->slice && !slices_are_complete(source->slices) && !source->slices->is_over) {
+        source_wait_for_orders(source, PATIENT_MS);
+        show_progress(source);
+    }
+    trace_end();
+    postmig_free(&source->node.handle);
+}
+
+/* The guest runs here, in memory that no slice watches yet. */
+static void begin_guest(struct slices *slices, struct source *sources, const struct options *options)
+{
+    struct hello own;
+
+    guest_open(&slices->guest, &options->plan, &options->pace, kernel_map((size_t)options->plan.pages * PAGE_BYTES));
+    slices_begin(slices, options);
+    hello_begin(&own, options, true);
+    for (uint32_t i = 0; i < slices->count; i++) {
+        sources[i].options = options;
+        prepare(&sources[i], slices, i, &own);
+    }
+    guest_fill(&slices->guest);
+    guest_make(&slices->guest);
+    guest_start(&slices->guest);
+}
+
 int source_run(const struct options *options)
 {
-    static struct source source;
+    static struct slices slices;
+    struct source *sources = calloc(options->slices, sizeof *sources);
 
-    keeper = &source;
+    if (!sources)
+        refuse("no memory for %u slices", options->slices);
     operator_open(&options->control);
-    begin(&source, options);
-    while (source.state.phase != POSTMIG_SOURCE_RELEASED) {
-        if (has_lost_patience(&source))
-            lose_patience(&source);
-        if (source.is_over && !source.state.switched)
-            return keep_guest(&source);
-        if (source.is_over)
-            end_without_done(&source);
-        turn(&source);
-    }
-    source.figures.released = kernel_now();
-    source.figures.busy = kernel_thread_time() - source.figures.busy;
-    source_look(&source);
-    say_figures(&source);
-    trace_end();
+    trace_open(options->trace);
+    begin_guest(&slices, sources, options);
+    slices_run(&slices, run_slice, sources, sizeof *sources);
+    if (slices.is_over && !slices.switched)
+        return keep_guest(sources);
+    if (slices.is_over && slices.held)
+        return STATUS_REFUSED;
+    if (slices.is_over)
+        end_without_done(sources);
+    for (uint32_t i = 1; i < slices.count; i++)
+        add_figures(sources, &sources[i]);
+    say_figures(sources);
     operator_close();
-    postmig_free(&source.node.handle);
     return STATUS_OK;
 }

@@ -1,9 +1,10 @@
-/* A source: the state of `live source`, and what its parts do. Each part is a file. */
+/* A source: the state of a slice of `live source`, and what its parts do. Each part is a file. */
 #ifndef SOURCE_H
 #define SOURCE_H
 
 #include "hello.h"
 #include "options.h"
+#include "slices.h"
 #include "watch.h"
 #include "wire.h"
 
@@ -13,17 +14,17 @@
 
 struct source {
     const struct options *options;
+    struct slices *slices;
+    struct guest *guest;
+    uint32_t slice; /* which one this is */
     struct node node;
-    struct guest guest;
     struct watch watch;
-    postmig_source_state state;         /* since the last step that changes the phase or the epoch; its counts may be older than the node's */
-    uint32_t patience, rate, push_rate; /* what the operator has set last */
-    uint64_t last_turn;                 /* ns */
-    uint64_t waited;                    /* without progress, in ns */
-    uint32_t told;                      /* the phase that was written last */
-    bool is_over;                       /* no destination is tried any more, */
-    bool is_to_end;                     /* and the guest that is kept is to end too */
-    const char *held;                   /* why nothing is done any more, though the pages are here alone; or NULL */
+    postmig_source_state state; /* since the last step that changes the phase or the epoch; its counts may be older than the node's */
+    uint64_t last_turn;         /* ns */
+    uint64_t waited;            /* without progress, in ns */
+    uint32_t told;              /* the phase that was written last */
+    bool is_to_switch;          /* it switches now, or has */
+    bool is_held;               /* nothing is done any more, though the pages are here alone */
 
     /* the channel */
     struct stream main, urgent;
@@ -65,6 +66,9 @@ struct source {
 
 /* Takes the state anew from the node. */
 void source_look(struct source *source);
+
+/* Says how far this slice is, for what is said of all. */
+void source_says(struct source *source);
 
 /* Pages of the round, or of what is owed, that are still to be sent. */
 uint64_t source_left(const struct source *source);

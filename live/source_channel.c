@@ -46,7 +46,7 @@ static void reject(struct source *source, const char *why)
 {
     note_break(source, why, 0);
     source->is_refused = true;
-    source->is_over |= !source->state.switched;
+    (void)slices_give_up(source->slices); /* else it waits for another one */
 }
 
 static void say_hello(const struct source *source, struct stream *stream, enum channel channel)
@@ -97,7 +97,7 @@ static void open_channel(struct source *source)
 {
     static const struct cuts never = NO_CUTS;
     const struct options *options = source->options;
-    const struct cuts *cuts = source->channels < options->cuts ? &options->cut[source->channels] : &never;
+    const struct cuts *cuts = source->channels < options->cuts[source->slice] ? &options->cut[source->slice][source->channels] : &never;
 
     if (!open_stream(source, &source->main, MAIN, &cuts->main))
         return;
@@ -130,7 +130,9 @@ void channel_lose(struct source *source, const char *why, int error)
     if (source->state.phase == POSTMIG_SOURCE_PRECOPY || source->state.phase == POSTMIG_SOURCE_STOPPED)
         node_do(postmig_source_notice(&source->node.handle, &effect));
     source_look(source);
-    source->is_over |= source->options->feed != NULL;
+    (void)slice_ready(source->slices, source->slice, 0);
+    if (source->options->feed)
+        source->slices->is_over = true;
 }
 
 void channel_connect(struct source *source)
@@ -177,7 +179,7 @@ static void take_hello(struct source *source)
         reject(source, text);
         return;
     }
-    if (source->state.switched && source->destination != hello.instance) {
+    if (source->slices->is_due && source->destination != hello.instance) {
         reject(source, "another destination listens there than at the switch");
         return;
     }

@@ -33,7 +33,7 @@ bool source_has_zeros(struct source *source, uint32_t page)
 
 const char *source_bytes(const struct source *source, uint32_t first, uint32_t count)
 {
-    if (!guest_shares(&source->guest, first, count))
+    if (!watch_shares(&source->watch, first, count))
         return source_page(source, first);
     return kernel_peek(source_page(source, first), (size_t)count * PAGE_BYTES, source->run) ? source->run : NULL;
 }

@@ -48,7 +48,7 @@ static void serve(struct source *source)
 /* How many pages may be pushed now without a request. */
 static uint32_t pushes_now(const struct source *source)
 {
-    uint64_t rate = source->push_rate, pushed = source->figures.pushed - source->figures.served, due;
+    uint64_t rate = slices_share(source->slices, source->slices->push_rate), pushed = source->figures.pushed - source->figures.served, due;
 
     if (!source->package_is_sent)
         return 0;

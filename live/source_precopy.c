@@ -5,6 +5,7 @@
 #include <string.h>
 
 #include "kernel.h"
+#include "trace.h"
 
 #define MOST_CALM 32u             /* runs that are sent before the faults are handled, once pages could be protected again */
 #define RESERVE_BYTES (64u << 10) /* of a stream, for the frames of the switch, and 8 for each page */
@@ -14,7 +15,7 @@ static void check_run(const struct source *source, uint32_t first, uint32_t coun
 {
     uint64_t entries[MOST_OF_RUN];
 
-    if (guest_shares(&source->guest, first, count))
+    if (watch_shares(&source->watch, first, count))
         return;
     kernel_pagemap(source_page(source, first), count, entries);
     for (uint32_t i = 0; i < count; i++)
@@ -41,6 +42,7 @@ static void restore_run(struct source *source, uint32_t first, uint32_t count)
         if (error && error != EEXIST && error != EAGAIN)
             watch_unexpected(error, "UFFDIO_ZEROPAGE", (uint64_t)page * PAGE_BYTES);
     }
+    watch_forget(&source->watch, first, count);
     watch_again(&source->watch);
 }
 
@@ -125,15 +127,15 @@ static void begin_round(struct source *source)
 
 /* THE SWITCH */
 
-/* Each thread leaves the guest for good. Until then its faults and events are handled. */
+/* Each thread leaves the guest for good, for all slices. Until then its faults and events are handled. */
 static void stop_guest(struct source *source)
 {
-    guest_ask_stop(&source->guest);
-    while (!guest_has_stopped(&source->guest)) {
+    guest_ask_stop(source->guest);
+    while (!guest_has_stopped(source->guest)) {
         watch_handle(&source->watch);
         kernel_yield(0);
     }
-    guest_join(&source->guest);
+    guest_join(source->guest);
     watch_finish(&source->watch);
     if (watch_has_sleeper(&source->watch))
         refuse("a thread has left the guest, and the node has it asleep");
@@ -143,16 +145,21 @@ static void switch_over(struct source *source)
 {
     postmig_effect effect;
 
-    (void)stream_room(&source->main, RESERVE_BYTES + 8 * (size_t)source->guest.plan.pages); /* while a lack of it loses nothing */
+    (void)stream_room(&source->main, RESERVE_BYTES + 8 * (size_t)source->watch.pages); /* while a lack of it loses nothing */
     source->figures.stop = kernel_now();
     stop_guest(source);
     source->figures.stopped = kernel_now();
     source->figures.busy = kernel_thread_time();
+    source->is_to_switch = slice_switches(source->slices);
+    if (!source->is_to_switch)
+        return;
+    trace_moment("stopped", guest_stopped_at(source->guest));
+    trace_moment("switched", kernel_now());
     node_do(postmig_source_switch(&source->node.handle, &effect));
     live_keep(source_after_switch);
     source_look(source);
-    if (source->guest.common_pages) /* one that was cleared late reads as zeros now */
-        kernel_unregister(source->watch.userfault, source->guest.memory, (size_t)source->guest.plan.pages * PAGE_BYTES);
+    if (source->guest->common_pages) /* one that was cleared late reads as zeros now */
+        kernel_unregister(source->watch.userfault, source->watch.memory, watch_bytes(&source->watch));
     source->figures.owed = effect.count;
     source->figures.discards = effect.number;
     source->package_is_sent = false;
@@ -162,24 +169,36 @@ static void switch_over(struct source *source)
 /* Whether more pages were sent in this round than --rate allows by now. */
 static bool is_ahead(struct source *source)
 {
-    if (!source->rate || !source->rounds)
+    uint64_t rate = slices_share(source->slices, source->slices->rate);
+
+    if (!rate || !source->rounds)
         return false;
-    return source->round_sent > (kernel_now() - source->round_begun) / 1000 * source->rate / 1000000;
+    return source->round_sent > (kernel_now() - source->round_begun) / 1000 * rate / 1000000;
 }
 
-/* Sends a run, begins a round, or switches. */
-bool precopy_work(struct source *source)
+/* What comes before the switch: false once nothing does. */
+static bool send_rounds(struct source *source)
 {
-    if (stream_unsent(&source->main) >= MOST_UNSENT || is_ahead(source))
-        return false;
     if (send_run(source))
         return true;
-    if (source->rounds < source->options->rounds && (!source->rounds || source->round_pages > source->options->target)) {
-        begin_round(source);
+    if (source->rounds >= source->options->rounds || (source->rounds && source->round_pages <= source->options->target))
+        return false;
+    begin_round(source);
+    return true;
+}
+
+/* Sends a run, begins a round, or switches, once all slices can. A slice whose channel has broken since then sends no more rounds: its pages are
+   owed. */
+bool precopy_work(struct source *source)
+{
+    bool is_due = source->slices->is_due;
+
+    if (stream_unsent(&source->main) >= MOST_UNSENT || (!is_due && is_ahead(source)))
+        return false;
+    if (!is_due && send_rounds(source))
         return true;
-    }
     /* (what is still under way would come before the Package: a stop now would be a longer one) */
-    if (!channel_binds(source) || stream_under_way(&source->main))
+    if (!channel_binds(source) || (!is_due && stream_under_way(&source->main)) || !slice_ready(source->slices, source->slice, source->destination))
         return false;
     switch_over(source);
     return true;

@@ -10,20 +10,22 @@
 
 static void tell_status(const struct source *source, char *json, size_t room)
 {
+    struct progress all = slices_say(source->slices, POSTMIG_SOURCE_PAUSED);
+
     (void)snprintf(json, room,
                    "{\"side\":\"source\",\"migration\":\"%s\",\"phase\":\"%s\",\"switched\":%s,\"kept\":%s,\"connected\":%s,\"epoch\":%u,"
                    "\"round\":%u,\"left\":%" PRIu64 ",\"sent\":%" PRIu64 ",\"faults\":%" PRIu64 ",\"breaks\":%" PRIu64 ","
                    "\"dropped_lines\":%" PRIu64 ",\"stopped_by\":\"%s\"}",
-                   source->own.migration, source_phases[source->state.phase], source->state.switched ? "true" : "false",
-                   source->is_over ? "true" : "false", source->is_answered ? "true" : "false", source->state.epoch, source->rounds,
-                   source_left(source), source->state.pages_sent, source->watch.faults, source->figures.breaks, log_dropped(),
-                   operator_text(source->held)); /* it fits */
+                   source->own.migration, source_phases[all.phase], source->slices->switched ? "true" : "false",
+                   source->slices->is_over ? "true" : "false", all.is_connected ? "true" : "false", all.epoch, all.round, all.left, all.moved,
+                   all.faults, all.breaks, log_dropped(), operator_text(source->slices->held)); /* it fits */
 }
 
 static void set_limit(struct source *source, const struct order *order)
 {
-    uint32_t *limit = order->word == WORD_RATE ? &source->rate : order->word == WORD_PUSH_RATE ? &source->push_rate
-                                                                                               : &source->patience;
+    struct slices *slices = source->slices;
+    _Atomic uint32_t *limit = order->word == WORD_RATE ? &slices->rate : order->word == WORD_PUSH_RATE ? &slices->push_rate
+                                                                                                       : &slices->patience;
 
     *limit = order->word == WORD_PATIENCE && !order->number ? FOREVER : order->number;
     operator_done(order);
@@ -31,19 +33,20 @@ static void set_limit(struct source *source, const struct order *order)
 
 static const char *reason_to_stay(const struct source *source)
 {
-    if (source->held)
+    if (source->slices->held)
         return operator_ends_held();
-    return source->state.switched ? "the guest is switched, and the source has pages that are nowhere else" : "the migration is under way: cancel it first";
+    return source->slices->switched ? "the guest is switched, and the source has pages that are nowhere else" : "the migration is under way: cancel it first";
 }
 
 static void obey(struct source *source, const struct order *order)
 {
     static char json[MOST_JSON];
-    bool is_kept = source->is_over && !source->state.switched;
+    struct slices *slices = source->slices;
+    bool is_kept = slices->is_over && !slices->switched;
 
     if (order->word == WORD_STATUS || order->word == WORD_WATCH) {
-        if (!is_kept && !source->held)
-            source_look(source);
+        if (!is_kept && !source->is_held)
+            source_says(source);
         tell_status(source, json, sizeof json);
         operator_answer(order, json);
     } else if (order->word >= WORD_RATE && order->word <= WORD_PATIENCE) {
@@ -51,14 +54,13 @@ static void obey(struct source *source, const struct order *order)
     } else if (order->word == WORD_UNKNOWN) {
         operator_refuse(order, "no such word");
     } else if (is_kept && order->word != WORD_CANCEL) {
-        source->is_to_end = true;
+        slices->is_to_end = true;
         operator_done(order);
-    } else if (!source->state.switched && order->word != WORD_END) {
-        source->is_over = true;
+    } else if (order->word != WORD_END && slices_give_up(slices)) {
         log_event("source: the migration is cancelled by the operator");
         operator_done(order);
-    } else if (source->state.switched && (source->held ? operator_abandons(order) : order->word == WORD_ABANDON)) {
-        source->is_over = true;
+    } else if (slices->is_due && (slices->held ? operator_abandons(order) : order->word == WORD_ABANDON)) {
+        slices->is_over = true;
         log_event("source: the destination is gone for good, as the operator says");
         operator_done(order);
     } else {

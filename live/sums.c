@@ -17,7 +17,7 @@ struct frame_sum {
     uint64_t sum;
 };
 
-static struct {
+static _Thread_local struct {
     uint32_t pages;
     uint64_t *page; /* of each the last one; 0: it was neither sent nor put */
     struct frame_sum *frame;

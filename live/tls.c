@@ -39,7 +39,7 @@ static struct {
     gnutls_priority_t priority;
 } key;
 
-static const char *last_fault;
+static _Thread_local const char *last_fault;
 
 bool tls_is_built_in(void)
 {

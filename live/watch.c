@@ -18,11 +18,32 @@ void watch_open(struct watch *watch, struct node *node, struct guest *guest, str
     watch->guest = guest;
     watch->handed = handed;
     watch->userfault = handed ? handed->userfault : kernel_open_userfault();
+    watch->places = plan_processors(&guest->plan);
+    for (uint32_t i = 0; i < watch->places; i++)
+        watch->place[i].thread = i;
+    watch_slice(watch, 0, guest->plan.pages);
+}
+
+void watch_slice(struct watch *watch, uint32_t first, uint32_t pages)
+{
+    watch->memory = watch->handed ? NULL : watch->guest->memory + (size_t)first * PAGE_BYTES;
+    watch->first = first;
+    watch->pages = pages;
+}
+
+size_t watch_bytes(const struct watch *watch)
+{
+    return (size_t)watch->pages * PAGE_BYTES;
+}
+
+bool watch_shares(const struct watch *watch, uint32_t first, uint32_t count)
+{
+    return guest_shares(watch->guest, watch->first + first - LOW_PAGE, count);
 }
 
 void watch_keep_times(struct watch *watch)
 {
-    watch->asked_at = calloc(watch->guest->plan.pages, sizeof *watch->asked_at);
+    watch->asked_at = calloc(watch->pages, sizeof *watch->asked_at);
     if (!watch->asked_at)
         refuse("no memory for the times of requests");
 }
@@ -44,9 +65,9 @@ static uint64_t waited_since(const struct watch *watch, uint64_t address)
 {
     uint64_t since = kernel_now();
 
-    for (uint32_t i = 0; i < watch->guest->plan.threads && !watch->handed; i++)
-        if (watch->asleep[i] == address && guest_access_begun(watch->guest, i) < since)
-            since = guest_access_begun(watch->guest, i);
+    for (const struct place *it = watch->place; it < watch->place + watch->places && !watch->handed; it++)
+        if (it->asleep == address && guest_access_begun(watch->guest, it->thread) < since)
+            since = guest_access_begun(watch->guest, it->thread);
     return since;
 }
 
@@ -71,15 +92,15 @@ char *watch_page(const struct watch *watch, uint64_t address)
 {
     uint64_t page = address / PAGE_BYTES - LOW_PAGE;
 
-    if (address / PAGE_BYTES < LOW_PAGE || page >= watch->guest->plan.pages)
+    if (address / PAGE_BYTES < LOW_PAGE || page >= watch->pages)
         refuse("page 0x%llx is not the guest's", (unsigned long long)(address / PAGE_BYTES));
-    return watch->handed ? handed_page(watch->handed, page) : watch->guest->memory + page * PAGE_BYTES;
+    return watch->handed ? handed_page(watch->handed, page) : watch->memory + page * PAGE_BYTES;
 }
 
 /* The node's address of the page at an address of the guest's process. */
 static uint64_t address_of(const struct watch *watch, uint64_t at)
 {
-    uint64_t page = watch->handed ? handed_number(watch->handed, at) : (at - (uintptr_t)watch->guest->memory) / PAGE_BYTES;
+    uint64_t page = watch->handed ? handed_number(watch->handed, at) : (at - (uintptr_t)watch->memory) / PAGE_BYTES;
 
     return (page + LOW_PAGE) * PAGE_BYTES;
 }
@@ -97,6 +118,17 @@ void watch_unexpected(int error, const char *call, uint64_t address)
     refuse_errno(error, "%s of page 0x%llx: the node expects another answer", call, (unsigned long long)(address / PAGE_BYTES));
 }
 
+void watch_add(struct watch *all, const struct watch *one)
+{
+    all->faults += one->faults;
+    all->events += one->events;
+    all->roused += one->roused;
+    all->again += one->again;
+    all->needless += one->needless;
+    all->cleared += one->cleared;
+    all->requests += one->requests;
+}
+
 bool watch_has_sleeper(const struct watch *watch)
 {
     return watch_sleepers(watch) > 0;
@@ -104,25 +136,50 @@ bool watch_has_sleeper(const struct watch *watch)
 
 uint32_t watch_sleepers(const struct watch *watch)
 {
-    uint32_t count = 0;
+    uint32_t count = watch->lates;
 
-    for (uint32_t i = 0; i < watch->guest->plan.threads; i++)
-        count += watch->asleep[i] != 0;
+    for (const struct place *it = watch->place; it < watch->place + watch->places; it++)
+        count += it->asleep != 0;
     return count;
+}
+
+static bool is_within(const struct watch *watch, const struct uffd_msg *fault, uint64_t start, uint64_t end)
+{
+    uint64_t address = address_of(watch, fault->arg.pagefault.address);
+
+    return start <= address && address < end;
+}
+
+/* Pages of this range were woken: threads that found no place fault again, if they have to. */
+static void forget_late(struct watch *watch, uint64_t start, uint64_t end)
+{
+    uint32_t left = 0;
+
+    for (uint32_t i = 0; i < watch->lates; i++)
+        if (!is_within(watch, &watch->late[i], start, end))
+            watch->late[left++] = watch->late[i];
+    watch->lates = left;
+}
+
+void watch_forget(struct watch *watch, uint32_t first, uint32_t count)
+{
+    forget_late(watch, (uint64_t)first * PAGE_BYTES, (uint64_t)(first + count) * PAGE_BYTES);
 }
 
 void watch_wake(struct watch *watch, uint64_t address)
 {
-    for (uint32_t i = 0; i < watch->guest->plan.threads; i++) {
+    for (uint32_t i = 0; i < watch->places; i++) {
         postmig_effect effect;
 
-        if (watch->asleep[i] != address)
+        if (watch->place[i].asleep != address)
             continue;
         node_do(node_retry(watch->node, i, &effect));
         if (effect.kind != POSTMIG_DID_ANSWER)
             refuse("a processor sleeps again on page 0x%llx", (unsigned long long)(address / PAGE_BYTES));
-        watch->asleep[i] = 0;
+        watch->place[i].asleep = 0;
     }
+    forget_late(watch, address, address + PAGE_BYTES);
+    watch->is_behind |= watch->lates > 0; /* a place may be free */
 }
 
 /* Wakes who waits for a page that the node calls present. The kernel is asked whether it is: a page of which the REMOVE was read may have
@@ -140,13 +197,56 @@ static int wake_present(struct watch *watch, uint64_t address)
     return error == EEXIST ? kernel_wake(watch->userfault, at) : error;
 }
 
-/* Where it is not known which thread it is, for the node it may be any that does not wait. */
+/* PLACES */
+
+/* Places that are free. Where there are more threads than places one of these stays free: for events, and for the threads that run. */
+static uint32_t free_places(const struct watch *watch)
+{
+    uint32_t count = 0;
+
+    for (const struct place *it = watch->place; it < watch->place + watch->places; it++)
+        count += !it->asleep;
+    return watch->guest->plan.threads > watch->places && count ? count - 1 : count;
+}
+
+/* The place that this thread has, or had last; else the first one that is free. NULL: it has to wait for one. */
+static struct place *place_of_thread(struct watch *watch, uint32_t thread)
+{
+    struct place *empty = NULL;
+
+    for (struct place *it = watch->place; it < watch->place + watch->places; it++) {
+        if (it->thread == thread && (it->asleep || free_places(watch)))
+            return it;
+        if (!it->asleep && !empty)
+            empty = it;
+    }
+    if (!free_places(watch))
+        return NULL;
+    *empty = (struct place){ .thread = thread };
+    return empty;
+}
+
+/* Threads of another process are unknown: it may be who waits for this page, or any that does not wait. */
+static struct place *place_of_page(struct watch *watch, uint64_t address)
+{
+    struct place *empty = NULL;
+
+    for (struct place *it = watch->place; it < watch->place + watch->places; it++) {
+        if (it->asleep == address)
+            return it;
+        if (!it->asleep && !empty)
+            empty = it;
+    }
+    return free_places(watch) ? empty : NULL;
+}
+
+/* The processor of an event: any that does not wait. */
 static uint32_t idle_processor(const struct watch *watch)
 {
-    for (uint32_t i = 0; i < watch->guest->plan.threads; i++)
-        if (!watch->asleep[i])
+    for (uint32_t i = 0; i < watch->places; i++)
+        if (!watch->place[i].asleep)
             return i;
-    refuse("a message of one more thread, while all %u of the guest wait", watch->guest->plan.threads);
+    refuse("an event, while all %u processors wait", watch->places);
 }
 
 /* FAULTS */
@@ -155,7 +255,7 @@ static uint32_t idle_processor(const struct watch *watch)
    was there, and its faults are those of that. */
 static bool is_shared(const struct watch *watch, uint64_t address)
 {
-    return guest_shares(watch->guest, (uint32_t)(address / PAGE_BYTES), 1);
+    return watch_shares(watch, (uint32_t)(address / PAGE_BYTES), 1);
 }
 
 /* Whether an event that was read by the same call, and after the fault, removes its page. */
@@ -169,7 +269,7 @@ static bool is_removed_after(const struct uffd_msg *fault, const struct uffd_msg
     return false;
 }
 
-static void read_fault(struct watch *watch, uint32_t cpu, uint64_t address, bool is_protection)
+static void read_fault(struct watch *watch, struct place *place, uint64_t address, bool is_protection)
 {
     postmig_effect effect;
 
@@ -178,12 +278,12 @@ static void read_fault(struct watch *watch, uint32_t cpu, uint64_t address, bool
         (effect.number != is_protection && !is_shared(watch, address)))
         refuse("page 0x%llx: the kernel reports a fault of a %s page, and the node does not", (unsigned long long)(address / PAGE_BYTES),
                is_protection ? "protected" : "missing");
-    watch->asleep[cpu] = address;
+    place->asleep = address;
 }
 
 /* At the source a page that was cleared late is zeros now, and the copy that was sent of it is not: for the node a store has changed it. Its
    thread sleeps until that is done. */
-static void take_cleared(struct watch *watch, uint32_t cpu, uint64_t address)
+static void take_cleared(struct watch *watch, struct place *place, uint64_t address)
 {
     postmig_command store = { .kind = POSTMIG_STORE, .width = 8, .addr = address };
     postmig_effect effect;
@@ -192,27 +292,28 @@ static void take_cleared(struct watch *watch, uint32_t cpu, uint64_t address)
 
     watch->cleared += is_cleared;
     if (is_cleared)
-        node_do(node_issue(watch->node, cpu, &store, &effect));
+        node_do(node_issue(watch->node, (uint32_t)(place - watch->place), &store, &effect));
     if (is_cleared && effect.kind == POSTMIG_DID_SLEEP) {
-        read_fault(watch, cpu, address, true);
+        read_fault(watch, place, address, true);
         return;
     }
     if (!error || error == EEXIST || error == EAGAIN)
         error = kernel_wake(watch->userfault, watch_page(watch, address));
     if (error)
         watch_unexpected(error, "UFFDIO_ZEROPAGE", address);
+    forget_late(watch, address, address + PAGE_BYTES);
 }
 
 /* A fault that the node does not have: by its table the page is there. With a REMOVE of it that was read too the kernel may have cleared it
    by now, and a page that were put would be there when the node takes the REMOVE. */
-static void take_needless_fault(struct watch *watch, uint32_t cpu, uint64_t address, bool is_removed)
+static void take_needless_fault(struct watch *watch, struct place *place, uint64_t address, bool is_removed)
 {
     int error;
 
-    watch->needless += kept_at(watch, address) == NOT_KEPT && watch->woken[cpu] != address; /* (two threads may wait for one copy) */
-    watch->woken[cpu] = 0;
+    watch->needless += kept_at(watch, address) == NOT_KEPT && place->woken != address; /* (two threads may wait for one copy) */
+    place->woken = 0;
     if (watch->node->is_source && is_shared(watch, address) && !is_removed) {
-        take_cleared(watch, cpu, address);
+        take_cleared(watch, place, address);
         return;
     }
     error = is_removed ? EAGAIN : wake_present(watch, address);
@@ -220,62 +321,95 @@ static void take_needless_fault(struct watch *watch, uint32_t cpu, uint64_t addr
         error = kernel_wake(watch->userfault, watch_page(watch, address));
     if (error)
         watch_unexpected(error, "UFFDIO_WAKE", address);
+    forget_late(watch, address, address + PAGE_BYTES);
 }
 
-/* The thread of a fault. Those of another process are unknown: it may be who waits for this page, or any that does not wait. */
-static uint32_t thread_of(const struct watch *watch, const struct uffd_msg *message, uint64_t address)
+static struct place *place_of(struct watch *watch, const struct uffd_msg *message, uint64_t address)
 {
-    if (!watch->handed && !watch->has_own_threads)
-        return guest_thread_of(watch->guest, message->arg.pagefault.feat.ptid);
-    for (uint32_t i = 0; i < watch->guest->plan.threads; i++)
-        if (watch->asleep[i] == address)
-            return i;
-    return idle_processor(watch);
+    if (watch->handed || watch->has_own_threads)
+        return place_of_page(watch, address);
+    return place_of_thread(watch, guest_thread_of(watch->guest, message->arg.pagefault.feat.ptid));
+}
+
+/* The fault waits for a place. */
+static void keep_late(struct watch *watch, const struct uffd_msg *message)
+{
+    if (watch->lates == MOST_THREADS)
+        refuse("a message of one more thread, while %u wait", MOST_THREADS);
+    watch->late[watch->lates++] = *message;
 }
 
 static void take_fault(struct watch *watch, const struct uffd_msg *message, const struct uffd_msg *end)
 {
     uint64_t address = address_of(watch, message->arg.pagefault.address), flags = message->arg.pagefault.flags;
-    uint32_t cpu = thread_of(watch, message, address);
+    struct place *place = place_of(watch, message, address);
     postmig_command command = { .kind = flags & UFFD_PAGEFAULT_FLAG_WRITE ? POSTMIG_STORE : POSTMIG_LOAD, .width = 8, .addr = address };
     postmig_effect effect;
 
-    watch->faults++;
-    if (watch->asleep[cpu] == address) /* it was woken for another reason, and waits again */
+    if (!place) {
+        keep_late(watch, message);
         return;
-    if (watch->asleep[cpu])
-        refuse("thread %u waits for page 0x%llx, and faults at page 0x%llx", cpu, (unsigned long long)(watch->asleep[cpu] / PAGE_BYTES),
+    }
+    if (place->asleep == address) /* it was woken for another reason, and waits again */
+        return;
+    if (place->asleep)
+        refuse("thread %u waits for page 0x%llx, and faults at page 0x%llx", place->thread, (unsigned long long)(place->asleep / PAGE_BYTES),
                (unsigned long long)(address / PAGE_BYTES));
-    node_do(node_issue(watch->node, cpu, &command, &effect));
+    node_do(node_issue(watch->node, (uint32_t)(place - watch->place), &command, &effect));
     if (effect.kind == POSTMIG_DID_SLEEP)
-        read_fault(watch, cpu, address, flags & UFFD_PAGEFAULT_FLAG_WP);
+        read_fault(watch, place, address, flags & UFFD_PAGEFAULT_FLAG_WP);
     else
-        take_needless_fault(watch, cpu, address, is_removed_after(message, end));
+        take_needless_fault(watch, place, address, is_removed_after(message, end));
+}
+
+/* Faults get places that have become free. Returns whether any did. */
+static bool take_late(struct watch *watch)
+{
+    bool is_any = false;
+
+    while (watch->lates && free_places(watch)) {
+        struct uffd_msg first = watch->late[0];
+
+        memmove(watch->late, watch->late + 1, --watch->lates * sizeof first);
+        take_fault(watch, &first, &first + 1);
+        is_any = true;
+    }
+    return is_any;
 }
 
 /* EVENTS */
+
+static void wake_page(struct watch *watch, uint64_t address)
+{
+    int error = kernel_wake(watch->userfault, watch_page(watch, address));
+
+    if (error)
+        watch_unexpected(error, "UFFDIO_WAKE", address);
+}
 
 /* At the node the event wakes all who wait for a page of the range; in the kernel it wakes nobody. Each makes its access again, and sleeps
    again: what the node says of the page now is then done for it. */
 static void wake_range(struct watch *watch, uint64_t start, uint64_t end)
 {
-    for (uint32_t i = 0; i < watch->guest->plan.threads; i++) {
-        uint64_t address = watch->asleep[i];
+    for (uint32_t i = 0; i < watch->places; i++) {
+        struct place *place = &watch->place[i];
+        uint64_t address = place->asleep;
         postmig_effect effect;
-        int error;
 
         if (address < start || address >= end || !address)
             continue;
-        error = kernel_wake(watch->userfault, watch_page(watch, address));
-        if (error)
-            watch_unexpected(error, "UFFDIO_WAKE", address);
+        wake_page(watch, address);
         node_do(node_retry(watch->node, i, &effect));
         if (effect.kind != POSTMIG_DID_SLEEP)
             refuse("a processor does not sleep on page 0x%llx, which was given back", (unsigned long long)(address / PAGE_BYTES));
-        read_fault(watch, i, address, false);
-        watch->woken[i] = address;
+        read_fault(watch, place, address, false);
+        place->woken = address;
         watch->roused++;
     }
+    for (uint32_t i = 0; i < watch->lates; i++)
+        if (is_within(watch, &watch->late[i], start, end))
+            wake_page(watch, address_of(watch, watch->late[i].arg.pagefault.address));
+    forget_late(watch, start, end);
 }
 
 static void take_remove(struct watch *watch, const struct uffd_msg *message)
@@ -299,6 +433,7 @@ static void take_remove(struct watch *watch, const struct uffd_msg *message)
 /* One of the messages that one call has read, up to `end`. */
 static void take_message(struct watch *watch, const struct uffd_msg *message, const struct uffd_msg *end)
 {
+    watch->faults += message->event == UFFD_EVENT_PAGEFAULT;
     if (message->event == UFFD_EVENT_PAGEFAULT)
         take_fault(watch, message, end);
     else if (message->event == UFFD_EVENT_REMOVE)
@@ -397,8 +532,10 @@ static bool handle_some(struct watch *watch)
     uint64_t again = watch->again;
     bool has_more = read_some(watch);
 
-    while (act(watch))
-        continue;
+    do
+        while (act(watch))
+            continue;
+    while (take_late(watch));
     return has_more || watch->again != again;
 }
 
@@ -412,15 +549,15 @@ void watch_handle(struct watch *watch)
 /* It is registered before the kernel is asked what is present: afterwards pages become present by the node alone. */
 void watch_enter_memory(struct watch *watch)
 {
-    const uint64_t low = (uint64_t)LOW_PAGE * PAGE_BYTES, pages = watch->guest->plan.pages;
+    const uint64_t low = (uint64_t)LOW_PAGE * PAGE_BYTES, pages = watch->pages;
     postmig_command map = { .kind = POSTMIG_MMAP, .length = pages * PAGE_BYTES, .prot = POSTMIG_PROT_READ_WRITE, .place = POSTMIG_FIXED, .target = low };
     uint64_t *entries = calloc(pages, sizeof *entries);
     postmig_effect effect;
 
     if (!entries)
         refuse("no memory for the pages' entries");
-    kernel_register(watch->userfault, watch->guest->memory, pages * PAGE_BYTES, true);
-    kernel_pagemap(watch->guest->memory, pages, entries);
+    kernel_register(watch->userfault, watch->memory, pages * PAGE_BYTES, true);
+    kernel_pagemap(watch->memory, pages, entries);
     node_do(node_issue(watch->node, 0, &map, &effect));
     for (uint64_t i = 0; i < pages; i++) {
         postmig_command store = { .kind = POSTMIG_STORE, .width = 8, .addr = low + i * PAGE_BYTES };
@@ -433,7 +570,7 @@ void watch_enter_memory(struct watch *watch)
 
 void watch_take_over(struct watch *watch)
 {
-    for (uint32_t i = 0; i < watch->guest->plan.threads; i++) {
+    for (uint32_t i = 0; i < watch->places; i++) {
         postmig_processor processor;
         postmig_effect effect;
 
@@ -442,7 +579,7 @@ void watch_take_over(struct watch *watch)
             continue;
         node_do(node_retry(watch->node, i, &effect));
         if (effect.kind == POSTMIG_DID_SLEEP)
-            read_fault(watch, i, processor.command.addr / PAGE_BYTES * PAGE_BYTES, false);
+            read_fault(watch, &watch->place[i], processor.command.addr / PAGE_BYTES * PAGE_BYTES, false);
     }
 }
 

@@ -1,32 +1,54 @@
-/* The guest's memory under a userfaultfd, and the node that decides what its faults and events lead to. */
+/* A slice of the guest's memory under a userfaultfd, and the node that decides what its faults and events lead to. */
 #ifndef WATCH_H
 #define WATCH_H
+
+#include <linux/userfaultfd.h>
 
 #include "guest.h"
 #include "handed.h"
 #include "node.h"
+
+/* A processor of the node: a thread has it while it waits for a page. */
+struct place {
+    uint64_t asleep; /* the address of that page, as the node has it; 0: the place is free */
+    uint64_t woken;  /* the page on which an event has woken the thread, whose own fault of it may still come; 0: none */
+    uint32_t thread; /* who had it last, where that is known */
+};
 
 struct watch {
     struct node *node;
     struct guest *guest;
     struct handed *handed; /* whose memory it is, or NULL: this process's */
     bool has_own_threads;  /* the threads are not the guest's of guest.h, and may be any: set by the caller */
+    char *memory;          /* of this process: the slice's; it is these pages of the guest's */
+    uint32_t first, pages;
     int userfault;
-    uint64_t asleep[MOST_THREADS]; /* the address of the page that a thread waits for, as the node has it; 0: none */
-    uint64_t woken[MOST_THREADS];  /* the page on which an event has woken a thread, whose own fault of it may still come; 0: none */
-    uint64_t faults, events;       /* that were read */
-    uint64_t roused;               /* processors that an event has woken */
-    bool is_behind;                /* there may be messages that are not read, or of which what the node says is not done */
-    uint64_t again;                /* calls of the kernel that returned EAGAIN, */
-    uint32_t again_in_a_row;       /* and those since another result */
-    uint64_t needless;             /* faults of pages that were there by the time they were read */
-    uint64_t cleared;              /* pages that the node calls present, and the kernel did not have */
+    uint32_t places; /* processors of the node */
+    struct place place[MOST_PROCESSORS];
+    struct uffd_msg late[MOST_THREADS]; /* faults that wait for a place, the first one first */
+    uint32_t lates;
+    uint64_t faults, events; /* that were read */
+    uint64_t roused;         /* processors that an event has woken */
+    bool is_behind;          /* there may be messages that are not read, or of which what the node says is not done */
+    uint64_t again;          /* calls of the kernel that returned EAGAIN, */
+    uint32_t again_in_a_row; /* and those since another result */
+    uint64_t needless;       /* faults of pages that were there by the time they were read */
+    uint64_t cleared;        /* pages that the node calls present, and the kernel did not have */
     uint64_t requests;
     uint64_t *asked_at;  /* since when somebody waits for each page of the source that was asked for, or 0; NULL: that is not kept; */
     uint64_t unanswered; /* and how many of these are not 0 */
 };
 
 void watch_open(struct watch *watch, struct node *node, struct guest *guest, struct handed *handed);
+
+/* Only these pages are watched: a slice of the guest. */
+void watch_slice(struct watch *watch, uint32_t first, uint32_t pages);
+
+/* Bytes of what is watched. */
+size_t watch_bytes(const struct watch *watch);
+
+/* Whether one of these pages of the node may be given back by one thread while another uses it. */
+bool watch_shares(const struct watch *watch, uint32_t first, uint32_t count);
 
 /* From now on the time of each wait is kept; and since when somebody waits for the page that is at this address at the source, or 0. That is
    forgotten then. */
@@ -57,6 +79,9 @@ void watch_read(struct watch *watch);
 /* A page has been put at this address of the node: the threads that wait for it continue. */
 void watch_wake(struct watch *watch, uint64_t address);
 
+/* These pages of the node were woken beside it: faults of them that wait for a place are none any more. */
+void watch_forget(struct watch *watch, uint32_t first, uint32_t count);
+
 /* The kernel has returned EAGAIN: an event is unread, or the thread that made it has not finished its call. All messages are read, as by
    watch_read. */
 void watch_again(struct watch *watch);
@@ -64,7 +89,10 @@ void watch_again(struct watch *watch);
 /* Puts copies that are kept of pages of handed memory, at most `most`. Returns whether there are more. */
 bool watch_put_kept(struct watch *watch, uint32_t most);
 
-/* Whether a thread waits for a page. */
+/* Adds the figures of another slice to these. */
+void watch_add(struct watch *all, const struct watch *one);
+
+/* Whether a thread waits for a page, or for a place; and how many do. */
 bool watch_has_sleeper(const struct watch *watch);
 uint32_t watch_sleepers(const struct watch *watch);
 

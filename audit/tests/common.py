@@ -20,8 +20,9 @@ def run(program, *words, **more):
 
 def audit(log):
     """What the program says of a log."""
-    program = os.environ.get("AUDIT_PROGRAM", AUDIT.parent / "postmig")
-    return subprocess.run([program, "audit", log], capture_output=True, text=True, timeout=600)
+    named = os.environ.get("AUDIT_PROGRAM")
+    words = [named] if named else [AUDIT.parent / "postmig", "audit"]
+    return subprocess.run([*words, log], capture_output=True, text=True, timeout=600)
 
 
 def compiled(name):

@@ -1,4 +1,4 @@
-"""What `postmig audit` says of stored logs, of logs with planted faults, and of what is recorded here."""
+"""What `uffd-audit` says of stored logs, of logs with planted faults, and of what is recorded here."""
 
 import collections
 import gzip

@@ -18,7 +18,7 @@ PICTURE = page.TOP / "docs" / "architecture.svg"
 # From the top: the height of each row, and its groups, each with what it is, its crates, and how many of the twelve columns it takes.
 # A group of the first row without a neighbour below it is as high as both rows.
 ROWS = (
-    (52, ("the program", "postmig console command_line", 9), ("the library for C", "postmig_c", 3)),
+    (52, ("the programs", "postmig uffd_audit console command_line", 9), ("the library for C", "postmig_c", 3)),
     (
         148,
         ("tools over scripts and frames", "wiretap host_calls frames expected explore finishing history history_order history_search history_judge", 4),
@@ -86,7 +86,7 @@ def edges(found):
     """Which group depends on which: the edges between their crates, without those that follow from others."""
     known = tower.crates()
     home = {crate: group for group in found for crate in group.crates}
-    if missing := {it for top in ("postmig", "postmig_c") for it in tower.below(top)} - set(home):
+    if missing := {it for top in ("postmig", "uffd_audit", "postmig_c") for it in tower.below(top)} - set(home):
         sys.exit(f"architecture: no group has {', '.join(sorted(missing))}")
     direct = {group: {home[low] for crate in group.crates for low in known[crate] if low in home} - {group} for group in found}
 

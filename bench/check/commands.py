@@ -49,7 +49,7 @@ SMALLER = {"seq 1 10000": "seq 1 20", "--seeds 1:1000": "--seeds 1:20"}
 
 def blocks(text):
     """The blocks of a page: the number of the first line, the line before the block, and its lines."""
-    before, first, found = "", 0, []
+    before, first, found, before_is_text = "", 0, [], False
     for number, line in enumerate([*text.splitlines(), ""], 1):
         if line.startswith("    ") and (found or not before_is_text):
             found.append(line[4:])

@@ -12,14 +12,14 @@ import page
 import tower
 
 DESIGN = page.TOP / "docs" / "DESIGN.md"
-# The product is what this program stands on; crates of tests and benches have no layer.
-PROGRAM = "postmig"
+# The product is what these programs stand on; crates of tests and benches have no layer.
+PROGRAMS = ("postmig", "uffd_audit")
 
 
 def layers(known):
     """Of each crate of the product its layer, from 1."""
     found = {}
-    for name in tower.below(PROGRAM):
+    for name in tower.below(*PROGRAMS):
         below = [it for it in known[name] if it in found]
         found[name] = 1 + max((found[it] for it in below), default=0)
     return found
@@ -27,7 +27,7 @@ def layers(known):
 
 def chain(known, found):
     """A longest chain of crates, lowest first."""
-    name, way = PROGRAM, []
+    name, way = max(PROGRAMS, key=found.get), []
     while name:
         way.insert(0, name)
         name = next((it for it in known[name] if found.get(it) == found[name] - 1), None)

@@ -1,7 +1,7 @@
 #!/usr/bin/env python3
-"""Runs the program on the arguments, files and input of bench/programs, and compares what it writes, and its status.
+"""Runs the programs on the arguments, files and input of bench/programs, and compares what they write, and their status.
 
-python3 bench/check/programs.py [--program PATH] [CASE ..]
+python3 bench/check/programs.py [--program PATH] [--audit PATH] [CASE ..]
 
 A case is a folder: args has an argument a line, stdin the standard input, data/ the files that lie where the program runs, after/ those
 that have to lie there then, stdout and stderr what it has to write, and status its exit status. What is absent is empty, and the status 0;
@@ -13,8 +13,11 @@ A case with a file session runs the program several times, one after another. A 
 shell reads them; the lines below it are what that writes to standard output and then to standard error, and '[N]' as the last of them is a
 status that is not 0.
 
-It runs the proved builds: crates/postmig/out/postmig, as LLVM makes it, and beside it, where rt ci has left one, that of Rattle's own
-compiler; or with --program that one alone.
+A case is of postmig; one whose arguments begin with 'audit' is of uffd-audit with those after it, as ./postmig runs them.
+
+It runs the proved builds: crates/postmig/out/postmig and crates/uffd_audit/out/uffd_audit, as LLVM makes them, and beside
+each, where rt ci has left one, that of Rattle's own compiler; or with --program and --audit these alone. The cases of a
+program that is not there are left out.
 """
 
 import argparse
@@ -37,7 +40,14 @@ import page
 CASES = page.TOP / "bench" / "programs"
 # What a line of a session begins with that has the arguments of a run.
 START = b"$ postmig "
-BUILDS = [page.TOP / "crates" / "postmig" / "out" / name for name in ("postmig", "postmig.by-rattle")]
+# The first argument of a case of uffd-audit.
+AUDIT = b"audit"
+
+
+def builds(crate):
+    """The proved builds of a program that are there."""
+    files = [page.TOP / "crates" / crate / "out" / f"{crate}{end}" for end in ("", ".by-rattle")]
+    return [it for it in files if it.is_file()]
 
 
 def part(case, name):
@@ -87,9 +97,20 @@ def changed(case, data):
     return [file.name for file in wanted if part(data, file.name) != file.read_bytes()]
 
 
+def is_of_audit(case):
+    """Whether a case is of uffd-audit."""
+    first = part(case, "session").removeprefix(START).split()[:1] or part(case, "args").splitlines()[:1]
+    return first == [AUDIT]
+
+
+def command(program, words):
+    """The words of a run of a program."""
+    return [bytes(program), *(words[1:] if words[:1] == [AUDIT] else words)]
+
+
 def ran(case, program):
     """How the program ends on a case, and the names of the files that are then not as they have to be."""
-    words = [bytes(program), *part(case, "args").splitlines()]
+    words = command(program, part(case, "args").splitlines())
     memory, output = part(case, "memory"), part(case, "output").decode().strip()
 
     def limit():
@@ -116,7 +137,8 @@ def faults_of_session(case, program):
     """What differs in a session, in words."""
     with room(case) as data:
         for words, wanted in session(part(case, "session")):
-            ended = subprocess.run([bytes(program), *shlex.split(words)], cwd=data, stdin=subprocess.DEVNULL, capture_output=True, timeout=60)
+            given = command(program, [it.encode() for it in shlex.split(words)])
+            ended = subprocess.run(given, cwd=data, stdin=subprocess.DEVNULL, capture_output=True, timeout=60)
             said = ended.stdout + ended.stderr + (f"[{ended.returncode}]\n".encode() if ended.returncode else b"")
             if said.rstrip(b"\n") != wanted:
                 yield f"'{words}' writes {said[:400]}"
@@ -141,25 +163,35 @@ def faults(case, program):
 
 
 def asked():
-    parser = argparse.ArgumentParser(description="Runs the program on the cases of bench/programs.")
-    parser.add_argument("--program", type=pathlib.Path, metavar="PATH", help="a build of the program, in place of the proved ones")
+    parser = argparse.ArgumentParser(description="Runs the programs on the cases of bench/programs.")
+    parser.add_argument("--program", type=pathlib.Path, metavar="PATH", help="a build of postmig, in place of the proved ones")
+    parser.add_argument("--audit", type=pathlib.Path, metavar="PATH", help="a build of uffd-audit, in place of the proved ones")
     parser.add_argument("cases", nargs="*", metavar="CASE", help="the cases, all where none is named")
     return parser.parse_args()
 
 
+def builds_asked(given):
+    """The builds of postmig and of uffd-audit that are asked for."""
+    if not given.program and not given.audit:
+        return builds("postmig"), builds("uffd_audit")
+    return tuple([it.absolute()] if it else [] for it in (given.program, given.audit))
+
+
 def main():
     arguments = asked()
-    builds = [arguments.program.absolute()] if arguments.program else [it for it in BUILDS if it.is_file()]
-    if not builds:
+    of_postmig, of_audit = builds_asked(arguments)
+    if not of_postmig and not of_audit:
         sys.exit("programs: there is no proved build: ./postmig prove or rt ci makes one")
     cases = [CASES / name for name in arguments.cases] or sorted(it for it in CASES.iterdir() if it.is_dir())
-    wrong = 0
-    for program in builds:
-        for case in cases:
+    runs = wrong = 0
+    for case in cases:
+        for program in of_audit if is_of_audit(case) else of_postmig:
+            runs += 1
             for fault in faults(case, program):
                 print(f"programs: {case.name} by {program.name}: {fault}")
                 wrong += 1
-    print(f"programs: {len(cases)} cases, {len(builds)} builds, {wrong} faults")
+    counts = f"{len(of_postmig)} builds of postmig and {len(of_audit)} of uffd-audit"
+    print(f"programs: {len(cases)} cases, {counts}, {runs} runs, {wrong} faults")
     sys.exit(1 if wrong else 0)
 
 

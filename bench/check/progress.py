@@ -1,5 +1,5 @@
 #!/usr/bin/env python3
-"""Runs `postmig audit` on logs that are slow, and looks at what a terminal shows of them.
+"""Runs `uffd-audit` on logs that are slow, and looks at what a terminal shows of them.
 
 python3 bench/check/progress.py [--program PATH]
 
@@ -106,7 +106,7 @@ def ran(words, streams, drive, folder=None):
 
 
 def audited(program, pieces, streams=()):
-    return ran([program, "audit"], streams, functools.partial(feed, pieces=pieces))
+    return ran([program], streams, functools.partial(feed, pieces=pieces))
 
 
 def differences(wanted, ended, shown, streams):
@@ -189,7 +189,7 @@ def long_log():
 def file(program):
     """A file that the program cannot read within a second, since it is stopped."""
     with tempfile.TemporaryDirectory() as folder:
-        log, words = pathlib.Path(folder) / "log", [program, "audit", "log"]
+        log, words = pathlib.Path(folder) / "log", [program, "log"]
         text = long_log()
         log.write_bytes(text)
         wanted, _ = ran(words, [], lambda *_: None, folder)
@@ -220,10 +220,10 @@ def jobs():
 
 
 def main():
-    parser = argparse.ArgumentParser(description="Runs postmig audit on logs that are slow.")
+    parser = argparse.ArgumentParser(description="Runs uffd-audit on logs that are slow.")
     parser.add_argument("--program", type=pathlib.Path, metavar="PATH", help="a build of the program, in place of the proved ones")
     arguments = parser.parse_args()
-    builds = [arguments.program.absolute()] if arguments.program else [it for it in programs.BUILDS if it.is_file()]
+    builds = [arguments.program.absolute()] if arguments.program else programs.builds("uffd_audit")
     if not builds:
         sys.exit("progress: there is no proved build: ./postmig prove or rt ci makes one")
     tried = [(f"{name}, by {program.name}", functools.partial(job, program)) for program in builds for name, job in jobs()]

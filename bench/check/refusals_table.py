@@ -21,7 +21,7 @@ from tower import product
 
 ORDERS = page.TOP / "bench" / "refusals.txt"
 # What waits for a lock, and what only starts a program.
-LEFT_OUT = ("rig", "threads", "postmig")
+LEFT_OUT = ("rig", "threads", "postmig", "uffd_audit")
 CALL = re.compile(r"( *)pub (?:const |final )?fn (\w+)")
 CLAUSE = re.compile(r"\s*(requires|ensures)\*? (\w+ )?\{")
 # A fault that is another type's fault, or hands arguments back, is memory's.

@@ -1,14 +1,15 @@
 #!/usr/bin/env python3
-"""Makes the release of the program and of the library for C in release/, from their proved builds, or compares both.
+"""Makes the release of both programs and of the library for C in release/, from their proved builds, or compares them.
 
-python3 bench/check/release.py --write       makes it: of crates/postmig/out/postmig, which rt ci and ./postmig prove leave, and of the library
-                                       in dist/, which ./postmig library --build makes: it runs that where neither dist/ nor the release
-                                       has a library of these sources
+python3 bench/check/release.py --write       makes it: of crates/postmig/out/postmig and crates/uffd_audit/out/uffd_audit,
+                                       which rt ci and ./postmig prove leave, and of the library in dist/, which
+                                       ./postmig library --build makes. A program that is not built here stays as it is,
+                                       if it is of these sources; so with the library, or it is built
 python3 bench/check/release.py --sources     whether it is of these sources, and unpacks to what its checksums say
-python3 bench/check/release.py --check       the same, and whether the proved build is the program of the release, byte by byte; so with the
-                                       library, if dist/ has one that was built here
+python3 bench/check/release.py --check       the same, and whether the proved builds are the programs of the release, byte by
+                                       byte; so with the library, if dist/ has one that was built here
 
-release/ has the program and the library, packed, the checksums of their sources (./postmig sources) and those of all files.
+release/ has the programs and the library, packed, the checksums of their sources (./postmig sources) and those of all files.
 """
 
 import argparse
@@ -24,21 +25,48 @@ import shared  # noqa: F401
 import page
 
 FOLDER = page.TOP / "release"
-PROGRAM = FOLDER / "postmig-x86_64-linux.gz"
 LIBRARY = FOLDER / "libpostmig-x86_64-linux.tar.gz"
-SOURCES = {"postmig": FOLDER / "sources", "postmig_c": FOLDER / "library-sources"}
+# Of each program its crate.
+PROGRAMS = {"postmig": "postmig", "uffd-audit": "uffd_audit"}
+# Of each crate that is released the file with the checksum of its sources.
+SOURCES = {
+    "postmig": FOLDER / "sources",
+    "uffd_audit": FOLDER / "uffd-audit-sources",
+    "postmig_c": FOLDER / "library-sources",
+}
 SUMS = FOLDER / "SHA256SUMS"
-BUILT = page.TOP / "crates" / "postmig" / "out" / "postmig"
 DIST = page.TOP / "dist"
 PARTS = ("libpostmig.a", "libpostmig.so", "postmig.h", "postmig_node.h")
 RENEW = "./dev release makes it anew, after rt ci or ./postmig prove"
 
 
+def packed_file(name):
+    """The file of the release with a program."""
+    return FOLDER / f"{name}-x86_64-linux.gz"
+
+
+def built_file(crate):
+    return page.TOP / "crates" / crate / "out" / crate
+
+
 def sources(crate):
-    """The checksum of the sources of the program or of the library, and whether there is a proved build of them."""
+    """The checksum of the sources of a program or of the library, and whether there is a proved build of them."""
     ran = subprocess.run([page.TOP / "postmig", "sources", crate], check=True, capture_output=True, text=True)
     checksum, _, state = ran.stdout.strip().partition(" ")
     return checksum, state == "proved"
+
+
+def is_built(crate):
+    """Whether there is a proved build of a program here of its sources as they are, which ./postmig sources notes."""
+    checksum, _ = sources(crate)
+    built = built_file(crate)
+    noted = built.with_name("proved")
+    return built.is_file() and noted.is_file() and noted.read_text().split() == [checksum, hashlib.sha256(built.read_bytes()).hexdigest()]
+
+
+def is_of_these_sources(crate):
+    """Whether the release of a program or of the library is of the sources as they are."""
+    return SOURCES[crate].is_file() and SOURCES[crate].read_text().strip() == sources(crate)[0]
 
 
 def archive(parts):
@@ -63,8 +91,8 @@ def packed(text):
 
 def library_parts():
     """The files of the library: those that were built in dist/, or those of the release if they are of these sources; else it is built."""
-    checksum, is_built = sources("postmig_c")
-    if not is_built and LIBRARY.is_file() and SOURCES["postmig_c"].is_file() and SOURCES["postmig_c"].read_text().strip() == checksum:
+    is_built = sources("postmig_c")[1]
+    if not is_built and LIBRARY.is_file() and is_of_these_sources("postmig_c"):
         with tarfile.open(LIBRARY) as tar:
             return {it.name: tar.extractfile(it).read() for it in tar}
     if not is_built:
@@ -72,16 +100,24 @@ def library_parts():
     return {name: (DIST / name).read_bytes() for name in PARTS}
 
 
+def program(name):
+    """A program: its proved build of these sources, or that of the release if it is of these."""
+    crate = PROGRAMS[name]
+    if is_built(crate):
+        return built_file(crate).read_bytes()
+    if packed_file(name).is_file() and is_of_these_sources(crate):
+        return gzip.decompress(packed_file(name).read_bytes())
+    sys.exit(f"release: there is no proved build of these sources of {name}: rt ci or ./postmig prove makes one")
+
+
 def write():
-    if not sources("postmig")[1]:
-        sys.exit("release: there is no proved build of these sources: rt ci or ./postmig prove makes one")
-    program, parts = BUILT.read_bytes(), library_parts()
+    programs, parts = {name: program(name) for name in PROGRAMS}, library_parts()
     FOLDER.mkdir(exist_ok=True)
-    files = {PROGRAM: packed(program), LIBRARY: packed(archive(parts))}
+    files = {**{packed_file(name): packed(text) for name, text in programs.items()}, LIBRARY: packed(archive(parts))}
     for file, content in files.items():
         file.write_bytes(content)
         print(f"release: {file.name}, {len(content):,} bytes")
-    SUMS.write_text(sums({"postmig": program, **parts, **{file.name: content for file, content in files.items()}}))
+    SUMS.write_text(sums({**programs, **parts, **{file.name: content for file, content in files.items()}}))
     for crate, file in SOURCES.items():
         file.write_text(sources(crate)[0] + "\n")
 
@@ -90,33 +126,35 @@ def unpacked():
     """The files that the release unpacks to."""
     with tarfile.open(LIBRARY) as tar:
         parts = {it.name: tar.extractfile(it).read() for it in tar}
-    return {"postmig": gzip.decompress(PROGRAM.read_bytes()), **parts}
+    return {**{name: gzip.decompress(packed_file(name).read_bytes()) for name in PROGRAMS}, **parts}
 
 
 def look_at_sources():
     """The files of the release, once they are known to be of these sources and to have their checksums."""
-    for file in (*SOURCES.values(), SUMS, PROGRAM, LIBRARY):
+    packages = [*map(packed_file, PROGRAMS), LIBRARY]
+    for file in (*SOURCES.values(), SUMS, *packages):
         if not file.is_file():
             sys.exit(f"release: there is no {file.name}: {RENEW}")
     for crate, file in SOURCES.items():
-        if file.read_text().strip() != sources(crate)[0]:
+        if not is_of_these_sources(crate):
             sys.exit(f"release: {file.name} is of other sources: {RENEW}")
     try:
         files = unpacked()
     except (OSError, EOFError, tarfile.TarError) as fault:
         sys.exit(f"release: it does not unpack: {fault}")
-    if SUMS.read_text() != sums({**files, **{file.name: file.read_bytes() for file in (PROGRAM, LIBRARY)}}):
+    if SUMS.read_text() != sums({**files, **{file.name: file.read_bytes() for file in packages}}):
         sys.exit(f"release: its checksums are of other files: {RENEW}")
     return files
 
 
 def check():
     files = look_at_sources()
-    if not sources("postmig")[1]:
-        sys.exit("release: there is no proved build to compare it with: rt ci or ./postmig prove makes one")
-    if BUILT.read_bytes() != files["postmig"]:
-        sys.exit(f"release: the proved build has other bytes: {RENEW}")
-    print(f"release: {len(files['postmig']):,} bytes, as built")
+    for name, crate in PROGRAMS.items():
+        if not is_built(crate):
+            sys.exit(f"release: there is no proved build of {name} to compare it with: rt ci or ./postmig prove makes one")
+        if built_file(crate).read_bytes() != files[name]:
+            sys.exit(f"release: the proved build of {name} has other bytes: {RENEW}")
+        print(f"release: {name}, {len(files[name]):,} bytes, as built")
     if sources("postmig_c")[1]:
         if different := [name for name in PARTS if (DIST / name).read_bytes() != files[name]]:
             sys.exit(f"release: {', '.join(different)} of dist/ has other bytes: {RENEW}")
@@ -124,7 +162,7 @@ def check():
 
 
 def main():
-    parser = argparse.ArgumentParser(description="Makes the release of the program and of the library, or compares it.")
+    parser = argparse.ArgumentParser(description="Makes the release of both programs and of the library, or compares it.")
     asked = parser.add_mutually_exclusive_group(required=True)
     for word in ("--write", "--sources", "--check"):
         asked.add_argument(word, action="store_true")

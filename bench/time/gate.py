@@ -155,7 +155,7 @@ def summary():
     """The part of docs/PERFORMANCE.md: the whole, the dearest crates, and the proof of the program."""
     said, rows = read_ledger()
     dearest = sorted(rows, key=lambda it: -rows[it]["sum"])[:10]
-    program = [rows[it]["proof"] for it in tower.below("postmig") if it in rows]
+    program = [rows[it]["proof"] for it in tower.below("postmig", "uffd_audit") if it in rows]
     clock = f"{said['clock minutes']} minutes of the clock and " if "clock minutes" in said else ""
     yield (
         f"`{said['command']}` took {clock}{said['processor minutes']} processor minutes (user time), on {said['machine']}. "

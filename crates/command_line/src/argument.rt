@@ -39,8 +39,6 @@ pub(crate) struct Argument {
     pub(crate) conflicts: &'static [&'static str],
     /// The arguments that it cannot be used without.
     pub(crate) needs: &'static [&'static str],
-    /// It is required unless one of these is used, and optional where there are none.
-    pub(crate) unless: &'static [&'static str],
 }
 
 /// A flag with neither another name nor a condition, for the fields that a row leaves out.
@@ -51,7 +49,6 @@ pub(crate) const PLAIN: Argument = Argument {
     aliases: &[],
     conflicts: &[],
     needs: &[],
-    unless: &[],
 };
 
 /// The argument as it is written, by the same name.
@@ -81,8 +78,7 @@ impl Argument {
             .help(self.help)
             .aliases(self.aliases)?
             .conflicts_with_all(self.conflicts)?
-            .requires_all(self.needs)?
-            .required_unless_present_any(self.unless)?;
+            .requires_all(self.needs)?;
         Ok(in_form(arg, self.id, self.form))
     }
 }

@@ -11,16 +11,17 @@ const VERSION: &str = "0.1.0";
 /// How a command ends.
 const STATUSES: &str = "Exit status:
   0  all was done, or a check wrote ok
-  1  a line, a frame or the command line is wrong, or an audit found something
-  2  a read or a write failed, or an audit had no log to judge
+  1  a line, a frame or the command line is wrong
+  2  a read or a write failed
   3  a check or a history wrote wrong, a test differs, finish has no epoch left, threads ended with a
-     fault, or an audit found no run that gives some answer of its log;
-     with --strict also: no entry was checked, a frame was refused, or a test compared no answer
+     fault; with --strict also: a frame was refused
   4  memory ran out, or a thread could not be started
-  5  an audit found nothing and could not judge all calls, or lines of its log were lost, or a
-     history was not decided
-  6  an audit had nothing to judge: in its log no message was read, and no page was put
+  5  a history was not decided
+  6  nothing was looked at: a test compared no answer, lint, draw or show found no line of a script,
+     a history has no operation; with --strict also: no entry was checked, there was no frame, or a
+     script of a test has no answer
 
+The program uffd-audit judges logs of userfaultfd calls.
 docs/SCRIPT.md has the lines of scripts and transcripts.";
 
 /// `--cpus N`.
@@ -34,7 +35,7 @@ const CPUS: Argument = Argument {
 /// `[FILE]`.
 const FILE: Argument = Argument {
     id: "file",
-    help: "Is read in place of standard input",
+    help: "Is read in place of standard input, which is - too",
     form: Form::Positional("FILE"),
     ..PLAIN
 };
@@ -114,7 +115,7 @@ const CHECK: &[Argument] = &[
     },
     Argument {
         id: "strict",
-        help: "Has status 3 if no entry was checked",
+        help: "Has status 6 if no entry was checked",
         ..PLAIN
     },
     Argument {
@@ -133,22 +134,6 @@ const LINT: &[Argument] = &[
         ..PLAIN
     },
     EXPLAIN_FAULTS,
-    FILE,
-];
-
-/// `postmig audit [--late MICROSECONDS] [--explain] [FILE]`.
-const AUDIT: &[Argument] = &[
-    Argument {
-        id: "explain",
-        help: "Says what the findings mean, how long faults waited, and why a read or a write failed",
-        ..PLAIN
-    },
-    Argument {
-        id: "late",
-        help: "Names each page fault that waited longer, from its read to the call that woke its thread",
-        form: Form::Valued("MICROSECONDS", ANY_NUMBER),
-        ..PLAIN
-    },
     FILE,
 ];
 
@@ -173,7 +158,7 @@ const FRAMES: &[Argument] = &[
     CPUS,
     Argument {
         id: "strict",
-        help: "Has status 3 if a frame was refused",
+        help: "Has status 3 if a frame was refused, and 6 if there was none",
         ..PLAIN
     },
     EXPLAIN_FAULTS,
@@ -216,9 +201,8 @@ const PROFILES: &[&str] = &[
 const EXPLORE: &[Argument] = &[
     Argument {
         id: "seed",
-        help: "The seed of the draws",
+        help: "The seed of the draws; it or --seeds must be given",
         form: Form::Valued("S", ANY_NUMBER),
-        unless: &["seeds"],
         ..PLAIN
     },
     Argument {
@@ -238,7 +222,7 @@ const EXPLORE: &[Argument] = &[
     CPUS,
     Argument {
         id: "profile",
-        help: "Of which steps there are more",
+        help: "Which steps are drawn more often",
         form: Form::Preset("P", ValueParser::Names(PROFILES), "all"),
         ..PLAIN
     },
@@ -266,35 +250,40 @@ const EXPLORE: &[Argument] = &[
     EXPLAIN_FAULTS,
 ];
 
-/// `postmig test [--cpus N] [--all] [--strict] [--write] [FILE ..]`.
+/// `postmig test [--cpus N] [--all] [--strict] [--tap] [--write] [FILE ..]`.
 const TEST: &[Argument] = &[
     CPUS,
     Argument {
         id: "all",
-        help: "Names each answer that differs, and not the first of a FILE alone",
+        help: "Names each answer that differs, and not the first of a script alone",
         ..PLAIN
     },
     Argument {
         id: "strict",
-        help: "Has status 3 if no answer of a file was compared",
+        help: "Has status 6 if no answer of a script was compared",
+        ..PLAIN
+    },
+    Argument {
+        id: "tap",
+        help: "Writes the report in the form of TAP, a line for each script",
         ..PLAIN
     },
     Argument {
         id: "write",
         help: "Replaces the answers of each FILE by the output of its lines",
-        conflicts: &["strict", "all"],
+        conflicts: &["strict", "all", "tap"],
         needs: &["file"],
         ..PLAIN
     },
     Argument {
         id: "file",
-        help: "Scripts with answers; standard input where none is given",
+        help: "Scripts with answers; standard input where none is given, and for -",
         form: Form::Positionals("FILE"),
         ..PLAIN
     },
 ];
 
-/// `postmig threads [--cpus N] [--calls C] [--cut] [--explain]`.
+/// `postmig threads [--cpus N] [--calls C] [--cut] [--verbose] [--explain]`.
 const THREADS: &[Argument] = &[
     CPUS,
     Argument {
@@ -306,6 +295,11 @@ const THREADS: &[Argument] = &[
     Argument {
         id: "cut",
         help: "Breaks the channel once, and resumes",
+        ..PLAIN
+    },
+    Argument {
+        id: "verbose",
+        help: "Says on standard error what the migration did, and how often its workers came to their turn",
         ..PLAIN
     },
     EXPLAIN_FAULTS,
@@ -341,11 +335,6 @@ const SUBCOMMANDS: &[Subcommand] = &[
         name: "lint",
         about: "Lists the wrong lines of a script, and what is wrong with each",
         arguments: LINT,
-    },
-    Subcommand {
-        name: "audit",
-        about: "Judges the userfaultfd calls of a log or of strace's output, and names what is wrong with them",
-        arguments: AUDIT,
     },
     Subcommand {
         name: "history",

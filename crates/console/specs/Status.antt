@@ -1,5 +1,5 @@
 -- The exit statuses of a command.
-use Rattle.std.specs.Prelude.{ℕ, Bool, true, false, if◌then◌else◌, nat_lt}
+use Rattle.std.specs.Prelude.{ℕ, Bool, true, false, if◌then◌else◌, nat_lt, Option, Some, None}
 use Rattle.engine.specs.declared.fault.RunFault.{RunFault}
 use Rattle.engine.specs.declared.fault.RunFault.TheVariants.{Line, ReadFault, WriteFault, NoMemory}
 
@@ -27,15 +27,17 @@ ends_tests ReadFault = false
 ends_tests WriteFault = true
 ends_tests NoMemory = true
 
--- the status of tests, by the number of files that differ, by that of files in which no answer was compared although one had to be, and
--- by the status of the first fault, or 0
-abbrev pub tally_status : ℕ → ℕ → ℕ → ℕ
-tally_status differ unchecked fault = if nat_lt 0 differ then 3 else if nat_lt 0 unchecked then 3 else fault
+-- the status of a command by whether it has looked at anything, and by the status that it has otherwise
+abbrev pub looked_status : Bool → ℕ → ℕ
+looked_status has_looked status = if has_looked then status else if nat_lt 0 status then status else 6
 
--- the status of the first of two files that has a fault, or 0
-abbrev pub first_status : ℕ → ℕ → ℕ
-first_status known status = if nat_lt 0 known then known else status
+-- the status of files, by the first fault of one, if there is any, and by the status otherwise
+abbrev pub files_status : Option RunFault → ℕ → ℕ
+files_status (Some fault) status = fault_status fault
+files_status None status = status
 
--- the status of a strict command, by whether it has checked what it had to, and by the status that it has otherwise
-abbrev pub strict_status : Bool → ℕ → ℕ
-strict_status is_met status = if is_met then status else if nat_lt 0 status then status else 3
+-- the status of tests: by how many scripts differ, the first fault of one, how many had no answer that was compared although one had to be,
+-- and how many answers were compared
+abbrev pub tally_status : ℕ → Option RunFault → ℕ → ℕ → ℕ
+tally_status differ fault unchecked answers =
+    if nat_lt 0 differ then 3 else files_status fault (if nat_lt 0 unchecked then 6 else if nat_lt 0 answers then 0 else 6)

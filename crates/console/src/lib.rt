@@ -2,15 +2,19 @@
 //! which exit status.
 //!
 //! The streams remember why they failed (`Watched`), so that the faults of a run stay plain words. A script may be typed at a terminal,
-//! where a wrong line is named and the session continues. `test_files` and `renew_files` play tests, one file after the other.
+//! where a wrong line is named and the session continues. `Bounded` ends an input at a line that is too long, and `Scripts` has the scripts
+//! of an input, one after the other. `test_files` and `renew_files` play tests.
 //! `ProgressLine` says at a terminal how far a command is that reads for long. Nothing here knows a command line: `Given` is what one says
 //! of a command's input.
 #![tactic(auto)]
 
+mod bounded;
+mod findings;
 mod input;
 mod progress;
 mod reasons;
 mod renewal;
+mod scripts;
 mod status;
 mod streams;
 mod tally;
@@ -18,16 +22,19 @@ mod tap;
 mod terminal;
 mod watched;
 
+pub use bounded::{Bounded, LONGEST_LISTED};
 pub use input::Input;
 pub use progress::{Counted, Erasing, ProgressLine};
 pub use reasons::say_wrong_line;
 pub use renewal::renew_files;
+pub use scripts::Scripts;
 pub use status::{
     ALL_DONE, BAD_COMMAND_OR_SCRIPT, NO_FLAT_RUN, NO_MEMORY, NOTHING_TO_JUDGE, READ_OR_WRITE_FAULT,
-    UNDECIDED, status_of, strict_status_of,
+    UNDECIDED, status_of,
 };
 pub use streams::{
-    Given, end, end_at_lines, end_lint, open_input, open_output, open_script, say_input, say_output,
+    Given, end, end_at_lines, end_lint, end_looked, open_input, open_output, open_script,
+    say_input, say_output,
 };
 pub use tally::{TestAsks, test_files};
 pub use tap::{Tap, can_tap, make_tap};

@@ -1,5 +1,6 @@
 //! What is wrong with the line at which a command ended.
 
+use crate::bounded::{Bounded, LONGEST_LISTED};
 use crate::streams::Given;
 use engine::script_reader::{MAX_LINE, split_line, without_return};
 use expected::order_part;
@@ -59,9 +60,10 @@ pub(crate) fn say_wrong_lines(rt: &HostRuntime, given: Given<'_>, language: Lang
     let Some(name) = given.file else {
         return;
     };
-    let Some(mut file) = open_again(rt, name) else {
+    let Some(file) = open_again(rt, name) else {
         return;
     };
+    let mut file = Bounded::new(file, LONGEST_LISTED);
     if gives_reasons(rt, given) {
         let _ = lint_lines(rt.alloc(), &mut file, &mut rt.stderr(), name, language);
         return;
@@ -112,11 +114,14 @@ pub(crate) fn write_reason<W: Write>(
 
 /// Says on standard error what is wrong with the line of a FILE at which a test ended.
 pub fn say_wrong_line(rt: &HostRuntime, name: &str, number: u64) {
-    let Some(mut file) = open_again(rt, name) else {
+    let Some(file) = open_again(rt, name) else {
         return;
     };
     let mut text = Vec::new(rt.alloc());
-    if file.read_to_end(&mut text).is_err() {
+    if Bounded::new(file, LONGEST_LISTED)
+        .read_to_end(&mut text)
+        .is_err()
+    {
         return;
     }
     if let Some(line) = line_at(&text, number) {

@@ -1,15 +1,19 @@
 //! Files of scripts as tests, whose answers are replaced.
 
-ghost use Rattle.std.specs.Prelude.{◌≤◌};
+ghost use Rattle.std.specs.Prelude.{◌≡◌, ◌≤◌};
+ghost use Rattle.console.specs.Status.{files_status};
 
-use crate::status::{ALL_DONE, READ_OR_WRITE_FAULT, first_status_of};
-use crate::streams::{end_files, end_test, open_file, open_output};
+use crate::scripts::Scripts;
+use crate::status::{ALL_DONE, BAD_COMMAND_OR_SCRIPT, status_of};
+use crate::streams::{end_files, end_looked, end_test, open_file, open_output};
+use crate::tally::NO_ANSWER;
 use crate::watched::{Watched, say_reason};
 use engine::RunFault;
 use engine::line_runner::write_out;
-use expected::renew_answers;
+use expected::{Renewed, renew_answers};
+use std::alloc::Global;
 use std::fs::File;
-use std::io::{Stdout, Write};
+use std::io::{Read, Stdout, Write};
 
 /// Replaces what a file has by a text. Says on standard error why that failed; the file may then have a part of the text.
 fn write_file(rt: &HostRuntime, name: &str, text: &[u8]) -> bool {
@@ -29,6 +33,40 @@ fn write_file(rt: &HostRuntime, name: &str, text: &[u8]) -> bool {
     is_written
 }
 
+/// Adds what one script has become to that of the scripts before it.
+fn add(all: &mut Renewed, one: &Renewed) -> Result<(), RunFault> {
+    all.text.extend_from_slice(&one.text)?;
+    all.answers = all.answers.saturating_add(one.answers);
+    all.changed = all.changed.saturating_add(one.changed);
+    Ok(())
+}
+
+/// Replaces the answers of each script of an input.
+fn renew_scripts<R: Read + Drop>(
+    alloc: Global,
+    scripts: &mut Scripts<R>,
+    cpus: u8,
+) -> Result<Renewed, RunFault>
+    requires low { 1 ≤ cpus }
+    requires high { cpus ≤ 16 }
+{
+    let mut all = Renewed {
+        text: Vec::new(alloc),
+        answers: 0,
+        changed: 0,
+    };
+    for _ in 0..u64::MAX {
+        match renew_answers(alloc, scripts, cpus) {
+            Ok(one) => add(&mut all, &one)?,
+            Err(fault) => return Err(scripts.in_input(fault)),
+        }
+        if !scripts.advance()? {
+            break;
+        }
+    }
+    Ok(all)
+}
+
 /// The files whose answers were replaced.
 #[derive(Drop)]
 struct Renewal {
@@ -37,28 +75,51 @@ struct Renewal {
     answers: u64,
     /// How many of them were new.
     changed: u64,
-    /// The status of the first file that could not be run to its end or written, or 0.
-    fault: u8,
+    /// The fault of the first file that could not be run to its end or written.
+    fault: Option<RunFault>,
 }
 
 impl Renewal {
+    /// Counts a fault of a file.
+    fn count_fault(&mut self, fault: RunFault) {
+        if self.fault.is_none() {
+            self.fault = Some(fault);
+        }
+    }
+
+    /// What a file becomes. None if it could not be run to its end, which is said. A fault that ends everything is returned.
+    fn renewed(
+        &mut self,
+        rt: &HostRuntime,
+        name: &str,
+        cpus: u8,
+    ) -> Result<Option<Renewed>, RunFault>
+        requires low { 1 ≤ cpus }
+        requires high { cpus ≤ 16 }
+    {
+        let Some(input) = open_file(rt, name) else {
+            self.count_fault(RunFault::ReadFault);
+            return Ok(None);
+        };
+        let mut scripts = Scripts::new(rt.alloc(), input)?;
+        match renew_scripts(rt.alloc(), &mut scripts, cpus) {
+            Ok(renewed) => Ok(Some(renewed)),
+            Err(fault) => {
+                end_test(rt, name, scripts.input(), fault)?;
+                self.count_fault(fault);
+                Ok(None)
+            }
+        }
+    }
+
     /// Replaces the answers of a file. A file that would not change is not written. A fault that ends everything is returned.
     fn renew_file(&mut self, rt: &HostRuntime, name: &str, cpus: u8) -> Result<(), RunFault>
         requires low { 1 ≤ cpus }
         requires high { cpus ≤ 16 }
     {
         self.files = self.files.saturating_add(1);
-        let Some(mut input) = open_file(rt, name) else {
-            self.fault = first_status_of(self.fault, READ_OR_WRITE_FAULT);
+        let Some(renewed) = self.renewed(rt, name, cpus)? else {
             return Ok(());
-        };
-        let renewed = match renew_answers(rt.alloc(), &mut input, cpus) {
-            Ok(renewed) => renewed,
-            Err(fault) => {
-                let status = end_test(rt, name, &input, fault)?;
-                self.fault = first_status_of(self.fault, status);
-                return Ok(());
-            }
         };
         self.answers = self.answers.saturating_add(renewed.answers);
         if renewed.changed == 0 {
@@ -67,7 +128,7 @@ impl Renewal {
         if write_file(rt, name, &renewed.text) {
             self.changed = self.changed.saturating_add(renewed.changed);
         } else {
-            self.fault = first_status_of(self.fault, READ_OR_WRITE_FAULT);
+            self.count_fault(RunFault::WriteFault);
         }
         Ok(())
     }
@@ -96,21 +157,39 @@ impl Renewal {
             Err(_) => Err(RunFault::WriteFault),
         }
     }
+
+    /// The exit status: the fault of the first file that has one.
+    fn status(&self) -> u8
+        ensures exact { result ≡ files_status self.now.fault 0 }
+        ensures least { result ≤ 4 }
+    {
+        match self.fault {
+            Some(fault) => status_of(Err(fault)),
+            None => ALL_DONE,
+        }
+    }
 }
 
-/// Replaces the answers of each of these files, writes how many are new, and returns the exit status.
+/// Replaces the answers of each of these files, writes how many are new, and returns the exit status. Standard input, which has the name
+/// `-`, cannot be replaced: no file is then.
 pub fn renew_files(rt: &HostRuntime, files: &[&str], cpus: u8) -> u8
     requires low { 1 ≤ cpus }
     requires high { cpus ≤ 16 }
+    ensures { result ≤ 6 }
 {
+    if files.iter().any(|name| *name == "-") {
+        let _ = eprintln!(rt; "error: --write replaces files, and - is standard input");
+        return BAD_COMMAND_OR_SCRIPT;
+    }
     let mut output = open_output(rt);
     let mut renewal = Renewal {
         files: 0,
         answers: 0,
         changed: 0,
-        fault: ALL_DONE,
+        fault: None,
     };
     let renewed = renewal.renew_all(rt, files, cpus);
     let ended = renewed.and_then(|()| renewal.write_counts(&mut output));
-    end_files(rt, ended, renewal.fault)
+    let status = end_files(rt, ended, renewal.status());
+    end_looked(rt, "test", NO_ANSWER, status, renewal.answers > 0)
 }

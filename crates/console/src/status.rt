@@ -1,7 +1,7 @@
 //! The exit statuses of a command.
 
-ghost use Rattle.std.specs.Prelude.{◌≡◌, IfOk, IfErr};
-ghost use Rattle.console.specs.Status.{answer_status, fault_status, first_status, strict_status};
+ghost use Rattle.std.specs.Prelude.{◌≡◌, ◌≤◌, IfOk, IfErr};
+ghost use Rattle.console.specs.Status.{answer_status, fault_status};
 
 use engine::RunFault;
 
@@ -14,22 +14,23 @@ pub const BAD_COMMAND_OR_SCRIPT: u8 = 1;
 /// A read or a write failed.
 pub const READ_OR_WRITE_FAULT: u8 = 2;
 
-/// An answer differs, or a transcript or a log is that of no run.
+/// An answer differs, or a transcript is that of no run.
 pub const NO_FLAT_RUN: u8 = 3;
 
 /// An allocation failed.
 pub const NO_MEMORY: u8 = 4;
 
-/// A log could not be decided.
+/// An input could not be decided.
 pub const UNDECIDED: u8 = 5;
 
-/// A log has nothing to judge.
+/// Nothing was looked at: the input has nothing that the command judges, compares or shows.
 pub const NOTHING_TO_JUDGE: u8 = 6;
 
 /// The exit status of a run or a check: whether all is well, or the fault that ended it.
 pub fn status_of(outcome: Result<bool, RunFault>) -> u8
     ensures answer { IfOk outcome (λ answer. result ≡ answer_status answer) }
     ensures fault { IfErr outcome (λ fault. result ≡ fault_status fault) }
+    ensures least { result ≤ 4 }
 {
     match outcome {
         Ok(true) => ALL_DONE,
@@ -38,28 +39,4 @@ pub fn status_of(outcome: Result<bool, RunFault>) -> u8
         Err(RunFault::ReadFault | RunFault::WriteFault) => READ_OR_WRITE_FAULT,
         Err(RunFault::NoMemory) => NO_MEMORY,
     }
-}
-
-/// The exit status of a strict command: its own, or if that is 0 and it has not checked what it had to, that of one that found a
-/// difference.
-pub fn strict_status_of(status: u8, is_met: bool) -> u8
-    ensures { result ≡ strict_status is_met status }
-{
-    if is_met {
-        return status;
-    }
-    if status > ALL_DONE {
-        return status;
-    }
-    NO_FLAT_RUN
-}
-
-/// The exit status of files one after another: that of the first with a fault, where 0 is none.
-pub(crate) fn first_status_of(known: u8, status: u8) -> u8
-    ensures { result ≡ first_status known status }
-{
-    if known > ALL_DONE {
-        return known;
-    }
-    status
 }

@@ -1,11 +1,11 @@
 //! What a command reads and writes, and how it says why it ended early.
 
-ghost use Rattle.std.specs.Prelude.{◌≡◌, true, false, IfOk, IfErr};
-ghost use Rattle.console.specs.Status.{answer_status, ends_tests, fault_status, lint_status};
+ghost use Rattle.std.specs.Prelude.{◌≡◌, ◌≤◌, true, false, IfOk, IfErr, OnOk};
+ghost use Rattle.console.specs.Status.{answer_status, ends_tests, fault_status, lint_status, looked_status};
 
 use crate::input::Input;
 use crate::reasons::{gives_reasons, say_wrong_line, say_wrong_lines};
-use crate::status::{BAD_COMMAND_OR_SCRIPT, READ_OR_WRITE_FAULT, status_of};
+use crate::status::{ALL_DONE, BAD_COMMAND_OR_SCRIPT, NOTHING_TO_JUDGE, status_of};
 use crate::terminal::Terminal;
 use crate::watched::{Watched, say_reason};
 use engine::RunFault;
@@ -48,6 +48,14 @@ pub fn open_script<'a>(
 /// Standard input.
 pub(crate) fn standard_input(rt: &HostRuntime) -> Watched<'static, Input> {
     Watched::new("standard input", Input::Standard(rt.stdin()))
+}
+
+/// Opens a file, or standard input by the name `-`. Says on standard error why a file cannot be opened.
+pub(crate) fn open_named<'a>(rt: &HostRuntime, name: &'a str) -> Option<Watched<'a, Input>> {
+    if name == "-" {
+        return Some(standard_input(rt));
+    }
+    open_file(rt, name)
 }
 
 /// Opens a file. Says on standard error why it cannot be opened.
@@ -94,6 +102,7 @@ pub fn end(
 ) -> u8
     ensures answer { IfOk outcome (λ answer. result ≡ answer_status answer) }
     ensures fault { IfErr outcome (λ fault. result ≡ fault_status fault) }
+    ensures least { result ≤ 4 }
 {
     if let Err(fault) = outcome {
         let _ = eprintln!(rt; "{fault}");
@@ -117,6 +126,7 @@ pub fn end_at_lines(
 ) -> u8
     ensures answer { IfOk outcome (λ answer. result ≡ answer_status answer) }
     ensures fault { IfErr outcome (λ fault. result ≡ fault_status fault) }
+    ensures least { result ≤ 4 }
 {
     let status = end(rt, given, input, output, outcome);
     if let Err(RunFault::Line(_)) = outcome {
@@ -135,6 +145,7 @@ pub fn end_lint(
 ) -> u8
     ensures answer { IfOk outcome (λ answer. result ≡ lint_status answer) }
     ensures fault { IfErr outcome (λ fault. result ≡ fault_status fault) }
+    ensures least { result ≤ 4 }
 {
     match outcome {
         Ok(false) => BAD_COMMAND_OR_SCRIPT,
@@ -142,27 +153,47 @@ pub fn end_lint(
     }
 }
 
-/// Says on standard error why a test could not be run to its end, and returns its status. A fault that ends all tests is returned.
+/// Says on standard error that nothing was looked at, and what the input of this name lacks.
+pub(crate) fn say_nothing(rt: &HostRuntime, name: &str, what: &str) {
+    let _ = eprintln!(rt; "{name}: nothing was looked at: {what}");
+}
+
+/// The exit status of a command that has to look at something: the one that it has otherwise, or if that is 0 that of one that has looked
+/// at nothing, of which standard error then says what the input of this name lacks.
+pub fn end_looked(rt: &HostRuntime, name: &str, what: &str, status: u8, has_looked: bool) -> u8
+    ensures exact { result ≡ looked_status has_looked status }
+    ensures least { status ≤ 6 → result ≤ 6 }
+{
+    if has_looked {
+        return status;
+    }
+    if status > ALL_DONE {
+        return status;
+    }
+    say_nothing(rt, name, what);
+    NOTHING_TO_JUDGE
+}
+
+/// Says on standard error why a test could not be run to its end. A fault that ends all tests is returned.
 pub(crate) fn end_test(
     rt: &HostRuntime,
     name: &str,
     input: &Watched<'_, Input>,
     fault: RunFault,
-) -> Result<u8, RunFault>
-    ensures said { IfOk result (λ status.
-        (ends_tests fault ≡ false) × (status ≡ fault_status fault)) }
+) -> Result<(), RunFault>
+    ensures said { OnOk result (ends_tests fault ≡ false) }
     ensures left { IfErr result (λ left. (ends_tests fault ≡ true) × (left ≡ fault)) }
 {
     match fault {
         RunFault::Line(line) => {
             let _ = eprintln!(rt; "{name}:{line}: not a line of a test");
             say_wrong_line(rt, name, line);
-            Ok(BAD_COMMAND_OR_SCRIPT)
+            Ok(())
         }
         RunFault::ReadFault => {
             let _ = eprintln!(rt; "{}", RunFault::ReadFault);
             let _ = input.say_why(rt, TOO_MANY_READS);
-            Ok(READ_OR_WRITE_FAULT)
+            Ok(())
         }
         RunFault::WriteFault | RunFault::NoMemory => Err(fault),
     }
@@ -173,6 +204,7 @@ pub(crate) fn end_test(
 pub(crate) fn end_files(rt: &HostRuntime, ended: Result<(), RunFault>, status: u8) -> u8
     ensures whole { IfOk ended (λ _. result ≡ status) }
     ensures fault { IfErr ended (λ fault. result ≡ fault_status fault) }
+    ensures least { status ≤ 6 → result ≤ 6 }
 {
     match ended {
         Ok(()) => status,

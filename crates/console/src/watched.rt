@@ -11,6 +11,8 @@ pub struct Watched<'a, S> {
     /// What messages call it.
     name: &'a str,
     error: Option<io::Error>,
+    /// Whether a byte was read or written.
+    is_used: bool,
 }
 
 impl<'a, S> Watched<'a, S> {
@@ -20,6 +22,7 @@ impl<'a, S> Watched<'a, S> {
             stream,
             name,
             error: None,
+            is_used: false,
         }
     }
 
@@ -28,9 +31,15 @@ impl<'a, S> Watched<'a, S> {
         self.name
     }
 
+    /// Whether no byte was read or written.
+    pub fn is_unused(&self) -> bool {
+        !self.is_used
+    }
+
     fn note(&mut self, answer: &io::Result<usize>) {
-        if let Err(error) = answer {
-            self.error = Some(*error);
+        match answer {
+            Ok(count) => self.is_used = self.is_used || *count > 0,
+            Err(error) => self.error = Some(*error),
         }
     }
 

@@ -1,6 +1,6 @@
 pub mod Agreeing
 pub mod Apart
-pub mod Forks
+pub mod Readers
 pub mod Locations
 pub mod Sources
 pub mod TickLists

@@ -1,11 +1,12 @@
 -- How operations contradict each other: what makes an order of all of them impossible. A location is an address with a width, in bytes.
-use Rattle.std.specs.Prelude.{◌≡◌, ◌≢◌, ℕ, ◌<◌, ◌⊎◌, ◌==◌, not, Bool, true, Option, Some, None, IfSome, List, if◌then◌else◌}
+use Rattle.std.specs.Prelude.{◌≡◌, ◌≢◌, ℕ, ◌<◌, ◌⊎◌, ◌==◌, not, Bool, true, Option, Some, None, IfSome, List, length, slice_index_or, if◌then◌else◌}
 use Rattle.std.specs.List.{All, Contains}
 use Rattle.mig_base.specs.Ranges.{in_range, rounded}
 use Rattle.mig_base.specs.Flat.{is_aligned, overlaps}
 use Rattle.history.specs.declared.operation.Action.{Action}
 use Rattle.history.specs.declared.operation.Action.TheVariants.{Load, Store, Swap, Map, Unmap, Discard}
 use Rattle.history.specs.declared.operation.Operation.{Operation}
+use Rattle.history.specs.Histories.{Explains}
 
 -- the value that an action found at an address, if it is one that reads there
 abbrev pub found_at : ℕ → Action → Option ℕ
@@ -75,24 +76,46 @@ pub record HasNoSource (history : List Operation) (place size value : ℕ) (read
 abbrev pub Overlap : Operation → Operation → Type 0
 Overlap first second = (first.thread ≡ second.thread) × (second.begin < first.end) × (first.begin < second.end)
 
--- an operation that left the value was not between two others: it is `only`, or where none is given it had ended before both began, or
--- began when both had ended
-abbrev pub IsOutside : Option Operation → Operation → Operation → Operation → Type 0
-IsOutside None first second source = (Before source first × Before source second) ⊎ (Before first source × Before second source)
-IsOutside (Some only) first second source = source ≡ only
+-- the one operation that may have given a reader the value that it found, if there is one
+abbrev pub IsOnly : Option Operation → Operation → Type 0
+IsOnly None source = ⊥
+IsOnly (Some only) source = source ≡ only
 
--- forked: two exchanges found one value, each left another, and nobody can have brought the value back between them
-pub record IsFork (history : List Operation) (place size value : ℕ) (first second : Operation) (only : Option Operation) : Type 0 where
+-- an operation found at a location what `source` left there, and no other can have given it that: each other that left the value began when
+-- the reader had ended, or had ended when `source` began, which had ended when the reader began
+pub record IsReader (history : List Operation) (place : ℕ) (source reader : Operation) : Type 0 where
+  pub value : ℕ
+  pub left : left_at place source.action ≡ Some (Some value)
+  pub found : found_at place reader.action ≡ Some value
+  pub between : Option Operation
+  pub came : IfSome between (λ it. (it ≡ source) × Before it reader)
+  pub sources : All (λ other. left_at place other.action ≡ Some (Some value) → IsOnly (Some source) other ⊎ CannotGive between reader other) history
+
+-- an operation left something at a location, or found there what that one left
+abbrev pub Sees : List Operation → ℕ → Operation → Operation → Type 0
+Sees history place source member = (member ≡ source) ⊎ IsReader history place source member
+
+-- forked: two exchanges found what one operation left, and each left something in its place
+pub record IsFork (history : List Operation) (place size : ℕ) (source first second : Operation) : Type 0 where
   pub location : IsLocation history place size
+  pub source_there : Contains history source
   pub first_there : Contains history first
   pub second_there : Contains history second
   pub apart : first.line ≢ second.line
-  pub first_found : found_at place first.action ≡ Some value
-  pub second_found : found_at place second.action ≡ Some value
-  pub first_left : Option ℕ
-  pub first_leaves : left_at place first.action ≡ Some first_left
-  pub first_other : first_left ≢ Some value
-  pub second_left : Option ℕ
-  pub second_leaves : left_at place second.action ≡ Some second_left
-  pub second_other : second_left ≢ Some value
-  pub sources : All (λ source. left_at place source.action ≡ Some (Some value) → IsOutside only first second source) history
+  pub first_reads : IsReader history place source first
+  pub second_reads : IsReader history place source second
+  pub first_leaves : left_at place first.action ≢ None
+  pub second_leaves : left_at place second.action ≢ None
+
+-- what `source` left at a location was there before what `next` left: an operation that saw the one had ended when one began that saw the
+-- other
+pub record LeftFirst (history : List Operation) (place : ℕ) (source early next late : Operation) : Type 0 where
+  pub apart : source.line ≢ next.line
+  pub leaves : left_at place source.action ≢ None
+  pub early_sees : Sees history place source early
+  pub late_sees : Sees history place next late
+  pub ended : Before early late
+
+-- split: in each order that explains a history one operation comes before another. If one comes before itself, there is none
+abbrev pub ComesFirst : List Operation → Operation → Operation → Type 0
+ComesFirst history first second = (order : List Operation) → Explains history order → (i j : ℕ) (d : Operation) → i < length order → j < length order → slice_index_or order i d ≡ first → slice_index_or order j d ≡ second → i < j

@@ -1,21 +1,17 @@
 //! Contradictions: operations of which no order explains all.
 
-ghost use Rattle.std.specs.Prelude.{◌≡◌, ◌≢◌, ◌<◌, ℕ, Option, Some, None, true, IfSome, length, slice_index_or};
 ghost use Rattle.std.specs.Bool.{OnTrue};
-ghost use Rattle.std.specs.List.{All};
 ghost use Rattle.history.specs.declared.operation.Clock.{Clock};
 ghost use Rattle.history.specs.Histories.{IsKept};
-ghost use Rattle.history.specs.Contradictions as contradictions;
-ghost use Rattle.history.specs.Contradictions.{CannotGive, IsOutside};
-ghost use Rattle.history.specs.declared.operation.Operation.{Operation as OperationOf};
-ghost use Rattle.mig_base.specs.Flat as flat;
 
+use crate::cycle::{Value, is_cycle};
 use crate::operation::Operation;
-use crate::place::{ReadAt, disturbs, found_at, keeps_whole, leaves, read_of, replaces};
-use mig_base::command::is_aligned;
+use crate::place::{changes, disturbs, read_of};
+use crate::reader::{has_no_other, is_location, is_reader};
+use mig_base::Addr;
 
 /// What contradicts each order of the operations of a history, which are named by their indices.
-#[derive(Clone, Copy)]
+#[derive(Drop)]
 pub enum Contradiction {
     /// The operation `reader` found a value that no operation can have given it: each that left the value began when `reader` had ended,
     /// or had ended when `between` began, which had ended when `reader` began, and disturbed the value.
@@ -23,12 +19,18 @@ pub enum Contradiction {
         reader: usize,
         between: Option<usize>,
     },
-    /// Two exchanges found one value, and no operation can have brought it back between them: `only` is the one that left it, or all that
-    /// did had ended before both began, or began when both had ended.
+    /// Two exchanges found what the operation `source` left, which no other can have given them.
     Fork {
+        source: usize,
         first: usize,
         second: usize,
-        only: Option<usize>,
+    },
+    /// Each of these values was there before the next one, and the last before the first, at a location of `size` bytes at the address
+    /// `place`.
+    Cycle {
+        place: Addr,
+        size: u8,
+        values: Vec<Value>,
     },
     /// An operation ended before it began.
     Backward {
@@ -39,58 +41,6 @@ pub enum Contradiction {
         first: usize,
         second: usize,
     },
-}
-
-/// Whether `source` cannot have given `reader` what it left.
-fn cannot_give(between: Option<Operation>, reader: Operation, source: &Operation) -> bool
-    ensures { OnTrue result (CannotGive between reader source.now) }
-{
-    if reader.end < source.begin {
-        return true;
-    }
-    match between {
-        Some(between) => source.end < between.begin,
-        None => false,
-    }
-}
-
-/// Whether an operation keeps to the location, and cannot have given `reader` this value there.
-fn is_no_source(
-    read: ReadAt,
-    reader: Operation,
-    between: Option<Operation>,
-    source: &Operation,
-) -> bool
-    ensures whole { OnTrue result
-        (contradictions.keeps_whole read.place read.size source.now.action ≡ true) }
-    ensures source { OnTrue result (contradictions.left_at read.place source.now.action ≡
-        Some (Some read.value) → CannotGive between reader source.now) }
-{
-    if !keeps_whole(read.place, read.size, source.action) {
-        return false;
-    }
-    !leaves(read.place, read.value, source.action) || cannot_give(between, reader, source)
-}
-
-/// Whether that is so of each operation.
-fn have_no_source(
-    operations: &[Operation],
-    read: ReadAt,
-    reader: Operation,
-    between: Option<Operation>,
-) -> bool
-    ensures whole { OnTrue result (All (λ operation.
-        contradictions.keeps_whole read.place read.size operation.action ≡ true) operations.now) }
-    ensures sources { OnTrue result (All (λ source.
-        contradictions.left_at read.place source.action ≡ Some (Some read.value) →
-        CannotGive between reader source) operations.now) }
-{
-    for operation in operations {
-        if !is_no_source(read, reader, between, operation) {
-            return false;
-        }
-    }
-    true
 }
 
 /// Whether no operation can have given the one at an index the value that it found, since each that left the value began too late.
@@ -104,10 +54,10 @@ fn refutes_alone(operations: &[Operation], at: usize) -> bool
     let Some(read) = read_of(reader.action) else {
         return false;
     };
-    if !is_aligned(read.place, read.size) {
+    if !is_location(operations, read.place, read.size) {
         return false;
     }
-    have_no_source(operations, read, reader, None)
+    has_no_other(operations, read.place, read.value, reader, None, None)
 }
 
 /// Whether no operation can have given the one at an index the value that it found, since each that left the value began too late, or had
@@ -123,13 +73,20 @@ fn refutes_between(operations: &[Operation], at: usize, mid: usize) -> bool
     let Some(read) = read_of(reader.action) else {
         return false;
     };
-    if !is_aligned(read.place, read.size) || between.end >= reader.begin {
+    if between.end >= reader.begin || !disturbs(read.place, read.value, &between) {
         return false;
     }
-    if !disturbs(read.place, read.value, &between) {
+    if !is_location(operations, read.place, read.size) {
         return false;
     }
-    have_no_source(operations, read, reader, Some(between))
+    has_no_other(
+        operations,
+        read.place,
+        read.value,
+        reader,
+        None,
+        Some(between),
+    )
 }
 
 /// Whether the operation at an index ended before it began.
@@ -164,159 +121,55 @@ fn overlap(operations: &[Operation], first: usize, second: usize) -> bool
     true
 }
 
-/// Whether `source` had ended before both others began, or began when both had ended.
-fn is_outside(first: Operation, second: Operation, source: &Operation) -> bool
-    ensures { OnTrue result (IsOutside None first second source.now) }
-{
-    if source.end < first.begin && source.end < second.begin {
-        return true;
-    }
-    first.end < source.begin && second.end < source.begin
-}
-
-/// Whether an operation keeps to the location, and did not leave this value there between two others.
-fn is_not_between(read: ReadAt, first: Operation, second: Operation, source: &Operation) -> bool
-    ensures whole { OnTrue result
-        (contradictions.keeps_whole read.place read.size source.now.action ≡ true) }
-    ensures source { OnTrue result (contradictions.left_at read.place source.now.action ≡
-        Some (Some read.value) → IsOutside None first second source.now) }
-{
-    if !keeps_whole(read.place, read.size, source.action) {
-        return false;
-    }
-    !leaves(read.place, read.value, source.action) || is_outside(first, second, source)
-}
-
-/// Whether that is so of each operation.
-fn are_not_between(
-    operations: &[Operation],
-    read: ReadAt,
-    first: Operation,
-    second: Operation,
-) -> bool
-    ensures whole { OnTrue result (All (λ operation.
-        contradictions.keeps_whole read.place read.size operation.action ≡ true) operations.now) }
-    ensures sources { OnTrue result (All (λ source.
-        contradictions.left_at read.place source.action ≡ Some (Some read.value) →
-        IsOutside None first second source) operations.now) }
-{
-    for operation in operations {
-        if !is_not_between(read, first, second, operation) {
-            return false;
-        }
-    }
-    true
-}
-
-/// Whether each operation keeps to the location, and that at the index `only` alone can have left this value there.
-fn has_one_source(operations: &[Operation], read: ReadAt, only: usize) -> bool
-    ensures whole { OnTrue result (All (λ operation.
-        contradictions.keeps_whole read.place read.size operation.action ≡ true) operations.now) }
-    ensures one { OnTrue result ((k : ℕ) (d : OperationOf) → k < length operations.now →
-        contradictions.left_at read.place (slice_index_or operations.now k d).action ≡
-        Some (Some read.value) → k ≡ only) }
-{
-    for (at, operation) in operations.iter().enumerate() {
-        if !keeps_whole(read.place, read.size, operation.action) {
-            return false;
-        }
-        if leaves(read.place, read.value, operation.action) && at != only {
-            return false;
-        }
-    }
-    true
-}
-
-/// What two operations both found, each of which then left something else there.
-fn shared_read(first: &Operation, second: &Operation) -> Option<ReadAt>
-    ensures first { IfSome result (λ read.
-        contradictions.found_at read.place first.now.action ≡ Some read.value) }
-    ensures second { IfSome result (λ read.
-        contradictions.found_at read.place second.now.action ≡ Some read.value) }
-    ensures aligned { IfSome result (λ read. flat.is_aligned read.place read.size ≡ true) }
-    ensures first_left { IfSome result (λ read. (after : Option ℕ) ×
-        (contradictions.left_at read.place first.now.action ≡ Some after) ×
-        (after ≢ Some read.value)) }
-    ensures second_left { IfSome result (λ read. (after : Option ℕ) ×
-        (contradictions.left_at read.place second.now.action ≡ Some after) ×
-        (after ≢ Some read.value)) }
-{
-    let read = read_of(first.action)?;
-    if found_at(read.place, second.action) != Some(read.value) {
-        return None;
-    }
-    if !is_aligned(read.place, read.size) {
-        return None;
-    }
-    if !replaces(read.place, read.value, first.action) {
-        return None;
-    }
-    if !replaces(read.place, read.value, second.action) {
-        return None;
-    }
-    Some(read)
-}
-
-/// Whether the operations at two indices found one value and left others, and none that left it was between them.
-fn fork_apart(operations: &[Operation], first: usize, second: usize) -> bool
+/// Whether the operations at two indices both found what the one at the index `from` left, and each left something in its place.
+fn is_fork(operations: &[Operation], from: usize, first: usize, second: usize) -> bool
     ensures { OnTrue result ((clock : Clock) → IsKept clock operations.now → ⊥) }
 {
-    if first >= operations.len() || second >= operations.len() {
+    if first >= operations.len() || second >= operations.len() || from >= operations.len() {
         return false;
     }
+    let source = operations[from];
     let one = operations[first];
     let other = operations[second];
-    if one.line == other.line {
-        return false;
-    }
-    let Some(read) = shared_read(&one, &other) else {
+    let Some(read) = read_of(one.action) else {
         return false;
     };
-    are_not_between(operations, read, one, other)
-}
-
-/// Whether the operations at two indices found one value and left others, and the one at the index `only` alone left it.
-fn fork_from(operations: &[Operation], first: usize, second: usize, only: usize) -> bool
-    ensures { OnTrue result ((clock : Clock) → IsKept clock operations.now → ⊥) }
-{
-    if first >= operations.len() || second >= operations.len() || only >= operations.len() {
+    if one.line == other.line || !is_location(operations, read.place, read.size) {
         return false;
     }
-    let one = operations[first];
-    let other = operations[second];
-    if one.line == other.line {
+    if !changes(read.place, one.action) || !changes(read.place, other.action) {
         return false;
     }
-    let Some(read) = shared_read(&one, &other) else {
+    if !is_reader(operations, read.place, source, one) {
         return false;
-    };
-    has_one_source(operations, read, only)
+    }
+    is_reader(operations, read.place, source, other)
 }
 
 /// Whether a contradiction is there, so that no order of the operations explains the history. If not, there may be one all the same.
-pub fn refutes(operations: &[Operation], contradiction: Contradiction) -> bool
+pub fn refutes(operations: &[Operation], contradiction: &Contradiction) -> bool
     ensures { OnTrue result ((clock : Clock) → IsKept clock operations.now → ⊥) }
 {
     match contradiction {
         Contradiction::NoSource {
             reader,
             between: None,
-        } => refutes_alone(operations, reader),
+        } => refutes_alone(operations, *reader),
         Contradiction::NoSource {
             reader,
             between: Some(between),
-        } => refutes_between(operations, reader, between),
+        } => refutes_between(operations, *reader, *between),
         Contradiction::Fork {
+            source,
             first,
             second,
-            only: None,
-        } => fork_apart(operations, first, second),
-        Contradiction::Fork {
-            first,
-            second,
-            only: Some(only),
-        } => fork_from(operations, first, second, only),
-        Contradiction::Backward { at } => is_backward(operations, at),
-        Contradiction::Overlap { first, second } => overlap(operations, first, second),
+        } => is_fork(operations, *source, *first, *second),
+        Contradiction::Cycle {
+            place,
+            size,
+            values,
+        } => is_cycle(operations, *place, *size, values),
+        Contradiction::Backward { at } => is_backward(operations, *at),
+        Contradiction::Overlap { first, second } => overlap(operations, *first, *second),
     }
 }

@@ -9,11 +9,14 @@
 
 mod agreement;
 mod contradiction;
+mod cycle;
 mod operation;
 mod place;
+mod reader;
 mod ticks;
 
 pub use crate::agreement::agrees;
 pub use crate::contradiction::{Contradiction, refutes};
+pub use crate::cycle::Value;
 pub use crate::operation::{Action, Clock, NEVER, Operation};
 pub use crate::ticks::gave_ticks;

@@ -15,7 +15,7 @@ pub enum Clock {
 }
 
 /// What an operation did, and what it returned. Addresses and lengths are in bytes.
-#[derive(Clone, Copy)]
+#[derive(Clone, Copy, PartialEq, Eq)]
 pub enum Action {
     /// A load returned this value.
     Load {
@@ -54,7 +54,7 @@ pub enum Action {
 }
 
 /// An operation of a thread: it took effect after the tick `begin` and before the tick `end`.
-#[derive(Clone, Copy)]
+#[derive(Clone, Copy, PartialEq, Eq)]
 pub struct Operation {
     pub begin: u64,
     /// [`NEVER`] if it is not known.

@@ -1,6 +1,6 @@
 //! What an action found at an address, and what it left there.
 
-ghost use Rattle.std.specs.Prelude.{◌≡◌, ◌≢◌, ℕ, Option, Some, true, IfSome};
+ghost use Rattle.std.specs.Prelude.{◌≡◌, ◌≢◌, Some, None, true, IfSome};
 ghost use Rattle.std.specs.Bool.{OnTrue};
 ghost use Rattle.mig_base.specs.Ranges.{in_range, rounded};
 ghost use Rattle.history.specs.Contradictions as contradictions;
@@ -93,11 +93,22 @@ pub(crate) fn keeps_whole(place: u64, size: u8, action: Action) -> bool
 
 /// Whether an action left this value at an address.
 pub(crate) fn leaves(place: u64, value: u64, action: Action) -> bool
-    ensures { contradictions.left_at place action ≡ Some (Some value) → result ≡ true }
+    ensures all { contradictions.left_at place action ≡ Some (Some value) → result ≡ true }
+    ensures only { OnTrue result (contradictions.left_at place action ≡ Some (Some value)) }
 {
     match left_at(place, action) {
         Some(Some(left)) => left == value,
         _ => false,
+    }
+}
+
+/// Whether an action changed what is at an address.
+pub(crate) fn changes(place: u64, action: Action) -> bool
+    ensures { OnTrue result (contradictions.left_at place action ≢ None) }
+{
+    match left_at(place, action) {
+        Some(_) => true,
+        None => false,
     }
 }
 
@@ -139,17 +150,5 @@ pub(crate) fn read_of(action: Action) -> Option<ReadAt>
             })
         }
         _ => None,
-    }
-}
-
-/// Whether an action left something else at an address than this value.
-pub(crate) fn replaces(place: u64, value: u64, action: Action) -> bool
-    ensures { OnTrue result ((after : Option ℕ) ×
-        (contradictions.left_at place action ≡ Some after) × (after ≢ Some value)) }
-{
-    match left_at(place, action) {
-        Some(Some(left)) => left != value,
-        Some(None) => true,
-        None => false,
     }
 }

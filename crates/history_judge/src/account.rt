@@ -1,7 +1,7 @@
 //! What contradicts an order, in words.
 
 use grammar::EntryText;
-use history::{Action, Contradiction, NEVER, Operation};
+use history::{Action, Contradiction, NEVER, Operation, Value};
 use history_order::entries_of;
 use std::alloc::AllocError;
 
@@ -25,6 +25,10 @@ const OVERLAP: &str = "one thread made both, and neither had ended when the othe
 
 /// What is said of two exchanges that found one value.
 const FORKED: &str = "two exchanges found one value, and no call brought it back between them:";
+
+/// What is said of values that cannot have been there one after the other.
+const SPLIT: &str =
+    "each of these values was there before the next, and the last before the first:";
 
 /// What is said of a value that no operation can have given.
 const NEVER_WRITTEN: &str = "no operation stored this value:";
@@ -125,36 +129,45 @@ fn account_of_read(
 }
 
 /// What is said of a contradiction.
-fn account_of(operations: &[Operation], contradiction: Contradiction) -> Account {
+fn account_of(operations: &[Operation], contradiction: &Contradiction) -> Account {
     match contradiction {
         Contradiction::Backward { at } => Account {
-            at,
+            at: *at,
             kind: "clock",
             why: BACKWARD,
             others: [None, None],
         },
         Contradiction::Overlap { first, second } => Account {
-            at: second,
+            at: *second,
             kind: "clock",
             why: OVERLAP,
-            others: [Some(first), None],
+            others: [Some(*first), None],
         },
         Contradiction::Fork {
+            source,
             first,
             second,
-            only,
         } => Account {
-            at: second,
+            at: *second,
             kind: "forked",
             why: FORKED,
-            others: [only, Some(first)],
+            others: [Some(*source), Some(*first)],
+        },
+        Contradiction::Cycle { values, .. } => Account {
+            at: match values.first() {
+                Some(value) => value.late,
+                None => 0,
+            },
+            kind: "split",
+            why: SPLIT,
+            others: [None, None],
         },
         Contradiction::NoSource { reader, between } => {
-            let read = match operations.get(reader) {
+            let read = match operations.get(*reader) {
                 Some(operation) => read_by(operation.action),
                 None => None,
             };
-            account_of_read(operations, reader, between, read.unwrap_or((0, 0)))
+            account_of_read(operations, *reader, *between, read.unwrap_or((0, 0)))
         }
     }
 }
@@ -185,12 +198,54 @@ fn write_shown(text: &mut String, operation: &Operation) -> Result<(), AllocErro
     write_entries(text, operation)
 }
 
+/// Appends the lines of the operations that saw a value, but for the one at the index `last`.
+fn write_value(
+    text: &mut String,
+    operations: &[Operation],
+    value: &Value,
+    last: usize,
+) -> Result<(), AllocError> {
+    let late = if value.late == value.source {
+        last
+    } else {
+        value.late
+    };
+    let early = if value.early == value.source || value.early == value.late {
+        last
+    } else {
+        value.early
+    };
+    for index in [value.source, late, early] {
+        if index != last
+            && let Some(shown) = operations.get(index)
+        {
+            write_shown(text, shown)?;
+        }
+    }
+    Ok(())
+}
+
+/// Appends the lines of the operations that saw the values of a cycle, but for the one at the index `last`.
+fn write_values(
+    text: &mut String,
+    operations: &[Operation],
+    contradiction: &Contradiction,
+    last: usize,
+) -> Result<(), AllocError> {
+    if let Contradiction::Cycle { values, .. } = contradiction {
+        for value in values {
+            write_value(text, operations, value, last)?;
+        }
+    }
+    Ok(())
+}
+
 /// Appends what is said of a contradiction: `NAME:LINE: KIND: ENTRY`, and if it is to be explained why, with the operations that show it.
 pub(crate) fn write_account(
     text: &mut String,
     name: &str,
     operations: &[Operation],
-    contradiction: Contradiction,
+    contradiction: &Contradiction,
     explains: bool,
 ) -> Result<(), AllocError> {
     let account = account_of(operations, contradiction);
@@ -213,5 +268,6 @@ pub(crate) fn write_account(
             write_shown(text, shown)?;
         }
     }
+    write_values(text, operations, contradiction, account.at)?;
     write_shown(text, operation)
 }

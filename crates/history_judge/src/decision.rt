@@ -22,12 +22,12 @@ pub enum Decision {
 }
 
 /// Whether the last contradiction of the list says of the same operation that its value has no source.
-fn is_named(list: &[Contradiction], contradiction: Contradiction) -> bool {
+fn is_named(list: &[Contradiction], contradiction: &Contradiction) -> bool {
     let Contradiction::NoSource { reader, .. } = contradiction else {
         return false;
     };
     match list.last() {
-        Some(Contradiction::NoSource { reader: named, .. }) => *named == reader,
+        Some(Contradiction::NoSource { reader: named, .. }) => *named == *reader,
         _ => false,
     }
 }
@@ -40,7 +40,7 @@ fn push_true(
 ) -> Result<bool, NoMemory>
     ensures { IfOk result (λ there. OnTrue there (IsRefuted operations.now)) }
 {
-    if is_named(list, contradiction) || !refutes(operations, contradiction) {
+    if is_named(list, &contradiction) || !refutes(operations, &contradiction) {
         return Ok(false);
     }
     list.push(contradiction)?;
@@ -51,13 +51,13 @@ fn push_true(
 fn push_all_true(
     list: &mut Vec<Contradiction>,
     operations: &[Operation],
-    proposed: &[Contradiction],
+    proposed: Vec<Contradiction>,
 ) -> Result<bool, NoMemory>
     ensures { IfOk result (λ there. OnTrue there (IsRefuted operations.now)) }
 {
     let mut is_wrong = false;
     for contradiction in proposed {
-        let there = push_true(list, operations, *contradiction)?;
+        let there = push_true(list, operations, contradiction)?;
         is_wrong = is_wrong || there;
     }
     Ok(is_wrong)
@@ -84,7 +84,7 @@ pub fn decide(
         }
         Proposal::Contradictions(proposed) => {
             let mut list = Vec::new(alloc);
-            let is_wrong = push_all_true(&mut list, operations, &proposed)?;
+            let is_wrong = push_all_true(&mut list, operations, proposed)?;
             if is_wrong {
                 Ok(Decision::Wrong(list))
             } else {

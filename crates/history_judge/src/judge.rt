@@ -137,19 +137,13 @@ fn write_doubt(text: &mut String, doubt: Option<Doubt>) -> Result<(), AllocError
         Some(Doubt::Repeats(addr)) => {
             write!(
                 text,
-                "undecided: at 0x{addr:x} a value was stored twice, or 0 was\n"
-            )
-        }
-        Some(Doubt::Mixed(addr)) => {
-            write!(
-                text,
-                "undecided: at 0x{addr:x} values were stored, and exchanged too\n"
+                "undecided: at 0x{addr:x} a value was stored twice, or 0 was, and no order was found\n"
             )
         }
         Some(Doubt::Overlaps(addr)) => {
             write!(
                 text,
-                "undecided: at 0x{addr:x} a map call overlaps an access or a map call\n"
+                "undecided: at 0x{addr:x} a map call overlaps an access or a map call, and no order was found\n"
             )
         }
         Some(Doubt::Calls) => write!(text, "undecided: too many map calls on pages\n"),
@@ -179,7 +173,7 @@ fn write_decision(
         }
         Decision::Wrong(contradictions) => {
             for contradiction in &contradictions {
-                write_account(text, name, operations, *contradiction, explains)?;
+                write_account(text, name, operations, contradiction, explains)?;
             }
             write!(text, "wrong\n")?;
             Ok(Verdict::Wrong)

@@ -23,6 +23,8 @@ pub(crate) struct Call {
     pub(crate) end: u64,
     /// The index of its operation.
     pub(crate) index: u32,
+    /// Whether an access to the page, or another call on it, overlaps it.
+    pub(crate) overlaps: bool,
 }
 
 /// A number that has to fit, or the greatest.
@@ -41,7 +43,7 @@ fn address_of(action: Action) -> Option<u64> {
 }
 
 /// The first page of a map call, and the page after its last; none for an access.
-fn pages_of(action: Action) -> Option<(u64, u64)> {
+pub(crate) fn pages_of(action: Action) -> Option<(u64, u64)> {
     match action {
         Action::Map { addr, len } | Action::Unmap { addr, len } | Action::Discard { addr, len } => {
             let first = addr / PAGE_SIZE;
@@ -103,6 +105,7 @@ fn push_calls(
             begin: operation.begin,
             end: operation.end,
             index,
+            overlaps: false,
         })?;
     }
     Ok(())
@@ -135,54 +138,141 @@ pub(crate) fn call_on(calls: &[Call], at: usize, page: u64) -> Option<Call> {
     if call.page == page { Some(call) } else { None }
 }
 
-/// Sets between which calls an access is. False if it overlaps one of them.
-fn count_calls(access: &mut Access, end: u64, calls: &[Call]) -> bool {
+/// Marks a call.
+fn mark(calls: &mut [Call], number: usize) {
+    if let Some(call) = calls.get_mut(number) {
+        call.overlaps = true;
+    }
+}
+
+/// Marks the calls that overlap another on their page.
+pub(crate) fn mark_calls(calls: &mut [Call]) {
+    // Of those on a page so far the one that ended last.
+    let mut last = 0usize;
+    for number in 1..calls.len() {
+        let (Some(before), Some(call)) = (calls.get(last), calls.get(number)) else {
+            return;
+        };
+        let overlaps = before.page == call.page && before.end >= call.begin;
+        let ends_last = before.end < call.end;
+        if overlaps {
+            mark(calls, last);
+            mark(calls, number);
+        }
+        if !overlaps || ends_last {
+            last = number;
+        }
+    }
+}
+
+/// Sets between which calls an access is, and marks those that it overlaps.
+fn count_calls(access: &mut Access, end: u64, calls: &mut [Call]) {
     let page = access.addr / PAGE_SIZE;
     let begin = access.begin;
     let count = calls.partition_point(|call| call.page < page
         || call.page == page && call.begin <= begin);
     access.calls = short(count);
-    let begins_late = match call_on(calls, count.saturating_sub(1), page) {
-        Some(call) => count == 0 || call.end < begin,
-        None => true,
-    };
-    let ends_early = match call_on(calls, count, page) {
-        Some(call) => end < call.begin,
-        None => true,
-    };
-    begins_late && ends_early
+    if count > 0
+        && let Some(call) = calls.get_mut(count - 1)
+        && call.page == page
+        && call.end >= begin
+    {
+        call.overlaps = true;
+    }
+    for call in calls.iter_mut().skip(count) {
+        if call.page != page || call.begin > end {
+            break;
+        }
+        call.overlaps = true;
+    }
 }
 
-/// Sets between which calls the accesses are. Returns an address at which an access overlaps a call on its page, if there is one.
+/// Sets between which calls the accesses are, and marks the calls that one of them overlaps.
 pub(crate) fn count_all_calls(
     accesses: &mut [Access],
     operations: &[Operation],
-    calls: &[Call],
-) -> Option<u64> {
-    let mut overlaps = None;
+    calls: &mut [Call],
+) {
     for access in accesses.iter_mut() {
         let end = match operations.get(access.index as usize) {
             Some(operation) => operation.end,
             None => access.begin,
         };
-        if !count_calls(access, end, calls) {
-            overlaps = Some(access.addr);
-        }
+        count_calls(access, end, calls);
     }
-    overlaps
 }
 
-/// The address of a page on which two map calls overlap, if there is one.
-pub(crate) fn overlapping_calls(calls: &[Call]) -> Option<u64> {
-    let mut before: Option<Call> = None;
+/// The pages on which a call overlaps an access or another call, each once, from the lowest on.
+pub(crate) fn list_tangled(alloc: Global, calls: &[Call]) -> Result<Vec<u64>, NoMemory> {
+    let mut pages: Vec<u64> = Vec::new(alloc);
     for call in calls {
-        if let Some(before) = before
-            && before.page == call.page
-            && before.end >= call.begin
-        {
-            return Some(call.page.saturating_mul(PAGE_SIZE));
+        if call.overlaps && pages.last() != Some(&call.page) {
+            pages.push(call.page)?;
         }
-        before = Some(*call);
     }
-    None
+    Ok(pages)
+}
+
+/// The indices of the calls that overlap something, each once, from the lowest on.
+pub(crate) fn list_overlapping(alloc: Global, calls: &[Call]) -> Result<Vec<u32>, NoMemory> {
+    let mut indices: Vec<u32> = Vec::new(alloc);
+    for call in calls {
+        if call.overlaps {
+            indices.push(call.index)?;
+        }
+    }
+    indices.sort_unstable();
+    Ok(indices)
+}
+
+/// The accesses of a history and its map calls, and where they overlap.
+#[derive(Drop)]
+pub(crate) struct Listed {
+    /// Those to pages on which no call overlaps anything, and the others: by their addresses, and those of an address as they began.
+    pub(crate) accesses: Vec<Access>,
+    pub(crate) tangled: Vec<Access>,
+    /// By their pages, and those of a page as they began.
+    pub(crate) calls: Vec<Call>,
+    /// The pages on which a call overlaps an access or another call, and the indices of such calls, from the lowest on.
+    pub(crate) pages: Vec<u64>,
+    overlapping: Vec<u32>,
+}
+
+impl Listed {
+    /// Whether the call at an index overlaps nothing.
+    pub(crate) fn is_apart(&self, index: u32) -> bool {
+        self.overlapping.binary_search(&index).is_err()
+    }
+}
+
+/// Lists the accesses and the map calls of a history. None if there are more than `most` calls on pages that are accessed.
+pub(crate) fn list_all(
+    alloc: Global,
+    operations: &[Operation],
+    most: usize,
+) -> Result<Option<Listed>, NoMemory> {
+    let mut all = list_accesses(alloc, operations)?;
+    let Some(mut calls) = list_calls(alloc, operations, &all, most)? else {
+        return Ok(None);
+    };
+    mark_calls(&mut calls);
+    count_all_calls(&mut all, operations, &mut calls);
+    let pages = list_tangled(alloc, &calls)?;
+    let overlapping = list_overlapping(alloc, &calls)?;
+    let mut tangled = Vec::new(alloc);
+    if !pages.is_empty() {
+        for access in &all {
+            if pages.binary_search(&(access.addr / PAGE_SIZE)).is_ok() {
+                tangled.push(*access)?;
+            }
+        }
+        all.retain(|access| pages.binary_search(&(access.addr / PAGE_SIZE)).is_err());
+    }
+    Ok(Some(Listed {
+        accesses: all,
+        tangled,
+        calls,
+        pages,
+        overlapping,
+    }))
 }

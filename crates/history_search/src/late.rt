@@ -1,7 +1,7 @@
 //! Operations at a location that found an old value.
 
+use crate::chains::{Kind, Member};
 use crate::clocks::MOST;
-use crate::zones::{Kind, Member};
 use history::Contradiction;
 use mig_base::NoMemory;
 use std::alloc::Global;
@@ -74,7 +74,7 @@ pub(crate) fn push_late(
             latest.take(*member);
             at = at.saturating_add(1);
         }
-        if reader.kind == Kind::Store || found.len() >= MOST {
+        if reader.kind <= Kind::Store || found.len() >= MOST {
             continue;
         }
         if let Some(between) = latest.showing_other(reader.finds)

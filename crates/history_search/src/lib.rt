@@ -1,18 +1,25 @@
 //! Looking for an order of the operations of a history that explains it, or for contradictions.
 //!
-//! [`propose`] promises nothing: what it proposes is checked by `history` and `history_order`. Between two map calls on its page a location
-//! is a register. Where each value is stored there once, the operations that show one value are a cluster, and the clusters are put into an
-//! order by their zones (Gibbons and Korach, Testing shared memories, 1997); where values are exchanged, each names the one before it. Each
-//! operation gets a place in time, by which those of all locations are sorted (a history is right if it is at each location: Herlihy and
-//! Wing, 1990). The time is that of the sorts.
+//! [`propose`] promises that what it proposes names operations that are there, and no more: it is checked by `history` and `history_order`.
+//! Between two map calls on its page a location is a register. Where each value is stored there once, the operations that saw one value are
+//! together, and those that saw what an exchange put in its place follow them: these `chains` are put into an order by their zones (Gibbons
+//! and Korach, Testing shared memories, 1997). Where two of them cannot be, they are a contradiction (`late`, `cycles`). Where values are
+//! stored twice, or a map call overlaps an access (`tangles`), an order is looked for step by step (`board`). Each operation gets a place in
+//! time, by which those of all locations are sorted (a history is right if it is at each location: Herlihy and Wing, 1990). The time is that
+//! of the sorts, and of the steps, whose number is bounded.
 #![tactic(auto)]
 
 mod accesses;
+mod board;
+mod chains;
 mod clocks;
+mod cycles;
 mod late;
+mod layout;
 mod locations;
 mod proposal;
-mod zones;
+mod tangles;
+mod within;
 
 pub use crate::locations::Doubt;
 pub use crate::proposal::{Proposal, propose};

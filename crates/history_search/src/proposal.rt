@@ -1,14 +1,21 @@
 //! What is proposed of a history.
 
-use crate::accesses::{
-    Access, Call, call_on, count_all_calls, list_accesses, list_calls, overlapping_calls, short,
-};
+ghost use Rattle.std.specs.Prelude.{◌<◌, IfOk};
+ghost use Rattle.std.specs.List.{All};
+ghost use Rattle.history_search.specs.Proposals.{NamesThose};
+
+use crate::accesses::{Access, Listed, call_on, list_all, pages_of, short};
+use crate::chains::{Member, Placed, push_member, width_of};
 use crate::clocks::clock_contradictions;
 use crate::locations::{Doubt, Found};
-use crate::zones::{Member, Placed, member_of};
-use history::{Action, Contradiction, Operation};
+use crate::tangles::take_tangles;
+use crate::within::keep_within;
+use history::{Contradiction, Operation};
 use mig_base::{NoMemory, PAGE_SIZE};
 use std::alloc::Global;
+
+/// How many steps may be tried, and 16 more for each operation.
+const MOST_STEPS: u64 = 2_000_000;
 
 /// What is proposed of a history.
 #[derive(Drop)]
@@ -21,120 +28,140 @@ pub enum Proposal {
     Nothing(Doubt),
 }
 
-/// Adds a place for each map call: its begin.
-fn place_calls(placed: &mut Vec<Placed>, operations: &[Operation]) -> Result<(), NoMemory> {
+/// Adds a place for each map call that overlaps nothing: its begin.
+fn place_calls(
+    placed: &mut Vec<Placed>,
+    operations: &[Operation],
+    listed: &Listed,
+) -> Result<(), NoMemory> {
     for (index, operation) in operations.iter().enumerate() {
-        match operation.action {
-            Action::Map { .. } | Action::Unmap { .. } | Action::Discard { .. } => {
-                placed.push(Placed {
-                    place: operation.begin,
-                    index: short(index),
-                })?;
-            }
-            _ => {}
+        let index = short(index);
+        if pages_of(operation.action).is_some() && listed.is_apart(index) {
+            placed.push(Placed {
+                place: operation.begin,
+                index,
+            })?;
         }
     }
     Ok(())
+}
+
+/// Adds the map call before an access as a member of its location.
+fn push_call(
+    members: &mut Vec<Member>,
+    operations: &[Operation],
+    listed: &Listed,
+    access: Access,
+) -> Result<(), NoMemory> {
+    if access.calls == 0 {
+        return Ok(());
+    }
+    let number = (access.calls - 1) as usize;
+    match call_on(&listed.calls, number, access.addr / PAGE_SIZE) {
+        Some(call) => push_member(members, operations, call.index),
+        None => Ok(()),
+    }
 }
 
 /// Takes the members of a location, which are removed.
 fn take_members(
     alloc: Global,
     found: &mut Found,
+    operations: &[Operation],
     members: &mut Vec<Member>,
-    calls: &[Call],
     access: Access,
 ) -> Result<(), NoMemory> {
-    let page = access.addr / PAGE_SIZE;
-    let call = match access.calls {
-        0 => None,
-        count => match call_on(calls, (count - 1) as usize, page) {
-            Some(call) => Some(call.index),
-            None => None,
-        },
-    };
-    found.take_location(alloc, access.addr, members, call)?;
+    let width = width_of(operations, access.index);
+    found.take_location(alloc, operations, access.addr, width, members)?;
     members.clear();
     Ok(())
 }
 
-/// Takes each location.
+/// Takes each location on whose page no call overlaps an access.
 fn take_locations(
     alloc: Global,
     found: &mut Found,
     operations: &[Operation],
-    accesses: &[Access],
-    calls: &[Call],
+    listed: &Listed,
 ) -> Result<(), NoMemory> {
     let mut members = Vec::new(alloc);
     let mut before: Option<Access> = None;
-    for access in accesses {
-        if let Some(before) = before
-            && (before.addr != access.addr || before.calls != access.calls)
-        {
-            take_members(alloc, found, &mut members, calls, before)?;
+    for access in &listed.accesses {
+        let continues = match before {
+            Some(before) => before.addr == access.addr && before.calls == access.calls,
+            None => false,
+        };
+        if !continues {
+            if let Some(before) = before {
+                take_members(alloc, found, operations, &mut members, before)?;
+            }
+            push_call(&mut members, operations, listed, *access)?;
         }
-        if let Some(operation) = operations.get(access.index as usize)
-            && let Some(member) = member_of(operation, access.index)
-        {
-            members.push(member)?;
-        }
+        push_member(&mut members, operations, access.index)?;
         before = Some(*access);
     }
     match before {
-        Some(before) => take_members(alloc, found, &mut members, calls, before),
+        Some(before) => take_members(alloc, found, operations, &mut members, before),
         None => Ok(()),
     }
 }
 
 /// The indices of what was placed, in the order of the places.
-fn order_of(alloc: Global, placed: &mut Vec<Placed>) -> Result<Vec<u32>, NoMemory> {
+fn order_of(alloc: Global, placed: &mut Vec<Placed>, count: usize) -> Result<Vec<u32>, NoMemory>
+    ensures { IfOk result (λ order. All (λ index. index < count) order.items) }
+{
     placed.sort_by_key(|placed| placed.place)?;
     let mut order = Vec::with_capacity(alloc, placed.len())?;
     for placed in placed.iter() {
-        order.push(placed.index)?;
+        if (placed.index as usize) < count {
+            order.push(placed.index)?;
+        }
     }
     Ok(order)
 }
 
-/// Takes all accesses of a history. Why nothing can be proposed comes if there is a reason.
+/// Takes all operations of a history. Why nothing can be proposed comes if there is a reason.
 fn find(
     alloc: Global,
     found: &mut Found,
     operations: &[Operation],
 ) -> Result<Option<Doubt>, NoMemory> {
-    let mut accesses = list_accesses(alloc, operations)?;
     let most = operations.len().saturating_mul(8);
-    let Some(calls) = list_calls(alloc, operations, &accesses, most)? else {
+    let Some(listed) = list_all(alloc, operations, most)? else {
         return Ok(Some(Doubt::Calls));
     };
-    if let Some(addr) = overlapping_calls(&calls) {
-        return Ok(Some(Doubt::Overlaps(addr)));
-    }
-    if let Some(addr) = count_all_calls(&mut accesses, operations, &calls) {
-        return Ok(Some(Doubt::Overlaps(addr)));
-    }
-    take_locations(alloc, found, operations, &accesses, &calls)?;
+    place_calls(&mut found.placed, operations, &listed)?;
+    take_locations(alloc, found, operations, &listed)?;
+    take_tangles(alloc, found, operations, &listed)?;
     Ok(None)
 }
 
-/// Proposes an order of the operations of a history, or contradictions in it. `NoMemory` comes if room is refused: about 50 bytes an
+/// Proposes an order of the operations of a history, or contradictions in it: each names operations that are there. `NoMemory` comes if room is refused: about 50 bytes an
 /// operation are needed.
-pub fn propose(alloc: Global, operations: &[Operation]) -> Result<Proposal, NoMemory> {
+pub fn propose(alloc: Global, operations: &[Operation]) -> Result<Proposal, NoMemory>
+    ensures { IfOk result (λ proposal. NamesThose operations.now proposal) }
+{
+    let count = operations.len();
     let clocks = clock_contradictions(alloc, operations)?;
     if !clocks.is_empty() {
-        return Ok(Proposal::Contradictions(clocks));
+        return Ok(Proposal::Contradictions(keep_within(alloc, clocks, count)?));
     }
-    let mut found = Found::new(alloc);
-    place_calls(&mut found.placed, operations)?;
+    let budget = (operations.len() as u64)
+        .saturating_mul(16)
+        .saturating_add(MOST_STEPS);
+    let mut found = Found::new(alloc, budget);
     if let Some(doubt) = find(alloc, &mut found, operations)? {
         return Ok(Proposal::Nothing(doubt));
     }
     if !found.contradictions.is_empty() {
-        return Ok(Proposal::Contradictions(found.contradictions));
+        let kept = keep_within(alloc, found.contradictions, count)?;
+        return Ok(Proposal::Contradictions(kept));
     }
     match found.doubt {
         Some(doubt) => Ok(Proposal::Nothing(doubt)),
-        None => Ok(Proposal::Order(order_of(alloc, &mut found.placed)?)),
+        None => {
+            let order = order_of(alloc, &mut found.placed, count)?;
+            Ok(Proposal::Order(order))
+        }
     }
 }

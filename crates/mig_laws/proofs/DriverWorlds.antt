@@ -1,5 +1,5 @@
 -- Two drivers as the two nodes of a world, and what is proved of every world as a law of what the drivers have.
-use Rattle.std.proofs.Common.{◌≡◌, ℕ, ◌/◌, Bool, true, false, cond, List, [], ◌++◌, map, refl, sym, ap, subst, ◌∙◌}
+use Rattle.std.proofs.Common.{◌≡◌, ◌⊎◌, inl, inr, ℕ, ◌/◌, Bool, true, false, cond, List, [], ◌++◌, map, refl, sym, ap, subst, ◌∙◌}
 use Rattle.std.specs.Prelude.{Ok}
 use Rattle.std.specs.FinMap.{contains_key, get}
 use Rattle.mig_base.specs.Flat.{IsFlatRun, memory_of}
@@ -30,7 +30,10 @@ use Rattle.mig_laws.proofs.HeldDestination.{line-there, there_of}
 use Rattle.mig_laws.proofs.SideForms.{destination-own, destination_done, destination_gives, source-own, source_done, source_gives}
 use Rattle.mig_laws.proofs.EnteredLines.{answered, bytes_here, bytes_there, did_entered, line-here-entered, line-there-entered, there-entered}
 use Rattle.mig_laws.proofs.HeldGuests.{none_waits}
+use Rattle.mig_laws.proofs.HeldWorlds.{any-held}
 use Rattle.mig_laws.proofs.ReplacedRuns.{IsWorldOfLast, world-of-last}
+use Rattle.mig_laws.proofs.NothingOwed.{nothing-owed, puts-none}
+use Rattle.mig_laws.proofs.Settling.{IsLeft, Settles, at_phase, changes-append, install-phase, settles}
 use Rattle.mig_laws.proofs.TwoProcesses.{reached-of}
 use Rattle.mig_laws.proofs.WholePages.{none_whole}
 
@@ -99,26 +102,25 @@ pub record IsHeadline (new : Drivers) : Type 0 where
   pub seen : memory (seen_by new) ≡ memory_of (entries_of new)
   pub alone : is_released new.nodes.source.phase ≡ true → HasAlone new
 
-pub headline-of : (cpus epoch rounds : ℕ) (deeds : List Deed) (new : Drivers) → AreDeeds cpus (first_drivers cpus epoch rounds) deeds new → IsSettled new.nodes → IsHeadline new
-headline-of cpus epoch rounds deeds new are calm =
+pub headline-of : (cpus epoch rounds : ℕ) (deeds : List Deed) (new : Drivers) → AreDeeds cpus (first_drivers cpus epoch rounds) deeds new → IsHeadline new
+headline-of cpus epoch rounds deeds new are =
     let ran = filled-first cpus epoch rounds deeds new are in
-    let all = world-of-deeds cpus epoch rounds deeds new are calm in
-    let world = all.world in
-    let w = after_steps (first_world_with cpus epoch rounds) world.steps in
-    let kept = kept-reached w (reached-of cpus epoch rounds world.steps) in
-    let seen = ap memory (λ i. current_by (sym world.destination_is i).has_run (sym world.destination_is i).guest.space.host (sym world.source_is i).guest.space.host (settled (sym world.destination_is i)))
+    let all = any-held cpus epoch rounds (map change_of deeds) ran.last ran.are in
+    let w = after_steps (first_world_with cpus epoch rounds) all.steps in
+    let kept = kept-reached w (reached-of cpus epoch rounds all.steps) in
+    let seen = ap memory (λ i. current_by (sym all.destination_is i).has_run (sym all.destination_is i).guest.space.host (sym all.source_is i).guest.space.host (settled (sym all.destination_is i)))
     ∙ kept.memory.holds ∙ ap memory_of all.transcript_is in
     subst IsHeadline (sym ran.new_is)
     (record {
       flat = subst IsFlatRun all.transcript_is kept.memory.flat;
       seen = seen;
       alone = λ released.
-          let alone = is_alone w kept (ap (λ (node : Source). is_released node.phase) world.source_is ∙ released) in
+          let alone = is_alone w kept (ap (λ (node : Source). is_released node.phase) all.source_is ∙ released) in
           record {
-            memory_is = ap (λ (node : Destination). memory node.guest.space.host) (sym world.destination_is) ∙ alone.holds ∙ ap memory_of all.transcript_is;
-            none_here = ap (λ (node : Source). node.guest.space.host.bytes) (sym world.source_is) ∙ ap (λ (space : Space). space.host.bytes) alone.alone;
-            none_owed = ap (λ (node : Destination). node.owed) (sym world.destination_is) ∙ alone.none_owed;
-            none_came = ap (λ (node : Destination). node.arrivals) (sym world.destination_is) ∙ alone.none_arrived;
+            memory_is = ap (λ (node : Destination). memory node.guest.space.host) (sym all.destination_is) ∙ alone.holds ∙ ap memory_of all.transcript_is;
+            none_here = ap (λ (node : Source). node.guest.space.host.bytes) (sym all.source_is) ∙ ap (λ (space : Space). space.host.bytes) alone.alone;
+            none_owed = ap (λ (node : Destination). node.owed) (sym all.destination_is) ∙ alone.none_owed;
+            none_came = ap (λ (node : Destination). node.arrivals) (sym all.destination_is) ∙ alone.none_arrived;
           };
     })
 
@@ -182,64 +184,78 @@ answer-there : (world : World) (node : Destination) (step : Step) (did : Did Des
     answer world step ≡ made did.effect (destination_done world did)
 answer-there world node step did is own gives = own ∙ ap (destination_gives world) (ap (λ n. destination_step n step) is ∙ gives)
 
-put-right : (cpus epoch rounds : ℕ) (changes : List Change) (full : Processes) (said heard : List Entry) → AreChanges cpus (first_processes cpus epoch rounds) changes full → AreWholeProcesses full → IsSettled full → (new : Drivers) →
-    (is : IsDoneThere (drivers_of full said heard) (Line.Made Step.Install) new) (addr origin : ℕ) → is.did.effect ≡ Effect.Installed addr origin → IsPutRight (drivers_of full said heard) new (addr / 4096) (origin / 4096)
-put-right cpus epoch rounds changes full said heard are whole settled new is addr origin effect =
-    let world = (world-of-last cpus epoch rounds changes full are settled).world in
+-- the destination installs a copy, and the processes can still be settled
+put-of : (cpus epoch rounds : ℕ) (changes : List Change) (full : Processes) (said heard : List Entry) → AreChanges cpus (first_processes cpus epoch rounds) changes full → AreWholeProcesses full → Settles cpus full → (new : Drivers) →
+    (is : IsDoneThere (drivers_of full said heard) (Line.Made Step.Install) new) (addr origin : ℕ) → is.did.effect ≡ Effect.Installed addr origin → IsPutRight (drivers_of full said heard) new addr origin
+put-of cpus epoch rounds changes full said heard are whole calm new is addr origin effect =
+    let phase = calm.new.destination.phase in
+    let world = (world-of-last cpus epoch rounds (changes ++ calm.changes) calm.new (changes-append cpus (first_processes cpus epoch rounds) full calm.new changes calm.changes are calm.are) calm.settled).world in
     let w = after_steps (first_world_with cpus epoch rounds) world.steps in
     let given = made-there full said heard Step.Install new whole is in
+    let did = at_phase phase given.did in
     let told = installed-entered (bytes_there (Line.Made Step.Install)) given.did.effect addr origin (sym given.effect_is ∙ effect) in
-    let answers = answer-there w full.destination Step.Install given.did world.destination_is (destination-own w Step.Install refl) given.gives in
-    let put = install_put_next w addr origin (kept-reached w (reached-of cpus epoch rounds world.steps)) (outcome-made w Step.Install given.did.effect (destination_done w given.did) answers ∙ ap (λ e. Ok e) told) in
-    let after : next w Step.Install ≡ destination_done w given.did = next-made w Step.Install given.did.effect (destination_done w given.did) answers in
+    let node_is : w.destination ≡ record full.destination { phase = phase } = world.destination_is ∙ calm.destination_is in
+    let answers = answer-there w (record full.destination { phase = phase }) Step.Install did node_is (destination-own w Step.Install refl) (install-phase phase full.destination given.did given.gives) in
+    let put = install_put_next w addr origin (kept-reached w (reached-of cpus epoch rounds world.steps)) (outcome-made w Step.Install did.effect (destination_done w did) answers ∙ ap (λ e. Ok e) told) in
+    let after : next w Step.Install ≡ destination_done w did = next-made w Step.Install did.effect (destination_done w did) answers in
     record {
-      missing = ap (λ (node : Destination). contains_key node.guest.space.host.bytes (addr / 4096)) (sym world.destination_is) ∙ put.missing;
+      missing = ap (λ (node : Destination). contains_key node.guest.space.host.bytes (addr / 4096)) (sym node_is) ∙ put.missing;
       bytes =
           ap (λ (d : Drivers). get d.there.held.pages (addr / 4096)) is.is ∙ ap (λ (t : drivers.There). get t.held.pages (addr / 4096)) given.there_is
           ∙ ap (λ (v : World). get v.destination.guest.space.host.bytes (addr / 4096)) (sym after) ∙ sym put.source
-          ∙ ap (λ (node : Source). get (space_of node).host.bytes (origin / 4096)) world.source_is;
+          ∙ ap (λ (node : Source). get (space_of node).host.bytes (origin / 4096)) (world.source_is ∙ calm.source_is);
+      present =
+          ap (λ (d : Drivers). contains_key d.there.held.pages (addr / 4096)) is.is
+          ∙ ap (λ (t : drivers.There). contains_key t.held.pages (addr / 4096)) given.there_is
+          ∙ ap (λ (v : World). contains_key v.destination.guest.space.host.bytes (addr / 4096)) (sym after) ∙ put.present;
     }
 
-pub puts-right : (cpus epoch rounds : ℕ) (deeds : List Deed) (old new : Drivers) (addr origin : ℕ) (is : IsDoneThere old (Line.Made Step.Install) new) → AreDeeds cpus (first_drivers cpus epoch rounds) deeds old → IsSettled old.nodes →
-    is.did.effect ≡ Effect.Installed addr origin → IsPutRight old new (addr / 4096) (origin / 4096)
-puts-right cpus epoch rounds deeds old new addr origin is are settled =
-    let ran = filled-first cpus epoch rounds deeds old are in
-    let right = put-right cpus epoch rounds (map change_of deeds) ran.last _ _ ran.are ran.whole (settled-of ran.last _ _ old ran.new_is settled) in
-    subst (λ (from : Drivers). (now : Drivers) (done : IsDoneThere from (Line.Made Step.Install) now) (at of : ℕ) → done.did.effect ≡ Effect.Installed at of → IsPutRight from now (at / 4096) (of / 4096)) (sym ran.new_is) right new is addr origin
+put-right : (cpus epoch rounds : ℕ) (changes : List Change) (full : Processes) (said heard : List Entry) → AreChanges cpus (first_processes cpus epoch rounds) changes full → AreWholeProcesses full → Settles cpus full ⊎ IsLeft full → (new : Drivers) →
+    (is : IsDoneThere (drivers_of full said heard) (Line.Made Step.Install) new) (addr origin : ℕ) → is.did.effect ≡ Effect.Installed addr origin → IsPutRight (drivers_of full said heard) new addr origin
+put-right cpus epoch rounds changes full said heard are whole (inl calm) new is addr origin effect = put-of cpus epoch rounds changes full said heard are whole calm new is addr origin effect
+put-right cpus epoch rounds changes full said heard are whole (inr left) new is addr origin effect =
+    let given = made-there full said heard Step.Install new whole is in
+    let told = installed-entered (bytes_there (Line.Made Step.Install)) given.did.effect addr origin (sym given.effect_is ∙ effect) in
+    absurd (puts-none full.destination given.did addr origin (nothing-owed cpus epoch rounds changes full are left) given.gives told)
 
-zeroed-right : (cpus epoch rounds : ℕ) (changes : List Change) (full : Processes) (said heard : List Entry) → AreChanges cpus (first_processes cpus epoch rounds) changes full → AreWholeProcesses full → IsSettled full → (new : Drivers) →
+pub puts-right : (cpus epoch rounds : ℕ) (deeds : List Deed) (old new : Drivers) (addr origin : ℕ) (is : IsDoneThere old (Line.Made Step.Install) new) → AreDeeds cpus (first_drivers cpus epoch rounds) deeds old → is.did.effect ≡ Effect.Installed addr origin →
+    IsPutRight old new addr origin
+puts-right cpus epoch rounds deeds old new addr origin is are =
+    let ran = filled-first cpus epoch rounds deeds old are in
+    let right = put-right cpus epoch rounds (map change_of deeds) ran.last _ _ ran.are ran.whole (settles cpus ran.last) in
+    subst (λ (from : Drivers). (now : Drivers) (done : IsDoneThere from (Line.Made Step.Install) now) (at of : ℕ) → done.did.effect ≡ Effect.Installed at of → IsPutRight from now at of) (sym ran.new_is) right new is addr origin
+
+-- Pages of zeros. Where they are put, the node alone decides: any world that has it will do
+
+zeroed-right : (full : Processes) (said heard : List Entry) → AreWholeProcesses full → (new : Drivers) →
     (is : IsDoneThere (drivers_of full said heard) (Line.Made Step.DestAct) new) (addr : ℕ) → is.did.effect ≡ Effect.Zeroed addr → contains_key full.destination.guest.space.host.bytes (addr / 4096) ≡ false
-zeroed-right cpus epoch rounds changes full said heard are whole settled new is addr effect =
-    let world = (world-of-last cpus epoch rounds changes full are settled).world in
-    let w = after_steps (first_world_with cpus epoch rounds) world.steps in
+zeroed-right full said heard whole new is addr effect =
+    let w : World = record (first_world_with 0 0 0) { destination = full.destination } in
     let given = made-there full said heard Step.DestAct new whole is in
     let told = zeroed-entered (bytes_there (Line.Made Step.DestAct)) given.did.effect addr (sym given.effect_is ∙ effect) in
-    let answers = answer-there w full.destination Step.DestAct given.did world.destination_is (destination-own w Step.DestAct refl) given.gives in
-    let zeroed = destination_zeroed w addr (outcome-made w Step.DestAct given.did.effect (destination_done w given.did) answers ∙ ap (λ e. Ok e) told) in
-    ap (λ (node : Destination). contains_key node.guest.space.host.bytes (addr / 4096)) (sym world.destination_is) ∙ zeroed.missing
+    let answers = answer-there w full.destination Step.DestAct given.did refl (destination-own w Step.DestAct refl) given.gives in
+    (destination_zeroed w addr (outcome-made w Step.DestAct given.did.effect (destination_done w given.did) answers ∙ ap (λ e. Ok e) told)).missing
 
-pub zeroes-right : (cpus epoch rounds : ℕ) (deeds : List Deed) (old new : Drivers) (addr : ℕ) (is : IsDoneThere old (Line.Made Step.DestAct) new) → AreDeeds cpus (first_drivers cpus epoch rounds) deeds old → IsSettled old.nodes → is.did.effect ≡ Effect.Zeroed addr →
+pub zeroes-right : (cpus epoch rounds : ℕ) (deeds : List Deed) (old new : Drivers) (addr : ℕ) (is : IsDoneThere old (Line.Made Step.DestAct) new) → AreDeeds cpus (first_drivers cpus epoch rounds) deeds old → is.did.effect ≡ Effect.Zeroed addr →
     contains_key old.there.held.pages (addr / 4096) ≡ false
-zeroes-right cpus epoch rounds deeds old new addr is are settled =
+zeroes-right cpus epoch rounds deeds old new addr is are =
     let ran = filled-first cpus epoch rounds deeds old are in
-    let right = zeroed-right cpus epoch rounds (map change_of deeds) ran.last _ _ ran.are ran.whole (settled-of ran.last _ _ old ran.new_is settled) in
+    let right = zeroed-right ran.last _ _ ran.whole in
     subst (λ (from : Drivers). (now : Drivers) (done : IsDoneThere from (Line.Made Step.DestAct) now) (at : ℕ) → done.did.effect ≡ Effect.Zeroed at → contains_key from.there.held.pages (at / 4096) ≡ false) (sym ran.new_is) right new is addr
 
-zeroed_here-right : (cpus epoch rounds : ℕ) (changes : List Change) (full : Processes) (said heard : List Entry) → AreChanges cpus (first_processes cpus epoch rounds) changes full → AreWholeProcesses full → IsSettled full → (new : Drivers) →
+zeroed_here-right : (full : Processes) (said heard : List Entry) → AreWholeProcesses full → (new : Drivers) →
     (is : IsDoneHere (drivers_of full said heard) (Line.Made Step.SourceAct) new) (addr : ℕ) → is.did.effect ≡ Effect.Zeroed addr → contains_key full.source.guest.space.host.bytes (addr / 4096) ≡ false
-zeroed_here-right cpus epoch rounds changes full said heard are whole settled new is addr effect =
-    let world = (world-of-last cpus epoch rounds changes full are settled).world in
-    let w = after_steps (first_world_with cpus epoch rounds) world.steps in
+zeroed_here-right full said heard whole new is addr effect =
+    let w : World = record (first_world_with 0 0 0) { source = full.source } in
     let line = Line.Made Step.SourceAct in
     let given = answered (did_entered (source_under no_byte) (bytes_here full.source line)) (source_line full.source line) is.did (sym (line-here-entered full.source whole.source line) ∙ is.gives) in
     let told = zeroed-entered (bytes_here full.source line) given.0.effect addr (sym (ap (λ (d : Did Source). d.effect) given.2) ∙ effect) in
-    let answers : answer w Step.SourceAct ≡ made given.0.effect (source_done w given.0) = source-own w Step.SourceAct refl ∙ ap (source_gives w) (ap (λ node. source_step node Step.SourceAct) world.source_is ∙ given.1) in
-    let zeroed = source_zeroed w addr (outcome-made w Step.SourceAct given.0.effect (source_done w given.0) answers ∙ ap (λ e. Ok e) told) in
-    ap (λ (node : Source). contains_key node.guest.space.host.bytes (addr / 4096)) (sym world.source_is) ∙ zeroed.missing
+    let answers : answer w Step.SourceAct ≡ made given.0.effect (source_done w given.0) = source-own w Step.SourceAct refl ∙ ap (source_gives w) given.1 in
+    (source_zeroed w addr (outcome-made w Step.SourceAct given.0.effect (source_done w given.0) answers ∙ ap (λ e. Ok e) told)).missing
 
-pub zeroes_here-right : (cpus epoch rounds : ℕ) (deeds : List Deed) (old new : Drivers) (addr : ℕ) (is : IsDoneHere old (Line.Made Step.SourceAct) new) → AreDeeds cpus (first_drivers cpus epoch rounds) deeds old → IsSettled old.nodes → is.did.effect ≡ Effect.Zeroed addr →
+pub zeroes_here-right : (cpus epoch rounds : ℕ) (deeds : List Deed) (old new : Drivers) (addr : ℕ) (is : IsDoneHere old (Line.Made Step.SourceAct) new) → AreDeeds cpus (first_drivers cpus epoch rounds) deeds old → is.did.effect ≡ Effect.Zeroed addr →
     contains_key old.here.pages (addr / 4096) ≡ false
-zeroes_here-right cpus epoch rounds deeds old new addr is are settled =
+zeroes_here-right cpus epoch rounds deeds old new addr is are =
     let ran = filled-first cpus epoch rounds deeds old are in
-    let right = zeroed_here-right cpus epoch rounds (map change_of deeds) ran.last _ _ ran.are ran.whole (settled-of ran.last _ _ old ran.new_is settled) in
+    let right = zeroed_here-right ran.last _ _ ran.whole in
     subst (λ (from : Drivers). (now : Drivers) (done : IsDoneHere from (Line.Made Step.SourceAct) now) (at : ℕ) → done.did.effect ≡ Effect.Zeroed at → contains_key from.here.pages (at / 4096) ≡ false) (sym ran.new_is) right new is addr

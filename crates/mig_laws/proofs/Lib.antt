@@ -33,6 +33,10 @@ pub mod HeldDestination
 pub mod EnteredLines
 pub mod QuietAccesses
 pub mod FilledRuns
+pub mod Settling
+pub mod LeftAlone
+pub mod HeldWorlds
+pub mod NothingOwed
 pub mod DriverWorlds
 pub mod EventsOfOrders
 pub mod RunsOfDrivers

@@ -25,50 +25,50 @@ not-used : (here : Source) (later : List Channel) (now : Source) (lines : List L
 not-used here [] now lines used = used
 not-used here (next ∷ later) now lines used = used
 
-not-empty : (next : Channel) (later : List Channel) → next ∷ later ≡ [] → ⊥
+pub not-empty : (next : Channel) (later : List Channel) → next ∷ later ≡ [] → ⊥
 not-empty next later is = cc
 
 -- the destination uses the first channel: of the source's lines those wait that it has made since it lost that channel
-record Meets (first : Pair) (here there : List Line) (source : Source) (destination : Destination) (channel : Channel) (later : List Channel) (uses : Bool) : Type 0 where
-  at : Source
-  waiting : List Line
-  done : List Line
-  said : List Entry
-  told : List Entry
-  leads : Leads first done there (on channel at destination said told)
-  ahead : Open at later uses source waiting
-  is : here ≡ done ++ waiting
+pub record Meets (first : Pair) (here there : List Line) (source : Source) (destination : Destination) (channel : Channel) (later : List Channel) (uses : Bool) : Type 0 where
+  pub at : Source
+  pub waiting : List Line
+  pub done : List Line
+  pub said : List Entry
+  pub told : List Entry
+  pub leads : Leads first done there (on channel at destination said told)
+  pub ahead : Open at later uses source waiting
+  pub is : here ≡ done ++ waiting
 
 -- both have lost the first channel: of the source's lines those wait with which it has opened later ones
-record Parted (first : Pair) (here there : List Line) (source : Source) (destination : Destination) (later : List Channel) (uses : Bool) : Type 0 where
-  at : Source
-  waiting : List Line
-  done : List Line
-  said : List Entry
-  told : List Entry
-  leads : Leads first done there (down at destination said told)
-  ahead : Shut at later uses source waiting
-  is : here ≡ done ++ waiting
+pub record Parted (first : Pair) (here there : List Line) (source : Source) (destination : Destination) (later : List Channel) (uses : Bool) : Type 0 where
+  pub at : Source
+  pub waiting : List Line
+  pub done : List Line
+  pub said : List Entry
+  pub told : List Entry
+  pub leads : Leads first done there (down at destination said told)
+  pub ahead : Shut at later uses source waiting
+  pub is : here ≡ done ++ waiting
 
 -- the destination alone has lost the channel, and its lines since then wait
-record Waits (first : Pair) (here there : List Line) (source : Source) (destination : Destination) (channel : Channel) (later : List Channel) (uses : Bool) : Type 0 where
-  at : Destination
-  waiting : List Line
-  done : List Line
-  said : List Entry
-  told : List Entry
-  leads : Leads first here done (on channel source at said told)
-  alone : IsDestinationAlone at waiting
-  now : destination ≡ destination_after at waiting
-  is : there ≡ done ++ waiting
-  none : later ≡ []
-  used : uses ≡ true
+pub record Waits (first : Pair) (here there : List Line) (source : Source) (destination : Destination) (channel : Channel) (later : List Channel) (uses : Bool) : Type 0 where
+  pub at : Destination
+  pub waiting : List Line
+  pub done : List Line
+  pub said : List Entry
+  pub told : List Entry
+  pub leads : Leads first here done (on channel source at said told)
+  pub alone : IsDestinationAlone at waiting
+  pub now : destination ≡ destination_after at waiting
+  pub is : there ≡ done ++ waiting
+  pub none : later ≡ []
+  pub used : uses ≡ true
 
-abbrev SimBy : Pair → List Line → List Line → Source → Destination → Channel → List Channel → Bool → Bool → Type 0
+abbrev pub SimBy : Pair → List Line → List Line → Source → Destination → Channel → List Channel → Bool → Bool → Type 0
 SimBy first here there source destination channel later uses true = Meets first here there source destination channel later uses
 SimBy first here there source destination channel later uses false = Parted first here there source destination later uses ⊎ Waits first here there source destination channel later uses
 
-abbrev Sim : Pair → List Line → List Line → Processes → Type 0
+abbrev pub Sim : Pair → List Line → List Line → Processes → Type 0
 Sim first here there old = SimBy first here there old.source old.destination old.first old.later old.here old.there
 
 nil-then : (done waiting : List Line) (line : Line) (here : List Line) → here ≡ done ++ waiting → waiting ≡ [] → here ++ line ∷ [] ≡ (done ++ line ∷ []) ++ []
@@ -430,7 +430,7 @@ event-sim first here there old Event.Joins new is sim =
     (subst (λ log. Sim first log there new) (sym (append-nil here))
     (subst (Sim first here there) (sym is.is) (joins-sim first here there old.source old.destination old.first is.next is.rest old.here old.there is.lost is.paused opened)))
 
-events-sim : (first : Pair) (here there : List Line) (old : Processes) (events : List Event) (new : Processes) → AreEvents old events new → Sim first here there old → Sim first (here ++ log_here events) (there ++ log_there events) new
+pub events-sim : (first : Pair) (here there : List Line) (old : Processes) (events : List Event) (new : Processes) → AreEvents old events new → Sim first here there old → Sim first (here ++ log_here events) (there ++ log_there events) new
 events-sim first here there old [] new is sim =
     subst (λ log. Sim first (here ++ []) log new) (sym (append-nil there)) (subst (λ log. Sim first log there new) (sym (append-nil here)) (subst (Sim first here there) (sym is) sim))
 events-sim first here there old (event ∷ events) new is sim =
@@ -438,7 +438,7 @@ events-sim first here there old (event ∷ events) new is sim =
     (subst (λ log. Sim first log ((there ++ logged_there event) ++ log_there events) new) (append_assoc here (logged_here event) (log_here events))
     (events-sim first (here ++ logged_here event) (there ++ logged_there event) is.0 events new is.2 (event-sim first here there old event is.0 is.1 sim)))
 
-first-sim : (cpus epoch rounds : ℕ) → Sim (first_pair cpus epoch rounds) [] [] (first_processes cpus epoch rounds)
+pub first-sim : (cpus epoch rounds : ℕ) → Sim (first_pair cpus epoch rounds) [] [] (first_processes cpus epoch rounds)
 first-sim cpus epoch rounds =
     record {
       at = (first_processes cpus epoch rounds).source;

@@ -102,3 +102,8 @@ guest_under f guest = record { space = space_under f guest.space; cpus = map (cp
 -- each page that a map has is the bytes of one page: PAGE_SIZE numbers below 256
 abbrev pub AreWholePages : FinMap nat_cmp (List ℕ) → Type 0
 AreWholePages pages = (page : ℕ) (bytes : List ℕ) → get pages page ≡ Some bytes → IsPageBytes bytes
+
+-- a map of bytes, and a host whose contents it changes
+pub record Changes (f : ℕ → ℕ) (host : Host) : Type 0 where
+  pub map : IsByteMap f
+  pub whole : AreWholePages host.bytes

@@ -294,7 +294,13 @@ pub record HasAlone (drivers : Drivers) : Type 0 where
   pub none_owed : drivers.nodes.destination.owed ≡ finmap.empty
   pub none_came : drivers.there.came ≡ []
 
--- a copy is put where no page is, with the bytes that the driver of the source has of the page from which it was owed
-pub record IsPutRight (old new : Drivers) (page origin : ℕ) : Type 0 where
-  pub missing : contains_key old.there.held.pages page ≡ false
-  pub bytes : get new.there.held.pages page ≡ get old.here.pages origin
+-- whether there is a page at an address
+abbrev pub has_page : Pages → ℕ → Bool
+has_page pages addr = contains_key pages (addr / PAGE_SIZE)
+
+-- a copy is put at an address where no page was and a page is then, with the bytes that the driver of the source has of the page from which
+-- it was owed
+pub record IsPutRight (old new : Drivers) (addr origin : ℕ) : Type 0 where
+  pub missing : has_page old.there.held.pages addr ≡ false
+  pub bytes : get new.there.held.pages (addr / PAGE_SIZE) ≡ get old.here.pages (origin / PAGE_SIZE)
+  pub present : has_page new.there.held.pages addr ≡ true

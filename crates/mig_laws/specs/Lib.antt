@@ -1,3 +1,4 @@
+pub mod Claims
 pub mod Contents
 pub mod Worlds
 pub mod Nodes

@@ -1,5 +1,5 @@
 -- Runs of which only the contents differ: which steps they may have, what they answer, and what they decide alike.
-use Rattle.std.specs.Prelude.{◌≡◌, ℕ, ◌<◌, nat_le, Bool, true, false, List, [], ◌∷◌, map, Result}
+use Rattle.std.specs.Prelude.{◌≡◌, ℕ, ◌<◌, nat_le, Bool, true, false, List, [], ◌∷◌, map, Result, Err}
 use Rattle.std.specs.Option.{option_map}
 use Rattle.std.specs.FinMap.{contains_key}
 use Rattle.mig_base.specs.declared.command.Command.{Command}
@@ -12,11 +12,13 @@ use Rattle.mig_base.specs.declared.refusal.Refusal.{Refusal}
 use Rattle.mig_base.specs.declared.schedule.Step.{Step}
 use Rattle.mig_model.specs.Lengths.{text_len}
 use Rattle.mig_model.specs.Guest.{Guest, is_present}
-use Rattle.mig_model.specs.Migration.{World, after_steps, first_world_with, next, outcome}
+use Rattle.mig_model.specs.Migration.{World, after_steps, answer, first_world_with, next, outcome}
+use Rattle.mig_model.specs.Promises.{IsComplete}
+use Rattle.mig_model.specs.Runs.{outcomes}
 use Rattle.mig_model.specs.Views.{counts_of, owed_left, phase_of}
 use Rattle.mig_model.specs.Wire.{Copy, Frame, Sent, Wire}
 use Rattle.mig_model.specs.Wire.Frame.{Page, Zero, Run, Package}
-use Rattle.mig_laws.specs.Worlds.{is_partial, outcome_under}
+use Rattle.mig_laws.specs.Worlds.{answer_under, is_partial, outcome_under, step_under, world_under}
 
 -- a map of bytes that takes no other byte to 0
 abbrev pub KeepsOthers : (ℕ → ℕ) → Type 0
@@ -56,7 +58,31 @@ abbrev pub outcomes_under : (ℕ → ℕ) → World → List Step → List (Resu
 outcomes_under f world [] = []
 outcomes_under f world (step ∷ steps) = outcome_under f world step (outcome world step) ∷ outcomes_under f (next world step) steps
 
+-- the changed world answers the changed step with the changed answer
+abbrev pub AnswersAlike : (ℕ → ℕ) → World → Step → Type 0
+AnswersAlike f world step = answer (world_under f world) (step_under f step) ≡ answer_under f world step (answer world step)
+
+-- and refuses it with the refusal of the step
+abbrev pub RefusesAlike : (ℕ → ℕ) → World → Step → Type 0
+RefusesAlike f world step = (refusal : Refusal) → outcome world step ≡ Err refusal → outcome (world_under f world) (step_under f step) ≡ Err refusal
+
+-- the world to which the changed run leads
+abbrev pub changed_run : (ℕ → ℕ) → World → List Step → World
+changed_run f world steps = after_steps (world_under f world) (map (step_under f) steps)
+
+-- what the changed run answers
+abbrev pub changed_outcomes : (ℕ → ℕ) → World → List Step → List (Result Effect Refusal)
+changed_outcomes f world steps = outcomes (world_under f world) (map (step_under f) steps)
+
+-- the map that takes every byte to 0
+abbrev pub zeros : ℕ → ℕ
+zeros number = 0
+
 -- What they decide alike
+
+-- one world is complete exactly if the other is
+abbrev pub CompleteAlike : World → World → Type 0
+CompleteAlike old new = (IsComplete old → IsComplete new) × (IsComplete new → IsComplete old)
 
 -- a command without the value of a store
 abbrev pub bare_command : Command → Command

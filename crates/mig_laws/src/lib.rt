@@ -11,6 +11,8 @@
 //!
 //! Two drivers are a world. `specs/Drivers.antt` has two drivers whose nodes hold no byte, and what each does with the bytes of its guest.
 //!
+//! `specs/Claims.antt` names the runs of which the laws speak, and what they say of them.
+//!
 //! [`spaces`] has the laws of an address space, [`nodes`] those of a guest and of a node, [`worlds`] those of a migration whose contents
 //! change, [`sides`] those of two nodes in processes of their own, and [`drivers`] those of two drivers.
 #![tactic(auto)]

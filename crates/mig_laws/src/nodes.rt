@@ -11,18 +11,18 @@ ghost use Rattle.mig_model.specs.GuestSteps.{issue, retry};
 ghost use Rattle.mig_model.specs.Source.{Source};
 ghost use Rattle.mig_model.specs.SourceSteps as source;
 ghost use Rattle.mig_model.specs.Wire.{Frame};
-ghost use Rattle.mig_laws.specs.Contents.{AreWholePages, IsByteMap, command_under, guest_under};
+ghost use Rattle.mig_laws.specs.Contents.{Changes, IsByteMap, command_under, guest_under};
 ghost use Rattle.mig_laws.specs.Nodes.{destination_acted_under, destination_sends_under, map_ok, own_bytes, source_acted_under, source_sends_under, tried_under};
 ghost use Rattle.mig_laws.specs.Worlds.{IsWholeFrame, bytes_in, destination_under, frame_under, source_under};
 
 /// A command of a changed guest.
 pub fn commands_of_a_changed_guest()
     ensures issue { (f : ℕ → ℕ) (bytes : ℕ → List ℕ) (guest : Guest) (runs : Bool) (cpu : ℕ)
-        (command : Command) → IsByteMap f → AreWholePages guest.space.host.bytes →
+        (command : Command) → Changes f guest.space.host →
         issue (guest_under f guest) runs cpu (command_under f command) ≡
         map_ok (tried_under f bytes) (issue guest runs cpu command) }
     ensures retry { (f : ℕ → ℕ) (bytes : ℕ → List ℕ) (guest : Guest) (runs : Bool) (cpu : ℕ) →
-        IsByteMap f → AreWholePages guest.space.host.bytes →
+        Changes f guest.space.host →
         retry (guest_under f guest) runs cpu ≡ map_ok (tried_under f bytes) (retry guest runs cpu) }
 {}
 

@@ -6,19 +6,17 @@
 //! One thing depends on contents: how many bytes complete a frame with the contents of one page, which is shorter if all of them are 0. So
 //! the laws leave out deliveries that end inside such a frame, or maps that take another byte to 0.
 
-ghost use Rattle.std.specs.Prelude.{◌≡◌, ℕ, ◌^◌, ◌&&◌, nat_lt, true, false, if◌then◌else◌, Err, List, map};
+ghost use Rattle.std.specs.Prelude.{◌≡◌, ℕ, ◌^◌, ◌&&◌, nat_lt, true, false, if◌then◌else◌, List, map};
 ghost use Rattle.std.specs.List.{list_all};
-ghost use Rattle.mig_base.specs.declared.refusal.Refusal.{Refusal};
 ghost use Rattle.mig_base.specs.declared.schedule.Step.{Step};
 ghost use Rattle.mig_base.specs.Flat.{IsFlatRun, is_aligned, memory_of};
 ghost use Rattle.mig_model.specs.Host.{memory};
-ghost use Rattle.mig_model.specs.Migration.{World, after_steps, answer, first_world_with, next, outcome};
-ghost use Rattle.mig_model.specs.Promises.{IsComplete, IsReached};
-ghost use Rattle.mig_model.specs.Runs.{outcomes};
+ghost use Rattle.mig_model.specs.Migration.{World, after_steps, first_world_with};
+ghost use Rattle.mig_model.specs.Promises.{IsReached};
 ghost use Rattle.mig_model.specs.Whereabouts.{current_host};
 ghost use Rattle.mig_laws.specs.Contents.{IsByteMap, entry_under, memory_under, stored_under};
-ghost use Rattle.mig_laws.specs.Runs.{DecideAlike, IsReachedWhole, KeepsOthers, NonePartial, is_long, outcomes_under};
-ghost use Rattle.mig_laws.specs.Worlds.{HasWholePages, answer_under, is_partial, outcome_under, step_under, world_under};
+ghost use Rattle.mig_laws.specs.Runs.{AnswersAlike, CompleteAlike, DecideAlike, IsReachedWhole, KeepsOthers, NonePartial, RefusesAlike, changed_outcomes, changed_run, is_long, outcomes_under, zeros};
+ghost use Rattle.mig_laws.specs.Worlds.{HasWholePages, is_partial, step_under, world_under};
 
 /// Each page of a reached world is 4096 numbers below 256, wherever it is, and a frame Page is never all zeros.
 pub fn reached_worlds_have_whole_pages()
@@ -29,18 +27,13 @@ pub fn reached_worlds_have_whole_pages()
 /// changed. It holds of every step but a delivery that ends inside a Page, and of these too if the map takes no other byte to 0.
 pub fn every_changed_step()
     ensures answer { (f : ℕ → ℕ) (world : World) (step : Step) → IsByteMap f → IsReached world →
-        is_partial world step ≡ false →
-        answer (world_under f world) (step_under f step) ≡
-        answer_under f world step (answer world step) }
+        is_partial world step ≡ false → AnswersAlike f world step }
     ensures kept { (f : ℕ → ℕ) (world : World) (step : Step) → IsByteMap f → KeepsOthers f →
-        IsReached world →
-        answer (world_under f world) (step_under f step) ≡
-        answer_under f world step (answer world step) }
+        IsReached world → AnswersAlike f world step }
     ensures long { (world : World) (step : Step) → is_long step ≡ true →
         is_partial world step ≡ false }
-    ensures refused { (f : ℕ → ℕ) (world : World) (step : Step) (refusal : Refusal) → IsByteMap f →
-        IsReached world → is_partial world step ≡ false → outcome world step ≡ Err refusal →
-        outcome (world_under f world) (step_under f step) ≡ Err refusal }
+    ensures refused { (f : ℕ → ℕ) (world : World) (step : Step) → IsByteMap f → IsReached world →
+        is_partial world step ≡ false → RefusesAlike f world step }
 {}
 
 /// The same of steps made in turn: the changed run answers the changed answers, and ends in the changed world. In a run whose deliveries
@@ -48,18 +41,16 @@ pub fn every_changed_step()
 pub fn every_changed_run()
     ensures world { (f : ℕ → ℕ) (world : World) (steps : List Step) → IsByteMap f →
         IsReached world → NonePartial world steps →
-        after_steps (world_under f world) (map (step_under f) steps) ≡
-        world_under f (after_steps world steps) }
+        changed_run f world steps ≡ world_under f (after_steps world steps) }
     ensures answers { (f : ℕ → ℕ) (world : World) (steps : List Step) → IsByteMap f →
         IsReached world → NonePartial world steps →
-        outcomes (world_under f world) (map (step_under f) steps) ≡ outcomes_under f world steps }
+        changed_outcomes f world steps ≡ outcomes_under f world steps }
     ensures kept_world { (f : ℕ → ℕ) (world : World) (steps : List Step) → IsByteMap f →
         KeepsOthers f → IsReached world →
-        after_steps (world_under f world) (map (step_under f) steps) ≡
-        world_under f (after_steps world steps) }
+        changed_run f world steps ≡ world_under f (after_steps world steps) }
     ensures kept_answers { (f : ℕ → ℕ) (world : World) (steps : List Step) → IsByteMap f →
         KeepsOthers f → IsReached world →
-        outcomes (world_under f world) (map (step_under f) steps) ≡ outcomes_under f world steps }
+        changed_outcomes f world steps ≡ outcomes_under f world steps }
     ensures long { (world : World) (steps : List Step) → list_all is_long steps ≡ true →
         NonePartial world steps }
     ensures first { (f : ℕ → ℕ) (cpus epoch rounds : ℕ) →
@@ -74,17 +65,13 @@ pub fn what_no_byte_decides()
     ensures world { (f : ℕ → ℕ) (world : World) → DecideAlike world (world_under f world) }
     ensures run { (f : ℕ → ℕ) (world : World) (steps : List Step) → IsByteMap f →
         IsReached world → NonePartial world steps →
-        DecideAlike (after_steps world steps)
-        (after_steps (world_under f world) (map (step_under f) steps)) }
+        DecideAlike (after_steps world steps) (changed_run f world steps) }
     ensures kept_run { (f : ℕ → ℕ) (world : World) (steps : List Step) → IsByteMap f →
-        KeepsOthers f → IsReached world → DecideAlike (after_steps world steps)
-        (after_steps (world_under f world) (map (step_under f) steps)) }
+        KeepsOthers f → IsReached world →
+        DecideAlike (after_steps world steps) (changed_run f world steps) }
     ensures complete { (f : ℕ → ℕ) (world : World) (steps : List Step) → IsByteMap f →
         IsReached world → NonePartial world steps →
-        (IsComplete (after_steps world steps) →
-        IsComplete (after_steps (world_under f world) (map (step_under f) steps))) ×
-        (IsComplete (after_steps (world_under f world) (map (step_under f) steps)) →
-        IsComplete (after_steps world steps)) }
+        CompleteAlike (after_steps world steps) (changed_run f world steps) }
 {}
 
 /// The changed world of a run is reached by the changed run, so each law of a reached world holds of it. Its transcript is that of the run
@@ -107,12 +94,11 @@ pub fn the_headline_carries_over()
 /// The map that takes every byte to 0 is such a map. Its changed run is the run in which each store of the right form stores 0, and a
 /// store of a wrong form, which is answered BadAccess, keeps its value. From a first world both runs make the same decisions.
 pub fn the_run_of_zeros()
-    ensures map { IsByteMap (λ (n : ℕ). 0) }
-    ensures store { (addr width value : ℕ) →
-        stored_under (λ (n : ℕ). 0) addr width value ≡
+    ensures map { IsByteMap zeros }
+    ensures store { (addr width value : ℕ) → stored_under zeros addr width value ≡
         (if is_aligned addr width && nat_lt value (256 ^ width) then 0 else value) }
     ensures run { (cpus epoch rounds : ℕ) (steps : List Step) →
-        NonePartial (first_world_with cpus epoch rounds) steps →
-        DecideAlike (after_steps (first_world_with cpus epoch rounds) steps)
-        (after_steps (first_world_with cpus epoch rounds) (map (step_under (λ (n : ℕ). 0)) steps)) }
+        NonePartial (first_world_with cpus epoch rounds) steps → DecideAlike
+        (after_steps (first_world_with cpus epoch rounds) steps)
+        (after_steps (first_world_with cpus epoch rounds) (map (step_under zeros) steps)) }
 {}

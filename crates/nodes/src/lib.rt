@@ -1,10 +1,9 @@
 //! A source and a destination of their own: each in a process of its own, with the frames that it has sent and that nobody has taken yet.
 //!
 //! A [`Posting`] has the node of `precopy` or `fault_handler`, and a wire; a [`Traced`] has also the lines of its steps. Each step is the
-//! node's own. The
-//! frames that it sends wait on the wire, in version 2 of the format, until [`SourceNode::drop_sent`] or [`DestinationNode::drop_sent`];
-//! but a page or a run is sent by the caller, who has the bytes. Frames come as their texts, without the bytes of pages (`heads`): a node
-//! is handed a page as one of zeros, so that it decides in the world whose stores all store 0.
+//! node's own. The frames that it sends wait on the wire, in version 2 of the format, until [`SourceNode::drop_sent`] or
+//! [`DestinationNode::drop_sent`]; but a page or a run is sent by the caller, who has the bytes. Frames come as their texts, without the
+//! bytes of pages (`heads`): a node is handed a page as one of zeros, so that it decides in the world whose stores all store 0.
 //!
 //! `specs/SourceCalls.antt` and `specs/DestinationCalls.antt` define what each call gives.
 #![tactic(auto, unfolding(mig_model::specs::NodeSteps::unless))]

@@ -3,14 +3,10 @@ use Rattle.std.specs.Prelude.{ℕ}
 use Rattle.console.specs.Status.{fault_status}
 use Rattle.frames.specs.declared.fault.FramesFault.{FramesFault}
 use Rattle.frames.specs.declared.fault.FramesFault.TheVariants as frames
-use Rattle.audit.specs.declared.audit.Verdict.{Verdict}
-use Rattle.audit.specs.declared.audit.Verdict.TheVariants as verdict
 use Rattle.history_judge.specs.declared.judge.Verdict.{Verdict as HistoryVerdict}
 use Rattle.history_judge.specs.declared.judge.Verdict.TheVariants as history
 use Rattle.history_judge.specs.declared.judge.HistoryFault.{HistoryFault}
 use Rattle.history_judge.specs.declared.judge.HistoryFault.TheVariants as histories
-use Rattle.call_log.specs.declared.fault.LogFault.{LogFault}
-use Rattle.call_log.specs.declared.fault.LogFault.TheVariants as audit
 use Rattle.wiretap.specs.declared.fault.TapFault.{TapFault}
 use Rattle.wiretap.specs.declared.fault.TapFault.TheVariants as taps
 
@@ -22,23 +18,12 @@ frames_fault_status frames.ReadFault = 2
 frames_fault_status frames.WriteFault = 2
 frames_fault_status frames.NoMemory = 4
 
--- the status of a log that was judged
-abbrev pub verdict_status : Verdict → ℕ
-verdict_status verdict.Certified = 0
-verdict_status verdict.Clean = 0
-verdict_status verdict.Found = 1
-verdict_status verdict.Wrong = 2
-verdict_status verdict.Unexplained = 3
-verdict_status verdict.Undecided = 5
-verdict_status verdict.Doubtful = 5
-verdict_status verdict.Nothing = 6
-
 -- the status of a history that was judged
 abbrev pub history_status : HistoryVerdict → ℕ
 history_status history.Kept = 0
 history_status history.Wrong = 3
 history_status history.Undecided = 5
-history_status history.Nothing = 5
+history_status history.Nothing = 6
 
 -- the status of a history that could not be judged
 abbrev pub history_fault_status : HistoryFault → ℕ
@@ -46,15 +31,6 @@ history_fault_status (histories.Line number reason) = 1
 history_fault_status histories.ReadFault = 2
 history_fault_status histories.WriteFault = 2
 history_fault_status histories.NoMemory = 4
-
--- the status of a log that could not be judged
-abbrev pub audit_fault_status : LogFault → ℕ
-audit_fault_status audit.NotALog = 2
-audit_fault_status audit.StraceOutput = 2
-audit_fault_status audit.Empty = 2
-audit_fault_status audit.ReadFault = 2
-audit_fault_status audit.WriteFault = 2
-audit_fault_status audit.NoMemory = 4
 
 -- the status of a run with files for its wires that ended with a fault
 abbrev pub tap_fault_status : TapFault → ℕ

@@ -2,20 +2,20 @@
 
 ghost use Rattle.std.specs.Prelude.{◌≤◌};
 
-use crate::endings::{end_audit, end_frames, end_tapped};
+use crate::endings::{end_frames, end_script, end_tapped};
 use crate::histories::judge;
 use crate::showing::show;
-use audit::Asked;
 use clap::ArgMatches;
 use clap::error::ErrorKind;
 use command_line::command_line;
 use console::{
-    ALL_DONE, BAD_COMMAND_OR_SCRIPT, Counted, Erasing, Given, Input, NO_MEMORY, ProgressLine,
-    READ_OR_WRITE_FAULT, Tap, TestAsks, Watched, can_tap, end, end_at_lines, end_lint, make_tap,
-    open_input, open_output, open_script, renew_files, say_wrong_line, strict_status_of,
+    ALL_DONE, BAD_COMMAND_OR_SCRIPT, Bounded, Given, Input, LONGEST_LISTED, NO_FLAT_RUN, NO_MEMORY,
+    READ_OR_WRITE_FAULT, Scripts, Tap, TestAsks, Watched, can_tap, end, end_at_lines, end_lint,
+    end_looked, make_tap, open_input, open_output, open_script, renew_files, say_wrong_line,
     test_files,
 };
 use draw::run_draw;
+use engine::script_reader::MAX_LINE;
 use engine::{Mode, RunFault, check_script, run_script};
 use expected::{answer_script, echo_script};
 use explain::{Asks, Noting, explain_script};
@@ -32,17 +32,35 @@ use std::process::ExitCode;
 use std::sync::Wait;
 use std::thread::Threads;
 use std::{env, io};
-use threads::run_threads;
-use trace_audit::audit_input;
+use threads::{Run, run_threads};
 use wiretap::{Taps, run_tapped};
 
 /// The most bytes of an argument that a message shows.
 const LONGEST_SHOWN: usize = 4096;
 
+/// What a script lacks in which there is nothing to look at.
+pub(crate) const NO_LINE: &str = "no line of a script";
+
+/// The FILE of a command. None: standard input, which also has the name `-`.
+fn file_of<'a>(matches: &ArgMatches<'a>) -> Option<&'a str> {
+    let name = matches.get_str("file")?;
+    if name == "-" {
+        return None;
+    }
+    Some(name)
+}
+
+/// What is wrong with a command line of `explore` that has no seed.
+const NO_SEEDS: &str = "one of these arguments is required:\n  --seed <S>\n  --seeds <A:B>";
+
+/// What is wrong with the seeds of a command line.
+const BAD_SEEDS: &str =
+    "invalid value for '--seeds <A:B>': not two seeds, of which the second is not below the first";
+
 /// What the command line says of a command's input.
 pub(crate) fn given_by<'a>(matches: &ArgMatches<'a>) -> Given<'a> {
     Given {
-        file: matches.get_str("file"),
+        file: file_of(matches),
         explains: matches.get_flag("explain"),
     }
 }
@@ -74,7 +92,9 @@ fn make_taps<'a>(
 }
 
 /// Runs a script.
-fn run(rt: &HostRuntime, matches: &ArgMatches) -> u8 {
+fn run(rt: &HostRuntime, matches: &ArgMatches) -> u8
+    ensures { result ≤ 6 }
+{
     let Some(cpus @ 1..=16) = matches.get_one::<u8>("cpus") else {
         return BAD_COMMAND_OR_SCRIPT;
     };
@@ -93,7 +113,7 @@ fn run(rt: &HostRuntime, matches: &ArgMatches) -> u8 {
         return run_with_taps(rt, given, &taps, &mut input, &mut output, cpus, mode);
     }
     if matches.get_flag("answers") || matches.get_flag("echo") {
-        return run_with_answers(rt, matches, &mut input, &mut output, cpus);
+        return run_with_answers(rt, matches, input, &mut output, cpus);
     }
     let ran = if matches.get_flag("steps") {
         run_steps(rt.alloc(), &mut input, &mut output, cpus)
@@ -104,25 +124,53 @@ fn run(rt: &HostRuntime, matches: &ArgMatches) -> u8 {
     end_at_lines(rt, given, &input, &output, Language::Script, outcome)
 }
 
-/// Runs a script, and writes it with the answer of each line: as a test, or in a column beside it.
+/// Writes each script of an input with the answer of each line: as a test, or in a column beside it.
+fn answer_scripts(
+    rt: &HostRuntime,
+    scripts: &mut Scripts<Watched<'_, Input>>,
+    output: &mut Watched<'_, Stdout>,
+    cpus: u8,
+    matches: &ArgMatches,
+) -> Result<(), RunFault>
+    requires low { 1 ≤ cpus }
+    requires high { cpus ≤ 16 }
+{
+    for _ in 0..u64::MAX {
+        let answered = if matches.get_flag("echo") {
+            echo_script(rt.alloc(), scripts, output, cpus)
+        } else {
+            answer_script(rt.alloc(), scripts, output, cpus)
+        };
+        if let Err(fault) = answered {
+            return Err(scripts.in_input(fault));
+        }
+        if !scripts.advance()? {
+            break;
+        }
+    }
+    Ok(())
+}
+
+/// Runs the scripts of an input, and writes them with the answer of each line.
 fn run_with_answers(
     rt: &HostRuntime,
     matches: &ArgMatches,
-    input: &mut Watched<'_, Input>,
+    input: Watched<'_, Input>,
     output: &mut Watched<'_, Stdout>,
     cpus: u8,
 ) -> u8
     requires low { 1 ≤ cpus }
     requires high { cpus ≤ 16 }
+    ensures { result ≤ 6 }
 {
-    let answered = if matches.get_flag("echo") {
-        echo_script(rt.alloc(), input, output, cpus)
-    } else {
-        answer_script(rt.alloc(), input, output, cpus)
+    let Ok(mut scripts) = Scripts::new(rt.alloc(), input) else {
+        let _ = eprintln!(rt; "{}", RunFault::NoMemory);
+        return NO_MEMORY;
     };
+    let answered = answer_scripts(rt, &mut scripts, output, cpus, matches);
     let outcome = answered.map(|()| true);
     let given = given_by(matches);
-    let status = end(rt, given, input, output, outcome);
+    let status = end(rt, given, scripts.input(), output, outcome);
     if let Err(RunFault::Line(number)) = outcome
         && let Some(name) = given.file
     {
@@ -143,6 +191,7 @@ fn run_with_taps(
 ) -> u8
     requires low { 1 ≤ cpus }
     requires high { cpus ≤ 16 }
+    ensures { result ≤ 6 }
 {
     let Some(mut taps) = make_taps(rt, given.file, names) else {
         return READ_OR_WRITE_FAULT;
@@ -152,7 +201,9 @@ fn run_with_taps(
 }
 
 /// Writes the lines that finish a script.
-fn finish(rt: &HostRuntime, matches: &ArgMatches) -> u8 {
+fn finish(rt: &HostRuntime, matches: &ArgMatches) -> u8
+    ensures { result ≤ 6 }
+{
     let Some(cpus @ 1..=16) = matches.get_one::<u8>("cpus") else {
         return BAD_COMMAND_OR_SCRIPT;
     };
@@ -166,8 +217,10 @@ fn finish(rt: &HostRuntime, matches: &ArgMatches) -> u8 {
     end_at_lines(rt, given, &input, &output, Language::Script, outcome)
 }
 
-/// Checks a transcript: for its verdict, or for what is asked for beyond that. A strict check of no entry differs.
-fn check_input(rt: &HostRuntime, matches: &ArgMatches) -> u8 {
+/// Checks a transcript: for its verdict, or for what is asked for beyond that. A strict check has to look at an entry.
+fn check_input(rt: &HostRuntime, matches: &ArgMatches) -> u8
+    ensures { result ≤ 6 }
+{
     let asks = Asks {
         all: matches.get_flag("all"),
         reasons: matches.get_flag("explain"),
@@ -188,51 +241,41 @@ fn check_input(rt: &HostRuntime, matches: &ArgMatches) -> u8 {
         (check_script(rt.alloc(), &mut input, &mut output), false)
     };
     let status = end_at_lines(rt, given, &input, &output, Language::Transcript, outcome);
-    let checks_nothing = is_strict && is_empty;
-    if checks_nothing {
-        let _ = eprintln!(rt; "{}: no entry was checked", input.name());
-    }
-    strict_status_of(status, !checks_nothing)
+    end_looked(
+        rt,
+        input.name(),
+        "no entry",
+        status,
+        !is_strict || !is_empty,
+    )
 }
 
 /// Lists the wrong lines of a script or a transcript, by the name of their file, or `-`.
-fn lint(rt: &HostRuntime, matches: &ArgMatches) -> u8 {
-    let language = if matches.get_flag("transcript") {
-        Language::Transcript
+fn lint(rt: &HostRuntime, matches: &ArgMatches) -> u8
+    ensures { result ≤ 6 }
+{
+    let (language, lacks) = if matches.get_flag("transcript") {
+        (Language::Transcript, "no entry")
     } else {
-        Language::Script
+        (Language::Script, NO_LINE)
     };
     let given = given_by(matches);
-    let Some(mut input) = open_input(rt, given) else {
-        return READ_OR_WRITE_FAULT;
-    };
-    let mut output = open_output(rt);
-    let name = given.file.unwrap_or("-");
-    let outcome = lint_lines(rt.alloc(), &mut input, &mut output, name, language);
-    end_lint(rt, given, &input, &output, outcome)
-}
-
-/// Judges the calls of a log or of what strace has written, by the name of its file, or `-`. At a terminal it says how far it is.
-fn audit(rt: &HostRuntime, matches: &ArgMatches) -> u8 {
-    let given = given_by(matches);
-    let asked = Asked {
-        explains: given.explains,
-        late_after: matches.get_one::<u64>("late"),
-    };
     let Some(input) = open_input(rt, given) else {
         return READ_OR_WRITE_FAULT;
     };
-    let line = ProgressLine::new(rt);
-    let mut reader = Counted::new(rt, given.file, input, &line);
-    let mut writer = Erasing::new(open_output(rt), &line);
+    let mut reader = Bounded::new(input, LONGEST_LISTED);
+    let mut output = open_output(rt);
     let name = given.file.unwrap_or("-");
-    let outcome = audit_input(rt.alloc(), &mut reader, &mut writer, name, asked);
-    line.erase();
-    end_audit(rt, given, reader.input(), writer.output(), outcome)
+    let outcome = lint_lines(rt.alloc(), &mut reader, &mut output, name, language);
+    let input = reader.input();
+    let status = end_lint(rt, given, input, &output, outcome);
+    end_looked(rt, input.name(), lacks, status, reader.has_lines())
 }
 
-/// Hands frames to a destination. A strict command differs where one was refused.
-fn take_frames(rt: &HostRuntime, matches: &ArgMatches) -> u8 {
+/// Hands frames to a destination. A strict command differs where one was refused, and has to look at one.
+fn take_frames(rt: &HostRuntime, matches: &ArgMatches) -> u8
+    ensures { result ≤ 6 }
+{
     let Some(cpus @ 1..=16) = matches.get_one::<u8>("cpus") else {
         return BAD_COMMAND_OR_SCRIPT;
     };
@@ -243,28 +286,32 @@ fn take_frames(rt: &HostRuntime, matches: &ArgMatches) -> u8 {
     let mut output = open_output(rt);
     let outcome = run_frames(rt.alloc(), &mut input, &mut output, cpus);
     let status = end_frames(rt, given, &input, &output, outcome);
-    match outcome {
-        Ok(refused @ 1..) if matches.get_flag("strict") => {
-            let _ = eprintln!(rt; "{}: refused frames: {refused}", input.name());
-            strict_status_of(status, false)
-        }
-        _ => status,
+    if !matches.get_flag("strict") {
+        return status;
     }
+    if let Ok(refused @ 1..) = outcome {
+        let _ = eprintln!(rt; "{}: refused frames: {refused}", input.name());
+        return NO_FLAT_RUN;
+    }
+    end_looked(rt, input.name(), "no frame", status, !input.is_unused())
 }
 
 /// Draws the run of a script, by the name of its file, or `-`.
-fn draw_script(rt: &HostRuntime, matches: &ArgMatches) -> u8 {
+fn draw_script(rt: &HostRuntime, matches: &ArgMatches) -> u8
+    ensures { result ≤ 6 }
+{
     let Some(cpus @ 1..=16) = matches.get_one::<u8>("cpus") else {
         return BAD_COMMAND_OR_SCRIPT;
     };
     let given = given_by(matches);
-    let Some(mut input) = open_input(rt, given) else {
+    let Some(input) = open_input(rt, given) else {
         return READ_OR_WRITE_FAULT;
     };
+    let mut reader = Bounded::new(input, MAX_LINE);
     let mut output = open_output(rt);
     let name = given.file.unwrap_or("-");
-    let outcome = run_draw(rt.alloc(), &mut input, &mut output, name, cpus).map(|()| true);
-    end_at_lines(rt, given, &input, &output, Language::Script, outcome)
+    let outcome = run_draw(rt.alloc(), &mut reader, &mut output, name, cpus);
+    end_script(rt, given, &reader, &output, outcome)
 }
 
 /// The seeds that `postmig explore` is given: the first and the last.
@@ -316,11 +363,15 @@ fn explore_seeds(
 }
 
 /// Writes random scripts, one after the other.
-fn explore(rt: &HostRuntime, matches: &ArgMatches) -> u8 {
+fn explore(rt: &HostRuntime, matches: &ArgMatches) -> u8
+    ensures { result ≤ 6 }
+{
     let Some((first, last)) = seeds_of(matches) else {
-        let _ = eprintln!(rt;
-            "error: invalid value for '--seeds <A:B>': not two seeds, of which the second is not below the first"
-        );
+        let reason = match matches.get_str("seeds") {
+            Some(_) => BAD_SEEDS,
+            None => NO_SEEDS,
+        };
+        let _ = eprintln!(rt; "error: {reason}");
         return BAD_COMMAND_OR_SCRIPT;
     };
     let Some(plan) = plan_of(matches, first) else {
@@ -339,7 +390,9 @@ fn explore(rt: &HostRuntime, matches: &ArgMatches) -> u8 {
 }
 
 /// Tests each FILE, or standard input; with `--write` replaces the answers of each FILE.
-fn test(rt: &HostRuntime, matches: &ArgMatches) -> u8 {
+fn test(rt: &HostRuntime, matches: &ArgMatches) -> u8
+    ensures { result ≤ 6 }
+{
     let Some(cpus @ 1..=16) = matches.get_one::<u8>("cpus") else {
         return BAD_COMMAND_OR_SCRIPT;
     };
@@ -350,6 +403,7 @@ fn test(rt: &HostRuntime, matches: &ArgMatches) -> u8 {
     let asks = TestAsks {
         is_strict: matches.get_flag("strict"),
         names_all: matches.get_flag("all"),
+        is_tap: matches.get_flag("tap"),
     };
     test_files(rt, files, asks, cpus)
 }
@@ -359,7 +413,9 @@ fn run_in_threads<T: Threads + Wait + Sync>(
     rt: &HostRuntime,
     handle: &T,
     matches: &ArgMatches,
-) -> u8 {
+) -> u8
+    ensures { result ≤ 6 }
+{
     let Some(cpus @ 1..=16) = matches.get_one::<u8>("cpus") else {
         return BAD_COMMAND_OR_SCRIPT;
     };
@@ -373,10 +429,30 @@ fn run_in_threads<T: Threads + Wait + Sync>(
     let mut output = open_output(rt);
     let cut = matches.get_flag("cut");
     let outcome = match run_threads(handle, rt.alloc(), &mut output, cpus, calls, cut) {
-        Ok(run) => Ok(is_right(rt, run.fault)),
+        Ok(run) => {
+            if matches.get_flag("verbose") {
+                say_run(rt, &run);
+            }
+            Ok(is_right(rt, run.fault))
+        }
         Err(fault) => Err(fault),
     };
     end(rt, given, &input, &output, outcome)
+}
+
+/// Says on standard error what a run in threads did. The system has chosen its schedule, so no seed repeats it.
+fn say_run(rt: &HostRuntime, run: &Run) {
+    let counts = run.world.counts();
+    let epoch = run.world.epoch();
+    let _ = eprintln!(rt;
+        "epoch {epoch} rounds {} sent {} installed {} dropped {} faults {}",
+        counts.rounds, counts.sent, counts.installed, counts.dropped, counts.faults
+    );
+    let asked = run.asked;
+    let _ = eprintln!(rt;
+        "turns source {} dest {} serve {} push {}",
+        asked.source, asked.dest, asked.serve, asked.push
+    );
 }
 
 /// Whether nothing was found wrong when a rig was closed. If something was, standard error has its text.
@@ -391,13 +467,14 @@ fn is_right(rt: &HostRuntime, fault: Option<CloseFault>) -> bool {
 }
 
 /// Carries out the parsed command line, and returns the exit status.
-fn do_command<T: Threads + Wait + Sync>(rt: &HostRuntime, handle: &T, matches: &ArgMatches) -> u8 {
+fn do_command<T: Threads + Wait + Sync>(rt: &HostRuntime, handle: &T, matches: &ArgMatches) -> u8
+    ensures { result ≤ 6 }
+{
     match matches.subcommand() {
         Some(("run", matches)) => run(rt, matches),
         Some(("finish", matches)) => finish(rt, matches),
         Some(("check", matches)) => check_input(rt, matches),
         Some(("lint", matches)) => lint(rt, matches),
-        Some(("audit", matches)) => audit(rt, matches),
         Some(("history", matches)) => judge(rt, matches),
         Some(("frames", matches)) => take_frames(rt, matches),
         Some(("draw", matches)) => draw_script(rt, matches),
@@ -445,6 +522,11 @@ fn dispatch<T: Threads + Wait + Sync>(rt: &HostRuntime, handle: &T) -> io::Resul
                 return Err(io::Error::from(io::ErrorKind::OutOfMemory));
             }
             error.print(rt)?;
+            if let [_, word, ..] = words.as_slice()
+                && word.as_str() == "audit"
+            {
+                eprintln!(rt; "\nThe program uffd-audit judges logs of userfaultfd calls.")?;
+            }
             let is_fault = error.use_stderr();
             return Ok(if is_fault {
                 BAD_COMMAND_OR_SCRIPT

@@ -1,23 +1,19 @@
 //! How the commands with faults of their own say why they ended early.
 
-ghost use Rattle.std.specs.Prelude.{◌≡◌, IfOk, IfErr, OnOk};
-ghost use Rattle.postmig.specs.Status.{audit_fault_status, frames_fault_status, tap_fault_status, verdict_status};
+ghost use Rattle.std.specs.Prelude.{◌≡◌, ◌≤◌, IfErr, OnOk};
+ghost use Rattle.postmig.specs.Status.{frames_fault_status, tap_fault_status};
 
-use crate::status::{audit_status_of, frames_status_of};
-use audit::Verdict;
-use call_log::LogFault;
+use crate::commands::NO_LINE;
+use crate::status::frames_status_of;
 use console::{
-    Given, Input, READ_OR_WRITE_FAULT, Tap, Watched, end, end_at_lines, say_input, say_output,
+    Bounded, Given, Input, READ_OR_WRITE_FAULT, Tap, Watched, end, end_at_lines, end_looked,
+    say_input, say_output,
 };
 use engine::RunFault;
 use frames::FramesFault;
 use grammar::Language;
 use std::io::Stdout;
 use wiretap::{Channel, TapFault, Taps};
-
-/// Why what strace has written cannot be judged.
-const NO_THREADS: &str =
-    "what strace writes without threads or times: record with strace -f -ttt -T -o FILE";
 
 /// Says on standard error why frames were not taken to their end, and returns the exit status.
 pub(crate) fn end_frames(
@@ -29,6 +25,7 @@ pub(crate) fn end_frames(
 ) -> u8
     ensures ok { OnOk outcome (result ≡ 0) }
     ensures fault { IfErr outcome (λ fault. result ≡ frames_fault_status fault) }
+    ensures least { result ≤ 4 }
 {
     if let Err(fault) = outcome {
         let _ = eprintln!(rt; "{fault}");
@@ -41,31 +38,20 @@ pub(crate) fn end_frames(
     frames_status_of(outcome)
 }
 
-/// The same of a log or a trace. Which file is none is said in the form of a finding.
-pub(crate) fn end_audit(
+/// Says on standard error why a script was not looked at to its end, or that it has no line to look at, and returns the exit status.
+pub(crate) fn end_script(
     rt: &HostRuntime,
     given: Given<'_>,
-    input: &Watched<'_, Input>,
+    reader: &Bounded<Watched<'_, Input>>,
     output: &Watched<'_, Stdout>,
-    outcome: Result<Verdict, LogFault>,
+    outcome: Result<(), RunFault>,
 ) -> u8
-    ensures verdict { IfOk outcome (λ verdict. result ≡ verdict_status verdict) }
-    ensures fault { IfErr outcome (λ fault. result ≡ audit_fault_status fault) }
+    ensures { result ≤ 6 }
 {
-    if let Err(fault) = outcome {
-        let name = given.file.unwrap_or("-");
-        let _ = match fault {
-            LogFault::NotALog | LogFault::Empty => eprintln!(rt; "{name}:1: {fault}"),
-            LogFault::StraceOutput => eprintln!(rt; "{name}:1: {NO_THREADS}"),
-            _ => eprintln!(rt; "{fault}"),
-        };
-        match fault {
-            LogFault::ReadFault => say_input(rt, given, input),
-            LogFault::WriteFault => say_output(rt, given, output),
-            _ => {}
-        }
-    }
-    audit_status_of(outcome)
+    let input = reader.input();
+    let outcome = outcome.map(|()| true);
+    let status = end_at_lines(rt, given, input, output, Language::Script, outcome);
+    end_looked(rt, input.name(), NO_LINE, status, reader.has_lines())
 }
 
 /// The same of a run with files for its wires. Says which of them could not be written, and why.
@@ -79,6 +65,7 @@ pub(crate) fn end_tapped(
 ) -> u8
     ensures ok { OnOk outcome (result ≡ 0) }
     ensures fault { IfErr outcome (λ fault. result ≡ tap_fault_status fault) }
+    ensures least { result ≤ 4 }
 {
     match outcome {
         Ok(()) => end(rt, given, input, output, Ok(true)),

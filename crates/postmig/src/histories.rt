@@ -1,13 +1,14 @@
 //! `postmig history`: whether what threads did to a memory at once is what one flat memory does.
 
-ghost use Rattle.std.specs.Prelude.{◌≡◌, IfOk, IfErr};
+ghost use Rattle.std.specs.Prelude.{◌≡◌, ◌≤◌};
 ghost use Rattle.postmig.specs.Status.{history_status, history_fault_status};
 
 use crate::commands::given_by;
 use clap::ArgMatches;
 use console::{
-    ALL_DONE, BAD_COMMAND_OR_SCRIPT, Given, Input, NO_FLAT_RUN, READ_OR_WRITE_FAULT, UNDECIDED,
-    Watched, can_tap, end, make_tap, open_input, open_output, status_of,
+    ALL_DONE, BAD_COMMAND_OR_SCRIPT, Given, Input, NO_FLAT_RUN, NOTHING_TO_JUDGE,
+    READ_OR_WRITE_FAULT, UNDECIDED, Watched, can_tap, end, make_tap, open_input, open_output,
+    status_of,
 };
 use engine::RunFault;
 use history_judge::{HistoryFault, Judged, Verdict, judge_history, write_transcript};
@@ -15,12 +16,14 @@ use std::io::Stdout;
 
 /// The exit status of a history that was judged.
 fn verdict_status_of(verdict: Verdict) -> u8
-    ensures { result ≡ history_status verdict }
+    ensures exact { result ≡ history_status verdict }
+    ensures least { result ≤ 6 }
 {
     match verdict {
         Verdict::Kept => ALL_DONE,
         Verdict::Wrong => NO_FLAT_RUN,
-        Verdict::Undecided | Verdict::Nothing => UNDECIDED,
+        Verdict::Undecided => UNDECIDED,
+        Verdict::Nothing => NOTHING_TO_JUDGE,
     }
 }
 
@@ -32,7 +35,8 @@ fn end_history(
     output: &Watched<'_, Stdout>,
     fault: HistoryFault,
 ) -> u8
-    ensures { result ≡ history_fault_status fault }
+    ensures exact { result ≡ history_fault_status fault }
+    ensures least { result ≤ 4 }
 {
     match fault {
         HistoryFault::Line(number, reason) => {
@@ -48,7 +52,9 @@ fn end_history(
 
 /// Writes the operations of a history in their order to a file, and returns the status. Says on standard error why they could not be
 /// written.
-fn write_order(rt: &HostRuntime, name: &str, judged: &Judged) -> u8 {
+fn write_order(rt: &HostRuntime, name: &str, judged: &Judged) -> u8
+    ensures { result ≤ 4 }
+{
     let Some(mut tap) = make_tap(rt, Some(name)) else {
         return READ_OR_WRITE_FAULT;
     };
@@ -65,7 +71,9 @@ fn write_order(rt: &HostRuntime, name: &str, judged: &Judged) -> u8 {
 }
 
 /// Judges a history by the name of its file, or `-`. A history that is kept is written as a transcript too, where that is asked for.
-pub(crate) fn judge(rt: &HostRuntime, matches: &ArgMatches) -> u8 {
+pub(crate) fn judge(rt: &HostRuntime, matches: &ArgMatches) -> u8
+    ensures { result ≤ 6 }
+{
     let given = given_by(matches);
     let order = matches.get_str("transcript");
     if !can_tap(rt, given.file, &[order, None, None]) {

@@ -7,7 +7,6 @@
 //! - `postmig check` reads such a transcript, and says whether it is that of one flat memory, or with `--explain` or `--all` what is
 //!   wrong with it.
 //! - `postmig lint` lists the wrong lines of a script or a transcript.
-//! - `postmig audit` judges the userfaultfd calls of a real program, by a log of them or by what strace has written.
 //! - `postmig history` judges what threads did to a memory at once.
 //! - `postmig frames` reads frames, and writes a destination's answer to each.
 //! - `postmig draw` runs a script, and writes a picture of the run.
@@ -17,12 +16,11 @@
 //! - `postmig threads` reads nothing, runs a migration in threads, and writes a report.
 //!
 //! `docs/SCRIPT.md` defines scripts and transcripts, `docs/FORMATS.md` frames, `docs/EXPLORE.md` random scripts, `docs/THREADS.md` a run in
-//! threads, `docs/HISTORY.md` histories, `docs/UFFDLOG.md` logs, and `docs/AUDIT.md` what is found in them.
+//! threads, and `docs/HISTORY.md` histories.
 //!
 //! `command_line` has the arguments of each, and `console` its files and streams. The exit statuses are those of `specs/Status.antt` here
 //! and in `console`. Reading and writing is done by `engine` for scripts and transcripts, and by the crate of the same name for each other
-//! command. `bench/check/programs.py` runs the program on arguments, files and input of many kinds, and `progress.py` beside it on logs that
-//! are slow, at a terminal.
+//! command. `bench/check/programs.py` runs the program on arguments, files and input of many kinds.
 #![tactic(auto)]
 
 mod commands;

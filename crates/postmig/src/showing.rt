@@ -1,10 +1,15 @@
 //! `postmig show`: what a world holds at a line of a script.
 
+ghost use Rattle.std.specs.Prelude.{◌≤◌};
+
 use crate::commands::given_by;
+use crate::endings::end_script;
 use clap::ArgMatches;
-use console::{BAD_COMMAND_OR_SCRIPT, READ_OR_WRITE_FAULT, end_at_lines, open_input, open_output};
+use console::{BAD_COMMAND_OR_SCRIPT, Bounded, READ_OR_WRITE_FAULT, open_input, open_output};
+use engine::RunFault;
+use engine::script_reader::MAX_LINE;
+use grammar::Token;
 use grammar::token::read_tokens;
-use grammar::{Language, Token};
 use show::{Asked, Span, What, show_script};
 use std::alloc::Global;
 
@@ -51,8 +56,18 @@ fn asked_of(rt: &HostRuntime, matches: &ArgMatches) -> Option<Asked> {
     })
 }
 
+/// Says on standard error that an input has no line with this number, and returns the exit status.
+fn say_no_line(rt: &HostRuntime, name: &str, line: u64) -> u8
+    ensures { result ≤ 4 }
+{
+    let _ = eprintln!(rt; "{name}: there is no line {line}");
+    BAD_COMMAND_OR_SCRIPT
+}
+
 /// Runs a script up to a line, and writes what is there.
-pub(crate) fn show(rt: &HostRuntime, matches: &ArgMatches) -> u8 {
+pub(crate) fn show(rt: &HostRuntime, matches: &ArgMatches) -> u8
+    ensures { result ≤ 6 }
+{
     let Some(cpus @ 1..=16) = matches.get_one::<u8>("cpus") else {
         return BAD_COMMAND_OR_SCRIPT;
     };
@@ -60,15 +75,18 @@ pub(crate) fn show(rt: &HostRuntime, matches: &ArgMatches) -> u8 {
         return BAD_COMMAND_OR_SCRIPT;
     };
     let given = given_by(matches);
-    let Some(mut input) = open_input(rt, given) else {
+    let Some(input) = open_input(rt, given) else {
         return READ_OR_WRITE_FAULT;
     };
+    let mut reader = Bounded::new(input, MAX_LINE);
     let mut output = open_output(rt);
-    let shown = show_script(rt.alloc(), &mut input, &mut output, cpus, asked);
-    if let (Ok(false), Some(line)) = (&shown, asked.at) {
-        let _ = eprintln!(rt; "{}: there is no line {line}", input.name());
-        return BAD_COMMAND_OR_SCRIPT;
-    }
-    let outcome = shown.map(|_| true);
-    end_at_lines(rt, given, &input, &output, Language::Script, outcome)
+    let outcome = match show_script(rt.alloc(), &mut reader, &mut output, cpus, asked) {
+        Ok(true) => Ok(()),
+        Ok(false) => match (reader.too_long(), asked.at) {
+            (Some(number), _) => Err(RunFault::Line(number)),
+            (None, at) => return say_no_line(rt, reader.input().name(), at.unwrap_or(0)),
+        },
+        Err(fault) => Err(fault),
+    };
+    end_script(rt, given, &reader, &output, outcome)
 }

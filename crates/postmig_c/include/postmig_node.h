@@ -319,7 +319,7 @@ uint32_t postmig_destination_install(postmig_handle *destination, postmig_effect
 uint32_t postmig_destination_install_run(postmig_handle *destination, uint32_t count, postmig_effect *effect, uint32_t *made);
 
 /* Notices that the channel is broken: the destination is paused. PHASE if it is paused already. The caller makes it only between a Start
-   and the end of the migration. */
+   and the end of the migration, or the two logs are no world. */
 uint32_t postmig_destination_notice(postmig_handle *destination, postmig_effect *effect);
 
 enum {
@@ -500,9 +500,9 @@ uint32_t postmig_frame_lengths(const uint8_t *bytes, size_t length, size_t *head
        node_frame, before the notice: DID_NOTICE. None before a start.                                IsLossThere
    28  An urgent connection belongs to one epoch.                                                     IsOpening           node, merge
    29  DID_RESUME: over the next channel, which the destination joins.                                IsOpening,          node
-                                                                                                      IsJoining, IsSettled
-   30  A destination that has taken End makes no notice of a lost channel, unless a Resume comes      IsSettled           merge
-       over the next one: the source may be released. */
+                                                                                                      IsJoining
+   30  A destination that has taken End makes no notice of a lost channel, unless a Resume comes      IsSettled, for a    merge
+       over the next one: the source may be released. (The headline holds all the same.)              world */
 
 #ifdef __cplusplus
 }

@@ -103,7 +103,11 @@ fn write_of_node(
 ) -> Result<(), NoMemory> {
     match node {
         Side::Source => {
-            if world.dirty_log().clean().contains(page) {
+            if world.remaining().contains(page) {
+                write!(text, ", to push")?;
+            } else if world.owed().home(page).is_some() {
+                write!(text, ", pushed")?;
+            } else if world.dirty_log().clean().contains(page) {
                 write!(text, ", clean")?;
             }
         }

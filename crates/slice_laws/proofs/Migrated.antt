@@ -9,7 +9,7 @@ use Rattle.mig_laws.proofs.DriverWorlds.{IsHeadline, headline-of}
 use Rattle.slice_laws.specs.Migrations.{Migration, unnamed}
 
 headline-in : (entries : List Entry) (it : Migration entries) → IsHeadline it.last
-headline-in entries it = headline-of it.cpus it.epoch it.rounds it.deeds it.last it.are it.settled
+headline-in entries it = headline-of it.cpus it.epoch it.rounds it.deeds it.last it.are
 
 -- Names of threads
 

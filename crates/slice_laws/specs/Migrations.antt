@@ -6,15 +6,14 @@ use Rattle.mig_base.specs.Flat.{Memory}
 use Rattle.mig_model.specs.Host.{memory}
 use Rattle.mig_model.specs.Source.{is_released}
 use Rattle.mig_laws.specs.Drivers.{AreDeeds, Deed, Drivers, entries_of, first_drivers, host_with}
-use Rattle.mig_laws.specs.Processes.{IsSettled}
 use Rattle.slice_laws.specs.Slices.{Act, Cut, acts_in}
 
 -- an entry, whichever thread of the guest made it: a processor of a node is the place that a thread has while it waits, and another one's later
 abbrev pub unnamed : Entry → Entry
 unnamed entry = record entry { cpu = 0 }
 
--- the migration of one slice by two drivers, whose processes are settled. What took effect there are the given entries: those at the source,
--- and after them those at the destination
+-- the migration of one slice by two drivers, whatever becomes of their channels. What took effect there are the given entries: those at the
+-- source, and after them those at the destination
 pub record Migration (entries : List Entry) : Type 0 where
   pub cpus : ℕ
   pub epoch : ℕ
@@ -22,7 +21,6 @@ pub record Migration (entries : List Entry) : Type 0 where
   pub deeds : List Deed
   pub last : Drivers
   pub are : AreDeeds cpus (first_drivers cpus epoch rounds) deeds last
-  pub settled : IsSettled last.nodes
   pub entered : map unnamed entries ≡ map unnamed (entries_of last)
 
 -- each slice has one

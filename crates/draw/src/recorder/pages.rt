@@ -27,15 +27,16 @@ impl Recorder {
             self.world.phase(),
             WorldPhase::Switching | WorldPhase::Postcopy
         );
+        let was = state_of(&self.record.source, page);
         if self.world.remaining().contains(page) {
             State::Unpushed
-        } else if log.clean().contains(page) {
+        } else if switched && matches!(was, State::Unpushed | State::Pushed) {
+            // Clean or not, it was owed: the destination may have kept no copy.
+            State::Pushed
+        } else if log.clean().contains(page) || (switched && matches!(was, State::Clean)) {
             State::Clean
         } else if switched {
-            match state_of(&self.record.source, page) {
-                State::Clean => State::Clean,
-                _ => State::Pushed,
-            }
+            State::Pushed
         } else if log.ever_sent().contains(page) {
             State::Dirty
         } else {

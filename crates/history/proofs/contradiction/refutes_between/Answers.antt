@@ -1,20 +1,21 @@
-use Rattle.std.proofs.Common.{Some, get_or, sym, ◌∙◌}
+use Rattle.std.proofs.Common.{Some, get_or}
 use Rattle.std.proofs.lemmas.Bool.{OnTrue_at, OnTrue_from}
 use Rattle.std.proofs.lemmas.List.Elements.{Contains-get_or}
 use Rattle.history.proofs.Agreeing.{no_operation}
 use Rattle.history.proofs.Sources.{no_source}
+use Rattle.history.proofs.Readers.{without_source}
 use Rattle.history.proofs.contradiction.refutes_between.Goals as goal
 
 pub returns : goal.returns
 returns c =
-    OnTrue_from c.have_no_source.result _
+    OnTrue_from c.has_no_other.result _
     (λ e. λ clock kept.
     no_source c.args.operations.now kept.order c.in-Some.read.place c.in-Some.read.size c.in-Some.read.value (get_or c.args.operations.now c.args.at no_operation) (Some (get_or c.args.operations.now c.args.mid no_operation))
     (record {
-      location = record { aligned = sym c.is_aligned.ensures ∙ c.if-not-is_aligned.false; whole = OnTrue_at e c.have_no_source.ensures.whole };
+      location = OnTrue_at c.if-not-is_location.false c.is_location.ensures;
       reads = Contains-get_or c.args.operations.now c.args.at no_operation c.if-at-operations.false;
       found = c.in-Some.ensures;
       disturbed = (Contains-get_or c.args.operations.now c.args.mid no_operation c.if-mid-operations.false, c.if-between-reader.false, OnTrue_at c.if-not-disturbs.false c.disturbs.ensures);
-      sources = OnTrue_at e c.have_no_source.ensures.sources;
+      sources = without_source c.args.operations.now c.in-Some.read.place c.in-Some.read.value (get_or c.args.operations.now c.args.at no_operation) (Some (get_or c.args.operations.now c.args.mid no_operation)) (OnTrue_at e c.has_no_other.ensures);
     })
     kept.explains)

@@ -4,19 +4,19 @@ use Rattle.mig_laws.proofs.SpaceCommands.{access_of-under, accessed-under, calle
 use Rattle.mig_laws.proofs.spaces.commands_of_a_changed_space.Goals as goal
 
 pub returns-clause-reply : goal.returns-clause-reply
-returns-clause-reply c f host command is whole = host_replied f is host whole command
+returns-clause-reply c f host command it = host_replied f it.map host it.whole command
 
 pub returns-clause-host : goal.returns-clause-host
-returns-clause-host c f host command is whole = host_after-under f is host whole command
+returns-clause-host c f host command it = host_after-under f it.map host it.whole command
 
 pub returns-clause-access : goal.returns-clause-access
-returns-clause-access c f space command is whole = access_of-under f is space whole command
+returns-clause-access c f space command it = access_of-under f it.map space it.whole command
 
 pub returns-clause-accessed : goal.returns-clause-accessed
-returns-clause-accessed c f space cpu command is whole = accessed-under f is space cpu whole command
+returns-clause-accessed c f space cpu command it = accessed-under f it.map space cpu it.whole command
 
 pub returns-clause-called : goal.returns-clause-called
-returns-clause-called c f space cpu command is whole = called-under f is space cpu whole command
+returns-clause-called c f space cpu command it = called-under f it.map space cpu it.whole command
 
 pub returns-clause-messages : goal.returns-clause-messages
-returns-clause-messages c f space command is whole = queued_by-under f is space whole command
+returns-clause-messages c f space command it = queued_by-under f it.map space it.whole command

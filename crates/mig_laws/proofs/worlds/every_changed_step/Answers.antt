@@ -15,5 +15,5 @@ pub returns-clause-long : goal.returns-clause-long
 returns-clause-long c world step h = long_whole world step h
 
 pub returns-clause-refused : goal.returns-clause-refused
-returns-clause-refused c f world step refusal is reached part h =
+returns-clause-refused c f world step is reached part refusal h =
     outcome-under f is world (whole-reached world reached) step (alike_whole f world step part) ∙ ap (outcome_under f world step) h

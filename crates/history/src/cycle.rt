@@ -1,0 +1,117 @@
+//! Values of a location that cannot have been there one after the other.
+
+ghost use Rattle.std.specs.Prelude.{◌≡◌, IfSome};
+ghost use Rattle.std.specs.Bool.{OnTrue};
+ghost use Rattle.std.specs.List.{Contains};
+ghost use Rattle.history.specs.declared.operation.Clock.{Clock};
+ghost use Rattle.history.specs.Histories.{IsKept};
+ghost use Rattle.history.specs.Contradictions.{ComesFirst, IsLocation, LeftFirst};
+
+use crate::operation::Operation;
+use crate::place::changes;
+use crate::reader::{is_location, is_reader, sees};
+
+/// A value that was at a location, by the indices of operations that left it or found it.
+#[derive(Clone, Copy)]
+pub struct Value {
+    /// The operation that left it.
+    pub source: usize,
+    /// One that had ended when one began that saw the next value.
+    pub early: usize,
+    /// One that began when one had ended that saw the value before it.
+    pub late: usize,
+}
+
+/// These operations.
+#[derive(Clone, Copy)]
+struct Seen {
+    source: Operation,
+    early: Operation,
+    late: Operation,
+}
+
+/// The operations at the indices of a value, if there are such.
+fn look_up(operations: &[Operation], value: Value) -> Option<Seen>
+    ensures source { IfSome result (λ it. Contains operations.now it.source) }
+    ensures early { IfSome result (λ it. Contains operations.now it.early) }
+    ensures late { IfSome result (λ it. Contains operations.now it.late) }
+{
+    if value.source >= operations.len() {
+        return None;
+    }
+    if value.early >= operations.len() || value.late >= operations.len() {
+        return None;
+    }
+    Some(Seen {
+        source: operations[value.source],
+        early: operations[value.early],
+        late: operations[value.late],
+    })
+}
+
+/// Whether one value was there before another, by the intervals of operations that saw them.
+fn left_first(operations: &[Operation], place: u64, value: Seen, next: Seen) -> bool
+    ensures { OnTrue result
+        (LeftFirst operations.now place value.source value.early next.source next.late) }
+{
+    if value.source.line == next.source.line || value.early.end >= next.late.begin {
+        return false;
+    }
+    if !changes(place, value.source.action) {
+        return false;
+    }
+    if !sees(operations, place, value.source, value.early) {
+        return false;
+    }
+    sees(operations, place, next.source, next.late)
+}
+
+/// Whether one value was there before another: the source of the other found it, or their intervals say so.
+fn comes_first(operations: &[Operation], place: u64, size: u8, value: Seen, next: Seen) -> bool
+    requires location { IsLocation operations.now place size }
+    requires early { Contains operations.now value.early }
+    requires late { Contains operations.now next.late }
+    ensures { OnTrue result (ComesFirst operations.now value.source next.source) }
+{
+    if is_reader(operations, place, value.source, next.source) {
+        return true;
+    }
+    left_first(operations, place, value, next)
+}
+
+/// Whether each value was there before the next, and the last before the first.
+fn is_round(operations: &[Operation], place: u64, size: u8, first: Seen, rest: &[Value]) -> bool
+    requires location { IsLocation operations.now place size }
+    requires source { Contains operations.now first.source }
+    requires early { Contains operations.now first.early }
+    requires late { Contains operations.now first.late }
+    ensures { OnTrue result (ComesFirst operations.now first.source first.source) }
+{
+    let mut last = first;
+    for value in rest {
+        let Some(next) = look_up(operations, *value) else {
+            return false;
+        };
+        if !comes_first(operations, place, size, last, next) {
+            return false;
+        }
+        last = next;
+    }
+    comes_first(operations, place, size, last, first)
+}
+
+/// Whether each of the values of a location was there before the next, and the last before the first.
+pub(crate) fn is_cycle(operations: &[Operation], place: u64, size: u8, values: &[Value]) -> bool
+    ensures { OnTrue result ((clock : Clock) → IsKept clock operations.now → ⊥) }
+{
+    let [first, rest @ ..] = values else {
+        return false;
+    };
+    let Some(first) = look_up(operations, *first) else {
+        return false;
+    };
+    if !is_location(operations, place, size) {
+        return false;
+    }
+    is_round(operations, place, size, first, rest)
+}

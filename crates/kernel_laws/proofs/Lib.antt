@@ -1,0 +1,9 @@
+pub mod Kernels
+pub mod Wakes
+pub mod Pages
+pub mod Puts
+pub mod Calls
+pub mod Protects
+pub mod Followed
+pub mod Counterpart
+pub mod Registers

@@ -1,0 +1,108 @@
+//! The rules of a kernel allow what the object of the model answers: each ioctl that the model answers is one that a kernel may answer so.
+//! What is known of the kernel's object afterwards agrees with the model's. The other way round nothing is said: a kernel may also answer
+//! otherwise. `specs/Agreement.antt` says what agrees.
+//!
+//! Each law is a function with an empty body, whose contract is the law.
+#![tactic(auto)]
+
+ghost use Rattle.std.specs.Prelude.{◌≡◌, ◌*◌, ℕ, true, false, None, List, [], ◌∷◌, length};
+ghost use Rattle.mig_base.specs.declared.TheConstants.{PAGE_SIZE};
+ghost use Rattle.mig_base.specs.declared.effect.Effect.{Effect};
+ghost use Rattle.mig_base.specs.declared.schedule.Step.{Step};
+ghost use Rattle.mig_base.specs.Bytes.{zero_page};
+ghost use Rattle.mig_model.specs.Ioctls as model;
+ghost use Rattle.mig_model.specs.Wire.{Copy};
+ghost use Rattle.mig_model.specs.Space.{IsSoundSpace, Space};
+ghost use Rattle.kernel_rules.specs.Ioctls as rules;
+ghost use Rattle.kernel_rules.specs.State.{may_be_outside};
+ghost use Rattle.kernel_laws.specs.Agreement.{AreMapped, Counterparts, Takes, answer_of_api, answer_of_put, answer_of_register, answer_of_wake, is_inside};
+ghost use Rattle.kernel_laws.specs.Handlers.{DestinationStep, SourceStep, copies_page, destination_after, protects_pages, source_after, wakes_page, zeroes_page};
+
+/// A kernel may answer each ioctl as the model does, whether it is refused, or done in part or whole. The range ends in the model's address
+/// space, no event is unread, the buffer of UFFDIO_COPY is where any process may have memory, and a range that is registered has no holes.
+/// The model returns no word of ioctls: any that a kernel may return takes its place.
+pub fn a_kernel_may_answer_so()
+    ensures api { (one : Counterparts) (api features ioctls : ℕ) →
+        rules.is_offer model.all_features ioctls ≡ true →
+        Takes (rules.shaken one.kernel one.name one.object api features
+        (answer_of_api ioctls (model.handshake_answer one.space api features)))
+        (model.handshaken one.space api features) one.name }
+    ensures register { (one : Counterparts) (start len bits ioctls : ℕ) →
+        rules.has_calls ioctls ≡ true →
+        (model.register_error one.space start len bits ≡ None → AreMapped one.space start len) →
+        Takes (rules.registered one.kernel one.name one.object start len bits
+        (answer_of_register ioctls (model.register_error one.space start len bits)))
+        (model.registered one.space start len bits) one.name }
+    ensures unregister { (one : Counterparts) (start len : ℕ) →
+        Takes (rules.unregistered one.kernel one.name one.object start len
+        (answer_of_wake (model.unregister_answer one.space start len)))
+        (model.range_unregistered one.space start len) one.name }
+    ensures wake { (one : Counterparts) (start len : ℕ) → is_inside start len ≡ true →
+        Takes (rules.waked one.kernel one.name one.object start len
+        (answer_of_wake (model.wake_answer one.space start len))) one.space one.name }
+    ensures zeropage { (one : Counterparts) (key start len bits : ℕ) → is_inside start len ≡ true →
+        Takes (rules.put_with one.kernel key one.name one.object start len bits 1
+        (answer_of_put (model.zeropage_answer one.space start len bits)))
+        (model.zeropaged one.space start len bits) one.name }
+    ensures copy { (one : Counterparts) (key start from : ℕ) (bytes : List ℕ) (bits : ℕ) →
+        is_inside start (length bytes) ≡ true → may_be_outside from (length bytes) ≡ false →
+        Takes (rules.copied one.kernel key one.name one.object start from (length bytes) bits
+        (answer_of_put (model.copy_answer one.space start bytes bits)))
+        (model.copied one.space start bytes bits) one.name }
+    ensures writeprotect { (one : Counterparts) (key start len bits : ℕ) →
+        is_inside start len ≡ true →
+        Takes (rules.protected_with one.kernel key one.name one.object start len bits
+        (answer_of_wake (model.writeprotect_answer one.space start len bits)))
+        (model.write_protected one.space start len bits) one.name }
+{}
+
+/// The calls of a destination's handler are calls of a kernel: UFFDIO_COPY where a copy is installed, UFFDIO_ZEROPAGE where a page is made
+/// zeros, and UFFDIO_WAKE where nothing is to be put. The kernel's object agrees with the destination's again afterwards. The buffer of
+/// UFFDIO_COPY is where any process may have memory; a copy of zeros may be put by UFFDIO_ZEROPAGE.
+pub fn a_kernel_follows_the_destination()
+    ensures installed { (addr origin key from : ℕ)
+        (at : DestinationStep Step.Install (Effect.Installed addr origin)) →
+        may_be_outside from PAGE_SIZE ≡ false → Takes (copies_page at.one key from addr)
+        (destination_after at.world Step.Install) at.one.name }
+    ensures installed_zeros { (addr origin key : ℕ) (copy : Copy) (rest : List Copy)
+        (at : DestinationStep Step.Install (Effect.Installed addr origin)) →
+        at.world.destination.arrivals ≡ copy ∷ rest → copy.bytes ≡ zero_page →
+        Takes (zeroes_page at.one key addr)
+        (destination_after at.world Step.Install) at.one.name }
+    ensures zeroed { (addr key : ℕ) (at : DestinationStep Step.DestAct (Effect.Zeroed addr)) →
+        Takes (zeroes_page at.one key addr) (destination_after at.world Step.DestAct) at.one.name }
+    ensures woke { (addr : ℕ) (at : DestinationStep Step.DestAct (Effect.Woke addr)) →
+        Takes (wakes_page at.one addr) (destination_after at.world Step.DestAct) at.one.name }
+    ensures forgot { (addr : ℕ) (at : DestinationStep Step.DestAct (Effect.Forgot addr)) →
+        Takes (wakes_page at.one addr) (destination_after at.world Step.DestAct) at.one.name }
+{}
+
+/// So are those of a source's handler: UFFDIO_WRITEPROTECT where pages are sent or one is unprotected, UFFDIO_ZEROPAGE and UFFDIO_WAKE.
+pub fn a_kernel_follows_the_source()
+    ensures page { (addr key : ℕ) (at : SourceStep Step.Send (Effect.SentPage addr)) →
+        Takes (protects_pages at.one key addr PAGE_SIZE 1)
+        (source_after at.world Step.Send) at.one.name }
+    ensures zero { (addr key : ℕ) (at : SourceStep Step.Send (Effect.SentZero addr)) →
+        Takes (protects_pages at.one key addr PAGE_SIZE 1)
+        (source_after at.world Step.Send) at.one.name }
+    ensures run { (count addr pages key : ℕ)
+        (at : SourceStep (Step.SendRun count) (Effect.SentRun addr pages)) →
+        Takes (protects_pages at.one key addr (PAGE_SIZE * pages) 1)
+        (source_after at.world (Step.SendRun count)) at.one.name }
+    ensures unprotected { (addr key : ℕ)
+        (at : SourceStep Step.SourceAct (Effect.Unprotected addr)) →
+        Takes (protects_pages at.one key addr PAGE_SIZE 0)
+        (source_after at.world Step.SourceAct) at.one.name }
+    ensures zeroed { (addr key : ℕ) (at : SourceStep Step.SourceAct (Effect.Zeroed addr)) →
+        Takes (zeroes_page at.one key addr) (source_after at.world Step.SourceAct) at.one.name }
+    ensures woke { (addr : ℕ) (at : SourceStep Step.SourceAct (Effect.Woke addr)) →
+        Takes (wakes_page at.one addr) (source_after at.world Step.SourceAct) at.one.name }
+    ensures forgot { (addr : ℕ) (at : SourceStep Step.SourceAct (Effect.Forgot addr)) →
+        Takes (wakes_page at.one addr) (source_after at.world Step.SourceAct) at.one.name }
+{}
+
+/// There is such an object of a kernel for every sound space of the model that has no unread event. That a log leads to it is not said.
+pub fn a_space_has_a_counterpart()
+    ensures { (space : Space) → IsSoundSpace space → space.object.events ≡ [] →
+        (one : Counterparts) × (one.space ≡ space) }
+{}
