@@ -2,7 +2,6 @@
 use Rattle.std.proofs.lemmas.Bool.Decides.{nat_tests}
 use Rattle.std.proofs.lemmas.Bool.{false≢true, not-true}
 use Rattle.std.proofs.Common.{◌≡◌, ℕ, zero, suc, ◌+◌, ◌/◌, ◌^◌, ◌<◌, ◌&&◌, ◌||◌, Bool, true, false, not, cond, ltb, leb, Option, Some, None, List, [], ◌∷◌, ◌++◌, length, arith, refl, sym, ap, subst, ◌∙◌}
-use Rattle.std.specs.Prelude.{is_some}
 use Rattle.std.specs.FinMap.{contains_key, get}
 use Rattle.std.specs.FinSet.{contains}
 use Rattle.mig_base.specs.declared.command.Errno.{Errno}
@@ -13,7 +12,7 @@ use Rattle.mig_base.specs.Userfault.{changing, is_registered}
 use Rattle.mig_base.proofs.ByteLemmas.{length-zero_page}
 use Rattle.mig_base.proofs.RangeLemmas.{none_below-from, none_below-not}
 use Rattle.mig_base.proofs.TestLemmas.{and_false, and_first, and_second}
-use Rattle.mig_model.specs.Ioctls.{answer_put, copied, copy_answer, handed, installed, is_bad_range, is_one_area, left_by, missing_run, put_answer, same_area, same_protection, zeropage_answer, zeropaged}
+use Rattle.mig_model.specs.Ioctls.{answer_put, copied, copy_answer, handed, installed, is_bad_range, is_one_area, left_by, missing_run, put_answer, same_area, zeropage_answer, zeropaged}
 use Rattle.mig_model.specs.Space.{IsSoundSpace, Space}
 use Rattle.mig_model.proofs.memory.PageCalls.{same_prot_self}
 use Rattle.mig_model.proofs.memory.IoctlLemmas.{IsSoundSpace-installed, can_put, every_page, length-handed, protect_told}
@@ -25,7 +24,8 @@ use Rattle.kernel_rules.specs.Ioctls as rules
 use Rattle.kernel_rules.specs.Ioctls.{is_invalid, is_put_wrong, is_right, put_outside, put_with}
 use Rattle.kernel_rules.specs.State.{Kernel, allowed, each_page, is_enabled, is_range, may_be_outside, noted_if, page_is, some_page}
 use Rattle.kernel_laws.specs.Agreement.{Agree, AgreesAt, Takes, answer_of_put, is_inside}
-use Rattle.kernel_laws.proofs.Kernels.{agree-noted, bad_range, good_range}
+use Rattle.kernel_laws.proofs.Events.{changes, refused-changing}
+use Rattle.kernel_laws.proofs.Kernels.{agree-noted, bad_range, good_range, is-enabled}
 use Rattle.kernel_laws.proofs.Pages.{known}
 use Rattle.kernel_laws.proofs.Puts.{IsCall, put-taken, registered-in}
 
@@ -90,7 +90,7 @@ outside-by space kernel key name object start len bits most false agree right ar
       kernel = record kernel { outside = kernel.outside ++ key ∷ [] };
       object = object;
       taken = refl;
-      agree = record { sound = agree.sound; named = agree.named; enabled = agree.enabled; pages = agree.pages; quiet = agree.quiet; still = agree.still; alone = agree.alone };
+      agree = record { sound = agree.sound; named = agree.named; features = agree.features; pages = agree.pages; unread = agree.unread; untold = agree.untold; alone = agree.alone };
     }
 
 pub outside : (space : Space) (kernel : Kernel) (key name : ℕ) (object : Object) (start len bits most : ℕ) → Agree space kernel name object → is_right object start len bits most ≡ true → is_one_area space (start / 4096) (len / 4096) ≡ false →
@@ -121,9 +121,6 @@ no_protect zero h = refl
 no_protect (suc zero) h = refl
 no_protect (suc (suc bits)) h = absurd (false≢true (sym h ∙ many bits))
 
-pub no_change : (space : Space) (kernel : Kernel) (name : ℕ) (object : Object) → Agree space kernel name object → ltb 0 (changing space.object) ≡ false
-no_change space kernel name object agree = ap (λ events. ltb 0 (length events)) agree.quiet
-
 zeropages : (space : Space) (kernel : Kernel) (key name : ℕ) (object : Object) (start len bits : ℕ) (e m w c a : Bool) → Agree space kernel name object → is_inside start len ≡ true → is_enabled object ≡ e → ltb 1 bits ≡ m → is_bad_range start len ≡ w →
     ltb 0 (changing space.object) ≡ c → is_one_area space (start / 4096) (len / 4096) ≡ a →
     let errors : List (Bool × Errno) = (not e, Errno.Einval) ∷ (m, Errno.Einval) ∷ (w, Errno.Einval) ∷ (c, Errno.Eagain) ∷ (not a, Errno.Enoent) ∷ [] in
@@ -136,7 +133,7 @@ zeropages space kernel key name object start len bits true true w c a agree insi
     refused space kernel name object (is_put_wrong kernel object start len bits 1) agree (unknown_mode (is_enabled object) (is_range start len) (leb bits 1) (may_be_outside start len) _ (greater 1 bits hm))
 zeropages space kernel key name object start len bits true false true c a agree inside he hm hw hc ha =
     refused space kernel name object (is_put_wrong kernel object start len bits 1) agree (wrong_range (is_enabled object) (is_range start len) (leb bits 1) (may_be_outside start len) _ (bad_range start len inside hw))
-zeropages space kernel key name object start len bits true false false true a agree inside he hm hw hc ha = absurd (false≢true (sym (no_change space kernel name object agree) ∙ hc))
+zeropages space kernel key name object start len bits true false false true a agree inside he hm hw hc ha = refused-changing space kernel name object agree hc
 zeropages space kernel key name object start len bits true false false false false agree inside he hm hw hc ha =
     outside space kernel key name object start len bits 1 agree (good-right object start len bits 1 he (good_range start len inside hw) hm) ha
 zeropages space kernel key name object start len bits true false false false true agree inside he hm hw hc ha =
@@ -147,14 +144,14 @@ zeropages space kernel key name object start len bits true false false false tru
     let asked = λ (h : is_one bits 1 ≡ true). absurd (false≢true (sym none ∙ h)) in
     let sound = IsSoundSpace-installed space first done (λ i. zero_page) (is_one bits 1) (can_put space first count (λ i. zero_page) (is_one bits 1) agree.sound ha (λ i low. length-zero_page) asked) agree.sound in
     let call : IsCall space kernel name object start len bits 1 =
-    record { agree = agree; right = good-right object start len bits 1 he (good_range start len inside hw) hm; area = ha; watched = asked } in
+    record { agree = agree; still = changes agree ∙ hc; right = good-right object start len bits 1 he (good_range start len inside hw) hm; area = ha; watched = asked } in
     subst (λ protect. Takes (put_with kernel key name object start len bits 1 (answer_of_put (put_answer start count done bits Errno.Eexist))) (installed space first done (λ i. zero_page) protect) name) none
     (put-taken space kernel key name object start len bits 1 (λ i. zero_page) call sound)
 
 pub zeropage-taken : (space : Space) (kernel : Kernel) (key name : ℕ) (object : Object) (start len bits : ℕ) → Agree space kernel name object → is_inside start len ≡ true →
     Takes (put_with kernel key name object start len bits 1 (answer_of_put (zeropage_answer space start len bits))) (zeropaged space start len bits) name
 zeropage-taken space kernel key name object start len bits agree inside =
-    zeropages space kernel key name object start len bits space.object.enabled (ltb 1 bits) (is_bad_range start len) (ltb 0 (changing space.object)) (is_one_area space (start / 4096) (len / 4096)) agree inside agree.enabled refl refl refl refl
+    zeropages space kernel key name object start len bits space.object.enabled (ltb 1 bits) (is_bad_range start len) (ltb 0 (changing space.object)) (is_one_area space (start / 4096) (len / 4096)) agree inside (is-enabled agree) refl refl refl refl
 
 -- UFFDIO_COPY
 
@@ -198,7 +195,7 @@ copies space kernel key name object start bytes bits true true w c a p agree ins
 copies space kernel key name object start bytes bits true false true c a p agree inside he hm hw hc ha hp =
     let len = length bytes in
     refused space kernel name object (is_put_wrong kernel object start len bits 3) agree (wrong_range (is_enabled object) (is_range start len) (leb bits 3) (may_be_outside start len) _ (bad_range start len inside hw))
-copies space kernel key name object start bytes bits true false false true a p agree inside he hm hw hc ha hp = absurd (false≢true (sym (no_change space kernel name object agree) ∙ hc))
+copies space kernel key name object start bytes bits true false false true a p agree inside he hm hw hc ha hp = refused-changing space kernel name object agree hc
 copies space kernel key name object start bytes bits true false false false false p agree inside he hm hw hc ha hp =
     let len = length bytes in
     outside space kernel key name object start len bits 3 agree (good-right object start len bits 3 he (good_range start len inside hw) hm) ha
@@ -218,7 +215,7 @@ copies space kernel key name object start bytes bits true false false false true
     let watched = protect_told (is_one bits 1) (contains space.object.protect first) hp in
     let sound = IsSoundSpace-installed space first done (handed bytes) (is_one bits 1) (can_put space first count (handed bytes) (is_one bits 1) agree.sound ha (length-handed bytes) watched) agree.sound in
     let call : IsCall space kernel name object start len bits 3 =
-    record { agree = agree; right = good-right object start len bits 3 he (good_range start len inside hw) hm; area = ha; watched = watched } in
+    record { agree = agree; still = changes agree ∙ hc; right = good-right object start len bits 3 he (good_range start len inside hw) hm; area = ha; watched = watched } in
     put-taken space kernel key name object start len bits 3 (handed bytes) call sound
 
 pub copy-taken : (space : Space) (kernel : Kernel) (key name : ℕ) (object : Object) (start from : ℕ) (bytes : List ℕ) (bits : ℕ) → Agree space kernel name object → is_inside start (length bytes) ≡ true → may_be_outside from (length bytes) ≡ false →
@@ -227,4 +224,4 @@ copy-taken space kernel key name object start from bytes bits agree inside sourc
     let told = answer_of_put (copy_answer space start bytes bits) in
     subst (λ rule. Takes rule (copied space start bytes bits) name) (sym (through kernel key name object start from (length bytes) bits told source))
     (copies space kernel key name object start bytes bits space.object.enabled (ltb 3 bits) (is_bad_range start (length bytes)) (ltb 0 (changing space.object)) (is_one_area space (start / 4096) (length bytes / 4096)) (is_one bits 1 && not (contains space.object.protect (start / 4096))) agree
-    inside agree.enabled refl refl refl refl refl)
+    inside (is-enabled agree) refl refl refl refl refl)

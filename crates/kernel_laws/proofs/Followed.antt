@@ -28,14 +28,14 @@ use Rattle.kernel_laws.proofs.Wakes.{wake-taken}
 
 -- A call that is not refused has a range in the address space of the model
 
-second_fails : (a b : Bool) (x y : Errno) (rest : List (Bool × Errno)) → first_holding ((a, x) ∷ (b, y) ∷ rest) ≡ None → b ≡ false
-second_fails true b x y rest is = absurd (cc)
-second_fails false true x y rest is = absurd (cc)
-second_fails false false x y rest is = refl
+pub both_fail : (a b : Bool) (x y : Errno) (rest : List (Bool × Errno)) → first_holding ((a, x) ∷ (b, y) ∷ rest) ≡ None → (a ≡ false) × (b ≡ false)
+both_fail true b x y rest is = absurd (cc)
+both_fail false true x y rest is = absurd (cc)
+both_fail false false x y rest is = (refl, refl)
 
 third_fails : (a b c : Bool) (x y z : Errno) (rest : List (Bool × Errno)) → first_holding ((a, x) ∷ (b, y) ∷ (c, z) ∷ rest) ≡ None → c ≡ false
 third_fails true b c x y z rest is = absurd (cc)
-third_fails false b c x y z rest is = second_fails b c y z rest is
+third_fails false b c x y z rest is = (both_fail b c y z rest is).1
 
 inside : (start len : ℕ) → is_bad_range start len ≡ false → is_inside start len ≡ true
 inside start len good = grind (arith, nat_tests)
@@ -68,7 +68,7 @@ none_put (Some errno) put is = is
 pub followed-wake : (one : Counterparts) (old new : Guest) (addr : ℕ) → one.space ≡ old.space → IsWake old new addr → Takes (wakes_page one addr) new.space one.name
 followed-wake one old new addr same is =
     let answer : wake_answer one.space addr 4096 ≡ Ok (Wake.Range addr 4096) = ap (λ space. wake_answer space addr 4096) same ∙ is.answer in
-    let fits = inside addr 4096 (second_fails _ (is_bad_range addr 4096) Errno.Einval Errno.Einval [] (no_error _ _ (Wake.Range addr 4096) answer)) in
+    let fits = inside addr 4096 (both_fail _ (is_bad_range addr 4096) Errno.Einval Errno.Einval [] (no_error _ _ (Wake.Range addr 4096) answer)).1 in
     subst (λ space. Takes (wakes_page one addr) space one.name) (same ∙ sym is.leaves)
     (subst (λ told. Takes (rules.waked one.kernel one.name one.object addr 4096 (answer_of_wake told)) one.space one.name) answer (wake-taken one.space one.kernel one.name one.object addr 4096 one.agree fits))
 

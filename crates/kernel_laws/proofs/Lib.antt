@@ -1,4 +1,6 @@
+pub mod Waiting
 pub mod Kernels
+pub mod Events
 pub mod Wakes
 pub mod Pages
 pub mod Puts
@@ -7,3 +9,8 @@ pub mod Protects
 pub mod Followed
 pub mod Counterpart
 pub mod Registers
+pub mod FaultReads
+pub mod Accesses
+pub mod EventReads
+pub mod LogRuns
+pub mod FirstCalls

@@ -21,14 +21,14 @@ use Rattle.kernel_rules.specs.declared.calling.Protecting.{Protecting}
 use Rattle.kernel_rules.specs.declared.known.Page.{Page}
 use Rattle.kernel_rules.specs.declared.object.Object.{Object}
 use Rattle.kernel_rules.specs.Changes.{page_with}
-use Rattle.kernel_rules.specs.Faults.{sleeps_in}
 use Rattle.kernel_rules.specs.Ioctls as rules
 use Rattle.kernel_rules.specs.Ioctls.{has_begun, is_changing, is_each_protected, is_right, kept_pages, pages_set, protected_with, protects_missing, with_protected, without_protected}
 use Rattle.kernel_rules.specs.Pages.{is_missing, perhaps_protected, protected_page}
 use Rattle.kernel_rules.specs.State.{Kernel, allowed, each_page, is_enabled, is_range, may_be_outside, page_is, pages_changed, some_page}
 use Rattle.kernel_laws.specs.Agreement.{Agree, AgreesAt, IsPage, Takes, answer_of_wake, is_inside}
-use Rattle.kernel_laws.proofs.Calls.{good-right, greater, no_change, pages_in, refused}
-use Rattle.kernel_laws.proofs.Kernels.{agree-noted, agree-woken, bad_range, good_range}
+use Rattle.kernel_laws.proofs.Calls.{good-right, greater, pages_in, refused}
+use Rattle.kernel_laws.proofs.Events.{changes, refused-changing}
+use Rattle.kernel_laws.proofs.Kernels.{agree-noted, agree-woken, bad_range, good_range, is-enabled}
 use Rattle.kernel_laws.proofs.Pages.{known}
 use Rattle.kernel_laws.proofs.Puts.{agree-if}
 
@@ -89,12 +89,12 @@ agree-protected space kernel name object first count protect every agree sound =
     record {
       sound = sound;
       named = agree.named;
-      enabled = agree.enabled;
+      features = agree.features;
+      unread = agree.unread;
       pages = λ page.
           page-protect space first count name page protect every (eqb object.space object.space && in_range first count page) (kernel.pages object.space page) sound
           (sym (ap (λ e. e && in_range first count page) (eqb-self object.space))) (agree.pages page);
-      quiet = agree.quiet;
-      still = agree.still;
+      untold = agree.untold;
       alone = agree.alone;
     }
 
@@ -103,10 +103,10 @@ agree-without key space kernel name object agree =
     record {
       sound = agree.sound;
       named = agree.named;
-      enabled = agree.enabled;
+      features = agree.features;
+      unread = agree.unread;
       pages = agree.pages;
-      quiet = agree.quiet;
-      still = agree.still;
+      untold = agree.untold;
       alone = ap (filter (λ (one : Protecting). not (eqb one.key key))) agree.alone;
     }
 
@@ -119,7 +119,7 @@ agree-after space kernel key name object first count bits agree sound =
     let changed : Agree new all name object = agree-protected space kernel name object first count (is_one bits 0) (protects_missing object) agree sound in
     let set : Agree new kept name object = subst (λ begun. Agree new (pages_set all object.space (kept_pages kernel key object.space begun)) name object) (sym agree.alone) changed in
     let after = agree-noted _ _ new (without_protected kept key) name object (agree-without key new kept name object set) in
-    agree-if (eqb bits 0) new _ _ name object (agree-woken (sleeps_in name first count) true new _ name object after) after
+    agree-if (eqb bits 0) new _ _ name object (agree-woken first count true new _ name object after) after
 
 -- The call
 
@@ -178,7 +178,7 @@ protects space kernel key name object start len bits true true w c a agree insid
     refused space kernel name object (not (is_right object start len bits 2) || may_be_outside start len) agree (unknown_mode (is_enabled object) (is_range start len) (leb bits 2) (may_be_outside start len) (greater 2 bits hm))
 protects space kernel key name object start len bits true false true c a agree inside he hm hw hc ha =
     refused space kernel name object (not (is_right object start len bits 2) || may_be_outside start len) agree (wrong_range (is_enabled object) (is_range start len) (leb bits 2) (may_be_outside start len) (bad_range start len inside hw))
-protects space kernel key name object start len bits true false false true a agree inside he hm hw hc ha = absurd (false≢true (sym (no_change space kernel name object agree) ∙ hc))
+protects space kernel key name object start len bits true false false true a agree inside he hm hw hc ha = refused-changing space kernel name object agree hc
 protects space kernel key name object start len bits true false false false false agree inside he hm hw hc ha =
     let first = start / 4096 in
     let count = len / 4096 in
@@ -192,10 +192,10 @@ protects space kernel key name object start len bits true false false false fals
       agree = record {
         sound = agree.sound;
         named = agree.named;
-        enabled = agree.enabled;
+        features = agree.features;
+        unread = agree.unread;
         pages = λ page. perhaps-page space name page (is_one bits 0) (eqb object.space object.space && in_range first count page) (kernel.pages object.space page) (agree.pages page);
-        quiet = agree.quiet;
-        still = agree.still;
+        untold = agree.untold;
         alone = agree.alone;
       };
     }
@@ -213,7 +213,7 @@ protects space kernel key name object start len bits true false false false true
     (record {
       kernel = new;
       object = object;
-      taken = ap (λ b. allowed b new) (allowed_now (is_right object start len bits 2) (has_begun kernel key) (is_changing kernel name) (some_page kernel object.space first count (λ page. page.protect)) right agree.still some);
+      taken = ap (λ b. allowed b new) (allowed_now (is_right object start len bits 2) (has_begun kernel key) (is_changing kernel name) (some_page kernel object.space first count (λ page. page.protect)) right (changes agree ∙ hc) some);
       agree = agree-after space kernel key name object first count bits agree sound;
     })
   where
@@ -225,4 +225,4 @@ protects space kernel key name object start len bits true false false false true
 pub protect-taken : (space : Space) (kernel : Kernel) (key name : ℕ) (object : Object) (start len bits : ℕ) → Agree space kernel name object → is_inside start len ≡ true →
     Takes (protected_with kernel key name object start len bits (answer_of_wake (writeprotect_answer space start len bits))) (write_protected space start len bits) name
 protect-taken space kernel key name object start len bits agree inside =
-    protects space kernel key name object start len bits space.object.enabled (ltb 2 bits) (is_bad_range start len) (ltb 0 (changing space.object)) (is_every (λ page. contains space.object.protect page) (start / 4096) (len / 4096)) agree inside agree.enabled refl refl refl refl
+    protects space kernel key name object start len bits space.object.enabled (ltb 2 bits) (is_bad_range start len) (ltb 0 (changing space.object)) (is_every (λ page. contains space.object.protect page) (start / 4096) (len / 4096)) agree inside (is-enabled agree) refl refl refl refl

@@ -30,10 +30,12 @@ use Rattle.kernel_rules.specs.State.{Kernel, allowed, page_is, pages_changed, wi
 use Rattle.kernel_laws.specs.Agreement.{Agree, AgreesAt, IsPage, Takes, answer_of_put, put_answer as told}
 use Rattle.kernel_laws.proofs.Kernels.{agree-woken}
 use Rattle.kernel_laws.proofs.Pages.{known, least_before, page-put, same-put}
+use Rattle.kernel_laws.proofs.Waiting.{unread-puts}
 
 -- what a call has whose arguments are right, over one registered area
 pub record IsCall (space : Space) (kernel : Kernel) (name : ℕ) (object : Object) (start len bits most : ℕ) : Type 0 where
   pub agree : Agree space kernel name object
+  pub still : is_changing kernel name ≡ false
   pub right : is_right object start len bits most ≡ true
   pub area : is_one_area space (start / 4096) (len / 4096) ≡ true
   pub watched : is_one bits 1 ≡ true → contains space.object.protect (start / 4096) ≡ true
@@ -92,15 +94,15 @@ agree-put space kernel name object first done bits bytes agree sound absent =
     record {
       sound = sound;
       named = ap (λ b. cond b (Some (record object { puts = true })) (kernel.objects name)) (eqb-self name);
-      enabled = agree.enabled;
+      features = agree.features;
+      unread = unread-puts kernel.faults name object space.object.faults agree.unread;
       pages = λ page.
           page-put space first done name page bytes (is_one bits 1) (eqb object.space object.space && in_range first done page) (kernel.pages object.space page) agree.sound (sym (at page))
           (λ inside. absent-at space first done page absent (sym (at page) ∙ inside)) (agree.pages page);
-      quiet = agree.quiet;
-      still = agree.still;
+      untold = agree.untold;
       alone = agree.alone;
     } in
-    agree-if (is_one bits 0) new put (woken put (sleeps_in name first done) true) name (record object { puts = true }) agrees (agree-woken (sleeps_in name first done) true new put name (record object { puts = true }) agrees)
+    agree-if (is_one bits 0) new put (woken put (sleeps_in name first done) true) name (record object { puts = true }) agrees (agree-woken first done true new put name (record object { puts = true }) agrees)
 
 -- A call that stops
 
@@ -112,9 +114,9 @@ shown-page space name page true (Some one) there agrees =
 
 agree-stop : (put : Bool) (key : ℕ) (space : Space) (kernel : Kernel) (name : ℕ) (object : Object) → Agree space kernel name object → Agree space (stop_noted kernel put key) name object
 agree-stop true key space kernel name object agree =
-    record { sound = agree.sound; named = agree.named; enabled = agree.enabled; pages = agree.pages; quiet = agree.quiet; still = agree.still; alone = agree.alone }
+    record { sound = agree.sound; named = agree.named; features = agree.features; pages = agree.pages; unread = agree.unread; untold = agree.untold; alone = agree.alone }
 agree-stop false key space kernel name object agree =
-    record { sound = agree.sound; named = agree.named; enabled = agree.enabled; pages = agree.pages; quiet = agree.quiet; still = agree.still; alone = agree.alone }
+    record { sound = agree.sound; named = agree.named; features = agree.features; pages = agree.pages; unread = agree.unread; untold = agree.untold; alone = agree.alone }
 
 one_page : (s page q : ℕ) → (eqb s s && in_range page 1 q) ≡ true → page ≡ q
 one_page s page q h = grind (arith, nat_tests)
@@ -124,12 +126,12 @@ agree-shown space kernel name object page agree there =
     record {
       sound = agree.sound;
       named = agree.named;
-      enabled = agree.enabled;
+      features = agree.features;
+      unread = agree.unread;
       pages = λ q.
           shown-page space name q (eqb object.space object.space && in_range page 1 q) (kernel.pages object.space q)
           (λ inside. subst (λ at. contains_key space.host.bytes at ≡ true) (one_page object.space page q inside) there) (agree.pages q);
-      quiet = agree.quiet;
-      still = agree.still;
+      untold = agree.untold;
       alone = agree.alone;
     }
 
@@ -188,7 +190,7 @@ ends-all space kernel key name object start len bits most bytes call sound absen
       kernel = new;
       object = record object { puts = true };
       taken = ap (λ b. allowed b new)
-          (all_four (eqb (4096 * count) len) (is_right object start len bits most) (is_changing kernel name) (may_be_put kernel object.space first count bits) (full len count refl start bits most object call.right) call.right call.agree.still may);
+          (all_four (eqb (4096 * count) len) (is_right object start len bits most) (is_changing kernel name) (may_be_put kernel object.space first count bits) (full len count refl start bits most object call.right) call.right call.still may);
       agree = agree-put space kernel name object first count bits bytes call.agree sound absent;
     }
 
@@ -198,10 +200,10 @@ agree-none space kernel name object first bytes protect agree sound =
     record {
       sound = sound;
       named = agree.named;
-      enabled = agree.enabled;
+      features = agree.features;
+      unread = agree.unread;
       pages = λ page. page-put space first 0 name page bytes protect false (kernel.pages object.space page) agree.sound (in_range-none first page) (λ inside. absurd (false≢true inside)) (agree.pages page);
-      quiet = agree.quiet;
-      still = agree.still;
+      untold = agree.untold;
       alone = agree.alone;
     }
 

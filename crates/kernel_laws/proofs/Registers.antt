@@ -25,9 +25,9 @@ use Rattle.kernel_rules.specs.Ioctls as rules
 use Rattle.kernel_rules.specs.Ioctls.{has_calls, is_mode, is_offer, may_shake, shaken, with_handshake}
 use Rattle.kernel_rules.specs.Pages.{registered_page, without_object}
 use Rattle.kernel_rules.specs.State.{Kernel, allowed, asked_for, is_enabled, is_range, is_within, noted_if, page_is, some_page, with_object}
-use Rattle.kernel_laws.specs.Agreement.{Agree, AgreesAt, AreMapped, IsPage, Takes, answer_of_api, answer_of_register, answer_of_wake, is_inside}
+use Rattle.kernel_laws.specs.Agreement.{Agree, AgreesAt, AreMapped, AreUnread, IsPage, Takes, answer_of_api, answer_of_register, answer_of_wake}
 use Rattle.kernel_laws.proofs.Calls.{refused}
-use Rattle.kernel_laws.proofs.Kernels.{agree-noted, agree-woken, right_range}
+use Rattle.kernel_laws.proofs.Kernels.{agree-noted, agree-woken, is-enabled, right_range}
 
 -- UFFDIO_API
 
@@ -61,16 +61,17 @@ page-enabled space features name page None agrees = agrees
 page-enabled space features name page (Some one) agrees =
     record { object = agrees.object; missing = agrees.missing; protect = agrees.protect; registered = agrees.registered; absent = agrees.absent; present = agrees.present; guarded = agrees.guarded }
 
-agree-shaken : (space : Space) (kernel : Kernel) (name : ℕ) (object : Object) (features : ℕ) → Agree space kernel name object → IsSoundSpace (record space { object = enabled_with space.object features }) →
+agree-shaken : (space : Space) (kernel : Kernel) (name : ℕ) (object : Object) (features : ℕ) → Agree space kernel name object → space.object.faults ≡ [] → IsSoundSpace (record space { object = enabled_with space.object features }) →
     Agree (record space { object = enabled_with space.object features }) (with_object kernel name (record object { features = Some features })) name (record object { features = Some features })
-agree-shaken space kernel name object features agree sound =
+agree-shaken space kernel name object features agree none sound =
+    let after : Object = record object { features = Some features } in
     record {
       sound = sound;
-      named = ap (λ b. cond b (Some (record object { features = Some features })) (kernel.objects name)) (eqb-self name);
-      enabled = refl;
+      named = ap (λ b. cond b (Some after) (kernel.objects name)) (eqb-self name);
+      features = refl;
+      unread = subst (AreUnread kernel.faults name after) (sym none) (record { on_their_way = tt; none_queued = agree.unread.none_queued });
       pages = λ page. page-enabled space features name page (kernel.pages object.space page) (agree.pages page);
-      quiet = agree.quiet;
-      still = agree.still;
+      untold = agree.untold;
       alone = agree.alone;
     }
 
@@ -87,32 +88,32 @@ may_shake_now : (e a w o : Bool) → e ≡ false → a ≡ true → w ≡ true �
 may_shake_now e a w o he ha hw ho = grind (arith, nat_tests)
 
 shakes : (space : Space) (kernel : Kernel) (name : ℕ) (object : Object) (api features ioctls : ℕ) (a u e : Bool) → Agree space kernel name object → is_offer 0x14d ioctls ≡ true → eqb api 0xaa ≡ not a → has_unknown is_feature features ≡ u → is_enabled object ≡ e →
-    IsSoundSpace (record space { object = enabled_with space.object features }) →
+    space.object.faults ≡ [] → IsSoundSpace (record space { object = enabled_with space.object features }) →
     let errors : List (Bool × Errno) = (a, Errno.Einval) ∷ (u, Errno.Einval) ∷ (e, Errno.Einval) ∷ [] in
     Takes (shaken kernel name object api features (answer_of_api ioctls (answered_by (first_holding errors) 0x14d))) (left_by (first_holding errors) space (record space { object = enabled_with space.object features })) name
-shakes space kernel name object api features ioctls true u e agree offer ha hu he sound =
+shakes space kernel name object api features ioctls true u e agree offer ha hu he none sound =
     refused space kernel name object _ agree (may_fail_api (is_enabled object) (not (eqb api 0xaa)) (ltb 0 features) (ap not ha))
-shakes space kernel name object api features ioctls false true e agree offer ha hu he sound =
+shakes space kernel name object api features ioctls false true e agree offer ha hu he none sound =
     refused space kernel name object _ agree (may_fail_feature (is_enabled object) (not (eqb api 0xaa)) (ltb 0 features) (some_feature features hu))
-shakes space kernel name object api features ioctls false false true agree offer ha hu he sound =
+shakes space kernel name object api features ioctls false false true agree offer ha hu he none sound =
     refused space kernel name object _ agree (may_fail (is_enabled object) (not (eqb api 0xaa)) (ltb 0 features) he)
-shakes space kernel name object api features ioctls false false false agree offer ha hu he sound =
+shakes space kernel name object api features ioctls false false false agree offer ha hu he none sound =
     let new = with_handshake kernel name object features in
     record {
       kernel = new;
       object = record object { features = Some features };
       taken = ap (λ b. allowed b new) (may_shake_now (is_enabled object) (eqb api 0xaa) (is_within features 0x14d) (is_offer 0x14d ioctls) he ha (within features hu) offer);
-      agree = agree-noted _ _ (record space { object = enabled_with space.object features }) _ name (record object { features = Some features }) (agree-shaken space kernel name object features agree sound);
+      agree = agree-noted _ _ (record space { object = enabled_with space.object features }) _ name (record object { features = Some features }) (agree-shaken space kernel name object features agree none sound);
     }
 
 twice_not : (b : Bool) → b ≡ not (not b)
 twice_not true = refl
 twice_not false = refl
 
-pub api-taken : (space : Space) (kernel : Kernel) (name : ℕ) (object : Object) (api features ioctls : ℕ) → Agree space kernel name object → is_offer 0x14d ioctls ≡ true →
+pub api-taken : (space : Space) (kernel : Kernel) (name : ℕ) (object : Object) (api features ioctls : ℕ) → Agree space kernel name object → is_offer 0x14d ioctls ≡ true → space.object.faults ≡ [] →
     Takes (shaken kernel name object api features (answer_of_api ioctls (handshake_answer space api features))) (handshaken space api features) name
-api-taken space kernel name object api features ioctls agree offer =
-    shakes space kernel name object api features ioctls (not (eqb api 0xaa)) (has_unknown is_feature features) space.object.enabled agree offer (twice_not (eqb api 0xaa)) refl agree.enabled (IsSoundSpace-enabled space features agree.sound)
+api-taken space kernel name object api features ioctls agree offer none =
+    shakes space kernel name object api features ioctls (not (eqb api 0xaa)) (has_unknown is_feature features) space.object.enabled agree offer (twice_not (eqb api 0xaa)) refl (is-enabled agree) none (IsSoundSpace-enabled space features agree.sound)
 
 -- UFFDIO_UNREGISTER
 
@@ -148,12 +149,12 @@ agree-unregistered space kernel name object first count agree sound =
     record {
       sound = sound;
       named = agree.named;
-      enabled = agree.enabled;
+      features = agree.features;
+      unread = agree.unread;
       pages = λ page.
           page-unregistered space first count name page (eqb object.space object.space && in_range first count page) (kernel.pages object.space page)
           (sym (ap (λ e. e && in_range first count page) (eqb-self object.space))) (agree.pages page);
-      quiet = agree.quiet;
-      still = agree.still;
+      untold = agree.untold;
       alone = agree.alone;
     }
 
@@ -173,13 +174,13 @@ unregisters space kernel name object start len true false false agree he hw soun
       kernel = new;
       object = object;
       taken = λ i. allowed (he i && right_range start len hw i) new;
-      agree = agree-woken test false (unregistered_in space first count) (rules.unregistered_in kernel name object first count) name object (agree-unregistered space kernel name object first count agree sound);
+      agree = agree-woken first count false (unregistered_in space first count) (rules.unregistered_in kernel name object first count) name object (agree-unregistered space kernel name object first count agree sound);
     }
 
 pub unregister-taken : (space : Space) (kernel : Kernel) (name : ℕ) (object : Object) (start len : ℕ) → Agree space kernel name object →
     Takes (rules.unregistered kernel name object start len (answer_of_wake (unregister_answer space start len))) (range_unregistered space start len) name
 unregister-taken space kernel name object start len agree =
-    unregisters space kernel name object start len space.object.enabled (is_bad_range start len) (is_bare space (start / 4096) (len / 4096)) agree agree.enabled refl (IsSoundSpace-range_unregistered space start len agree.sound)
+    unregisters space kernel name object start len space.object.enabled (is_bad_range start len) (is_bare space (start / 4096) (len / 4096)) agree (is-enabled agree) refl (IsSoundSpace-range_unregistered space start len agree.sound)
 
 -- UFFDIO_REGISTER
 
@@ -276,12 +277,12 @@ agree-registered space kernel name object first count mode agree some mapped =
     record {
       sound = IsSoundSpace-registered space first count mode agree.sound;
       named = agree.named;
-      enabled = agree.enabled;
+      features = agree.features;
+      unread = agree.unread;
       pages = λ page.
           page-registered space first count name page mode (eqb object.space object.space && in_range first count page) (kernel.pages object.space page) agree.sound some (sym (at page))
           (λ inside. mapped page (sym (at page) ∙ inside)) (agree.pages page);
-      quiet = agree.quiet;
-      still = agree.still;
+      untold = agree.untold;
       alone = agree.alone;
     }
 
@@ -336,4 +337,4 @@ registers space kernel name object start len bits ioctls true false false false 
 pub register-taken : (space : Space) (kernel : Kernel) (name : ℕ) (object : Object) (start len bits ioctls : ℕ) → Agree space kernel name object → has_calls ioctls ≡ true → (register_error space start len bits ≡ None → AreMapped space start len) →
     Takes (rules.registered kernel name object start len bits (answer_of_register ioctls (register_error space start len bits))) (registered space start len bits) name
 register-taken space kernel name object start len bits ioctls agree calls mapped =
-    registers space kernel name object start len bits ioctls space.object.enabled (not (has_events space.object)) (is_bad_mode bits) (is_bad_range start len) (is_bare space (start / 4096) (len / 4096)) agree calls agree.enabled refl refl mapped
+    registers space kernel name object start len bits ioctls space.object.enabled (not (has_events space.object)) (is_bad_mode bits) (is_bad_range start len) (is_bare space (start / 4096) (len / 4096)) agree calls (is-enabled agree) refl refl mapped

@@ -1,6 +1,6 @@
 -- UFFDIO_WAKE.
 use Rattle.std.proofs.lemmas.Bool.Decides.{nat_tests}
-use Rattle.std.proofs.Common.{◌≡◌, ℕ, ◌/◌, ◌&&◌, ◌||◌, Bool, true, false, not, [], ◌∷◌, arith, refl, ap}
+use Rattle.std.proofs.Common.{◌≡◌, ℕ, ◌/◌, ◌&&◌, ◌||◌, Bool, true, false, not, [], ◌∷◌, arith, refl}
 use Rattle.mig_base.specs.declared.command.Errno.{Errno}
 use Rattle.mig_base.specs.declared.wake.Wake.{Wake}
 use Rattle.mig_base.specs.Tests.{first_holding}
@@ -12,7 +12,7 @@ use Rattle.kernel_rules.specs.Ioctls.{waked}
 use Rattle.kernel_rules.specs.State.{Kernel, allowed, is_enabled, is_range, may_be_outside}
 use Rattle.kernel_laws.specs.Agreement.{Agree, Takes, answer_of_wake, is_inside}
 use Rattle.kernel_laws.proofs.Calls.{refused}
-use Rattle.kernel_laws.proofs.Kernels.{agree-woken, bad_range, good_range}
+use Rattle.kernel_laws.proofs.Kernels.{agree-woken, bad_range, good_range, is-enabled}
 
 unenabled : (e r o : Bool) → e ≡ false → (not (e && r) || o) ≡ true
 unenabled e r o is = grind (arith, nat_tests)
@@ -32,8 +32,8 @@ wakes space kernel name object start len true false agree inside enabled is =
       kernel = woken kernel test true;
       object = object;
       taken = λ i. allowed (enabled i && good_range start len inside is i) (woken kernel test true);
-      agree = agree-woken test true space kernel name object agree;
+      agree = agree-woken (start / 4096) (len / 4096) true space kernel name object agree;
     }
 
 pub wake-taken : (space : Space) (kernel : Kernel) (name : ℕ) (object : Object) (start len : ℕ) → Agree space kernel name object → is_inside start len ≡ true → Takes (waked kernel name object start len (answer_of_wake (wake_answer space start len))) space name
-wake-taken space kernel name object start len agree inside = wakes space kernel name object start len space.object.enabled (is_bad_range start len) agree inside agree.enabled refl
+wake-taken space kernel name object start len agree inside = wakes space kernel name object start len space.object.enabled (is_bad_range start len) agree inside (is-enabled agree) refl

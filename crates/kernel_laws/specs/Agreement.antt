@@ -1,21 +1,32 @@
 -- The userfault object of the model beside one of a kernel: when what is known of both agrees, and what the model's answers are in a log.
-use Rattle.std.specs.Prelude.{◌≡◌, ℕ, ◌+◌, ◌/◌, nat_le, Bool, true, false, Option, Some, None, Result, Ok, Err, []}
+use Rattle.std.specs.Prelude.{◌≡◌, ℕ, ◌+◌, ◌/◌, nat_le, Bool, true, false, Option, Some, None, Result, Ok, Err, List, [], ◌∷◌, ◌++◌, ◌*◌, ◌==◌, ◌&&◌, not, filter, map}
+use Rattle.std.specs.List.{flat_map, list_any}
 use Rattle.std.specs.FinMap.{contains_key}
 use Rattle.std.specs.FinSet.{contains}
 use Rattle.mig_base.specs.declared.TheConstants.{HIGH, PAGE_SIZE}
 use Rattle.mig_base.specs.declared.command.Errno.{Errno}
+use Rattle.mig_base.specs.declared.message.Message.{Message}
 use Rattle.mig_base.specs.declared.wake.Wake.{Wake}
+use Rattle.mig_base.specs.Messages.{fault_flags}
 use Rattle.mig_base.specs.Ranges.{in_range}
-use Rattle.mig_base.specs.Userfault.{is_registered}
+use Rattle.mig_base.specs.Tests.{is_empty}
+use Rattle.mig_base.specs.Userfault.{Noted, is_registered}
 use Rattle.mig_model.specs.Ioctls.{Put}
 use Rattle.mig_model.specs.Space.{IsSoundSpace, Space}
+use Rattle.uffd_log.specs.declared.call.Message.{Message as LogMessage}
+use Rattle.uffd_log.specs.declared.call.Message.TheVariants as log
 use Rattle.uffd_log.specs.declared.errno.Errno.{Errno as KernelErrno}
 use Rattle.uffd_log.specs.declared.errno.Errno.TheVariants as kernel
 use Rattle.uffd_log.specs.declared.line.Answer.{Answer}
 use Rattle.uffd_log.specs.declared.line.Answer.TheVariants as answer
-use Rattle.kernel_rules.specs.Ioctls.{is_changing}
+use Rattle.kernel_rules.specs.Faults.{fault_of, faults_without, is_seen}
+use Rattle.kernel_rules.specs.Ioctls.{span_of, tells_object}
 use Rattle.kernel_rules.specs.Pages.{is_missing, is_present}
-use Rattle.kernel_rules.specs.State.{Kernel, is_enabled}
+use Rattle.kernel_rules.specs.Reads.{first_unread, is_message, is_same_event}
+use Rattle.kernel_rules.specs.State.{Kernel, fresh_kernel}
+use Rattle.kernel_rules.specs.declared.calling.Span.{Span}
+use Rattle.kernel_rules.specs.declared.calling.Untold.{Untold}
+use Rattle.kernel_rules.specs.declared.fault.Fault.{Fault}
 use Rattle.kernel_rules.specs.declared.known.Page.{Page}
 use Rattle.kernel_rules.specs.declared.object.Object.{Object}
 
@@ -36,15 +47,93 @@ abbrev pub AgreesAt : Space → ℕ → ℕ → Option Page → Type 0
 AgreesAt space name page None = is_registered space.object page ≡ false
 AgreesAt space name page (Some found) = IsPage space name page found
 
--- the object of a space agrees with the object of this name: both or neither had the handshake, and no other object has a page there. No map
--- call has anything to tell either, and no UFFDIO_WRITEPROTECT has protected a part of its range. Features are not compared
+-- Unread messages
+
+-- a message, as a log has it
+abbrev pub message_of : Message → LogMessage
+message_of (Message.PageFault addr write wp tid) = log.Fault addr (fault_flags write wp) tid
+message_of (Message.Remap from to len) = log.Remap from to len
+message_of (Message.Remove start end) = log.Remove start end
+message_of (Message.Unmap start end) = log.Unmap start end
+
+-- whether a message is that of a fault
+abbrev pub is_message_of : Object → Fault → LogMessage → Bool
+is_message_of object fault (log.Fault addr flags thread) = is_message object fault addr flags thread
+is_message_of object fault _ = false
+
+-- the fault of this message is one whose thread has found its page so, and has queued nothing yet
+pub record IsOnItsWay (faults : List Fault) (name : ℕ) (object : Object) (message : LogMessage) (fault : Fault) : Type 0 where
+  pub found : fault_of faults fault.thread ≡ Some fault
+  pub watched : fault.object ≡ name
+  pub seen : is_seen fault.phase ≡ true
+  pub told : is_message_of object fault message ≡ true
+
+-- each unread page fault of the model is that of a thread of its own on its way. So it stays unread when its sleeper is woken, as it does in
+-- the model; a processor that sleeps without a message of its own is a thread that has not reached its page
+abbrev pub AreOnTheirWay : List Fault → ℕ → Object → List Noted → Type 0
+AreOnTheirWay faults name object [] = Unit {0}
+AreOnTheirWay faults name object (noted ∷ rest) =
+    (fault : Fault) × IsOnItsWay faults name object (message_of noted.message) fault × AreOnTheirWay (faults_without faults fault.thread) name object rest
+
+-- the unread page faults agree: no other one of the object is queued
+pub record AreUnread (faults : List Fault) (name : ℕ) (object : Object) (messages : List Noted) : Type 0 where
+  pub on_their_way : AreOnTheirWay faults name object messages
+  pub none_queued : first_unread faults name ≡ None
+
+-- what map calls under way have to tell and to clear, of a kernel
+abbrev pub telling : Kernel → Kernel
+telling kernel =
+    record fresh_kernel { calls = kernel.calls; told = kernel.told; events = kernel.events; queued = kernel.queued; untold = kernel.untold; clears = kernel.clears }
+
+-- the REMOVE of a range
+abbrev pub removes : Option Span → List LogMessage
+removes None = []
+removes (Some span) = log.Remove (PAGE_SIZE * span.first) (PAGE_SIZE * span.end) ∷ []
+
+-- what a call has still to tell, in its order: one that clears a range, the REMOVE of it
+abbrev pub messages_of : Kernel → ℕ → List LogMessage
+messages_of kernel key = map (λ (one : Untold). one.message) (filter (λ (one : Untold). one.key == key) kernel.events) ++ removes (span_of kernel.untold key)
+
+-- whether no number is twice in a list
+abbrev pub are_once : List ℕ → Bool
+are_once [] = true
+are_once (number ∷ rest) = not (list_any (λ other. other == number) rest) && are_once rest
+
+-- whether each event of a call has a rank of its own
+abbrev pub have_ranks : List Untold → Bool
+have_ranks [] = true
+have_ranks (one ∷ rest) = not (list_any (λ (other : Untold). other.key == one.key && other.rank == one.rank) rest) && have_ranks rest
+
+-- whether an event is not one that a map call tells the object
+abbrev pub is_of_another : ℕ → Untold → Bool
+is_of_another name one = not (one.object == name && is_same_event one.message one.message)
+
+-- the unread events agree: call by call they are what the calls have still to tell. They tell no other object, and no event is queued
+-- yet, as a kernel queues each when it likes
+pub record AreUntold (name : ℕ) (kernel : Kernel) (events : List Noted) : Type 0 where
+  pub same : flat_map (messages_of kernel) kernel.calls ≡ map (λ (noted : Noted). message_of noted.message) events
+  pub once : are_once kernel.calls ≡ true
+  pub ranks : have_ranks kernel.events ≡ true
+  pub own : list_any (is_of_another name) kernel.events ≡ false
+  pub tells : (key : ℕ) → is_empty (messages_of kernel key) ≡ false → tells_object kernel key name ≡ true
+  pub none_queued : kernel.queued ≡ []
+
+-- Objects
+
+-- what the handshake asked for, if it was made
+abbrev pub features_of : Bool → ℕ → Option ℕ
+features_of true features = Some features
+features_of false features = None
+
+-- the object of a space agrees with the object of this name: both had the same handshake or none, the same messages are unread, and no
+-- other object has a page there. No UFFDIO_WRITEPROTECT has protected a part of its range
 pub record Agree (space : Space) (kernel : Kernel) (name : ℕ) (object : Object) : Type 0 where
   pub sound : IsSoundSpace space
   pub named : kernel.objects name ≡ Some object
-  pub enabled : is_enabled object ≡ space.object.enabled
+  pub features : object.features ≡ features_of space.object.enabled space.object.features
   pub pages : (page : ℕ) → AgreesAt space name page (kernel.pages object.space page)
-  pub quiet : space.object.events ≡ []
-  pub still : is_changing kernel name ≡ false
+  pub unread : AreUnread kernel.faults name object space.object.faults
+  pub untold : AreUntold name (telling kernel) space.object.events
   pub alone : kernel.protected ≡ []
 
 -- two objects that agree
@@ -99,6 +188,19 @@ answer_of_api ioctls (Err errno) = answer.Failed (number_of errno) None
 abbrev pub answer_of_register : (ioctls : ℕ) → Option Errno → Answer
 answer_of_register ioctls None = answer.Value ioctls
 answer_of_register ioctls (Some errno) = answer.Failed (number_of errno) None
+
+-- Unread events of which a kernel is known: those of calls that unmap and move
+
+-- whether a message is UNMAP or REMAP
+abbrev pub is_unmap_or_remap : Message → Bool
+is_unmap_or_remap (Message.Unmap start end) = true
+is_unmap_or_remap (Message.Remap from to len) = true
+is_unmap_or_remap _ = false
+
+-- the messages are UNMAP and REMAP
+abbrev pub AreUnmapsAndRemaps : List Noted → Type 0
+AreUnmapsAndRemaps [] = Unit {0}
+AreUnmapsAndRemaps (noted ∷ rest) = (is_unmap_or_remap noted.message ≡ true) × AreUnmapsAndRemaps rest
 
 -- Differences
 

@@ -1,2 +1,4 @@
 pub mod Agreement
 pub mod Handlers
+pub mod Reading
+pub mod Logs

@@ -5,25 +5,29 @@
 //! Each law is a function with an empty body, whose contract is the law.
 #![tactic(auto)]
 
-ghost use Rattle.std.specs.Prelude.{◌≡◌, ◌*◌, ℕ, true, false, None, List, [], ◌∷◌, length};
+ghost use Rattle.std.specs.Prelude.{◌≡◌, ◌+◌, ◌*◌, ℕ, true, false, Option, None, List, [], ◌∷◌, length};
 ghost use Rattle.mig_base.specs.declared.TheConstants.{PAGE_SIZE};
 ghost use Rattle.mig_base.specs.declared.effect.Effect.{Effect};
 ghost use Rattle.mig_base.specs.declared.schedule.Step.{Step};
 ghost use Rattle.mig_base.specs.Bytes.{zero_page};
 ghost use Rattle.mig_model.specs.Ioctls as model;
+ghost use Rattle.mig_model.specs.Ioctls.{read_space};
+ghost use Rattle.mig_model.specs.Migration.{next};
 ghost use Rattle.mig_model.specs.Wire.{Copy};
-ghost use Rattle.mig_model.specs.Space.{IsSoundSpace, Space};
+ghost use Rattle.mig_model.specs.Space.{IsSoundSpace, Space, access_of, accessed};
 ghost use Rattle.kernel_rules.specs.Ioctls as rules;
 ghost use Rattle.kernel_rules.specs.State.{may_be_outside};
-ghost use Rattle.kernel_laws.specs.Agreement.{AreMapped, Counterparts, Takes, answer_of_api, answer_of_put, answer_of_register, answer_of_wake, is_inside};
+ghost use Rattle.kernel_laws.specs.Agreement.{AreMapped, AreUnmapsAndRemaps, Counterparts, Takes, answer_of_api, answer_of_put, answer_of_register, answer_of_wake, is_inside};
 ghost use Rattle.kernel_laws.specs.Handlers.{DestinationStep, SourceStep, copies_page, destination_after, protects_pages, source_after, wakes_page, zeroes_page};
+ghost use Rattle.kernel_laws.specs.Logs.{Arrival, HasRun, HaveNoMapCalls, IsLogged, Running, arrived, log_of, space_after, whole_log};
+ghost use Rattle.kernel_laws.specs.Reading.{EventNext, FaultNext, NoneNext, Trying, fails_to_read, makes, reads_event, reads_fault};
 
 /// A kernel may answer each ioctl as the model does, whether it is refused, or done in part or whole. The range ends in the model's address
-/// space, no event is unread, the buffer of UFFDIO_COPY is where any process may have memory, and a range that is registered has no holes.
+/// space, no page fault is unread at the handshake, the buffer of UFFDIO_COPY is where any process may have memory, and a range that is registered has no holes.
 /// The model returns no word of ioctls: any that a kernel may return takes its place.
 pub fn a_kernel_may_answer_so()
     ensures api { (one : Counterparts) (api features ioctls : ℕ) →
-        rules.is_offer model.all_features ioctls ≡ true →
+        rules.is_offer model.all_features ioctls ≡ true → one.space.object.faults ≡ [] →
         Takes (rules.shaken one.kernel one.name one.object api features
         (answer_of_api ioctls (model.handshake_answer one.space api features)))
         (model.handshaken one.space api features) one.name }
@@ -54,6 +58,27 @@ pub fn a_kernel_may_answer_so()
         Takes (rules.protected_with one.kernel key one.name one.object start len bits
         (answer_of_wake (model.writeprotect_answer one.space start len bits)))
         (model.write_protected one.space start len bits) one.name }
+{}
+
+/// A kernel may let read(2) return each message that the model's object returns, in the same order, and may fail as it does. The message is
+/// queued when it is read: the thread whose page fault it is has been on its way until then, or the map call has waited.
+pub fn a_kernel_may_be_read_so()
+    ensures fault { (next : FaultNext) (key : ℕ) →
+        (thread : ℕ) × Takes (reads_fault next.one thread key next.room next.noted.message)
+        (read_space next.one.space) next.one.name }
+    ensures event { (next : EventNext) (key : ℕ) →
+        (call : ℕ) × Takes (reads_event next.one call key next.room next.noted.message)
+        (read_space next.one.space) next.one.name }
+    ensures none { (next : NoneNext) (key : ℕ) (room : Option ℕ) →
+        Takes (fails_to_read next.one key room next.errno) next.one.space next.one.name }
+{}
+
+/// A thread of a kernel may wait at each page where a processor of the model sleeps, and queue the same page fault; where the model makes the
+/// access, the objects still agree.
+pub fn a_thread_waits_as_a_processor()
+    ensures { (it : Trying) →
+        Takes (makes (access_of it.one.space it.command) it.one it.thread it.command)
+        (accessed it.one.space it.cpu it.command) it.one.name }
 {}
 
 /// The calls of a destination's handler are calls of a kernel: UFFDIO_COPY where a copy is installed, UFFDIO_ZEROPAGE where a page is made
@@ -101,8 +126,21 @@ pub fn a_kernel_follows_the_source()
         Takes (wakes_page at.one addr) (source_after at.world Step.SourceAct) at.one.name }
 {}
 
-/// There is such an object of a kernel for every sound space of the model that has no unread event. That a log leads to it is not said.
+/// The steps of a world whose destination runs, as a log of its handler's calls: the rules of a kernel have a run of it, from each kernel at
+/// rest whose object agrees, to one that agrees with the destination after the steps. A thread sees its page when its processor sleeps with a
+/// message, and queues its fault when that is read. That its page may be there by then is the run's only difference from the model. No step
+/// begins a map call, and the buffer of UFFDIO_COPY is where any process may have memory. So the whole log, which begins where the destination
+/// has taken the Package, opens its object and registers the mapped pages, is one that a kernel may have written.
+pub fn a_destination_is_logged()
+    ensures steps { (at : Running) (key : ℕ) (steps : List Step) → HaveNoMapCalls steps →
+        IsLogged at.one (log_of at.on at.from key at.world steps) (space_after at.world steps) }
+    ensures whole { (it : Arrival) (steps : List Step) → HaveNoMapCalls steps →
+        HasRun (whole_log it steps) (space_after (arrived it) steps) }
+{}
+
+/// There is such an object of a kernel for every sound space of the model whose unread messages are UNMAP and REMAP, if any. That a log leads
+/// to it is not said.
 pub fn a_space_has_a_counterpart()
-    ensures { (space : Space) → IsSoundSpace space → space.object.events ≡ [] →
-        (one : Counterparts) × (one.space ≡ space) }
+    ensures { (space : Space) → IsSoundSpace space → space.object.faults ≡ [] →
+        AreUnmapsAndRemaps space.object.events → (one : Counterparts) × (one.space ≡ space) }
 {}

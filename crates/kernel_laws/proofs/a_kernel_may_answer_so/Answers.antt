@@ -17,7 +17,7 @@ pub returns-clause-writeprotect : goal.returns-clause-writeprotect
 returns-clause-writeprotect c one key start len bits inside = protect-taken one.space one.kernel key one.name one.object start len bits one.agree inside
 
 pub returns-clause-api : goal.returns-clause-api
-returns-clause-api c one api features ioctls offer = api-taken one.space one.kernel one.name one.object api features ioctls one.agree offer
+returns-clause-api c one api features ioctls offer none = api-taken one.space one.kernel one.name one.object api features ioctls one.agree offer none
 
 pub returns-clause-register : goal.returns-clause-register
 returns-clause-register c one start len bits ioctls calls mapped = register-taken one.space one.kernel one.name one.object start len bits ioctls one.agree calls mapped

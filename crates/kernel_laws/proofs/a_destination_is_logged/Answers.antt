@@ -1,0 +1,9 @@
+use Rattle.kernel_laws.proofs.FirstCalls.{has-log}
+use Rattle.kernel_laws.proofs.LogRuns.{steps-logged}
+use Rattle.kernel_laws.proofs.a_destination_is_logged.Goals as goal
+
+pub returns-clause-steps : goal.returns-clause-steps
+returns-clause-steps c at key steps none = steps-logged at key steps none
+
+pub returns-clause-whole : goal.returns-clause-whole
+returns-clause-whole c it steps none = has-log it steps none
