@@ -18,11 +18,11 @@ def run(program, *words, **more):
     return subprocess.run([sys.executable, AUDIT / program, *map(str, words)], capture_output=True, text=True, timeout=60, **more)
 
 
-def audit(log):
-    """What the program says of a log."""
+def audit(log, *more):
+    """What the program says of a log, with these arguments."""
     named = os.environ.get("AUDIT_PROGRAM")
     words = [named] if named else [AUDIT.parent / "postmig", "audit"]
-    return subprocess.run([*words, log], capture_output=True, text=True, timeout=600)
+    return subprocess.run([*words, *more, log], capture_output=True, text=True, timeout=600)
 
 
 def compiled(name):

@@ -137,12 +137,6 @@ def event_not_asked_for(calls, rng):
     calls.append(after(call, read, messages=[("remove", {"START": start(call), "END": start(call) + 4096})]))
 
 
-def installed_page_discarded(calls, rng):
-    call = rng.choice(installs(calls))
-    arguments = {"ADDRESS": start(call), "LENGTH": 4096, "ADVICE": 4}
-    calls.append(Call("madvise", arguments, call.end + 1, call.space, call.tid, call.end + 2, "ok"))
-
-
 def message_that_nobody_read(calls, rng):
     call = [call for call in calls if call.word == "unregister"][-6]
     where = {"O": call.arguments["O"]}
@@ -198,7 +192,6 @@ PLANTED = (
     ("qemu-push", two_stale_faults, "unexplained-answer"),
     ("qemu-push", fault_outside, "unexplained-answer"),
     ("qemu-push", event_not_asked_for, "unexplained-answer"),
-    ("qemu-push", installed_page_discarded, "page-owed"),
     ("qemu-push", unregistered_early, "page-owed"),
     ("qemu-push", message_that_nobody_read, "unexplained-answer"),
     ("qemu-snapshot", fault_of_an_unprotected_page, "unexplained-answer"),

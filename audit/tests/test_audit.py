@@ -2,6 +2,7 @@
 
 import collections
 import gzip
+import json
 import random
 import re
 import tempfile
@@ -15,24 +16,29 @@ import written
 
 LOGS = common.AUDIT / "logs"
 SEEDS = 1 if common.QUICK else 5
-# The findings of stored logs: pages that stress-ng leaves out in its last round; pages of zeros that the guest of live gave back or never touched, and
+# The findings of stored logs: pages of zeros that the guest of live gave back or never touched, and
 # pages whose thread live wakes by a UFFDIO_ZEROPAGE that fails.
 FINDINGS = {
     "qemu-push": set(),
     "qemu-preempt": set(),
     "qemu-snapshot": set(),
     "qemu-strace": set(),
-    "stress-ng": {"page-owed"},
-    "live-handler": {"page-owed", "put-twice", "present-before"},
+    "stress-ng": set(),
+    "live-handler": {"page-owed", "put-twice-woken", "present-before"},
 }
+
+
+def said_of(text, *more):
+    """What the program writes of a log, with these arguments."""
+    with tempfile.TemporaryDirectory() as folder:
+        log = Path(folder) / "log"
+        log.write_bytes(text)
+        return common.audit(log, *more)
 
 
 def audited(text):
     """The status of the program for a log, the rules that it names, and what it writes."""
-    with tempfile.TemporaryDirectory() as folder:
-        log = Path(folder) / "log"
-        log.write_bytes(text)
-        done = common.audit(log)
+    done = said_of(text)
     rules = collections.Counter(re.findall(r"^\S+:\d+: .* \[([a-z-]+)\]$", done.stdout, re.M))
     return done.returncode, rules, done.stdout + done.stderr
 
@@ -46,6 +52,22 @@ class Stored(unittest.TestCase):
                 self.assertEqual((status, set(found)), (1 if rules else 0, rules), said[-500:])
                 self.assertIn(", 0 for which no run was found, ", said)
                 self.assertIn("\ncertified: ", said)
+
+    def test_json(self):
+        """Each line is an object, and the cases are those of the text, each with its place."""
+        found = calls.calls_of(str(LOGS / "qemu-push.log.gz"))
+        planted.install_left_out(found, random.Random(1))
+        log = written.text_of(str(LOGS / "qemu-push.log.gz"), found).encode()
+        status, rules, _ = audited(log)
+        done = said_of(log, "--json")
+        *cases, summary = map(json.loads, done.stdout.splitlines())
+        self.assertEqual((done.returncode, {it["rule"] for it in cases}), (status, set(rules)))
+        for it in cases:
+            self.assertEqual(it["severity"], "note" if it["rule"] == "page-owed" else "fault")
+            self.assertTrue(it["line"] > 0 and it["object"] > 0 and it["process"] > 0 and int(it["address"], 16) % 4096 == 0, it)
+        self.assertTrue(summary["certified"], summary)
+        owed = sum(it["pages"] for it in cases if it["rule"] == "page-owed")
+        self.assertTrue(0 < owed <= summary["missing"], summary)
 
     def test_planted_faults(self):
         for name, plant, rule in planted.PLANTED:

@@ -1,6 +1,7 @@
 //! Reading a log from a reader, and writing what was found to a writer.
 
-ghost use Rattle.std.specs.Prelude.{◌≡◌, false, length, OnOk, IfOk, IfSome};
+ghost use Rattle.std.specs.Prelude.{◌≡◌, false, OnOk, IfOk, IfSome, string_bytes};
+ghost use Rattle.audit.specs.Severities.{any_fails};
 ghost use Rattle.audit.specs.Verdicts.{
   Audits,
   FitsLog,
@@ -10,6 +11,7 @@ ghost use Rattle.audit.specs.Verdicts.{
   IsReport,
   Prints,
   certified_verdict,
+  finding_front,
   is_certified,
 };
 
@@ -28,35 +30,49 @@ use std::io::{Read, Write};
 /// What is said of a log as a whole.
 #[derive(Clone, Copy, Debug, PartialEq, Eq)]
 pub enum Verdict {
-    /// Nothing was found, and the run is certified.
+    /// Nothing was found that fails it, and the run is certified.
     Certified,
-    /// Nothing was found, and the run is not certified.
+    /// Nothing was found that fails it, and the run is not certified.
     Clean,
-    /// Something was found.
+    /// Something was found that fails it.
     Found,
     /// A line is wrong, and the log was not judged.
     Wrong,
     /// No run was found that gives some answer.
     Unexplained,
-    /// A call cannot be judged, or lines of the log were lost, and nothing was found.
+    /// A call cannot be judged, or lines of the log were lost, and nothing was found that fails it.
     Undecided,
-    /// Nothing was found, since the log has nothing to judge.
+    /// Nothing was found that fails it, since the log has nothing to judge.
     Nothing,
-    /// Something was found, and lines of the log were lost, which may explain it.
+    /// Something was found that fails it, and lines of the log were lost, which may explain that.
     Doubtful,
+}
+
+/// The form in which findings and the summary are written.
+#[derive(Clone, Copy, Debug, PartialEq, Eq)]
+pub enum Form {
+    /// `NAME:LINE: SEVERITY: finding` for the cases of each rule and object, and a summary.
+    Text,
+    /// An object of JSON on a line of its own for each case, and one for the summary.
+    Json,
 }
 
 /// What a caller asks for.
 #[derive(Clone, Copy, Debug, PartialEq, Eq)]
 pub struct Asked {
-    /// A longer summary.
+    /// A longer summary, where its form is a text.
     pub explains: bool,
     /// The microseconds after which a page fault is late, if any is to be.
     pub late_after: Option<u64>,
+    /// Whether a note fails a log too.
+    pub strict: bool,
+    /// Whether pages that are still missing when their registration ends are a fault, and not a note.
+    pub expects_all: bool,
+    pub form: Form,
 }
 
-/// Reads a log and judges its calls. Of a log with wrong lines it writes `NAME:LINE: reason` for each of them. Else it writes
-/// `NAME:LINE: finding` for each finding, in the order of lines, and a summary.
+/// Reads a log and judges its calls. Of a log with wrong lines it writes `NAME:LINE: reason` for each of them, in either form. Else it
+/// writes the findings, in the order of lines, and a summary.
 ///
 /// The calls of a log, its entries and the run that was found are kept until it ends. At most 4,294,967,295 reads are made, and as many lines are read; an
 /// input that needs more ends with a read fault. An interrupted read or write is a fault. After a fault some of the text was written.
@@ -68,7 +84,7 @@ pub fn audit_log<R: Read, W: Write>(
     asked: Asked,
 ) -> Result<Verdict, LogFault>
     ensures { IfOk result (λ verdict. IfSome (R.remaining reader.old) (λ input.
-        Audits name.now input verdict (W.contents writer.old) (W.contents writer.new))) }
+        Audits asked name.now input verdict (W.contents writer.old) (W.contents writer.new))) }
 {
     let read = match read_log(alloc, reader, writer, name)? {
         Some(read) => read,
@@ -90,17 +106,17 @@ struct Report {
 
 /// Judges the calls of a log, and has the run that was found checked.
 fn report_of(alloc: Global, name: &str, read: ReadLog, asked: Asked) -> Result<Report, NoMemory>
-    ensures { IfOk result (λ report. IsReport name.now read report) }
+    ensures { IfOk result (λ report. IsReport asked name.now read report) }
 {
     let CompleteLog { log, entries } = read.complete(alloc)?;
     let whole = entries.whole;
     let judged = judge(alloc, log)?;
-    let found = list_findings(alloc, &judged, whole, asked.late_after)?;
-    let findings = print_findings(alloc, name, &found)?;
-    let judgement = verdict_of(&judged, &found, whole);
-    let front = front_of(alloc, &judged, &found, whole, asked.explains)?;
+    let found = list_findings(alloc, &judged, asked)?;
+    let findings = print_findings(alloc, name, asked, &found)?;
+    let judgement = verdict_of(&judged, any_fails(asked, &found), whole);
+    let front = front_of(alloc, &judged, &found, asked)?;
     let certificate = certificate_of(alloc, judged, &entries)?;
-    let summary = summary(alloc, &front, certificate)?;
+    let summary = summary(alloc, asked.form, &front, certificate)?;
     let verdict = certified_verdict(judgement, certificate);
     Ok(Report {
         findings,
@@ -109,54 +125,84 @@ fn report_of(alloc: Global, name: &str, read: ReadLog, asked: Asked) -> Result<R
     })
 }
 
+/// Whether a log fails in which this was found.
+fn any_fails(asked: Asked, found: &[Finding]) -> bool
+    ensures { result ≡ any_fails asked found.now }
+{
+    for finding in found {
+        if finding.rule.fails(asked) {
+            return true;
+        }
+    }
+    false
+}
+
+/// Puts what a finding begins with in place of a text.
+fn print_front(text: &mut String, form: Form, name: &str, line: u32) -> Result<(), NoMemory>
+    ensures { OnOk result (string_bytes text.new ≡ finding_front form name.now line) }
+{
+    text.clear();
+    match form {
+        Form::Text => write!(text, "{name}:{line}: ")?,
+        Form::Json => text.push_str("{\"severity\": \"")?,
+    }
+    Ok(())
+}
+
 /// Puts the line of a finding in place of these bytes. The text is replaced.
 fn print_finding(
     line: &mut Vec<u8>,
     text: &mut String,
     name: &str,
+    asked: Asked,
     finding: &Finding,
 ) -> Result<(), NoMemory>
-    ensures { OnOk result (IsFinding name.now line.new.items) }
+    ensures { OnOk result (IsFinding asked name.now finding.now line.new.items) }
 {
-    let number = finding.line;
-    text.clear();
-    write!(text, "{name}:{number}: ")?;
+    print_front(text, asked.form, name, finding.line)?;
     line.clear();
     line.extend_from_slice(text.as_bytes())?;
+    let severity = finding.rule.severity(asked);
+    line.extend_from_slice(severity.word().as_bytes())?;
     line.extend_from_slice(first_line(finding.text.as_bytes()))?;
     line.extend_from_slice(b"\n")?;
     Ok(())
 }
 
 /// The lines of all findings.
-fn print_findings(alloc: Global, name: &str, found: &[Finding]) -> Result<Vec<u8>, NoMemory>
-    ensures { IfOk result (λ output. Prints name.now (length found.now) output.items) }
+fn print_findings(
+    alloc: Global,
+    name: &str,
+    asked: Asked,
+    found: &[Finding],
+) -> Result<Vec<u8>, NoMemory>
+    ensures { IfOk result (λ output. Prints asked name.now found.now output.items) }
 {
     let mut output = Vec::new(alloc);
     let mut line = Vec::new(alloc);
     let mut text = String::new(alloc);
     for finding in found {
-        print_finding(&mut line, &mut text, name, finding)?;
+        print_finding(&mut line, &mut text, name, asked, finding)?;
         output.extend_from_slice(&line)?;
     }
     Ok(output)
 }
 
-/// What is said of a log of which these are all findings. `whole` says that no line of it was lost.
-fn verdict_of(judged: &Judged, found: &[Finding], whole: bool) -> Verdict
-    ensures verdict { HasVerdict result (length found.now) }
+/// What is said of a log, by whether a finding fails it. `whole` says that no line of it was lost.
+fn verdict_of(judged: &Judged, fails: bool, whole: bool) -> Verdict
+    ensures verdict { HasVerdict result fails }
     ensures log { FitsLog result whole }
     ensures plain { is_certified result ≡ false }
     ensures work { FitsWork result judged.now.nothing }
 {
     if !whole {
-        return if found.is_empty() {
-            Verdict::Undecided
-        } else {
+        return if fails {
             Verdict::Doubtful
+        } else {
+            Verdict::Undecided
         };
     }
-    if !found.is_empty() {
+    if fails {
         return if judged.unexplained.is_empty() {
             Verdict::Found
         } else {

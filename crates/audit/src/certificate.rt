@@ -62,7 +62,7 @@ impl fmt::Display for Missing {
             Missing::NoRun => write!(f, "no run was found"),
             Missing::Lost => write!(f, "lines of the log were lost"),
             Missing::PageSize(size) => write!(f, "pages of {size} bytes are not followed"),
-            Missing::Call { line, word } => write!(f, "line {line}: {word} is not followed"),
+            Missing::Call { line, word } => write!(f, "{word} of line {line} is not followed"),
             Missing::Refused => write!(f, "the checker does not follow the run"),
             Missing::Differs => write!(f, "the checker finds other pages owed or put twice"),
         }
@@ -116,12 +116,8 @@ fn missing_of(judged: &Judged, entries: &EntryReader) -> Option<Missing>
 
 /// What the search found.
 fn totals_of(judged: &Judged) -> Totals {
-    let mut owed = 0u64;
-    for range in &judged.notes.owed {
-        owed = owed.saturating_add(range.range.count);
-    }
     Totals {
-        owed: owed as usize,
+        owed: judged.notes.owed_count,
         twice: judged.notes.twice.len(),
     }
 }

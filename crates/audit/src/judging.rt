@@ -10,7 +10,7 @@ use mig_base::NoMemory;
 use std::alloc::Global;
 
 /// The size of a page of the rules.
-const PAGE: PageSize = PageSize(4096);
+pub(crate) const PAGE: PageSize = PageSize(4096);
 
 /// A log that was judged.
 #[derive(Drop)]

@@ -1,12 +1,13 @@
 //! The kernel of a run that is being looked for, which `kernel_rules` moves, and what is noted of its calls for findings.
 
-use crate::notes::{Again, Notes, Waited};
+use crate::notes::{Again, Area, Notes, Slept, Untold};
 use call_log::log::Log;
 use call_log::log_call::{DONTWAKE, LogCall, has_put};
 use call_log::pages::Range;
+use indexmap::IndexSet;
 use kernel_rules::answers::is_clearing;
 use kernel_rules::fault::find;
-use kernel_rules::{Ending, Fault, Made, Move, Object, Page, Presence};
+use kernel_rules::{Ending, Made, Move, Object, Page, Presence};
 use mig_base::NoMemory;
 use std::alloc::Global;
 use uffd_log::{Answer, Call, Descriptor, Errno, Message};
@@ -136,6 +137,14 @@ impl Kernel {
 
     /// Makes a step of a run that no line shows. False where no rule allows it.
     pub(crate) fn make(&mut self, log: &Log, step: Move) -> Result<bool, NoMemory> {
+        let slept = self.sleepers()?;
+        let count = self.rules.unanswered().len();
+        let made = self.move_on(log, step)?;
+        self.note_unanswered(&slept, count, None)?;
+        Ok(made)
+    }
+
+    fn move_on(&mut self, log: &Log, step: Move) -> Result<bool, NoMemory> {
         match step {
             Move::Sees {
                 thread,
@@ -165,7 +174,7 @@ impl Kernel {
     fn clears(&mut self, key: u64) -> Result<bool, NoMemory> {
         if let Some(span) = self.rules.clear_span(key) {
             let range = between(span.first, span.end);
-            self.note_given_back(u32::try_from(span.space).unwrap_or(u32::MAX), range);
+            self.note_given_back(u32::try_from(span.space).unwrap_or(u32::MAX), range)?;
         }
         self.rules.clears(key)
     }
@@ -188,12 +197,18 @@ impl Kernel {
         call: &LogCall,
         ending: &Ending,
     ) -> Result<bool, NoMemory> {
-        let slept = self.sleepers(log, call)?;
+        let slept = self.sleepers()?;
+        let count = self.rules.unanswered().len();
         let owed = self.rules.owed().len();
+        let unknown = self.unknown_at(log, call)?;
         self.note_silenced(call)?;
         self.note_range(log, place, call)?;
         let made = self.rules.takes(made_of(place, call), ending)?;
-        self.note_waits(&slept, place)?;
+        if !self.note_unanswered(&slept, count, Some(place))? && answers_threads(call) {
+            let over = self.over(&slept, Some(place))?;
+            self.notes.waits.extend_from_slice(&over)?;
+        }
+        self.notes.unknown = self.notes.unknown.saturating_add(unknown);
         if self.rules.owed().len() > owed {
             self.notes.ended.push((owed, Some(place)))?;
         }
@@ -232,30 +247,93 @@ impl Kernel {
         }
     }
 
-    /// The threads whose fault was read and that a call may answer.
-    fn sleepers(&self, log: &Log, call: &LogCall) -> Result<Vec<Fault>, NoMemory> {
+    /// The faults that were read, of threads that sleep.
+    fn sleepers(&self) -> Result<Vec<Slept>, NoMemory> {
         let mut slept = Vec::new(self.alloc);
-        if !answers_threads(call) {
-            return Ok(slept);
-        }
         for fault in self.rules.faults() {
-            let is_at = call.object() == Some(fault.object) && call.covers(log.size, fault.page);
-            if is_at && fault.read_by.is_some() {
-                slept.push(*fault)?;
+            if let (Some(read), Some(space)) = (fault.read_by, self.space_of(fault.object)) {
+                slept.push(Slept {
+                    read,
+                    space,
+                    fault: *fault,
+                    by: None,
+                })?;
             }
         }
         Ok(slept)
     }
 
-    /// Notes the waits of threads that a call has woken.
-    fn note_waits(&mut self, slept: &[Fault], by: u32) -> Result<(), NoMemory> {
-        for fault in slept {
-            if let (None, Some(read)) = (find(self.rules.faults(), fault.thread), fault.read_by) {
-                let flags = fault.flags;
-                self.notes.waits.push(Waited { read, by, flags })?;
+    /// Those whose threads no longer sleep, after a call, if it was one.
+    fn over(&self, slept: &[Slept], by: Option<u32>) -> Result<Vec<Slept>, NoMemory> {
+        let mut over = Vec::new(self.alloc);
+        for slept in slept {
+            if find(self.rules.faults(), slept.fault.thread).is_none() {
+                over.push(Slept { by, ..*slept })?;
             }
         }
-        Ok(())
+        Ok(over)
+    }
+
+    /// Notes the faults that a step has ended, where it leaves reads unanswered, of which there were this many. Whether it does.
+    fn note_unanswered(
+        &mut self,
+        slept: &[Slept],
+        count: usize,
+        by: Option<u32>,
+    ) -> Result<bool, NoMemory> {
+        if self.rules.unanswered().len() == count {
+            return Ok(false);
+        }
+        let over = self.over(slept, by)?;
+        self.notes.unanswered.extend_from_slice(&over)?;
+        Ok(true)
+    }
+
+    /// How many pages a call takes from its object of which nothing is known.
+    fn unknown_at(&self, log: &Log, call: &LogCall) -> Result<u64, NoMemory> {
+        let (Some(object), true) = (call.object(), call.is_ok()) else {
+            return Ok(0);
+        };
+        match call.call {
+            Call::Unregister { .. } => match log.pages_of(call) {
+                Some(range) => Ok(self.unknown_in(object, range)),
+                None => Ok(0),
+            },
+            Call::Close { .. } if call.last => self.unknown_of(object),
+            _ => Ok(0),
+        }
+    }
+
+    /// How many pages are registered with an object of which nothing is known.
+    fn unknown_of(&self, object: u64) -> Result<u64, NoMemory> {
+        let mut count = 0u64;
+        let mut end = 0u64;
+        for range in &self.ranges_of(object)? {
+            let rest = between(range.first.max(end), range.end());
+            count = count.saturating_add(self.unknown_in(object, rest));
+            end = end.max(range.end());
+        }
+        Ok(count)
+    }
+
+    /// How many of these are; none of an object that has put no page.
+    fn unknown_in(&self, object: u64, range: Range) -> u64 {
+        let (Some(space), Some(watching)) = (self.space_of(object), self.object(object)) else {
+            return 0;
+        };
+        if !watching.puts {
+            return 0;
+        }
+        let mut count = 0u64;
+        for number in range.first..range.end() {
+            if let Some(page) = self.page(space, number) {
+                let is_unknown = matches!(page.presence, Presence::Unknown);
+                if is_unknown && page.missing && page.object == object {
+                    count = count.saturating_add(1);
+                }
+            }
+        }
+        count
     }
 
     /// Notes the map calls that have something to tell an object which is closed for good.
@@ -264,8 +342,11 @@ impl Kernel {
             return Ok(());
         };
         for key in self.rules.calls() {
-            if self.rules.has_untold(on.object, *key) && !self.notes.untold.contains(key) {
-                self.notes.untold.push(*key)?;
+            if self.rules.has_untold(on.object, *key) && !self.notes.is_untold(*key) {
+                self.notes.untold.push(Untold {
+                    call: *key,
+                    object: Some(on.object),
+                })?;
             }
         }
         Ok(())
@@ -276,7 +357,7 @@ impl Kernel {
         if let Call::Madvise { advice, addr, len } = call.call {
             let is_given = is_clearing(advice) || advice == MADV_FREE;
             if is_given && call.answer.is_some() && !matches!(call.errno(), Some(Errno::Efault)) {
-                self.note_given_back(call.space, log.size.rounded(addr, len));
+                self.note_given_back(call.space, log.size.rounded(addr, len))?;
             }
             return Ok(());
         }
@@ -299,8 +380,32 @@ impl Kernel {
         Ok(())
     }
 
-    /// The owner of registered pages gives them back: those that a call was refused for need not be put.
-    fn note_given_back(&mut self, space: u32, range: Range) {
+    /// The owner of registered pages gives them back: they need not be put.
+    fn note_given_back(&mut self, space: u32, range: Range) -> Result<(), NoMemory> {
+        self.forget_refused(space, range);
+        let mut first = range.first;
+        for area in &self.areas()? {
+            if area.space == u64::from(space) {
+                let rest = area.range.common(between(first, range.end()));
+                self.note_given(space, rest)?;
+                first = first.max(rest.end());
+            }
+        }
+        Ok(())
+    }
+
+    /// Notes that those of these pages are given back which are registered.
+    fn note_given(&mut self, space: u32, range: Range) -> Result<(), NoMemory> {
+        for number in range.first..range.end() {
+            if self.page(space, number).is_some() {
+                self.notes.given.insert((u64::from(space), number))?;
+            }
+        }
+        Ok(())
+    }
+
+    /// Forgets the calls that were refused for these pages, where they are registered.
+    fn forget_refused(&mut self, space: u32, range: Range) {
         for place in (0..self.notes.again.len()).rev() {
             let Some(again) = self.notes.again.get(place).copied() else {
                 return;
@@ -380,23 +485,74 @@ impl Kernel {
         Ok(ranges)
     }
 
+    /// Notes the map calls whose events are not read when the log ends.
+    fn note_untold(&mut self) -> Result<(), NoMemory> {
+        for key in self.rules.calls() {
+            if !self.rules.is_told_all(*key) && !self.notes.is_untold(*key) {
+                let object = untold_object(&self.rules, *key);
+                self.notes.untold.push(Untold { call: *key, object })?;
+            }
+        }
+        Ok(())
+    }
+
+    /// The ranges that were registered with open objects, in the order of their addresses; they may overlap.
+    fn areas(&self) -> Result<Vec<Area>, NoMemory> {
+        let mut areas = Vec::new(self.alloc);
+        for range in self.rules.ranges() {
+            if let Some(object) = self.rules.object(range.object) {
+                areas.push(Area {
+                    object: range.object,
+                    space: object.space,
+                    range: between(range.first, range.first.saturating_add(range.count)),
+                })?;
+            }
+        }
+        areas.sort_by_key(|area| area.range.first)?;
+        Ok(areas)
+    }
+
+    /// Notes what is registered when the log ends, and of how many of these pages nothing is known.
+    fn note_areas(&mut self) -> Result<(), NoMemory> {
+        let areas = self.areas()?;
+        let mut objects = IndexSet::new(self.alloc);
+        for area in &areas {
+            if objects.insert(area.object)? {
+                let unknown = self.unknown_of(area.object)?;
+                self.notes.unknown = self.notes.unknown.saturating_add(unknown);
+            }
+        }
+        self.notes.areas = areas;
+        Ok(())
+    }
+
     /// The log ends. What was noted, and what the kernel has then.
     pub(crate) fn finish(self) -> Result<Notes, NoMemory> {
+        let mut kernel = self;
+        kernel.note_untold()?;
+        kernel.note_areas()?;
+        let slept = kernel.sleepers()?;
+        kernel.notes.unanswered.extend_from_slice(&slept)?;
         let Kernel {
             mut rules,
             mut notes,
             ..
-        } = self;
-        for key in rules.calls() {
-            if !rules.is_told_all(*key) && !notes.untold.contains(key) {
-                notes.untold.push(*key)?;
-            }
-        }
+        } = kernel;
         notes.ended.push((rules.owed().len(), None))?;
         rules.finish()?;
         notes.add_last(&rules)?;
         Ok(notes)
     }
+}
+
+/// An object that a call has something to tell which is not read.
+fn untold_object(rules: &kernel_rules::Kernel, key: u64) -> Option<u64> {
+    for range in rules.ranges() {
+        if rules.has_untold(range.object, key) {
+            return Some(range.object);
+        }
+    }
+    None
 }
 
 /// A call in place of one that no rule allows, with the arguments that it has to have.

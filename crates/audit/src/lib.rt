@@ -1,7 +1,7 @@
 //! Judging a log of a real program's userfaultfd calls: for which answers no run of a kernel's rules was found, and what the monitor left undone.
 //!
 //! [`audit_log`] reads a log by `call_log`, looks for a run of the rules with exactly its answers, has that run checked, and writes
-//! `NAME:LINE: finding` for all that it found, and a summary. docs/AUDIT.md says how to read it, and `specs/Verdicts.antt` what is promised.
+//! `NAME:LINE: finding` for all that it found, and a summary, or objects of JSON. docs/AUDIT.md says how to read it, and `specs/Verdicts.antt` what is promised.
 //!
 //! No contract says that a finding is right: what a line means is proved in `uffd_log`, what each step of a kernel does in `kernel_rules`,
 //! and here that the code is safe and ends, and that a run is certified only where the checker of `kernel_rules` took it.
@@ -11,6 +11,7 @@
 
 mod accesses;
 mod audit;
+mod cases;
 mod certificate;
 mod findings;
 mod judging;
@@ -25,9 +26,11 @@ mod search;
 mod summary;
 mod tasks;
 mod tellers;
+mod texts;
 mod threads;
 mod waits;
+mod wakes;
 mod why;
 mod work;
 
-pub use crate::audit::{Asked, Verdict, audit_log};
+pub use crate::audit::{Asked, Form, Verdict, audit_log};

@@ -1,7 +1,8 @@
 //! What is noted of a run for findings.
 
 use call_log::pages::Range;
-use kernel_rules::Difference;
+use indexmap::IndexSet;
+use kernel_rules::{Difference, Fault};
 use mig_base::NoMemory;
 use std::alloc::Global;
 
@@ -21,27 +22,52 @@ pub(crate) struct Again {
     pub(crate) page: u64,
 }
 
-/// A fault that a call has resolved, from the read that returned it on.
+/// A fault that a call has read.
 #[derive(Clone, Copy)]
-pub(crate) struct Waited {
+pub(crate) struct Slept {
     pub(crate) read: u64,
-    /// The call that woke its thread.
-    pub(crate) by: u32,
-    pub(crate) flags: u64,
+    /// The address space of its page.
+    pub(crate) space: u32,
+    pub(crate) fault: Fault,
+    /// The call after which its thread no longer slept, if it was one.
+    pub(crate) by: Option<u32>,
+}
+
+/// A map call an event of which was never read, and the object that it was to tell.
+#[derive(Clone, Copy)]
+pub(crate) struct Untold {
+    pub(crate) call: u64,
+    pub(crate) object: Option<u64>,
+}
+
+/// A range that was registered with an object when the log ended.
+#[derive(Clone, Copy)]
+pub(crate) struct Area {
+    pub(crate) object: u64,
+    pub(crate) space: u64,
+    pub(crate) range: Range,
 }
 
 /// Calls are named by their places in the log.
 #[derive(Drop)]
 pub(crate) struct Notes {
-    pub(crate) waits: Vec<Waited>,
+    /// The faults that calls have resolved.
+    pub(crate) waits: Vec<Slept>,
     pub(crate) again: Vec<Again>,
-    /// The map calls an event of which was never read.
-    pub(crate) untold: Vec<u64>,
+    pub(crate) untold: Vec<Untold>,
     /// The calls by which registrations of owed pages ended, or the end of the log, each with the number of pages that were owed before.
     pub(crate) ended: Vec<(usize, Option<u32>)>,
+    /// The pages that are owed, but those that were given back.
     pub(crate) owed: Vec<Owed>,
-    /// The reads whose fault nobody has resolved.
-    pub(crate) unanswered: Vec<u64>,
+    /// How many are owed with those.
+    pub(crate) owed_count: usize,
+    /// The registered pages, each with its space, that their owner gave back.
+    pub(crate) given: IndexSet<(u64, u64)>,
+    pub(crate) areas: Vec<Area>,
+    /// How many pages were registered of which nothing was known when that ended.
+    pub(crate) unknown: u64,
+    /// The faults that nobody has resolved.
+    pub(crate) unanswered: Vec<Slept>,
     /// The calls that stopped at a page which the log had put, and at another one that was there.
     pub(crate) twice: Vec<u64>,
     pub(crate) before: Vec<u64>,
@@ -58,6 +84,10 @@ impl Notes {
             untold: Vec::new(alloc),
             ended: Vec::new(alloc),
             owed: Vec::new(alloc),
+            owed_count: 0,
+            given: IndexSet::new(alloc),
+            areas: Vec::new(alloc),
+            unknown: 0,
             unanswered: Vec::new(alloc),
             twice: Vec::new(alloc),
             before: Vec::new(alloc),
@@ -71,16 +101,23 @@ impl Notes {
         self.again.retain(|again| again.space != space || !range.contains(again.page));
     }
 
+    /// Whether an event of a call was not read.
+    pub(crate) fn is_untold(&self, call: u64) -> bool {
+        self.untold.iter().any(|untold| untold.call == call)
+    }
+
     /// Adds what a kernel has at the end of a log.
     pub(crate) fn add_last(&mut self, rules: &kernel_rules::Kernel) -> Result<(), NoMemory> {
-        self.unanswered.extend_from_slice(rules.unanswered())?;
         self.twice.extend_from_slice(rules.twice())?;
         self.before.extend_from_slice(rules.there_before())?;
         self.outside.extend_from_slice(rules.outside())?;
         self.differs.extend_from_slice(rules.differs())?;
+        self.owed_count = rules.owed().len();
         for (place, (space, page)) in rules.owed().iter().enumerate() {
-            let call = self.ender(place);
-            self.owe(call, *space, *page)?;
+            if !self.given.contains(&(*space, *page)) {
+                let call = self.ender(place);
+                self.owe(call, *space, *page)?;
+            }
         }
         Ok(())
     }

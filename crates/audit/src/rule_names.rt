@@ -1,4 +1,33 @@
-//! The rules that findings name, and what a finding means for the guest.
+//! The rules that findings name, how severe a broken one is, and what that means for the guest.
+
+ghost use Rattle.std.specs.Prelude.{◌≡◌};
+ghost use Rattle.audit.specs.Severities.{fails, severity_of, severity_word};
+
+use crate::audit::Asked;
+
+/// How severe a finding is.
+#[derive(Clone, Copy, PartialEq, Eq)]
+pub(crate) enum Severity {
+    /// No run was found for an answer.
+    Unexplained,
+    /// The monitor has left something undone, or has done what harms the guest.
+    Fault,
+    /// What may harm the guest, and also be meant so.
+    Note,
+}
+
+impl Severity {
+    /// Its name in a finding.
+    pub(crate) fn word(self) -> &'static str
+        ensures { result.now ≡ severity_word self }
+    {
+        match self {
+            Severity::Unexplained => "unexplained",
+            Severity::Fault => "fault",
+            Severity::Note => "note",
+        }
+    }
+}
 
 /// A rule, by which something was found.
 #[derive(Clone, Copy, PartialEq, Eq, PartialOrd, Ord)]
@@ -7,8 +36,10 @@ pub(crate) enum Rule {
     Unexplained,
     /// A page is registered when it is put.
     NotRegistered,
-    /// It is put once.
+    /// It is put once, or a wake of it follows the call that finds it there.
     PutTwice,
+    /// It is put once.
+    PutTwiceWoken,
     /// Nobody touches it before.
     PresentBefore,
     /// Each fault that is read is resolved.
@@ -25,10 +56,11 @@ pub(crate) enum Rule {
 
 impl Rule {
     /// All, in the order of docs/AUDIT.md.
-    pub(crate) const ALL: [Rule; 9] = [
+    pub(crate) const ALL: [Rule; 10] = [
         Rule::Unexplained,
         Rule::NotRegistered,
         Rule::PutTwice,
+        Rule::PutTwiceWoken,
         Rule::PresentBefore,
         Rule::FaultNotResolved,
         Rule::Late,
@@ -42,6 +74,7 @@ impl Rule {
             Rule::Unexplained => "unexplained-answer",
             Rule::NotRegistered => "not-registered",
             Rule::PutTwice => "put-twice",
+            Rule::PutTwiceWoken => "put-twice-woken",
             Rule::PresentBefore => "present-before",
             Rule::FaultNotResolved => "fault-not-resolved",
             Rule::Late => "late",
@@ -51,13 +84,41 @@ impl Rule {
         }
     }
 
-    /// Who has not kept it, as a finding begins: nobody is named for an answer without a run. `whole` says that no line of the log was lost.
-    pub(crate) fn whose(self, whole: bool) -> &'static str {
-        match (self, whole) {
-            (Rule::Unexplained, true) => "",
-            (Rule::Unexplained, false) => "perhaps a lost line: ",
-            (_, true) => "monitor: ",
-            (_, false) => "monitor or a lost line: ",
+    /// What was found where it is broken.
+    pub(crate) fn headline(self) -> &'static str {
+        match self {
+            Rule::Unexplained => "no run was found that gives this answer",
+            Rule::NotRegistered => "a page of the range is not registered",
+            Rule::PutTwice => "the page was put before by this log, and no wake follows",
+            Rule::PutTwiceWoken => "the page was put before by this log, and a wake follows",
+            Rule::PresentBefore => "the page was present before",
+            Rule::FaultNotResolved => "the page fault was not resolved",
+            Rule::Late => "the page fault waited too long",
+            Rule::EventNotRead => "an event of this call was never read",
+            Rule::NotTriedAgain => "EAGAIN, and the page was not tried again",
+            Rule::PageOwed => "registered pages are still missing",
+        }
+    }
+
+    /// How severe it is that it is broken.
+    pub(crate) fn severity(self, asked: Asked) -> Severity
+        ensures { result ≡ severity_of asked self }
+    {
+        match self {
+            Rule::Unexplained => Severity::Unexplained,
+            Rule::PutTwiceWoken => Severity::Note,
+            Rule::PageOwed if !asked.expects_all => Severity::Note,
+            _ => Severity::Fault,
+        }
+    }
+
+    /// Whether a log fails in which it is broken.
+    pub(crate) fn fails(self, asked: Asked) -> bool
+        ensures { result ≡ fails asked self }
+    {
+        match self.severity(asked) {
+            Severity::Note => asked.strict,
+            _ => true,
         }
     }
 
@@ -71,6 +132,9 @@ impl Rule {
                 "the page was unmapped or moved meanwhile, or the address is wrong (LINUX.md, For authors of a handler)"
             }
             Rule::PutTwice => {
+                "the bytes of the later call are lost, and a thread that it was to wake sleeps on (LINUX.md, For authors of a handler)"
+            }
+            Rule::PutTwiceWoken => {
                 "the bytes of the later call are lost; that is harmless where both have the same (LINUX.md, For authors of a handler)"
             }
             Rule::PresentBefore => {

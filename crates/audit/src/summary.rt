@@ -1,9 +1,21 @@
 //! What is said of a whole log.
 
-ghost use Rattle.std.specs.Prelude.{◌≡◌, ◌++◌, IfOk, OnOk, string_bytes};
+ghost use Rattle.std.specs.Prelude.{◌≡◌, ◌++◌, ℕ, List, IfOk, OnOk, string_bytes};
 ghost use Rattle.std.specs.Fmt.{decimal};
-ghost use Rattle.audit.specs.Verdicts.{IsCertificateLine, IsSummary, certified_line, numbers_text};
+ghost use Rattle.call_log.specs.Listing.{HasNoFeed};
+ghost use Rattle.audit.specs.Verdicts.{
+  IsCertificateLine,
+  IsSummary,
+  certified_line,
+  json_summary,
+  missing_line,
+  missing_word,
+  text_summary,
+  twice_word,
+  unknown_word,
+};
 
+use crate::audit::{Asked, Form};
 use crate::certificate::{Certificate, Missing, Totals};
 use crate::findings::Finding;
 use crate::judging::Judged;
@@ -118,29 +130,53 @@ fn add_explanation(
 pub(crate) struct Front {
     calls: usize,
     counts: String,
+    /// How many pages were registered of which nothing was known when that ended, as the search has found.
+    unknown: usize,
     rest: String,
 }
 
-/// The parts of a summary before a certificate is made. `whole` says that no line of the log was lost.
+/// The parts of a summary before a certificate is made.
 pub(crate) fn front_of(
     alloc: Global,
     judged: &Judged,
     found: &[Finding],
-    whole: bool,
-    explains: bool,
+    asked: Asked,
 ) -> Result<Front, NoMemory> {
     let mut rest = String::new(alloc);
-    if !whole {
-        rest.push_str(
-            "lines of the log were lost: they may explain each finding, and hide others\n",
-        )?;
-    }
-    add_details(&mut rest, alloc, judged, found, explains)?;
+    let counts = match asked.form {
+        Form::Text => {
+            add_details(&mut rest, alloc, judged, found, asked.explains)?;
+            counts(alloc, judged)?
+        }
+        Form::Json => json_counts(alloc, judged)?,
+    };
     Ok(Front {
         calls: judged.log.count(),
-        counts: counts(alloc, judged)?,
+        counts,
+        unknown: judged.notes.unknown as usize,
         rest,
     })
+}
+
+/// The same as fields of an object, with how long faults waited, and whether lines of the log were lost.
+fn json_counts(alloc: Global, judged: &Judged) -> Result<String, NoMemory> {
+    let mut text = String::new(alloc);
+    let must = judged.log.count_of(Kind::Must);
+    let may = judged.log.count_of(Kind::May);
+    let unexplained = judged.log.count_of(Kind::Unexplained);
+    let unjudged = judged.log.count_of(Kind::Unjudged);
+    let lost = !judged.log.is_whole();
+    write!(
+        text,
+        "\"only\": {must}, \"accesses\": {may}, \"unexplained\": {unexplained}, \"unjudged\": {unjudged}, \"lost\": {lost}"
+    )?;
+    let waits = waits_of(alloc, judged, None)?;
+    if let Some(longest) = waits.last() {
+        let count = waits.len();
+        let time = longest.time;
+        write!(text, ", \"waits\": {count}, \"longest\": {time}")?;
+    }
+    Ok(text)
 }
 
 /// How many calls there are of each kind.
@@ -169,6 +205,11 @@ fn add_details(
     found: &[Finding],
     explains: bool,
 ) -> Result<(), NoMemory> {
+    if !judged.log.is_whole() {
+        text.push_str(
+            "lines of the log were lost: they may explain each finding, and hide others\n",
+        )?;
+    }
     add_waits(text, alloc, judged)?;
     if explains {
         add_explanation(text, alloc, judged, found)?;
@@ -176,33 +217,60 @@ fn add_details(
     Ok(())
 }
 
-/// Adds a number.
-fn add_number(text: &mut String, number: usize) -> Result<(), NoMemory>
-    ensures { OnOk result (string_bytes text.new ≡ string_bytes text.old ++ decimal number) }
+/// What comes before the number of pages that are known to be missing.
+fn missing_word(form: Form) -> &'static str
+    ensures { result.now ≡ missing_word form }
 {
-    write!(text, "{number}")?;
-    Ok(())
+    match form {
+        Form::Text => {
+            "certified: the kernel's answers, which a kernel of the rules may have given; pages known to be missing "
+        }
+        Form::Json => "\"certified\": true, \"missing\": ",
+    }
 }
 
-/// Adds the numbers of a certificate.
-fn add_numbers(text: &mut String, totals: Totals) -> Result<(), NoMemory>
-    ensures { OnOk result (string_bytes text.new ≡ string_bytes text.old ++ numbers_text totals) }
+/// What comes before the number of calls that have put a page twice.
+fn twice_word(form: Form) -> &'static str
+    ensures { result.now ≡ twice_word form }
 {
-    add_number(text, totals.owed)?;
-    text.push_str(", put twice ")?;
-    add_number(text, totals.twice)?;
+    match form {
+        Form::Text => ", put twice ",
+        Form::Json => ", \"twice\": ",
+    }
+}
+
+/// What comes before the number of pages of which nothing is known.
+fn unknown_word(form: Form) -> &'static str
+    ensures { result.now ≡ unknown_word form }
+{
+    match form {
+        Form::Text => ", of which nothing is known ",
+        Form::Json => ", \"unknown\": ",
+    }
+}
+
+/// Adds a word and a number.
+fn add_number(text: &mut String, word: &str, number: usize) -> Result<(), NoMemory>
+    ensures { OnOk result (string_bytes text.new ≡
+        string_bytes text.old ++ (word.now ++ decimal number)) }
+{
+    write!(text, "{word}{number}")?;
     Ok(())
 }
 
 /// The line of a run that is certified.
-fn certified_line(alloc: Global, totals: Totals) -> Result<String, NoMemory>
-    ensures { IfOk result (λ text. string_bytes text ≡ certified_line totals) }
+fn certified_line(
+    alloc: Global,
+    form: Form,
+    totals: Totals,
+    unknown: usize,
+) -> Result<String, NoMemory>
+    ensures { IfOk result (λ text. string_bytes text ≡ certified_line form totals unknown) }
 {
     let mut text = String::new(alloc);
-    text.push_str(
-        "certified: a kernel of the rules may have given these answers; pages known to be owed ",
-    )?;
-    add_numbers(&mut text, totals)?;
+    add_number(&mut text, missing_word(form), totals.owed)?;
+    add_number(&mut text, twice_word(form), totals.twice)?;
+    add_number(&mut text, unknown_word(form), unknown)?;
     Ok(text)
 }
 
@@ -213,43 +281,92 @@ fn reason_of(alloc: Global, missing: Missing) -> Result<String, NoMemory> {
     Ok(text)
 }
 
-/// The line that says whether a run is certified.
-fn certificate_line(alloc: Global, certificate: Certificate) -> Result<Vec<u8>, NoMemory>
-    ensures { IfOk result (λ line. IsCertificateLine certificate line.items) }
+/// Adds that a run is not certified.
+fn add_missing(line: &mut Vec<u8>, form: Form, reason: &[u8]) -> Result<(), NoMemory>
+    ensures { OnOk result (line.new.items ≡ line.old.items ++ missing_line form reason.now) }
+{
+    match form {
+        Form::Text => {
+            line.extend_from_slice(b"not certified: ")?;
+            line.extend_from_slice(reason)?;
+        }
+        Form::Json => {
+            line.extend_from_slice(b"\"certified\": false, \"reason\": \"")?;
+            line.extend_from_slice(reason)?;
+            line.push(b'"')?;
+        }
+    }
+    Ok(())
+}
+
+/// What says whether a run is certified.
+fn certificate_line(
+    alloc: Global,
+    form: Form,
+    certificate: Certificate,
+    unknown: usize,
+) -> Result<Vec<u8>, NoMemory>
+    ensures { IfOk result (λ line. IsCertificateLine form certificate line.items) }
 {
     let mut line = Vec::new(alloc);
     match certificate {
         Certificate::Certified(totals) => {
-            let text = certified_line(alloc, totals)?;
+            let text = certified_line(alloc, form, totals, unknown)?;
             line.extend_from_slice(text.as_bytes())?;
-            Ok(line)
         }
         Certificate::Missing(missing) => {
             let text = reason_of(alloc, missing)?;
-            line.extend_from_slice(b"not certified: ")?;
-            line.extend_from_slice(first_line(text.as_bytes()))?;
-            Ok(line)
+            add_missing(&mut line, form, first_line(text.as_bytes()))?;
         }
     }
+    Ok(line)
 }
 
-/// What is said of a log in the end.
-pub(crate) fn summary(
-    alloc: Global,
-    front: &Front,
-    certificate: Certificate,
-) -> Result<Vec<u8>, NoMemory>
-    ensures { IfOk result (λ text. IsSummary certificate text.items) }
+/// The summary of these parts, as a text.
+fn text_summary(alloc: Global, front: &Front, line: &[u8]) -> Result<Vec<u8>, NoMemory>
+    ensures { IfOk result (λ text. (counts : List ℕ) × HasNoFeed counts × (rest : List ℕ) ×
+        (text.items ≡ text_summary front.now.calls counts line.now rest)) }
 {
-    let line = certificate_line(alloc, certificate)?;
     let calls = front.calls;
     let first = format!(in alloc; "{calls} calls: ")?;
     let mut text = Vec::new(alloc);
     text.extend_from_slice(first.as_bytes())?;
     text.extend_from_slice(first_line(front.counts.as_bytes()))?;
     text.extend_from_slice(b"\n")?;
-    text.extend_from_slice(&line)?;
+    text.extend_from_slice(line)?;
     text.extend_from_slice(b"\n")?;
     text.extend_from_slice(front.rest.as_bytes())?;
     Ok(text)
+}
+
+/// The summary of these parts, as an object on a line of its own.
+fn json_summary(alloc: Global, front: &Front, line: &[u8]) -> Result<Vec<u8>, NoMemory>
+    ensures { IfOk result (λ text. (counts : List ℕ) × HasNoFeed counts ×
+        (text.items ≡ json_summary front.now.calls counts line.now)) }
+{
+    let calls = front.calls;
+    let first = format!(in alloc; "{{\"calls\": {calls}, ")?;
+    let mut text = Vec::new(alloc);
+    text.extend_from_slice(first.as_bytes())?;
+    text.extend_from_slice(first_line(front.counts.as_bytes()))?;
+    text.extend_from_slice(b", ")?;
+    text.extend_from_slice(line)?;
+    text.extend_from_slice(b"}\n")?;
+    Ok(text)
+}
+
+/// What is said of a log in the end.
+pub(crate) fn summary(
+    alloc: Global,
+    form: Form,
+    front: &Front,
+    certificate: Certificate,
+) -> Result<Vec<u8>, NoMemory>
+    ensures { IfOk result (λ text. IsSummary form certificate text.items) }
+{
+    let line = certificate_line(alloc, form, certificate, front.unknown)?;
+    match form {
+        Form::Text => text_summary(alloc, front, &line),
+        Form::Json => json_summary(alloc, front, &line),
+    }
 }

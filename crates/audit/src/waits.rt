@@ -1,6 +1,7 @@
 //! How long threads waited, from the read that returned their fault to the call that woke them.
 
 use crate::judging::Judged;
+use crate::notes::Slept;
 use mig_base::NoMemory;
 use std::alloc::Global;
 use std::fmt;
@@ -62,9 +63,9 @@ pub(crate) fn waits_of(
     flags: Option<u64>,
 ) -> Result<Vec<Wait>, NoMemory> {
     let mut waits = Vec::new(alloc);
-    for waited in &judged.notes.waits {
-        if flags.is_none() || flags == Some(waited.flags) {
-            if let Some(wait) = wait_of(judged, waited.read, waited.by) {
+    for slept in &judged.notes.waits {
+        if flags.is_none() || flags == Some(slept.fault.flags) {
+            if let Some(wait) = wait_of(judged, slept) {
                 waits.push(wait)?;
             }
         }
@@ -73,9 +74,10 @@ pub(crate) fn waits_of(
     Ok(waits)
 }
 
-fn wait_of(judged: &Judged, read: u64, by: u32) -> Option<Wait> {
-    let read = judged.log.call(u32::try_from(read).ok()?)?;
-    let by = judged.log.call(by)?;
+/// How long a thread slept that a call has woken.
+pub(crate) fn wait_of(judged: &Judged, slept: &Slept) -> Option<Wait> {
+    let read = judged.log.call(u32::try_from(slept.read).ok()?)?;
+    let by = judged.log.call(slept.by?)?;
     Some(Wait {
         time: by.until.saturating_sub(read.until),
         back: u32::MAX - read.begin,

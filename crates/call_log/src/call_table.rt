@@ -6,7 +6,7 @@ use indexmap::{IndexMap, IndexSet};
 use log_entries::EntryStore;
 use mig_base::NoMemory;
 use std::alloc::Global;
-use uffd_log::{Answer, Call};
+use uffd_log::{Answer, Call, Stamp};
 
 /// A call: its entries, and what a judge notes of it.
 #[derive(Clone, Copy)]
@@ -15,6 +15,9 @@ pub(crate) struct CallPlace {
     until: u64,
     /// The entry where it begins.
     pub(crate) begin: u32,
+    /// The process and the thread that made it.
+    process: u32,
+    thread: u32,
     /// The entry where it ends; 0, where no call ends, if it never returned.
     end: u32,
     /// The number of the line where it ends; 0 if it never returned.
@@ -37,6 +40,8 @@ pub struct CallTable {
     pub(crate) own: IndexMap<u32, u32>,
     /// Processes, each with an object that it has found.
     pub(crate) met: IndexSet<(u32, u64)>,
+    /// The processes that were about to end, with the line of each.
+    pub(crate) exits: IndexMap<u32, u32>,
     /// The number of the last line of a call.
     pub(crate) last_line: u32,
     /// The line of the head that begins with `command`.
@@ -79,6 +84,8 @@ impl CallPlace {
             begin: made.key,
             end: self.line,
             until: self.until,
+            process: self.process,
+            thread: self.thread,
             space: made.space,
             ending,
             last: self.last,
@@ -98,16 +105,19 @@ impl CallTable {
             ends: Vec::new(alloc),
             own: IndexMap::new(alloc),
             met: IndexSet::new(alloc),
+            exits: IndexMap::new(alloc),
             last_line: 1,
             command: Vec::new(alloc),
         }
     }
 
-    /// A call begins in this entry. No line of the language that begins a call has none.
-    pub(crate) fn add(&mut self, entry: Option<u32>) -> Result<(), NoMemory> {
+    /// A call begins in this entry, with this stamp. No line of the language that begins a call has no entry.
+    pub(crate) fn add(&mut self, entry: Option<u32>, stamp: Stamp) -> Result<(), NoMemory> {
         self.places.push(CallPlace {
             until: 0,
             begin: entry.unwrap_or(u32::MAX),
+            process: stamp.pid,
+            thread: stamp.tid,
             end: 0,
             line: 0,
             last: false,

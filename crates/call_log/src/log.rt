@@ -9,7 +9,7 @@ use log_entries::EntryReader;
 use std::rc::Rc;
 use uffd_log::{Call, Message};
 
-/// The calls of a log. Each is read from its entries whenever it is asked for: a log keeps 24 bytes of a call beside these.
+/// The calls of a log. Each is read from its entries whenever it is asked for: a log keeps 32 bytes of a call beside these.
 #[derive(Drop)]
 pub struct Log {
     pub size: PageSize,
@@ -19,6 +19,8 @@ pub struct Log {
     pub ends: Vec<u32>,
     /// The objects whose handshake is in the log and whose opening is not, with the address space of the first call on each.
     pub found: IndexMap<u64, u32>,
+    /// The processes that were about to end, with the number of the line that says so.
+    pub exits: IndexMap<u32, u32>,
     /// The number of the last line of a call.
     pub last_line: u32,
     /// The line of the head that begins with `command`.
@@ -36,6 +38,7 @@ impl Log {
             size,
             places,
             ends,
+            exits,
             last_line,
             command,
             ..
@@ -46,9 +49,15 @@ impl Log {
             places,
             ends,
             found,
+            exits,
             last_line,
             command,
         }
+    }
+
+    /// Whether no line of it was lost.
+    pub fn is_whole(&self) -> bool {
+        self.entries.whole
     }
 
     /// The number of calls.

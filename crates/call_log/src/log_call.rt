@@ -39,6 +39,9 @@ pub struct LogCall {
     pub end: u32,
     /// When it ended, in nanoseconds of the log's clock.
     pub until: u64,
+    /// The process that made it, and the thread.
+    pub process: u32,
+    pub thread: u32,
     /// The address space that it changes, by its process.
     pub space: u32,
     /// The entry where it ends, which has its messages and its runs of pages; absent where it never returned.

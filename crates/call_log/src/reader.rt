@@ -160,16 +160,27 @@ impl CallReader {
                 self.take_renewed(stamp.pid)?;
                 Ok(())
             }
-            Line::Exit { .. } | Line::Lost(_) => Ok(()),
+            Line::Exit { .. } => {
+                self.note_exit(stamp.pid)?;
+                Ok(())
+            }
+            Line::Lost(_) => Ok(()),
         }
     }
 
     /// A process begins anew: its open calls never return.
     fn take_renewed(&mut self, pid: u32) -> Result<(), NoMemory> {
         self.processes.renew(pid);
+        self.table.exits.swap_remove(&pid);
         if !self.table.own.contains_key(&pid) {
             self.table.own.insert(pid, self.line)?;
         }
+        Ok(())
+    }
+
+    /// A process is about to end.
+    fn note_exit(&mut self, pid: u32) -> Result<(), NoMemory> {
+        self.table.exits.insert(pid, self.line)?;
         Ok(())
     }
 
@@ -195,7 +206,7 @@ impl CallReader {
         };
         let wrong = self.processes.begin(stamp.pid, number, open)?;
         self.table.last_line = self.line;
-        self.table.add(self.entry)?;
+        self.table.add(self.entry, stamp)?;
         refuse_call(wrong)?;
         match descriptor_of(&call) {
             Some(on) => self.use_descriptor(stamp.pid, on),
@@ -257,6 +268,8 @@ impl CallReader {
             begin: open.line,
             end: self.line,
             until: stamp.time,
+            process: stamp.pid,
+            thread: stamp.tid,
             space: stamp.pid,
             ending: self.entry,
             last: self.is_last(open.call),

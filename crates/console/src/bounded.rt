@@ -7,7 +7,7 @@ use std::io::Read;
 pub const LONGEST_LISTED: usize = 65_536;
 
 /// A reader of lines that ends at one that is too long, after the first byte too many: who keeps a line, or the whole input, keeps no line
-/// without end. It counts the lines that say something, which are neither empty nor comments.
+/// without end. It counts the lines that say something, which are neither empty nor comments, up to the last that its reader looks at.
 #[derive(Drop)]
 pub struct Bounded<R> {
     input: R,
@@ -19,8 +19,11 @@ pub struct Bounded<R> {
     is_blank: bool,
     /// How many lines have ended.
     ended: u64,
-    /// How many lines say something.
-    saying: u64,
+    /// Whether a line says something.
+    has_lines: bool,
+    /// How many of the lines that are looked at say something, and the number of the last that is.
+    looked_at: u64,
+    last: u64,
     is_too_long: bool,
     /// Whether the input has ended. It is not read again: a terminal would wait for more.
     has_ended: bool,
@@ -35,7 +38,9 @@ impl<R> Bounded<R> {
             len: 0,
             is_blank: true,
             ended: 0,
-            saying: 0,
+            has_lines: false,
+            looked_at: 0,
+            last: u64::MAX,
             is_too_long: false,
             has_ended: false,
         }
@@ -46,9 +51,19 @@ impl<R> Bounded<R> {
         &self.input
     }
 
+    /// Has the lines after this one left out of the count.
+    pub fn count_up_to(&mut self, last: u64) {
+        self.last = last;
+    }
+
     /// Whether a line was read that says something.
     pub fn has_lines(&self) -> bool {
-        self.saying > 0
+        self.has_lines
+    }
+
+    /// How many of the lines that say something were read and are looked at.
+    pub fn looked_at(&self) -> u64 {
+        self.looked_at
     }
 
     /// The number of the line that is too long, counted from 1, if one was reached.
@@ -68,7 +83,10 @@ impl<R> Bounded<R> {
         if self.is_blank && byte != b' ' && byte != b'\r' {
             self.is_blank = false;
             if byte != b'#' {
-                self.saying = self.saying.saturating_add(1);
+                self.has_lines = true;
+                if self.ended < self.last {
+                    self.looked_at = self.looked_at.saturating_add(1);
+                }
             }
         }
     }

@@ -4,13 +4,15 @@
 //! The streams remember why they failed (`Watched`), so that the faults of a run stay plain words. A script may be typed at a terminal,
 //! where a wrong line is named and the session continues. `Bounded` ends an input at a line that is too long, and `Scripts` has the scripts
 //! of an input, one after the other. `test_files` and `renew_files` play tests.
-//! `ProgressLine` says at a terminal how far a command is that reads for long. Nothing here knows a command line: `Given` is what one says
+//! `Painted` makes findings easier to read there, and `ProgressLine` says how far a command is that reads for long. Nothing here knows a command line: `Given` is what one says
 //! of a command's input.
 #![tactic(auto)]
 
+mod arguments;
 mod bounded;
 mod findings;
 mod input;
+mod paint;
 mod progress;
 mod reasons;
 mod renewal;
@@ -22,8 +24,10 @@ mod tap;
 mod terminal;
 mod watched;
 
+pub use arguments::name_bad_argument;
 pub use bounded::{Bounded, LONGEST_LISTED};
 pub use input::Input;
+pub use paint::{Paint, Painted, paint_for};
 pub use progress::{Counted, Erasing, ProgressLine};
 pub use reasons::say_wrong_line;
 pub use renewal::renew_files;
@@ -34,7 +38,7 @@ pub use status::{
 };
 pub use streams::{
     Given, end, end_at_lines, end_lint, end_looked, open_input, open_output, open_script,
-    say_input, say_output,
+    say_input, say_looked, say_output,
 };
 pub use tally::{TestAsks, test_files};
 pub use tap::{Tap, can_tap, make_tap};

@@ -1,6 +1,7 @@
 //! What is wrong with the line at which a command ended.
 
 use crate::bounded::{Bounded, LONGEST_LISTED};
+use crate::paint::{Painted, paint_for};
 use crate::streams::Given;
 use engine::script_reader::{MAX_LINE, split_line, without_return};
 use expected::order_part;
@@ -65,7 +66,10 @@ pub(crate) fn say_wrong_lines(rt: &HostRuntime, given: Given<'_>, language: Lang
     };
     let mut file = Bounded::new(file, LONGEST_LISTED);
     if gives_reasons(rt, given) {
-        let _ = lint_lines(rt.alloc(), &mut file, &mut rt.stderr(), name, language);
+        let stderr = rt.stderr();
+        let paint = paint_for(rt, &stderr);
+        let mut painted = Painted::new(stderr, paint);
+        let _ = lint_lines(rt.alloc(), &mut file, &mut painted, name, language);
         return;
     }
     let mut one = OneLine {

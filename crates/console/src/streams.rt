@@ -153,6 +153,13 @@ pub fn end_lint(
     }
 }
 
+/// Says on standard error how many lines of the input of this name were looked at, where the reasons of faults are said too.
+pub fn say_looked(rt: &HostRuntime, given: Given<'_>, name: &str, lines: u64) {
+    if lines > 0 && gives_reasons(rt, given) {
+        let _ = eprintln!(rt; "{name}: lines looked at: {lines}");
+    }
+}
+
 /// Says on standard error that nothing was looked at, and what the input of this name lacks.
 pub(crate) fn say_nothing(rt: &HostRuntime, name: &str, what: &str) {
     let _ = eprintln!(rt; "{name}: nothing was looked at: {what}");

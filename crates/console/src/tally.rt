@@ -5,6 +5,7 @@ ghost use Rattle.console.specs.Status.{tally_status};
 
 use crate::findings::Findings;
 use crate::input::Input;
+use crate::paint::{Paint, Painted, paint_for};
 use crate::scripts::Scripts;
 use crate::status::{ALL_DONE, NO_FLAT_RUN, NOTHING_TO_JUDGE, status_of};
 use crate::streams::{end_files, end_test, open_named, open_output, say_nothing, standard_input};
@@ -47,6 +48,7 @@ enum Found {
 #[derive(Drop)]
 struct Tally {
     asks: TestAsks,
+    paint: Paint,
     scripts: u32,
     /// The answers that were compared in them. A script with a fault has none.
     answers: u64,
@@ -124,7 +126,7 @@ impl Tally {
         requires high { cpus ≤ 16 }
     {
         let mut findings = Findings {
-            output,
+            output: Painted::new(output, self.paint),
             name,
             before: scripts.before(),
             is_comment: self.asks.is_tap,
@@ -323,6 +325,7 @@ pub fn test_files(rt: &HostRuntime, files: Option<&[&str]>, asks: TestAsks, cpus
     let mut output = open_output(rt);
     let mut tally = Tally {
         asks,
+        paint: paint_for(rt, &rt.stdout()),
         scripts: 0,
         answers: 0,
         differ: 0,

@@ -1,6 +1,6 @@
 //! What is said of what strace has written, and of logs, where an input may be either.
 
-use audit::{Asked, Verdict};
+use audit::{Asked, Form, Verdict};
 use call_log::LogFault;
 use std::alloc::{AllocError, Global};
 use std::process::Abort;
@@ -30,37 +30,37 @@ static TRACES: [(&'static [u8], Verdict, &'static [u8]); 10] = [
     (
         b"8 100.000500 read(5<anon_inode:[userfaultfd]>, \"\\x12\\x00\\x00\\x00\\x00\\x00\\x00\\x00\\x00\\x00\\x00\\x00\\x00\\x00\\x00\\x00\\x00\\x00\\x01\\x00\\x00\\x00\\x00\\x00\\x09\\x00\\x00\\x00\\x00\\x00\\x00\\x00\", 32) = 32 <0.000010>\n8 100.000600 ioctl(5<anon_inode:[userfaultfd]>, UFFDIO_COPY, {dst=0x10000, src=0x50000, len=0x1000, mode=0, copy=0x1000}) = 0 <0.000020>\n8 100.000700 ioctl(5<anon_inode:[userfaultfd]>, UFFDIO_COPY, {dst=0x11000, src=0x50000, len=0x1000, mode=0, copy=0x1000}) = 0 <0.000020>\n",
         Verdict::Found,
-        b"a line 5.txt:6: monitor: read: the page fault waited 110.0 us, until line 7 [late]\n6 calls: 4 with the only answer that the rules allow, 2 that an access explains which the log does not show, 0 for which no run was found, 0 not judged\ncertified: a kernel of the rules may have given these answers; pages known to be owed 0, put twice 0\npage faults that waited until a call woke their thread: 1, the longest 110.0 us, read at line 6, woken at line 7\n",
+        b"a line 5.txt:6: fault: object 1: the page fault waited too long: fault at 0x10000 (read, missing), thread 9 of process 7, since 100000510000 at line 6, until 100000620000 at line 7 [late]\n6 calls: 4 with the only answer that the rules allow, 2 that an access explains which the log does not show, 0 for which no run was found, 0 not judged\ncertified: the kernel's answers, which a kernel of the rules may have given; pages known to be missing 0, put twice 0, of which nothing is known 0\npage faults that waited until a call woke their thread: 1, the longest 110.0 us, read at line 6, woken at line 7\n",
     ),
     // It is never put.
     (
         b"8 100.000500 read(5<anon_inode:[userfaultfd]>, \"\\x12\\x00\\x00\\x00\\x00\\x00\\x00\\x00\\x00\\x00\\x00\\x00\\x00\\x00\\x00\\x00\\x00\\x00\\x01\\x00\\x00\\x00\\x00\\x00\\x09\\x00\\x00\\x00\\x00\\x00\\x00\\x00\", 32) = 32 <0.000010>\n8 100.000700 ioctl(5<anon_inode:[userfaultfd]>, UFFDIO_COPY, {dst=0x11000, src=0x50000, len=0x1000, mode=0, copy=0x1000}) = 0 <0.000020>\n",
         Verdict::Found,
-        b"a line 5.txt:6: monitor: read: the page fault that this call has read was not resolved [fault-not-resolved]\na line 5.txt:7: monitor: end of the log: 1 registered pages from 0x10000 on are still missing [page-owed]\n5 calls: 3 with the only answer that the rules allow, 2 that an access explains which the log does not show, 0 for which no run was found, 0 not judged\ncertified: a kernel of the rules may have given these answers; pages known to be owed 1, put twice 0\n",
+        b"a line 5.txt:6: fault: object 1: the page fault was not resolved: fault at 0x10000 (read, missing), thread 9 of process 7, since 100000510000 at line 6 [fault-not-resolved]\na line 5.txt:7: note: object 1: registered pages are still missing: end of the log at 0x10000, process 7 [page-owed]\n5 calls: 3 with the only answer that the rules allow, 2 that an access explains which the log does not show, 0 for which no run was found, 0 not judged\ncertified: the kernel's answers, which a kernel of the rules may have given; pages known to be missing 1, put twice 0, of which nothing is known 0\n",
     ),
     // A page is put twice.
     (
         b"8 100.000600 ioctl(5<anon_inode:[userfaultfd]>, UFFDIO_COPY, {dst=0x10000, src=0x50000, len=0x1000, mode=0, copy=0x1000}) = 0 <0.000020>\n8 100.000800 ioctl(5<anon_inode:[userfaultfd]>, UFFDIO_COPY, {dst=0x10000, src=0x50000, len=0x1000, mode=0, copy=-17}) = -1 EEXIST (File exists) <0.000020>\n",
         Verdict::Found,
-        b"a line 5.txt:7: monitor: copy: the page 0x10000 was installed before by this log [put-twice]\n5 calls: 4 with the only answer that the rules allow, 1 that an access explains which the log does not show, 0 for which no run was found, 0 not judged\ncertified: a kernel of the rules may have given these answers; pages known to be owed 0, put twice 1\n",
+        b"a line 5.txt:7: fault: object 1: the page was put before by this log, and no wake follows: copy at 0x10000, thread 8 of process 7, since 100000820000 at line 7 [put-twice]\n5 calls: 4 with the only answer that the rules allow, 1 that an access explains which the log does not show, 0 for which no run was found, 0 not judged\ncertified: the kernel's answers, which a kernel of the rules may have given; pages known to be missing 0, put twice 1, of which nothing is known 1\n",
     ),
     // A page outside is said to be put.
     (
         b"8 100.000500 ioctl(5<anon_inode:[userfaultfd]>, UFFDIO_COPY, {dst=0x12000, src=0x50000, len=0x1000, mode=0, copy=0x1000}) = 0 <0.000020>\n",
         Verdict::Unexplained,
-        b"a line 5.txt:6: copy: no run was found that gives this answer: not registered, or wrong arguments [unexplained-answer]\n4 calls: 3 with the only answer that the rules allow, 0 that an access explains which the log does not show, 1 for which no run was found, 0 not judged\nnot certified: no run was found\n",
+        b"a line 5.txt:6: unexplained: object 1: no run was found that gives this answer: copy at 0x12000, thread 8 of process 7, until 100000520000 at line 6: not registered, or wrong arguments [unexplained-answer]\n4 calls: 3 with the only answer that the rules allow, 0 that an access explains which the log does not show, 1 for which no run was found, 0 not judged\nnot certified: no run was found\n",
     ),
     // A process that shares the memory of the first one gives a page back, which is put again.
     (
         b"7 100.000500 vfork() = 9 <0.000010>\n8 100.000600 ioctl(5<anon_inode:[userfaultfd]>, UFFDIO_COPY, {dst=0x10000, src=0x50000, len=0x2000, mode=0, copy=0x2000}) = 0 <0.000020>\n9 100.000700 madvise(0x10000, 4096, MADV_DONTNEED) = 0 <0.000020>\n8 100.000800 ioctl(5<anon_inode:[userfaultfd]>, UFFDIO_COPY, {dst=0x10000, src=0x50000, len=0x1000, mode=0, copy=0x1000}) = 0 <0.000020>\n9 100.000900 execve(\"./b\", [\"./b\"], 0x7ffc /* 20 vars */) = 0\n9 100.001000 madvise(0x10000, 4096, MADV_DONTNEED) = 0 <0.000020>\n",
         Verdict::Certified,
-        b"7 calls: 6 with the only answer that the rules allow, 1 that an access explains which the log does not show, 0 for which no run was found, 0 not judged\ncertified: a kernel of the rules may have given these answers; pages known to be owed 0, put twice 0\n",
+        b"7 calls: 6 with the only answer that the rules allow, 1 that an access explains which the log does not show, 0 for which no run was found, 0 not judged\ncertified: the kernel's answers, which a kernel of the rules may have given; pages known to be missing 0, put twice 0, of which nothing is known 0\n",
     ),
     // One that has a copy of the memory.
     (
         b"7 100.000500 fork() = 9 <0.000010>\n8 100.000600 ioctl(5<anon_inode:[userfaultfd]>, UFFDIO_COPY, {dst=0x10000, src=0x50000, len=0x2000, mode=0, copy=0x2000}) = 0 <0.000020>\n9 100.000700 madvise(0x10000, 4096, MADV_DONTNEED) = 0 <0.000020>\n8 100.000800 ioctl(5<anon_inode:[userfaultfd]>, UFFDIO_COPY, {dst=0x10000, src=0x50000, len=0x1000, mode=0, copy=0x1000}) = 0 <0.000020>\n",
         Verdict::Unexplained,
-        b"a line 5.txt:9: copy: no run was found that gives this answer: the page is present [unexplained-answer]\n7 calls: 5 with the only answer that the rules allow, 1 that an access explains which the log does not show, 1 for which no run was found, 0 not judged\nnot certified: no run was found\n",
+        b"a line 5.txt:9: unexplained: object 1: no run was found that gives this answer: copy at 0x10000, thread 8 of process 7, until 100000820000 at line 9: the page is present [unexplained-answer]\n7 calls: 5 with the only answer that the rules allow, 1 that an access explains which the log does not show, 1 for which no run was found, 0 not judged\nnot certified: no run was found\n",
     ),
     // A call never returns.
     (
@@ -154,6 +154,9 @@ fn judged(
     let asked = Asked {
         explains: false,
         late_after: Some(1),
+        strict: false,
+        expects_all: false,
+        form: Form::Text,
     };
     let answer = audit_input(alloc, &mut reader, &mut writer, NAME, asked);
     Ok((answer, writer))

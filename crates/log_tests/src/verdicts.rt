@@ -1,6 +1,6 @@
 //! What is said of whole logs, which come in pieces.
 
-use audit::{Asked, Verdict, audit_log};
+use audit::{Asked, Form, Verdict, audit_log};
 use call_log::LogFault;
 use std::alloc::{AllocError, Global};
 use std::process::Abort;
@@ -30,56 +30,56 @@ static LOGS: [(&'static [u8], &'static [u8], Verdict, &'static [u8]); 14] = [
         OPENED,
         b"9 7 8 begin 5 read 8:5 32\n10 7 8 message 5 fault 0x10000 1 9\n11 7 8 end 5 ok 1\n12 7 8 begin 6 copy 8:5 0x10000 0x50000 0x1000 0\n13 7 8 end 6 ok 4096\n14 7 8 begin 7 copy 8:5 0x11000 0x51000 0x1000 0\n15 7 8 end 7 ok 4096\n",
         Verdict::Certified,
-        b"7 calls: 6 with the only answer that the rules allow, 1 that an access explains which the log does not show, 0 for which no run was found, 0 not judged\ncertified: a kernel of the rules may have given these answers; pages known to be owed 0, put twice 0\npage faults that waited until a call woke their thread: 1, the longest 0.0 us, read at line 16, woken at line 20\n",
+        b"7 calls: 6 with the only answer that the rules allow, 1 that an access explains which the log does not show, 0 for which no run was found, 0 not judged\ncertified: the kernel's answers, which a kernel of the rules may have given; pages known to be missing 0, put twice 0, of which nothing is known 0\npage faults that waited until a call woke their thread: 1, the longest 0.0 us, read at line 16, woken at line 20\n",
     ),
     // It is put later than after the microsecond that the tests allow.
     (
         OPENED,
         b"9 7 8 begin 5 read 8:5 32\n10 7 8 message 5 fault 0x10000 1 9\n11 7 8 end 5 ok 1\n12 7 8 begin 6 copy 8:5 0x10000 0x50000 0x1000 0\n1911 7 8 end 6 ok 4096\n2000 7 8 begin 7 copy 8:5 0x11000 0x51000 0x1000 0\n2001 7 8 end 7 ok 4096\n",
         Verdict::Found,
-        b"log:16: monitor: read: the page fault waited 1.9 us, until line 20 [late]\n7 calls: 6 with the only answer that the rules allow, 1 that an access explains which the log does not show, 0 for which no run was found, 0 not judged\ncertified: a kernel of the rules may have given these answers; pages known to be owed 0, put twice 0\npage faults that waited until a call woke their thread: 1, the longest 1.9 us, read at line 16, woken at line 20\n",
+        b"log:16: fault: object 8: the page fault waited too long: fault at 0x10000 (write, missing), thread 9 of process 7, since 11 at line 18, until 1911 at line 20 [late]\n7 calls: 6 with the only answer that the rules allow, 1 that an access explains which the log does not show, 0 for which no run was found, 0 not judged\ncertified: the kernel's answers, which a kernel of the rules may have given; pages known to be missing 0, put twice 0, of which nothing is known 0\npage faults that waited until a call woke their thread: 1, the longest 1.9 us, read at line 16, woken at line 20\n",
     ),
     // Its object asks for UFFD_EVENT_REMOVE. It is closed while a page is removed, and another one was to be put.
     (
         b"1 7 7 begin 1 open syscall 0x80800\n2 7 7 end 1 ok 8:5\n3 7 7 begin 2 api 8:5 0xaa 0x8\n4 7 7 end 2 ok 0x1ffff 0x8000000000000003\n5 7 7 begin 3 register 8:5 0x10000 0x2000 0x1\n6 7 7 end 3 ok 0x15c\n7 7 7 begin 4 scan 8:5 0x10000 0x2000\n8 7 7 end 4 ok 0\n9 7 7 begin 5 copy 8:5 0x11000 0x51000 0x1000 0\n10 7 7 end 5 ok 4096\n",
         b"11 7 8 begin 6 madvise 0x11000 0x1000 4\n12 7 7 begin 7 copy 8:5 0x10000 0x50000 0x1000 0\n13 7 7 end 7 EAGAIN -11\n14 7 7 begin 8 close 8:5\n15 7 7 end 8 ok\n16 7 8 end 6 ok\n",
         Verdict::Found,
-        b"log:17: monitor: madvise: an event of this call was never read [event-not-read]\nlog:18: monitor: copy: EAGAIN, and the page 0x10000 was not tried again [not-tried-again]\nlog:20: monitor: close: 1 registered pages from 0x10000 on are still missing [page-owed]\n8 calls: 8 with the only answer that the rules allow, 0 that an access explains which the log does not show, 0 for which no run was found, 0 not judged\ncertified: a kernel of the rules may have given these answers; pages known to be owed 1, put twice 0\n",
+        b"log:17: fault: object 8: an event of this call was never read: madvise at 0x11000, thread 8 of process 7, until 16 at line 22 [event-not-read]\nlog:18: fault: object 8: EAGAIN, and the page was not tried again: copy at 0x10000, thread 7 of process 7, until 13 at line 19 [not-tried-again]\nlog:20: note: object 8: registered pages are still missing: close at 0x10000, process 7, until 15 at line 21 [page-owed]\n8 calls: 8 with the only answer that the rules allow, 0 that an access explains which the log does not show, 0 for which no run was found, 0 not judged\ncertified: the kernel's answers, which a kernel of the rules may have given; pages known to be missing 1, put twice 0, of which nothing is known 0\n",
     ),
     // It is never put, nor is the other page.
     (
         OPENED,
         b"9 7 8 begin 5 read 8:5 32\n10 7 8 message 5 fault 0x10000 1 9\n11 7 8 end 5 ok 1\n",
         Verdict::Found,
-        b"log:16: monitor: read: the page fault that this call has read was not resolved [fault-not-resolved]\n5 calls: 4 with the only answer that the rules allow, 1 that an access explains which the log does not show, 0 for which no run was found, 0 not judged\ncertified: a kernel of the rules may have given these answers; pages known to be owed 0, put twice 0\n",
+        b"log:16: fault: object 8: the page fault was not resolved: fault at 0x10000 (write, missing), thread 9 of process 7, since 11 at line 18 [fault-not-resolved]\n5 calls: 4 with the only answer that the rules allow, 1 that an access explains which the log does not show, 0 for which no run was found, 0 not judged\ncertified: the kernel's answers, which a kernel of the rules may have given; pages known to be missing 0, put twice 0, of which nothing is known 0\n",
     ),
     // A page is put twice, and the other one never.
     (
         OPENED,
         b"9 7 8 begin 5 copy 8:5 0x10000 0x50000 0x1000 0\n10 7 8 end 5 ok 4096\n11 7 8 begin 6 copy 8:5 0x10000 0x50000 0x1000 0\n12 7 8 end 6 EEXIST -17\n",
         Verdict::Found,
-        b"log:18: monitor: copy: the page 0x10000 was installed before by this log [put-twice]\nlog:19: monitor: end of the log: 1 registered pages from 0x11000 on are still missing [page-owed]\n6 calls: 6 with the only answer that the rules allow, 0 that an access explains which the log does not show, 0 for which no run was found, 0 not judged\ncertified: a kernel of the rules may have given these answers; pages known to be owed 1, put twice 1\n",
+        b"log:18: fault: object 8: the page was put before by this log, and no wake follows: copy at 0x10000, thread 8 of process 7, since 12 at line 19 [put-twice]\nlog:19: note: object 8: registered pages are still missing: end of the log at 0x11000, process 7 [page-owed]\n6 calls: 6 with the only answer that the rules allow, 0 that an access explains which the log does not show, 0 for which no run was found, 0 not judged\ncertified: the kernel's answers, which a kernel of the rules may have given; pages known to be missing 1, put twice 1, of which nothing is known 0\n",
     ),
     // A page that is missing is said to be there.
     (
         OPENED,
         b"9 7 8 begin 5 copy 8:5 0x10000 0x50000 0x1000 0\n10 7 8 end 5 EEXIST -17\n",
         Verdict::Unexplained,
-        b"log:16: copy: no run was found that gives this answer: the page is missing [unexplained-answer]\n5 calls: 4 with the only answer that the rules allow, 0 that an access explains which the log does not show, 1 for which no run was found, 0 not judged\nnot certified: no run was found\n",
+        b"log:16: unexplained: object 8: no run was found that gives this answer: copy at 0x10000, thread 8 of process 7, until 10 at line 17: the page is missing [unexplained-answer]\n5 calls: 4 with the only answer that the rules allow, 0 that an access explains which the log does not show, 1 for which no run was found, 0 not judged\nnot certified: no run was found\n",
     ),
     // Lines were lost: the copy of the page that is said to be there may be among them.
     (
         OPENED,
         b"9 7 8 begin 5 copy 8:5 0x10000 0x50000 0x1000 0\n10 7 8 end 5 EEXIST -17\nlost 2\n",
         Verdict::Doubtful,
-        b"log:16: perhaps a lost line: copy: no run was found that gives this answer: the page is missing [unexplained-answer]\n5 calls: 4 with the only answer that the rules allow, 0 that an access explains which the log does not show, 1 for which no run was found, 0 not judged\nnot certified: no run was found\nlines of the log were lost: they may explain each finding, and hide others\n",
+        b"log:16: unexplained, or a lost line: object 8: no run was found that gives this answer: copy at 0x10000, thread 8 of process 7, until 10 at line 17: the page is missing [unexplained-answer]\n5 calls: 4 with the only answer that the rules allow, 0 that an access explains which the log does not show, 1 for which no run was found, 0 not judged\nnot certified: no run was found\nlines of the log were lost: they may explain each finding, and hide others\n",
     ),
     // The same of the copy for a fault that was read.
     (
         OPENED,
         b"9 7 8 begin 5 read 8:5 32\n10 7 8 message 5 fault 0x10000 1 9\n11 7 8 end 5 ok 1\nlost 2\n",
         Verdict::Doubtful,
-        b"log:16: monitor or a lost line: read: the page fault that this call has read was not resolved [fault-not-resolved]\n5 calls: 4 with the only answer that the rules allow, 1 that an access explains which the log does not show, 0 for which no run was found, 0 not judged\nnot certified: lines of the log were lost\nlines of the log were lost: they may explain each finding, and hide others\n",
+        b"log:16: fault, or a lost line: object 8: the page fault was not resolved: fault at 0x10000 (write, missing), thread 9 of process 7, since 11 at line 18 [fault-not-resolved]\n5 calls: 4 with the only answer that the rules allow, 1 that an access explains which the log does not show, 0 for which no run was found, 0 not judged\nnot certified: lines of the log were lost\nlines of the log were lost: they may explain each finding, and hide others\n",
     ),
     // A call ends whose begin was lost, and nothing is found.
     (
@@ -178,6 +178,9 @@ fn judged(
     let asked = Asked {
         explains: false,
         late_after: Some(1),
+        strict: false,
+        expects_all: false,
+        form: Form::Text,
     };
     let answer = audit_log(alloc, &mut reader, &mut writer, "log", asked);
     Ok((answer, writer))

@@ -2,12 +2,11 @@
 use Rattle.std.proofs.Common.{◌≡◌, ℕ, suc, ◌+◌, ◌*◌, ◌-◌, ◌<◌, ◌≤◌, ◌^◌, ◌==◌, Bool, true, false, min, List, [], ◌∷◌, ◌++◌, length, map, take, codes, get_or, refl, sym, ap, subst, ◌∙◌, append_assoc, arith}
 use Rattle.std.specs.List.{before_first, join_with_byte, position_or_len, slice_split}
 use Rattle.std.specs.Char.{digit_value}
-use Rattle.std.specs.Str.{bytes_eq}
 use Rattle.std.specs.Str.Parse.{digits_value}
 use Rattle.std.proofs.lemmas.List.Splits.{length-slice_split, slice_split_at, slice_split_none}
 use Rattle.std.proofs.lemmas.Int.Digits.{digits_value_more}
 use Rattle.std.proofs.lemmas.List.Sums.{position_or_len_is}
-use Rattle.trace_audit.specs.ShownText.{HasNo, is_no_digit, shown_line, shown_one, shown_said, shown_text, shown_words}
+use Rattle.trace_audit.specs.ShownText.{names_line, HasNo, is_no_digit, shown_line, shown_one, shown_said, shown_text, shown_words}
 
 -- Numbers
 
@@ -25,16 +24,16 @@ join_cons c x (y ∷ xs) some = refl
 
 length-shown_words : (lines : List ℕ) (is_number : Bool) (words : List (List ℕ)) → length (shown_words lines is_number words) ≡ length words
 length-shown_words lines is_number [] = refl
-length-shown_words lines is_number (word ∷ words) = ap suc (length-shown_words lines (bytes_eq word (codes "line")) words)
+length-shown_words lines is_number (word ∷ words) = ap suc (length-shown_words lines (names_line word) words)
 
 some_parts : (c : ℕ) (text : List ℕ) → 0 < length (slice_split (λ b. b == c) text)
 some_parts c text = omega (arith, length-slice_split (λ b. b == c) text)
 
-pub said_step : (lines : List ℕ) (is_number : Bool) (word behind : List ℕ) → HasNo 32 word → shown_said lines is_number (word ++ 32 ∷ behind) ≡ shown_one lines is_number word ++ 32 ∷ shown_said lines (bytes_eq word (codes "line")) behind
+pub said_step : (lines : List ℕ) (is_number : Bool) (word behind : List ℕ) → HasNo 32 word → shown_said lines is_number (word ++ 32 ∷ behind) ≡ shown_one lines is_number word ++ 32 ∷ shown_said lines (names_line word) behind
 said_step lines is_number word behind none =
     ap (λ (parts : List (List ℕ)). join_with_byte 32 (shown_words lines is_number parts)) (slice_split_at (λ b. b == 32) word 32 behind none refl)
-    ∙ join_cons 32 (shown_one lines is_number word) (shown_words lines (bytes_eq word (codes "line")) (slice_split (λ b. b == 32) behind))
-    (omega (arith, length-shown_words lines (bytes_eq word (codes "line")) (slice_split (λ b. b == 32) behind), some_parts 32 behind))
+    ∙ join_cons 32 (shown_one lines is_number word) (shown_words lines (names_line word) (slice_split (λ b. b == 32) behind))
+    (omega (arith, length-shown_words lines (names_line word) (slice_split (λ b. b == 32) behind), some_parts 32 behind))
 
 pub said_end : (lines : List ℕ) (is_number : Bool) (word : List ℕ) → HasNo 32 word → shown_said lines is_number word ≡ shown_one lines is_number word
 said_end lines is_number word none = ap (λ (parts : List (List ℕ)). join_with_byte 32 (shown_words lines is_number parts)) (slice_split_none (λ b. b == 32) word none)
@@ -81,10 +80,7 @@ number_step word i n m lt low high is next =
 
 -- What is left after a part
 
-pub line_word : (word slice : List ℕ) (is : Bool) → slice ≡ codes "line" → is ≡ bytes_eq word slice → is ≡ bytes_eq word (codes "line")
-line_word word slice is e eq = eq ∙ ap (λ (l : List ℕ). bytes_eq word l) e
-
-pub said_step_in : (lines : List ℕ) (is_number is_next : Bool) (rest word behind : List ℕ) → rest ≡ word ++ 32 ∷ behind → HasNo 32 word → is_next ≡ bytes_eq word (codes "line")
+pub said_step_in : (lines : List ℕ) (is_number is_next : Bool) (rest word behind : List ℕ) → rest ≡ word ++ 32 ∷ behind → HasNo 32 word → is_next ≡ names_line word
     → shown_said lines is_number rest ≡ shown_one lines is_number word ++ 32 ∷ shown_said lines is_next behind
 said_step_in lines is_number is_next rest word behind whole none next =
     ap (shown_said lines is_number) whole ∙ said_step lines is_number word behind none ∙ ap (λ (b : Bool). shown_one lines is_number word ++ 32 ∷ shown_said lines b behind) (sym next)

@@ -29,10 +29,14 @@ shown_word lines word = shown_number lines (before_first is_no_digit word) ++ dr
 abbrev pub shown_one : List ℕ → Bool → List ℕ → List ℕ
 shown_one lines is_number word = if is_number then shown_word lines word else word
 
--- words: one that comes after `line` has one
+-- what comes before the number of a line: the word of a text, or the name of a field of JSON
+abbrev pub names_line : List ℕ → Bool
+names_line word = bytes_eq word (codes "line") || bytes_eq word (codes "\"line\":")
+
+-- words: one that comes after such a word has one
 abbrev pub shown_words : List ℕ → Bool → List (List ℕ) → List (List ℕ)
 shown_words lines is_number [] = []
-shown_words lines is_number (word ∷ words) = shown_one lines is_number word ∷ shown_words lines (bytes_eq word (codes "line")) words
+shown_words lines is_number (word ∷ words) = shown_one lines is_number word ∷ shown_words lines (names_line word) words
 
 -- a text of such words, with blanks between them
 abbrev pub shown_said : List ℕ → Bool → List ℕ → List ℕ

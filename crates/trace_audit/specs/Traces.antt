@@ -4,6 +4,7 @@ use Rattle.std.specs.List.{flat_map}
 use Rattle.std.specs.Fmt.{decimal}
 use Rattle.std.specs.String.{string_bytes}
 use Rattle.std.specs.Io.KnownBytes.{Appends}
+use Rattle.audit.specs.declared.audit.Asked.{Asked}
 use Rattle.audit.specs.declared.audit.Verdict.{Verdict}
 use Rattle.audit.specs.declared.audit.Verdict.TheVariants as verdict
 use Rattle.audit.specs.Verdicts.{Audits}
@@ -21,13 +22,13 @@ abbrev pub refused_text : List ℕ → List Refused → List ℕ
 refused_text name wrong = flat_map (λ refused. refused_line name refused) wrong
 
 -- the lines of a trace that cannot be read were listed; or there is none, and its log was judged under the empty name, and what was said of it is shown with the lines of the trace
-abbrev pub JudgesConverted : List ℕ → Converted → Verdict → Option (List ℕ) → Option (List ℕ) → Type 0
-JudgesConverted name converted said before after =
+abbrev pub JudgesConverted : Asked → List ℕ → Converted → Verdict → Option (List ℕ) → Option (List ℕ) → Type 0
+JudgesConverted asked name converted said before after =
     (converted.wrong.items ≢ []) × (said ≡ verdict.Wrong) × Appends before after (refused_text name converted.wrong.items)
-    ⊎ (converted.wrong.items ≡ []) × ((text : List ℕ) × Audits [] (string_bytes converted.log) said (Some []) (Some text) × Appends before after (shown_text name converted.lines.items text))
+    ⊎ (converted.wrong.items ≡ []) × ((text : List ℕ) × Audits asked [] (string_bytes converted.log) said (Some []) (Some text) × Appends before after (shown_text name converted.lines.items text))
 
 -- an input was judged: as a log; or it does not begin as a log does, and what a trace was converted to was judged
-abbrev pub AuditsInput : List ℕ → List ℕ → Verdict → Option (List ℕ) → Option (List ℕ) → Type 0
-AuditsInput name input said before after =
-    Audits name input said before after
-    ⊎ IsNoLog input × ((converted : Converted) × JudgesConverted name converted said before after)
+abbrev pub AuditsInput : Asked → List ℕ → List ℕ → Verdict → Option (List ℕ) → Option (List ℕ) → Type 0
+AuditsInput asked name input said before after =
+    Audits asked name input said before after
+    ⊎ IsNoLog input × ((converted : Converted) × JudgesConverted asked name converted said before after)

@@ -35,7 +35,7 @@ pub fn audit_input<R: Read, W: Write>(
     asked: Asked,
 ) -> Result<Verdict, LogFault>
     ensures { IfOk result (λ verdict. IfSome (R.remaining reader.old) (λ input.
-        AuditsInput name.now input verdict (W.contents writer.old) (W.contents writer.new))) }
+        AuditsInput asked name.now input verdict (W.contents writer.old) (W.contents writer.new))) }
 {
     let front = read_front(alloc, reader)?;
     if begins_a_trace(&front) {

@@ -3,7 +3,7 @@
 ghost use Rattle.std.specs.Prelude.{◌≡◌, ◌++◌, ◌∷◌, ◌-◌, ◌≤◌, ◌^◌, false, true, min, length, slice_index, OnOk, IfOk, IfSome, IfNone, MatchOption};
 ghost use Rattle.std.specs.List.{before_first, position_or_len};
 ghost use Rattle.std.specs.Str.Parse.{digits_value};
-ghost use Rattle.trace_audit.specs.ShownText.{HasNo, is_no_digit, is_of_log, shown_line, shown_one, shown_said, shown_text, shown_word};
+ghost use Rattle.trace_audit.specs.ShownText.{HasNo, is_no_digit, is_of_log, names_line, shown_line, shown_one, shown_said, shown_text, shown_word};
 
 use memchr::memchr;
 use mig_base::NoMemory;
@@ -69,6 +69,13 @@ fn add_number(
     Ok(())
 }
 
+/// Whether the number of a line comes after a word.
+fn names_line(word: &[u8]) -> bool
+    ensures { result ≡ names_line word.now }
+{
+    word == b"line".as_slice() || word == b"\"line\":".as_slice()
+}
+
 /// Adds words, of which the first may have the number of a line.
 fn add_words(
     output: &mut Vec<u8>,
@@ -85,7 +92,7 @@ fn add_words(
     while let Some((word, behind)) = split_at_byte(rest, b' ') {
         add_word(output, text, word, lines, is_next)?;
         output.push(b' ')?;
-        is_next = word == b"line".as_slice();
+        is_next = names_line(word);
         rest = behind;
     }
     add_word(output, text, rest, lines, is_next)

@@ -24,7 +24,7 @@ pub fn judge_converted<W: Write>(
     asked: Asked,
 ) -> Result<Verdict, LogFault>
     ensures { IfOk result (λ verdict.
-        JudgesConverted name.now converted.now verdict (W.contents writer.old)
+        JudgesConverted asked name.now converted.now verdict (W.contents writer.old)
         (W.contents writer.new)) }
 {
     if !converted.wrong.is_empty() {

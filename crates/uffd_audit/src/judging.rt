@@ -5,36 +5,36 @@ ghost use Rattle.uffd_audit.specs.Status.{fault_status, verdict_status};
 
 use crate::arguments::arguments;
 use crate::status::status_of;
-use audit::{Asked, Verdict};
+use audit::{Asked, Form, Verdict};
 use call_log::LogFault;
 use clap::ArgMatches;
 use clap::error::ErrorKind;
 use console::{
     ALL_DONE, BAD_COMMAND_OR_SCRIPT, Counted, Erasing, Given, Input, ProgressLine,
-    READ_OR_WRITE_FAULT, Watched, open_input, open_output, say_input, say_output,
+    READ_OR_WRITE_FAULT, Watched, name_bad_argument, open_input, open_output, say_input,
+    say_output,
 };
-use std::env::{Env, FillError};
+use std::env::Env;
 use std::io::Stdout;
 use std::process::ExitCode;
 use std::{env, io};
 use trace_audit::audit_input;
 
-/// The most bytes of an argument that a message shows.
-const LONGEST_SHOWN: usize = 4096;
-
 /// Why what strace has written cannot be judged.
 const NO_THREADS: &str =
     "what strace writes without threads or times: record with strace -f -ttt -T -o FILE";
 
-/// Says on standard error why an input was not judged, and returns the exit status. Which file is no log is said in the form of a finding.
+/// Says on standard error why an input was not judged, and returns the exit status, by whether a certificate is wanted. Which file is no
+/// log is said in the form of a finding.
 fn end(
     rt: &HostRuntime,
     given: Given<'_>,
     input: &Watched<'_, Input>,
     output: &Watched<'_, Stdout>,
     outcome: Result<Verdict, LogFault>,
+    wanted: bool,
 ) -> u8
-    ensures verdict { IfOk outcome (λ verdict. result ≡ verdict_status verdict) }
+    ensures verdict { IfOk outcome (λ verdict. result ≡ verdict_status wanted verdict) }
     ensures fault { IfErr outcome (λ fault. result ≡ fault_status fault) }
     ensures known { result ≤ 6 }
 {
@@ -51,7 +51,7 @@ fn end(
             _ => {}
         }
     }
-    status_of(outcome)
+    status_of(outcome, wanted)
 }
 
 /// Judges the calls of a log or of what strace has written, by the name of its file, or `-`. At a terminal it says how far it is.
@@ -65,6 +65,13 @@ fn judge(rt: &HostRuntime, matches: &ArgMatches) -> u8
     let asked = Asked {
         explains: given.explains,
         late_after: matches.get_one::<u64>("late"),
+        strict: matches.get_flag("strict"),
+        expects_all: matches.get_str("expect").is_some(),
+        form: if matches.get_flag("json") {
+            Form::Json
+        } else {
+            Form::Text
+        },
     };
     let Some(input) = open_input(rt, given) else {
         return READ_OR_WRITE_FAULT;
@@ -75,25 +82,8 @@ fn judge(rt: &HostRuntime, matches: &ArgMatches) -> u8
     let name = given.file.unwrap_or("-");
     let outcome = audit_input(rt.alloc(), &mut reader, &mut writer, name, asked);
     line.erase();
-    end(rt, given, reader.input(), writer.output(), outcome)
-}
-
-/// Says on standard error which argument is not UTF-8: its number, and its bytes with those that are not text replaced. An argument of
-/// more than 4,096 bytes is skipped.
-fn name_bad_argument(rt: &HostRuntime) -> io::Result<()> {
-    let mut room = [0; LONGEST_SHOWN];
-    for number in 1..usize::MAX {
-        let shown = match rt.arg(number, &mut room) {
-            Ok(len) => &room[..len],
-            Err(FillError::TooLong) => continue,
-            Err(FillError::NotPresent) => break,
-        };
-        if str::from_utf8(shown).is_err() {
-            let text = String::from_utf8_lossy(rt.alloc(), shown)?;
-            eprintln!(rt; "error: argument {number} is not UTF-8: '{text}'")?;
-        }
-    }
-    eprintln!(rt; "\nFor more information, try '--help'.")
+    let wanted = matches.get_flag("certified");
+    end(rt, given, reader.input(), writer.output(), outcome, wanted)
 }
 
 /// Reads the command line, judges the input, and returns the exit status.
@@ -137,7 +127,7 @@ pub(crate) fn answer(rt: &HostRuntime) -> ExitCode {
                 LogFault::WriteFault
             };
             let _ = eprintln!(rt; "{fault}");
-            status_of(Err(fault))
+            status_of(Err(fault), false)
         }
     };
     ExitCode::from(status)

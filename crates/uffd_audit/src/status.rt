@@ -10,13 +10,14 @@ use console::{
     UNDECIDED,
 };
 
-/// The exit status of a log that was judged, or was not.
-pub(crate) fn status_of(outcome: Result<Verdict, LogFault>) -> u8
-    ensures verdict { IfOk outcome (λ verdict. result ≡ verdict_status verdict) }
+/// The exit status of a log that was judged, or was not. Where a certificate is wanted a log without one is undecided at best.
+pub(crate) fn status_of(outcome: Result<Verdict, LogFault>, wanted: bool) -> u8
+    ensures verdict { IfOk outcome (λ verdict. result ≡ verdict_status wanted verdict) }
     ensures fault { IfErr outcome (λ fault. result ≡ fault_status fault) }
     ensures known { result ≤ 6 }
 {
     match outcome {
+        Ok(Verdict::Clean) if wanted => UNDECIDED,
         Ok(Verdict::Certified | Verdict::Clean) => ALL_DONE,
         Ok(Verdict::Found) => BAD_COMMAND_OR_SCRIPT,
         Ok(Verdict::Wrong) => READ_OR_WRITE_FAULT,

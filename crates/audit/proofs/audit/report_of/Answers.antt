@@ -8,11 +8,11 @@ use Rattle.audit.proofs.audit.report_of.Goals as goal
 
 pub returns : goal.returns
 returns c = record {
-  number = _;
+  found = _;
   made = _;
   prints = rw c.deref-2.ensures.value at c.in_ok-findings.ensures;
   is = c.in_ok-summary.ensures;
-  fits = certified_fits _ _ _ _ c.certified_verdict-verdict.ensures (rw c.deref-3.ensures.value at c.verdict_of-judgement.ensures.verdict);
+  fits = certified_fits _ _ _ _ c.certified_verdict-verdict.ensures (rw c.deref-3.ensures.value at (rw c.any_fails.ensures at c.verdict_of-judgement.ensures.verdict));
   whole =
       subst (λ (b : Bool). FitsLog c.certified_verdict-verdict.result b) (ap (λ (r : EntryReader). r.whole) c.deref.ensures ∙ c.in_ok-log.ensures.whole)
       (certified_whole _ _ _ _ c.certified_verdict-verdict.ensures c.verdict_of-judgement.ensures.log);

@@ -1,12 +1,9 @@
 use Rattle.std.proofs.Common.{◌≡◌, ℕ, List, [], ◌++◌, ap, ◌∙◌}
-use Rattle.std.specs.Prelude.{codes, string_bytes}
-use Rattle.audit.specs.Verdicts.{numbers_text}
 use Rattle.audit.proofs.summary.certified_line.Goals as goal
+
+joined : (t0 t1 t2 t3 one two three : List ℕ) → t0 ≡ [] → t1 ≡ t0 ++ one → t2 ≡ t1 ++ two → t3 ≡ t2 ++ three → t3 ≡ one ++ two ++ three
+joined t0 t1 t2 t3 one two three none a b c = c ∙ ap (λ (t : List ℕ). t ++ three) (b ∙ ap (λ (t : List ℕ). t ++ two) (a ∙ ap (λ (t : List ℕ). t ++ one) none))
 
 pub returns : goal.returns
 returns c =
-    let front : List ℕ = codes "certified: a kernel of the rules may have given these answers; pages known to be owed " in
-    let pushed : string_bytes c.push_str.new.self ≡ string_bytes c.new-text.result ++ front = c.in_ok-push_str.ensures.bytes in
-    let empty : string_bytes c.new-text.result ≡ [] = c.new-text.ensures.bytes in
-    let added : string_bytes c.add_numbers.new.text ≡ string_bytes c.push_str.new.self ++ numbers_text c.args.totals = c.in_ok-add_numbers.ensures in
-    added ∙ ap (λ (before : List ℕ). before ++ numbers_text c.args.totals) (pushed ∙ ap (λ (before : List ℕ). before ++ front) empty)
+    joined _ _ _ _ _ _ _ c.new-text.ensures.bytes (rw c.missing_word.ensures at c.in_ok-add_number.ensures) (rw c.twice_word.ensures at c.in_ok-add_number-2.ensures) (rw c.unknown_word.ensures at c.in_ok-add_number-3.ensures)
