@@ -26,9 +26,6 @@ TYPE = re.compile(r"^pub (?:enum|struct) (\w+)[^;{]*(?:;|\{\n(?:.*\n)*?\}$)", re
 USE = re.compile(r"^\s*(?:ghost )?use Rattle\.(\w+)\.specs\.(\w+)(?:\.\{([^}]*)\}| as (\w+))?;?\s*$")
 STARTS = ("abbrev ", "unfoldable ", "record ", "data ", "pub record ", "pub data ", "pub ")
 
-# A row with more files than this names the crates alone.
-MOST_FILES = 24
-
 # What each row of the table promises, and the definitions or the public calls by which it does so.
 PROMISES = (
     ("`Core`: the transcript of a world is the run of one flat memory, and completion means that the destination alone holds it", ["world/Core/Core"]),
@@ -174,11 +171,7 @@ def in_order(found):
 
 
 def row(label, found):
-    files_in = in_order(found)
-    if sum(len(files) for _, files in files_in) <= MOST_FILES:
-        order = "; ".join(f"{crate}: " + ", ".join(f"{file} {count}" for file, count in files) for crate, files in files_in)
-    else:
-        order = ", ".join(f"{crate} {sum(count for _, count in files)}" for crate, files in files_in)
+    order = ", ".join(f"{crate} {sum(count for _, count in files)}" for crate, files in in_order(found))
     types = types_of(found)
     type_lines = sum(len(types_in(crate)[name].splitlines()) for crate, name in types)
     return f"| {label} | {len(found):,} | {lines_in(found):,} | {len(types):,} | {type_lines:,} | {order} |"
@@ -190,7 +183,7 @@ def everything():
 
 def table():
     rows = [
-        "| Promise | Definitions | Lines | Enums and structs of the code | Lines | `specs/` to read, in this order, by crate and file, or by crate where the files are many |",
+        "| Promise | Definitions | Lines | Enums and structs of the code | Lines | `specs/` to read, in this order |",
         "|---|---|---|---|---|---|",
     ]
     rows += [row(label, closure(it for promise in promises for it in roots(promise))) for label, promises in PROMISES]

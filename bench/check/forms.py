@@ -4,8 +4,7 @@
 python3 bench/check/forms.py
 
 Its table of forms names each call as CRATE::CALL or CRATE::TYPE::CALL: that must be a public function, and each piece of code under 'Here'
-must stand in its signature or in one of its `requires`. Its table of further calls names types and their public functions. The status is 1
-where one does not, or where a table has no row.
+must stand in its signature or in one of its `requires`. The status is 1 where one does not, or where the table has no row.
 """
 
 import functools
@@ -18,7 +17,6 @@ from refusals_table import CRATES, blocks, public_modules, public_types, signatu
 
 DECISIONS = page.TOP / "docs" / "DECISIONS.md"
 FORMS = ("Call", "Expected", "Here", "Because")
-FURTHER = ("Type", "Calls", "For")
 CODE = re.compile(r"`([^`]+)`")
 
 
@@ -58,19 +56,13 @@ def faults_of(name, pieces):
 
 
 def main():
-    text, faults, counts = DECISIONS.read_text(), [], {FORMS: 0, FURTHER: 0}
-    for head in counts:
-        for number, cells in rows(text, head):
-            counts[head] += 1
-            calls, pieces = CODE.findall(cells[0]), []
-            if head == FORMS:
-                pieces = CODE.findall(cells[2])
-            else:
-                calls = [f"{owner}::{it}" for owner in calls for it in CODE.findall(cells[1])]
-            wrong = [it for call in calls for it in faults_of(call, pieces)] if calls else ["the row names no call"]
-            faults += [f"docs/DECISIONS.md:{number}: {it}" for it in wrong]
-    faults += [f"docs/DECISIONS.md: no table {' | '.join(head)}" for head, count in counts.items() if not count]
-    page.end(faults, f"docs/DECISIONS.md: {sum(counts.values())} rows of calls")
+    faults, found = [], list(rows(DECISIONS.read_text(), FORMS))
+    for number, cells in found:
+        calls, pieces = CODE.findall(cells[0]), CODE.findall(cells[2])
+        wrong = [it for call in calls for it in faults_of(call, pieces)] if calls else ["the row names no call"]
+        faults += [f"docs/DECISIONS.md:{number}: {it}" for it in wrong]
+    faults += [f"docs/DECISIONS.md: no table {' | '.join(FORMS)}"] * (not found)
+    page.end(faults, f"docs/DECISIONS.md: {len(found)} rows of calls")
 
 
 if __name__ == "__main__":

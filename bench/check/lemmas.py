@@ -3,8 +3,7 @@
 
 python3 bench/check/lemmas.py [--write]
 
-With --write the list goes to dist/LEMMAS.md. The status is 1 where a file has no sentence at its head, or where docs/PROTOCOL.md names, for
-a step, a file that is not there.
+With --write the list goes to dist/LEMMAS.md. The status is 1 where a file has no sentence at its head.
 """
 
 import re
@@ -15,8 +14,6 @@ import shared  # noqa: F401
 import page
 
 CRATES = page.TOP / "crates"
-PROTOCOL = page.TOP / "docs" / "PROTOCOL.md"
-SECTION = "## Each step keeps it"
 CRATES_OF_LEMMAS = ("mig_model", "mig_laws", "frame_texts")
 
 
@@ -52,21 +49,12 @@ def write():
     page.write("LEMMAS.md", "\n".join(listed()))
 
 
-def unknown():
-    """The files that the protocol's page names for a step and that are not there."""
-    section = PROTOCOL.read_text().partition(SECTION)[2].partition("\n## ")[0]
-    named = [it for line in section.splitlines() if line.startswith("| ") for it in re.findall(r"`(\w+)`", line.rpartition(" | ")[2])]
-    there = {it.stem for crate in CRATES_OF_LEMMAS for it in files(crate)}
-    return sorted(set(named) - there)
-
-
 def main():
     if sys.argv[1:] == ["--write"]:
         write()
-    faults = [f"docs/PROTOCOL.md: no file of lemmas {it}" for it in unknown()]
-    faults += [f"{it.relative_to(page.TOP)}: no sentence at its head" for crate in CRATES_OF_LEMMAS for it in files(crate) if not head_of(it)]
-    print(*faults, f"files of lemmas: {sum(len(files(it)) for it in CRATES_OF_LEMMAS)}, {len(faults)} faults", sep="\n")
-    sys.exit(1 if faults else 0)
+    every = [it for crate in CRATES_OF_LEMMAS for it in files(crate)]
+    faults = [f"{it.relative_to(page.TOP)}: no sentence at its head" for it in every if not head_of(it)]
+    page.end(faults, f"files of lemmas: {len(every)}")
 
 
 if __name__ == "__main__":

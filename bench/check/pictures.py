@@ -4,26 +4,29 @@
 python3 bench/check/pictures.py --write | --check | --parse [SCRIPTS] [--program PATH]
 
 Run it once ./postmig prove or rt ci has built the program. --write draws the pictures of docs/pictures anew: four examples, and the scripts
-that stand beside their pictures. --check draws them too, and its status is not 0 if one differs, is missing, or cannot be read, or if there
+and the wrong histories that are beside their pictures. --check draws them too, and its status is not 0 if one differs, is missing, or cannot be read, or if there
 is no program. --parse draws every example and SCRIPTS explored scripts (200), and reads each picture. A picture that can be read is
 well-formed XML, its root is `svg`, it has only elements and attributes that a picture has, no reference to anything outside, and less than
 4,000,000 bytes.
 """
 
 import argparse
+import pathlib
 import sys
+import tempfile
 import xml.etree.ElementTree
 
 import shared  # noqa: F401
 
 import page
-from program import PROFILES, PROGRAM, require, written
+from program import PROFILES, PROGRAM, require, run, written
 
 PICTURES = page.TOP / "docs" / "pictures"
 EXAMPLES = page.TOP / "examples"
 STORIES = ("background-push", "fault", "page-moves", "lost-after-run")
 # The processors of the scripts of docs/pictures, by name.
 SCRIPTS = {"64-pages": 4, "one-page": 2, "real-memory": 4}
+HISTORIES = ("split",)
 SVG = "{http://www.w3.org/2000/svg}"
 ELEMENTS = {SVG + name for name in ("svg", "title", "style", "defs", "pattern", "g", "path", "text")}
 ATTRIBUTES = {"viewBox", "width", "height", "role", "id", "class", "patternUnits", "d", "transform"}
@@ -33,6 +36,16 @@ MOST_BYTES = 4_000_000
 def drawn(program, script, cpus=2, name=None, folder=EXAMPLES):
     """The picture of a script, or of the file of that name in a folder."""
     return written([program, "draw", "--cpus", str(cpus), *([name] if name else [])], script, folder)
+
+
+def contradiction(program, name):
+    """The picture of what is wrong with a history of docs/pictures."""
+    with tempfile.TemporaryDirectory() as folder:
+        picture = pathlib.Path(folder) / "picture"
+        ended = run([program, "history", "--draw", picture, f"{name}.history"], folder=PICTURES)
+        if ended.returncode != 3:
+            raise ValueError(f"{name}.history: status {ended.returncode}, {ended.stderr[-200:]}")
+        return picture.read_bytes()
 
 
 def judge(name, picture):
@@ -56,6 +69,7 @@ def pictures(program):
     made = {PICTURES / f"{name}.svg": drawn(program, b"", name=f"{name}.script") for name in STORIES}
     for name, cpus in SCRIPTS.items():
         made[PICTURES / f"{name}.svg"] = drawn(program, b"", cpus, f"{name}.script", PICTURES)
+    made |= {PICTURES / f"{name}.svg": contradiction(program, name) for name in HISTORIES}
     for file, picture in made.items():
         judge(file.name, picture)
     return made

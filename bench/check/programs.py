@@ -7,7 +7,8 @@ A case is a folder: args has an argument a line, stdin the standard input, data/
 that have to lie there then, stdout and stderr what it has to write, and status its exit status. What is absent is empty, and the status 0;
 only where the status is another is an absent stderr not compared. In the file output is a path that standard output goes to in place of a
 pipe, and in memory the bytes of address space that the program may take. Where there is a file typed, its lines are typed at a terminal, and
-stdout is all that the terminal then shows but what was typed.
+stdout is all that the terminal then shows but what was typed. The file environment has variables of such a case, as
+NAME=VALUE; NO_COLOR is otherwise empty.
 
 A case with a file session runs the program several times, one after another. A line that begins with '$ postmig ' has the arguments, as a
 shell reads them; the lines below it are what that writes to standard output and then to standard error, and '[N]' as the last of them is a
@@ -76,13 +77,19 @@ def shown(terminal):
     return b"".join(pieces).replace(b"\r\n", b"\n")
 
 
-def typed(words, lines, folder):
+def environment(case):
+    """The variables of a program at a terminal."""
+    given = (line.partition("=")[::2] for line in part(case, "environment").decode().splitlines())
+    return {**os.environ, "NO_COLOR": "", **dict(given)}
+
+
+def typed(words, lines, folder, variables):
     """How the program ends whose input is typed at a terminal, with what that shows but the input itself."""
     terminal, other = pty.openpty()
     modes = termios.tcgetattr(other)
     modes[3] &= ~termios.ECHO
     termios.tcsetattr(other, termios.TCSANOW, modes)
-    with subprocess.Popen(words, stdin=other, stdout=other, stderr=other, cwd=folder) as child:
+    with subprocess.Popen(words, stdin=other, stdout=other, stderr=other, cwd=folder, env=variables) as child:
         os.close(other)
         # (a line that ends, and then the end of the input)
         os.write(terminal, lines + b"\x04")
@@ -119,7 +126,7 @@ def ran(case, program):
 
     if (case / "typed").is_file():
         with room(case) as data:
-            return typed(words, part(case, "typed"), data), []
+            return typed(words, part(case, "typed"), data, environment(case)), []
     with room(case) as data, open(output, "wb") if output else contextlib.nullcontext(subprocess.PIPE) as to:
         given = part(case, "stdin")
         ended = subprocess.run(words, input=given, cwd=data, stdout=to, stderr=subprocess.PIPE, timeout=60, preexec_fn=limit)

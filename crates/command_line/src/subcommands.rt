@@ -103,8 +103,18 @@ const RUN: &[Argument] = &[
     FILE,
 ];
 
-/// `postmig finish [--cpus N] [--explain] [FILE]`, and the same of `postmig draw`.
-const OF_SCRIPTS: &[Argument] = &[CPUS, EXPLAIN_LINES, FILE];
+/// `--explain` of a command that also counts the lines that it looks at.
+const EXPLAIN_COUNT: Argument = Argument {
+    id: "explain",
+    help: "Says on standard error what is wrong with each line of FILE, or how many there are, and why a read or a write failed",
+    ..PLAIN
+};
+
+/// `postmig finish [--cpus N] [--explain] [FILE]`.
+const FINISH: &[Argument] = &[CPUS, EXPLAIN_LINES, FILE];
+
+/// `postmig draw [--cpus N] [--explain] [FILE]`.
+const DRAW: &[Argument] = &[CPUS, EXPLAIN_COUNT, FILE];
 
 /// `postmig check [--all] [--strict] [--explain] [FILE]`.
 const CHECK: &[Argument] = &[
@@ -133,11 +143,15 @@ const LINT: &[Argument] = &[
         help: "Reads a transcript instead of a script",
         ..PLAIN
     },
-    EXPLAIN_FAULTS,
+    Argument {
+        id: "explain",
+        help: "Says on standard error how many lines were looked at, and why a read or a write failed",
+        ..PLAIN
+    },
     FILE,
 ];
 
-/// `postmig history [--explain] [--transcript FILE] [FILE]`.
+/// `postmig history [--explain] [--transcript FILE] [--draw FILE] [FILE]`.
 const HISTORY: &[Argument] = &[
     Argument {
         id: "explain",
@@ -147,6 +161,12 @@ const HISTORY: &[Argument] = &[
     Argument {
         id: "transcript",
         help: "Gets the operations in the order that was found, as a transcript",
+        form: Form::Valued("FILE", ValueParser::String),
+        ..PLAIN
+    },
+    Argument {
+        id: "draw",
+        help: "Gets a picture of the operations that the first contradiction has",
         form: Form::Valued("FILE", ValueParser::String),
         ..PLAIN
     },
@@ -165,7 +185,7 @@ const FRAMES: &[Argument] = &[
     FILE,
 ];
 
-/// `postmig show [--at LINE] [--range START:END] [--cpus N] [--explain] WHAT [FILE]`. The words for WHAT are in the order of
+/// `postmig show [--at LINE] [--range START:END] [--json] [--cpus N] [--explain] WHAT [FILE]`. The words for WHAT are in the order of
 /// `show::What::ALL`.
 const SHOW: &[Argument] = &[
     Argument {
@@ -180,8 +200,13 @@ const SHOW: &[Argument] = &[
         form: Form::Valued("START:END", ValueParser::String),
         ..PLAIN
     },
+    Argument {
+        id: "json",
+        help: "Writes one JSON object, and not a line for each fact",
+        ..PLAIN
+    },
     CPUS,
-    EXPLAIN_LINES,
+    EXPLAIN_COUNT,
     Argument {
         id: "what",
         help: "What is shown",
@@ -305,17 +330,28 @@ const THREADS: &[Argument] = &[
     EXPLAIN_FAULTS,
 ];
 
+/// `postmig completion [--explain] SHELL`. The words for SHELL are those of `Shell::named`.
+const COMPLETION: &[Argument] = &[
+    EXPLAIN_FAULTS,
+    Argument {
+        id: "shell",
+        help: "The shell that reads what is written",
+        form: Form::Among("SHELL", &["bash", "zsh", "fish"]),
+        ..PLAIN
+    },
+];
+
 /// A subcommand.
 #[derive(Clone, Copy)]
-struct Subcommand {
-    name: &'static str,
+pub(crate) struct Subcommand {
+    pub(crate) name: &'static str,
     /// What help says of it.
-    about: &'static str,
-    arguments: &'static [Argument],
+    pub(crate) about: &'static str,
+    pub(crate) arguments: &'static [Argument],
 }
 
-/// The subcommands, in the order of help.
-const SUBCOMMANDS: &[Subcommand] = &[
+/// The first half of the subcommands, in the order of help. (A loop over all of them has too long a proof.)
+pub(crate) const FIRST_HALF: &[Subcommand] = &[
     Subcommand {
         name: "run",
         about: "Runs a script",
@@ -324,7 +360,7 @@ const SUBCOMMANDS: &[Subcommand] = &[
     Subcommand {
         name: "finish",
         about: "Writes the lines that complete the migration of a script",
-        arguments: OF_SCRIPTS,
+        arguments: FINISH,
     },
     Subcommand {
         name: "check",
@@ -346,10 +382,14 @@ const SUBCOMMANDS: &[Subcommand] = &[
         about: "Hands frames to a destination",
         arguments: FRAMES,
     },
+];
+
+/// The other half.
+pub(crate) const OTHER_HALF: &[Subcommand] = &[
     Subcommand {
         name: "draw",
         about: "Runs a script, and writes a picture of the run as SVG",
-        arguments: OF_SCRIPTS,
+        arguments: DRAW,
     },
     Subcommand {
         name: "show",
@@ -370,6 +410,11 @@ const SUBCOMMANDS: &[Subcommand] = &[
         name: "threads",
         about: "Runs a migration with each processor in a thread of its own",
         arguments: THREADS,
+    },
+    Subcommand {
+        name: "completion",
+        about: "Writes the script by which a shell completes the words of a command line",
+        arguments: COMPLETION,
     },
 ];
 
@@ -393,17 +438,27 @@ impl Subcommand {
     }
 }
 
+/// The command with these subcommands.
+fn with_subcommands<'a>(
+    mut command: Command<'a>,
+    alloc: Global,
+    subcommands: &[Subcommand],
+) -> Result<Command<'a>, AllocError> {
+    for subcommand in subcommands {
+        command = command.subcommand(subcommand.to_command(alloc)?)?;
+    }
+    Ok(command)
+}
+
 /// The command line: one of the subcommands, or `postmig --version`. An error is that memory was refused.
 pub fn command_line<'a>(alloc: Global) -> Result<Command<'a>, AllocError> {
     // The name in usage lines, whatever the file is called.
-    let mut command = Command::new(alloc, "postmig")
+    let command = Command::new(alloc, "postmig")
         .bin_name("postmig")?
         .about("Runs scripts on a model of post-copy live migration")
         .version(VERSION)
         .after_help(STATUSES)
         .subcommand_required(true);
-    for subcommand in SUBCOMMANDS {
-        command = command.subcommand(subcommand.to_command(alloc)?)?;
-    }
-    Ok(command)
+    let command = with_subcommands(command, alloc, FIRST_HALF)?;
+    with_subcommands(command, alloc, OTHER_HALF)
 }

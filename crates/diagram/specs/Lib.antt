@@ -1,3 +1,4 @@
+pub mod Drawing
 pub mod Escapes
 pub mod Given
 pub mod Names

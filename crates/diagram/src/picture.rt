@@ -14,6 +14,7 @@ mod processors;
 mod ruler;
 mod sleeps;
 mod strands;
+pub mod timeline;
 
 use crate::class::Class;
 use crate::memory::Memory;

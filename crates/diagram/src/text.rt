@@ -13,6 +13,7 @@ pub(crate) enum Part<'a> {
     Nothing,
     Words(&'a str),
     Number(u32),
+    Tick(u64),
     /// A number of things, and what they are: with an s after it unless there is one.
     Count(u32, &'a str),
     /// A page, as its address.
@@ -67,6 +68,7 @@ fn push(text: &mut String, part: Part) -> Result<(), AllocError> {
     match part {
         Part::Words(words) => text.push_str(words),
         Part::Number(number) => write!(text, "{number}"),
+        Part::Tick(tick) => write!(text, "{tick}"),
         Part::Count(count, what) => push_count(text, count, what),
         Part::Page(page) => {
             let addr = u64::from(page) * 4096;

@@ -1,7 +1,7 @@
 //! Drawing a script that is read from a reader.
 
 ghost use Rattle.std.specs.Prelude.{◌≡◌, ◌≤◌, IfOk, OnOk};
-ghost use Rattle.draw.specs.Drawing.{Draws};
+ghost use Rattle.diagram.specs.Drawing.{Draws};
 ghost use Rattle.diagram.specs.Trees.{IsPicture};
 
 use crate::recorder::Recorder;

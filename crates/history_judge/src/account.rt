@@ -1,9 +1,16 @@
-//! What contradicts an order, in words.
+//! What contradicts an order, in words and as a picture.
 
+ghost use Rattle.std.specs.Prelude.{OnOk};
+ghost use Rattle.diagram.specs.Drawing.{Draws};
+
+use diagram::{Bar, Timeline, paint_timeline};
+use engine::RunFault;
+use engine::line_runner::write_out;
 use grammar::EntryText;
 use history::{Action, Contradiction, NEVER, Operation, Value};
 use history_order::entries_of;
-use std::alloc::AllocError;
+use std::alloc::{AllocError, Global};
+use std::io::Write;
 
 /// What is said of a contradiction.
 #[derive(Clone, Copy)]
@@ -18,8 +25,8 @@ struct Account {
     others: [Option<usize>; 2],
 }
 
-/// What is said of an operation that ended before it began, and of two that overlap.
-const BACKWARD: &str = "it ended before it began:";
+/// What is said of an operation that did not end after it began, and of two that overlap.
+const BACKWARD: &str = "it did not end after it began:";
 
 const OVERLAP: &str = "one thread made both, and neither had ended when the other began:";
 
@@ -172,17 +179,16 @@ fn account_of(operations: &[Operation], contradiction: &Contradiction) -> Accoun
     }
 }
 
-/// Appends an operation as the entries of a transcript that it is, and its line feed.
+/// Appends an operation as the entries of a transcript that it is.
 fn write_entries(text: &mut String, operation: &Operation) -> Result<(), AllocError> {
     let (first, second) = entries_of(operation);
     let first = EntryText(first);
-    match second {
-        None => write!(text, "{first}\n"),
-        Some(second) => {
-            let second = EntryText(second);
-            write!(text, "{first} and at once {second}\n")
-        }
+    write!(text, "{first}")?;
+    if let Some(second) = second {
+        let second = EntryText(second);
+        write!(text, " and at once {second}")?;
     }
+    Ok(())
 }
 
 /// Appends the line of an operation that shows a contradiction.
@@ -195,53 +201,44 @@ fn write_shown(text: &mut String, operation: &Operation) -> Result<(), AllocErro
     } else {
         write!(text, "    line {line}, from {begin} to {end}: ")?;
     }
-    write_entries(text, operation)
+    write_entries(text, operation)?;
+    text.push('\n')
 }
 
-/// Appends the lines of the operations that saw a value, but for the one at the index `last`.
-fn write_value(
-    text: &mut String,
-    operations: &[Operation],
-    value: &Value,
-    last: usize,
-) -> Result<(), AllocError> {
-    let late = if value.late == value.source {
-        last
-    } else {
-        value.late
-    };
-    let early = if value.early == value.source || value.early == value.late {
-        last
-    } else {
-        value.early
-    };
-    for index in [value.source, late, early] {
-        if index != last
-            && let Some(shown) = operations.get(index)
-        {
-            write_shown(text, shown)?;
+/// Adds the operations that saw a value, but for the one at the index `last` and those that are there.
+fn push_value(shown: &mut Vec<usize>, value: &Value, last: usize) -> Result<(), AllocError> {
+    for index in [value.source, value.late, value.early] {
+        if index != last && !shown.contains(&index) {
+            shown.push(index)?;
         }
     }
     Ok(())
 }
 
-/// Appends the lines of the operations that saw the values of a cycle, but for the one at the index `last`.
-fn write_values(
-    text: &mut String,
-    operations: &[Operation],
+/// The indices of the operations that show a contradiction, each once: the one at fault is the last.
+fn shown_by(
+    alloc: Global,
     contradiction: &Contradiction,
-    last: usize,
-) -> Result<(), AllocError> {
+    account: Account,
+) -> Result<Vec<usize>, AllocError> {
+    let mut shown = Vec::new(alloc);
+    for other in account.others {
+        if let Some(other) = other {
+            shown.push(other)?;
+        }
+    }
     if let Contradiction::Cycle { values, .. } = contradiction {
         for value in values {
-            write_value(text, operations, value, last)?;
+            push_value(&mut shown, value, account.at)?;
         }
     }
-    Ok(())
+    shown.push(account.at)?;
+    Ok(shown)
 }
 
 /// Appends what is said of a contradiction: `NAME:LINE: KIND: ENTRY`, and if it is to be explained why, with the operations that show it.
 pub(crate) fn write_account(
+    alloc: Global,
     text: &mut String,
     name: &str,
     operations: &[Operation],
@@ -256,18 +253,77 @@ pub(crate) fn write_account(
     let kind = account.kind;
     write!(text, "{name}:{line}: {kind}: ")?;
     write_entries(text, operation)?;
+    text.push('\n')?;
     if !explains {
         return Ok(());
     }
     let why = account.why;
     write!(text, "  {why}\n")?;
-    for other in account.others {
-        if let Some(other) = other
-            && let Some(shown) = operations.get(other)
-        {
+    for index in shown_by(alloc, contradiction, account)? {
+        if let Some(shown) = operations.get(index) {
             write_shown(text, shown)?;
         }
     }
-    write_values(text, operations, contradiction, account.at)?;
-    write_shown(text, operation)
+    Ok(())
+}
+
+/// An operation as a picture shows it that is not at fault.
+fn bar_of(alloc: Global, operation: &Operation) -> Result<Bar, AllocError> {
+    let mut text = String::new(alloc);
+    let line = operation.line;
+    write!(text, "line {line}: ")?;
+    write_entries(&mut text, operation)?;
+    Ok(Bar {
+        thread: operation.thread,
+        begin: operation.begin,
+        end: (operation.end != NEVER).then_some(operation.end),
+        text,
+        is_fault: false,
+    })
+}
+
+/// What a picture shows of a contradiction.
+fn timeline_of(
+    alloc: Global,
+    name: &str,
+    operations: &[Operation],
+    contradiction: &Contradiction,
+) -> Result<Timeline, AllocError> {
+    let account = account_of(operations, contradiction);
+    let kind = account.kind;
+    let mut title = String::new(alloc);
+    let mut bars = Vec::new(alloc);
+    for index in shown_by(alloc, contradiction, account)? {
+        if let Some(operation) = operations.get(index) {
+            let mut bar = bar_of(alloc, operation)?;
+            bar.is_fault = index == account.at;
+            if bar.is_fault {
+                let line = operation.line;
+                write!(title, "{name}:{line}: {kind}")?;
+            }
+            bars.push(bar)?;
+        }
+    }
+    bars.sort_by_key(|bar| (bar.thread, bar.begin))?;
+    Ok(Timeline {
+        title,
+        sentence: account.why,
+        bars,
+    })
+}
+
+/// Writes a picture of the operations that show a contradiction: a lane for each thread, and a bar for each operation. The picture is
+/// whole before it is written.
+pub fn write_picture<W: Write>(
+    alloc: Global,
+    writer: &mut W,
+    name: &str,
+    operations: &[Operation],
+    contradiction: &Contradiction,
+) -> Result<(), RunFault>
+    ensures { OnOk result (Draws (W.contents writer.old) (W.contents writer.new)) }
+{
+    let timeline = timeline_of(alloc, name, operations, contradiction)?;
+    let picture = paint_timeline(alloc, &timeline)?;
+    write_out(writer, &picture)
 }

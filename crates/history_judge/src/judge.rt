@@ -8,7 +8,7 @@ use engine::RunFault;
 use engine::line_reader::read_lines;
 use engine::line_runner::write_out;
 use grammar::print_entry;
-use history::{Clock, Operation};
+use history::{Clock, Contradiction, Operation};
 use history_order::entries_of;
 use history_search::Doubt;
 use mig_base::NoMemory;
@@ -37,6 +37,8 @@ pub struct Judged {
     pub verdict: Verdict,
     /// Its operations, if it is kept in an order that explains it.
     pub operations: Vec<Operation>,
+    /// What contradicts each order of them, if it is wrong. There may be more.
+    pub contradictions: Vec<Contradiction>,
 }
 
 /// Why a history could not be judged.
@@ -156,7 +158,7 @@ fn write_doubt(text: &mut String, doubt: Option<Doubt>) -> Result<(), AllocError
     }
 }
 
-/// Decides on a history that is fit for it. Appends the verdict.
+/// Decides on a history that is fit for it. Appends the verdict. Returns it, and what contradicts each order, if it is wrong.
 fn write_decision(
     alloc: Global,
     text: &mut String,
@@ -164,23 +166,23 @@ fn write_decision(
     clock: Clock,
     operations: &mut Vec<Operation>,
     explains: bool,
-) -> Result<Verdict, NoMemory> {
+) -> Result<(Verdict, Vec<Contradiction>), NoMemory> {
     match decide(alloc, clock, operations)? {
         Decision::Kept => {
             let count = operations.len();
             write!(text, "ok {count}\n")?;
-            Ok(Verdict::Kept)
+            Ok((Verdict::Kept, Vec::new(alloc)))
         }
         Decision::Wrong(contradictions) => {
             for contradiction in &contradictions {
-                write_account(text, name, operations, contradiction, explains)?;
+                write_account(alloc, text, name, operations, contradiction, explains)?;
             }
             write!(text, "wrong\n")?;
-            Ok(Verdict::Wrong)
+            Ok((Verdict::Wrong, contradictions))
         }
         Decision::Undecided(doubt) => {
             write_doubt(text, doubt)?;
-            Ok(Verdict::Undecided)
+            Ok((Verdict::Undecided, Vec::new(alloc)))
         }
     }
 }
@@ -197,8 +199,8 @@ pub fn judge_history<R: Read, W: Write>(
 ) -> Result<Judged, HistoryFault> {
     let mut reading = read_history(alloc, reader, writer)?;
     let mut text = String::new(alloc);
-    let verdict = match write_unfit(&mut text, &reading)? {
-        Some(verdict) => verdict,
+    let (verdict, contradictions) = match write_unfit(&mut text, &reading)? {
+        Some(verdict) => (verdict, Vec::new(alloc)),
         None => {
             let clock = reading.clock.unwrap_or(Clock::Counter);
             write_decision(
@@ -215,6 +217,7 @@ pub fn judge_history<R: Read, W: Write>(
     Ok(Judged {
         verdict,
         operations: reading.operations,
+        contradictions,
     })
 }
 

@@ -1,20 +1,21 @@
 //! The commands of the program: what each reads, runs and writes, and its exit status.
 
-ghost use Rattle.std.specs.Prelude.{◌≤◌};
+ghost use Rattle.std.specs.Prelude.{◌≡◌, ◌≤◌, true, false, IfSome, IfNone};
 
 use crate::endings::{end_frames, end_script, end_tapped};
 use crate::histories::judge;
 use crate::showing::show;
 use clap::ArgMatches;
 use clap::error::ErrorKind;
-use command_line::command_line;
+use command_line::{Shell, command_line, completion};
 use console::{
     ALL_DONE, BAD_COMMAND_OR_SCRIPT, Bounded, Given, Input, LONGEST_LISTED, NO_FLAT_RUN, NO_MEMORY,
-    READ_OR_WRITE_FAULT, Scripts, Tap, TestAsks, Watched, can_tap, end, end_at_lines, end_lint,
-    end_looked, make_tap, open_input, open_output, open_script, renew_files, say_wrong_line,
-    test_files,
+    Painted, READ_OR_WRITE_FAULT, Scripts, Tap, TestAsks, Watched, can_tap, end, end_at_lines,
+    end_lint, end_looked, make_tap, name_bad_argument, open_input, open_output, open_script,
+    paint_for, renew_files, say_looked, say_wrong_line, test_files,
 };
 use draw::run_draw;
+use engine::line_runner::write_out;
 use engine::script_reader::MAX_LINE;
 use engine::{Mode, RunFault, check_script, run_script};
 use expected::{answer_script, echo_script};
@@ -26,7 +27,8 @@ use grammar::Language;
 use host_calls::run_steps;
 use lint::lint_lines;
 use rig::CloseFault;
-use std::env::{Env, FillError};
+use std::alloc::AllocError;
+use std::env::Env;
 use std::io::Stdout;
 use std::process::ExitCode;
 use std::sync::Wait;
@@ -34,9 +36,6 @@ use std::thread::Threads;
 use std::{env, io};
 use threads::{Run, run_threads};
 use wiretap::{Taps, run_tapped};
-
-/// The most bytes of an argument that a message shows.
-const LONGEST_SHOWN: usize = 4096;
 
 /// What a script lacks in which there is nothing to look at.
 pub(crate) const NO_LINE: &str = "no line of a script";
@@ -265,10 +264,14 @@ fn lint(rt: &HostRuntime, matches: &ArgMatches) -> u8
     };
     let mut reader = Bounded::new(input, LONGEST_LISTED);
     let mut output = open_output(rt);
+    let mut painted = Painted::new(&mut output, paint_for(rt, &rt.stdout()));
     let name = given.file.unwrap_or("-");
-    let outcome = lint_lines(rt.alloc(), &mut reader, &mut output, name, language);
+    let outcome = lint_lines(rt.alloc(), &mut reader, &mut painted, name, language);
     let input = reader.input();
     let status = end_lint(rt, given, input, &output, outcome);
+    if outcome.is_ok() {
+        say_looked(rt, given, input.name(), reader.looked_at());
+    }
     end_looked(rt, input.name(), lacks, status, reader.has_lines())
 }
 
@@ -315,7 +318,9 @@ fn draw_script(rt: &HostRuntime, matches: &ArgMatches) -> u8
 }
 
 /// The seeds that `postmig explore` is given: the first and the last.
-fn seeds_of(matches: &ArgMatches) -> Option<(u64, u64)> {
+fn seeds_of(matches: &ArgMatches) -> Option<(u64, u64)>
+    ensures { IfSome result (λ seeds. seeds.0 ≤ seeds.1) }
+{
     let Some(seeds) = matches.get_str("seeds") else {
         let seed = matches.get_one::<u64>("seed")?;
         return Some((seed, seed));
@@ -456,7 +461,10 @@ fn say_run(rt: &HostRuntime, run: &Run) {
 }
 
 /// Whether nothing was found wrong when a rig was closed. If something was, standard error has its text.
-fn is_right(rt: &HostRuntime, fault: Option<CloseFault>) -> bool {
+fn is_right(rt: &HostRuntime, fault: Option<CloseFault>) -> bool
+    ensures right { IfNone fault (result ≡ true) }
+    ensures wrong { IfSome fault (λ _. result ≡ false) }
+{
     match fault {
         None => true,
         Some(fault) => {
@@ -464,6 +472,25 @@ fn is_right(rt: &HostRuntime, fault: Option<CloseFault>) -> bool {
             false
         }
     }
+}
+
+/// Writes the script by which a shell completes command lines.
+fn complete(rt: &HostRuntime, matches: &ArgMatches) -> u8
+    ensures { result ≤ 6 }
+{
+    let Some(shell) = matches.get_str("shell").and_then(Shell::named) else {
+        return BAD_COMMAND_OR_SCRIPT;
+    };
+    let given = given_by(matches);
+    let Some(input) = open_input(rt, given) else {
+        return READ_OR_WRITE_FAULT;
+    };
+    let mut output = open_output(rt);
+    let outcome = match completion(rt.alloc(), shell) {
+        Ok(text) => write_out(&mut output, text.as_bytes()),
+        Err(AllocError) => Err(RunFault::NoMemory),
+    };
+    end(rt, given, &input, &output, outcome.map(|()| true))
 }
 
 /// Carries out the parsed command line, and returns the exit status.
@@ -482,26 +509,9 @@ fn do_command<T: Threads + Wait + Sync>(rt: &HostRuntime, handle: &T, matches: &
         Some(("explore", matches)) => explore(rt, matches),
         Some(("test", matches)) => test(rt, matches),
         Some(("threads", matches)) => run_in_threads(rt, handle, matches),
+        Some(("completion", matches)) => complete(rt, matches),
         _ => BAD_COMMAND_OR_SCRIPT,
     }
-}
-
-/// Says on standard error which argument is not UTF-8: its number, and its bytes with those that are not text replaced. An argument of
-/// more than 4,096 bytes is skipped.
-fn name_bad_argument(rt: &HostRuntime) -> io::Result<()> {
-    let mut room = [0; LONGEST_SHOWN];
-    for number in 1..usize::MAX {
-        let shown = match rt.arg(number, &mut room) {
-            Ok(len) => &room[..len],
-            Err(FillError::TooLong) => continue,
-            Err(FillError::NotPresent) => break,
-        };
-        if str::from_utf8(shown).is_err() {
-            let text = String::from_utf8_lossy(rt.alloc(), shown)?;
-            eprintln!(rt; "error: argument {number} is not UTF-8: '{text}'")?;
-        }
-    }
-    eprintln!(rt; "\nFor more information, try '--help'.")
 }
 
 /// Reads the command line, carries it out, and returns the exit status.

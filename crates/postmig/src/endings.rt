@@ -6,8 +6,8 @@ ghost use Rattle.postmig.specs.Status.{frames_fault_status, tap_fault_status};
 use crate::commands::NO_LINE;
 use crate::status::frames_status_of;
 use console::{
-    Bounded, Given, Input, READ_OR_WRITE_FAULT, Tap, Watched, end, end_at_lines, end_looked,
-    say_input, say_output,
+    ALL_DONE, Bounded, Given, Input, READ_OR_WRITE_FAULT, Tap, Watched, end, end_at_lines,
+    end_looked, say_input, say_looked, say_output,
 };
 use engine::RunFault;
 use frames::FramesFault;
@@ -38,7 +38,8 @@ pub(crate) fn end_frames(
     frames_status_of(outcome)
 }
 
-/// Says on standard error why a script was not looked at to its end, or that it has no line to look at, and returns the exit status.
+/// Says on standard error why a script was not looked at to its end, or how many lines were, where that is asked for, or that there was none,
+/// and returns the exit status.
 pub(crate) fn end_script(
     rt: &HostRuntime,
     given: Given<'_>,
@@ -51,6 +52,9 @@ pub(crate) fn end_script(
     let input = reader.input();
     let outcome = outcome.map(|()| true);
     let status = end_at_lines(rt, given, input, output, Language::Script, outcome);
+    if status == ALL_DONE {
+        say_looked(rt, given, input.name(), reader.looked_at());
+    }
     end_looked(rt, input.name(), NO_LINE, status, reader.has_lines())
 }
 

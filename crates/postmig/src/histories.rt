@@ -11,7 +11,9 @@ use console::{
     status_of,
 };
 use engine::RunFault;
-use history_judge::{HistoryFault, Judged, Verdict, judge_history, write_transcript};
+use history_judge::{
+    HistoryFault, Judged, Verdict, judge_history, write_picture, write_transcript,
+};
 use std::io::Stdout;
 
 /// The exit status of a history that was judged.
@@ -50,15 +52,20 @@ fn end_history(
     }
 }
 
-/// Writes the operations of a history in their order to a file, and returns the status. Says on standard error why they could not be
-/// written.
-fn write_order(rt: &HostRuntime, name: &str, judged: &Judged) -> u8
+/// Writes what shows the verdict on the history `name` to a file: a picture of its first contradiction, or else its operations in their
+/// order. Returns the status. Says on standard error why the file could not be written.
+fn write_file(rt: &HostRuntime, file: &str, name: &str, judged: &Judged) -> u8
     ensures { result ≤ 4 }
 {
-    let Some(mut tap) = make_tap(rt, Some(name)) else {
+    let Some(mut tap) = make_tap(rt, Some(file)) else {
         return READ_OR_WRITE_FAULT;
     };
-    match write_transcript(rt.alloc(), &mut tap, &judged.operations) {
+    let operations = &judged.operations;
+    let outcome = match judged.contradictions.first() {
+        Some(first) => write_picture(rt.alloc(), &mut tap, name, operations, first),
+        None => write_transcript(rt.alloc(), &mut tap, operations),
+    };
+    match outcome {
         Ok(()) => ALL_DONE,
         Err(fault) => {
             let _ = eprintln!(rt; "{fault}");
@@ -70,14 +77,19 @@ fn write_order(rt: &HostRuntime, name: &str, judged: &Judged) -> u8
     }
 }
 
-/// Judges a history by the name of its file, or `-`. A history that is kept is written as a transcript too, where that is asked for.
+/// Judges a history by the name of its file, or `-`. One that is kept is written as a transcript too, and one that is wrong is drawn, where
+/// that is asked for.
 pub(crate) fn judge(rt: &HostRuntime, matches: &ArgMatches) -> u8
     ensures { result ≤ 6 }
 {
     let given = given_by(matches);
     let order = matches.get_str("transcript");
-    if !can_tap(rt, given.file, &[order, None, None]) {
-        return READ_OR_WRITE_FAULT;
+    let picture = matches.get_str("draw");
+    // Only one of the two is written, so they may have one name.
+    for file in [order, picture] {
+        if !can_tap(rt, given.file, &[file, None, None]) {
+            return READ_OR_WRITE_FAULT;
+        }
     }
     let Some(mut input) = open_input(rt, given) else {
         return READ_OR_WRITE_FAULT;
@@ -87,8 +99,21 @@ pub(crate) fn judge(rt: &HostRuntime, matches: &ArgMatches) -> u8
     match judge_history(rt.alloc(), &mut input, &mut output, name, given.explains) {
         Err(fault) => end_history(rt, given, &input, &output, fault),
         Ok(judged) => {
-            if let (Verdict::Kept, Some(order)) = (judged.verdict, order) {
-                return write_order(rt, order, &judged);
+            let file = match judged.verdict {
+                Verdict::Kept => order,
+                Verdict::Wrong => picture,
+                Verdict::Undecided | Verdict::Nothing => None,
+            };
+            if let Some(file) = file {
+                let status = write_file(rt, file, name, &judged);
+                if status != ALL_DONE {
+                    return status;
+                }
+            }
+            if let Some(picture) = picture
+                && judged.verdict != Verdict::Wrong
+            {
+                let _ = eprintln!(rt; "{picture}: not written, as no contradiction was found");
             }
             verdict_status_of(judged.verdict)
         }

@@ -14,6 +14,7 @@
 //! - `postmig explore` writes a random script.
 //! - `postmig test` runs scripts whose lines have answers, and names the answers that differ, or with `--write` replaces them.
 //! - `postmig threads` reads nothing, runs a migration in threads, and writes a report.
+//! - `postmig completion` writes the script by which a shell completes command lines.
 //!
 //! `docs/SCRIPT.md` defines scripts and transcripts, `docs/FORMATS.md` frames, `docs/EXPLORE.md` random scripts, `docs/THREADS.md` a run in
 //! threads, and `docs/HISTORY.md` histories.

@@ -1,6 +1,6 @@
 //! `postmig show`: what a world holds at a line of a script.
 
-ghost use Rattle.std.specs.Prelude.{◌≤◌};
+ghost use Rattle.std.specs.Prelude.{◌≤◌, IfSome};
 
 use crate::commands::given_by;
 use crate::endings::end_script;
@@ -10,7 +10,7 @@ use engine::RunFault;
 use engine::script_reader::MAX_LINE;
 use grammar::Token;
 use grammar::token::read_tokens;
-use show::{Asked, Span, What, show_script};
+use show::{Asked, Form, Span, What, show_script};
 use std::alloc::Global;
 
 /// The number that a text spells, as a line of a script has it.
@@ -26,15 +26,22 @@ fn number_of(alloc: Global, text: &str) -> Option<u64> {
 }
 
 /// The range that a text names.
-fn range_of(alloc: Global, text: &str) -> Option<Span> {
+fn range_of(alloc: Global, text: &str) -> Option<Span>
+    ensures { IfSome result (λ range. range.start ≤ range.end) }
+{
     let (start, end) = text.split_once(':')?;
     let start = number_of(alloc, start)?;
     let end = number_of(alloc, end)?;
-    (start <= end).then_some(Span { start, end })
+    if start > end {
+        return None;
+    }
+    Some(Span { start, end })
 }
 
 /// What a command asks for. Says on standard error what is wrong with its range.
-fn asked_of(rt: &HostRuntime, matches: &ArgMatches) -> Option<Asked> {
+fn asked_of(rt: &HostRuntime, matches: &ArgMatches) -> Option<Asked>
+    ensures { IfSome result (λ asked. IfSome asked.range (λ range. range.start ≤ range.end)) }
+{
     let what = What::named(matches.get_str("what")?)?;
     let range = match matches.get_str("range") {
         None => None,
@@ -49,8 +56,14 @@ fn asked_of(rt: &HostRuntime, matches: &ArgMatches) -> Option<Asked> {
             range
         }
     };
+    let form = if matches.get_flag("json") {
+        Form::Json
+    } else {
+        Form::Lines
+    };
     Some(Asked {
         what,
+        form,
         at: matches.get_one::<u64>("at"),
         range,
     })
@@ -79,6 +92,7 @@ pub(crate) fn show(rt: &HostRuntime, matches: &ArgMatches) -> u8
         return READ_OR_WRITE_FAULT;
     };
     let mut reader = Bounded::new(input, MAX_LINE);
+    reader.count_up_to(asked.at.unwrap_or(u64::MAX));
     let mut output = open_output(rt);
     let outcome = match show_script(rt.alloc(), &mut reader, &mut output, cpus, asked) {
         Ok(true) => Ok(()),

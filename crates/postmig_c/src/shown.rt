@@ -12,7 +12,7 @@ use crate::room::hand_over;
 use crate::status::{NO_MEMORY, NO_QUESTION, NOT_OPEN};
 use engine::LineRunner;
 use mig_base::{Addr, NoMemory};
-use show::{Asked, Span, What, facts_of};
+use show::{Asked, Form, Span, What, facts_of};
 use std::alloc::Global;
 
 /// What is asked for, by its number.
@@ -55,6 +55,7 @@ fn show_world(
     };
     let asked = Asked {
         what,
+        form: Form::Lines,
         at: None,
         range: Some(range),
     };

@@ -10,8 +10,7 @@ use Rattle.engine.specs.Script.{Runs}
 use Rattle.engine.specs.Engine.{Front, Work, Running, Works, ReadsAll, run_world}
 use Rattle.mig_model.specs.Migration.{World}
 use Rattle.show.specs.declared.what.Asked.{Asked}
-use Rattle.show.specs.declared.what.What.{What}
-use Rattle.show.specs.Shown.{IsOf, IsRun, LeadsTo, ShowStops, WriteStops}
+use Rattle.show.specs.Shown.{IsRun, IsText, LeadsTo, ShowStops, WriteStops}
 
 works_run : (old : World) (lines : List Line) (new : Work) (text : List ℕ) → Works (Running Lines old) lines new text → (end : World) × (out : List ℕ) × (new ≡ Running Lines end) × Runs Lines old lines end out
 works_run old [] new text p = (old, [], p.0, (refl, refl))
@@ -42,16 +41,16 @@ handed_leads start world work input end unread before after is all same =
 -- What is written of a world
 
 -- the text of a world was written in part
-pub text_cut : {A : Type 0} (world : World) (what : What) (result : Result A RunFault) (text bytes : List ℕ) (before after : Option (List ℕ)) → IsOf world what text → bytes ≡ text → IfErr result (λ fault. fault ≡ faults.WriteFault)
-    → OnErr result (Front bytes before after) → IfErr result (λ fault. WriteStops world what fault before after)
-text_cut world what (Ok done) text bytes before after of same is p = is
-text_cut world what (Err fault) text bytes before after of same is p =
-    subst (λ (f : RunFault). WriteStops world what f before after) (sym is) (text, of, subst (λ (t : List ℕ). Front t before after) same p)
+pub text_cut : {A : Type 0} (world : World) (asked : Asked) (result : Result A RunFault) (text bytes : List ℕ) (before after : Option (List ℕ)) → IsText asked.form world asked.what text → bytes ≡ text → IfErr result (λ fault. fault ≡ faults.WriteFault)
+    → OnErr result (Front bytes before after) → IfErr result (λ fault. WriteStops world asked fault before after)
+text_cut world asked (Ok done) text bytes before after of same is p = is
+text_cut world asked (Err fault) text bytes before after of same is p =
+    subst (λ (f : RunFault). WriteStops world asked f before after) (sym is) (text, of, subst (λ (t : List ℕ). Front t before after) same p)
 
 -- How it ends
 
 -- the world was reached, and its text could not be written
-pub fails_shown : (start world : World) (asked : Asked) (input front : List ℕ) (fault : RunFault) (before after : Option (List ℕ)) → IsRun asked.at input front → LeadsTo start front world → WriteStops world asked.what fault before after
+pub fails_shown : (start world : World) (asked : Asked) (input front : List ℕ) (fault : RunFault) (before after : Option (List ℕ)) → IsRun asked.at input front → LeadsTo start front world → WriteStops world asked fault before after
     → ShowStops start asked input fault before after
 fails_shown start world asked input front (faults.Line n) before after run leads p = absurd p
 fails_shown start world asked input front faults.ReadFault before after run leads p = absurd p

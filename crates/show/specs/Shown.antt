@@ -14,8 +14,11 @@ use Rattle.engine.specs.Script.{Runs}
 use Rattle.engine.specs.Worlds.{progress_in}
 use Rattle.mig_model.specs.Migration.{World}
 use Rattle.show.specs.declared.what.Asked.{Asked}
+use Rattle.show.specs.declared.what.Form.{Form}
+use Rattle.show.specs.declared.what.Form.TheVariants as forms
 use Rattle.show.specs.declared.what.What.{What}
 use Rattle.show.specs.declared.what.What.TheVariants as whats
+use Rattle.show.specs.Json.{IsObject}
 use Rattle.show.specs.Owed.{IsOwedText}
 
 -- The first lines
@@ -113,9 +116,14 @@ pub record IsOf (world : World) (what : What) (text : List ℕ) : Type 0 where
   pub owed : asks_owed what ≡ true → IsOwedText world between
   pub alone : what ≡ whats.Owed → (before ≡ []) × (after ≡ [])
 
+-- the text is of this world, in the form that is asked for
+abbrev pub IsText : Form → World → What → List ℕ → Type 0
+IsText forms.Lines world what text = IsOf world what text
+IsText forms.Json world what text = IsObject world text
+
 -- a text of this world was written
-abbrev pub Writes : World → What → Option (List ℕ) → Option (List ℕ) → Type 0
-Writes world what before after = (text : List ℕ) × IsOf world what text × Appends before after text
+abbrev pub Writes : World → Asked → Option (List ℕ) → Option (List ℕ) → Type 0
+Writes world asked before after = (text : List ℕ) × IsText asked.form world asked.what text × Appends before after text
 
 -- the lines that are asked for were run, and lead to this world
 pub record IsReached (start : World) (at : Option ℕ) (input : List ℕ) (world : World) : Type 0 where
@@ -125,15 +133,15 @@ pub record IsReached (start : World) (at : Option ℕ) (input : List ℕ) (world
 
 -- what is written: a text of the world that is reached, or nothing if the input has fewer lines
 abbrev pub Shows : Bool → World → Asked → List ℕ → Option (List ℕ) → Option (List ℕ) → Type 0
-Shows true start asked input before after = (world : World) × IsReached start asked.at input world × Writes world asked.what before after
+Shows true start asked input before after = (world : World) × IsReached start asked.at input world × Writes world asked before after
 Shows false start asked input before after = IsBeyond asked.at input × Appends before after []
 
 -- a fault while the text of a world is written: only at a write fault a part of it was
-abbrev pub WriteStops : World → What → RunFault → Option (List ℕ) → Option (List ℕ) → Type 0
-WriteStops world what (faults.Line n) before after = ⊥
-WriteStops world what faults.ReadFault before after = ⊥
-WriteStops world what faults.WriteFault before after = (text : List ℕ) × IsOf world what text × Front text before after
-WriteStops world what faults.NoMemory before after = Appends before after []
+abbrev pub WriteStops : World → Asked → RunFault → Option (List ℕ) → Option (List ℕ) → Type 0
+WriteStops world asked (faults.Line n) before after = ⊥
+WriteStops world asked faults.ReadFault before after = ⊥
+WriteStops world asked faults.WriteFault before after = (text : List ℕ) × IsText asked.form world asked.what text × Front text before after
+WriteStops world asked faults.NoMemory before after = Appends before after []
 
 -- how it ends with a fault: at a wrong line that is the first of those that are run, and nothing is written but for a part of the text
 -- at a write fault
@@ -141,5 +149,5 @@ abbrev pub ShowStops : World → Asked → List ℕ → RunFault → Option (Lis
 ShowStops start asked input (faults.Line n) before after = (front : List ℕ) × IsRun asked.at input front × IsWrongAt front n × Appends before after []
 ShowStops start asked input faults.ReadFault before after = Appends before after []
 ShowStops start asked input faults.WriteFault before after =
-    Appends before after [] ⊎ ((world : World) × IsReached start asked.at input world × WriteStops world asked.what faults.WriteFault before after)
+    Appends before after [] ⊎ ((world : World) × IsReached start asked.at input world × WriteStops world asked faults.WriteFault before after)
 ShowStops start asked input faults.NoMemory before after = Appends before after []

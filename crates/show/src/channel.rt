@@ -60,7 +60,7 @@ impl Place {
 }
 
 /// Appends what a frame is, in the words of the line that it writes once it is taken.
-fn write_frame(text: &mut String, frame: &Frame) -> Result<(), NoMemory> {
+pub(crate) fn write_frame(text: &mut String, frame: &Frame) -> Result<(), NoMemory> {
     match frame {
         Frame::Advise => write!(text, "advise")?,
         Frame::Page { page, .. } => {

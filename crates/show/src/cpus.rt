@@ -9,7 +9,7 @@ use mig_base::{Command, HIGH_PAGE, NoMemory, PAGE_SIZE, PageNo, WorldPhase, page
 use world::World;
 
 /// The node that runs the processors, or ran them last.
-fn node_of(world: &World) -> Side {
+pub(crate) fn node_of(world: &World) -> Side {
     match world.phase() {
         WorldPhase::Postcopy | WorldPhase::Complete => Side::Destination,
         _ => Side::Source,
@@ -24,7 +24,7 @@ fn is_down(world: &World) -> bool {
 }
 
 /// The page of a load or a store. A map call has none.
-fn page_of(command: Command) -> Option<PageNo> {
+pub(crate) fn page_of(command: Command) -> Option<PageNo> {
     match command {
         Command::Load { addr, .. } | Command::Store { addr, .. }
             if addr / PAGE_SIZE < u64::from(HIGH_PAGE) => Some((addr / PAGE_SIZE) as PageNo),
@@ -83,7 +83,7 @@ fn line_at_source(world: &World, survey: &Survey, page: PageNo) -> &'static str 
 }
 
 /// The line of a script that has to come next for a processor that sleeps on a page.
-fn line_for(world: &World, survey: &Survey, page: PageNo) -> &'static str {
+pub(crate) fn line_for(world: &World, survey: &Survey, page: PageNo) -> &'static str {
     if matches!(world.phase(), WorldPhase::Switching) {
         return "the package";
     }
@@ -97,7 +97,7 @@ fn line_for(world: &World, survey: &Survey, page: PageNo) -> &'static str {
 }
 
 /// The word of a read of messages at the node that runs the processors.
-fn read_at(side: Side) -> &'static str {
+pub(crate) fn read_at(side: Side) -> &'static str {
     match side {
         Side::Source => "sread",
         Side::Destination => "dread",
@@ -105,7 +105,7 @@ fn read_at(side: Side) -> &'static str {
 }
 
 /// A processor with its load or store, as a line of a script.
-fn with_command(cpu: u8, command: Command) -> OrderText {
+pub(crate) fn with_command(cpu: u8, command: Command) -> OrderText {
     OrderText(Order::Make(Step::Issue { cpu, command }))
 }
 

@@ -2,15 +2,16 @@
 
 ghost use Rattle.std.specs.Prelude.{◌≡◌, [], true, IfOk, string_bytes};
 ghost use Rattle.show.specs.Owed.{IsOwedText};
-ghost use Rattle.show.specs.Shown.{IsOf, asks_owed};
+ghost use Rattle.show.specs.Shown.{IsOf, IsText, asks_owed};
 
 use crate::channel::write_wires;
 use crate::cpus::write_cpus;
+use crate::json::object_of;
 use crate::owed::owed_facts;
 use crate::pages::write_pages;
 use crate::queues::write_queues;
 use crate::survey::Survey;
-use crate::what::{Asked, Span, What};
+use crate::what::{Asked, Form, Span, What};
 use engine::progress;
 use grammar::print_progress;
 use mig_base::NoMemory;
@@ -66,14 +67,13 @@ fn facts_after(
         write_wires(alloc, &mut text, world)?;
     }
     if matches!(what, What::Pages | What::All) {
-        write_pages(&mut text, world, range)?;
+        write_pages(alloc, &mut text, world, range)?;
     }
     Ok(text)
 }
 
-/// The text that [`show_script`](crate::show_script) writes of a world: its progress, and then the facts of it that are asked for, each in
-/// a line of its own. `asked.at` is not looked at. At `NoMemory` there is no text. The world stays as it is.
-pub fn facts_of(alloc: Global, world: &World, asked: Asked) -> Result<String, NoMemory>
+/// The progress of a world, and then the facts of it that are asked for, each in a line of its own.
+fn text_of(alloc: Global, world: &World, asked: Asked) -> Result<String, NoMemory>
     ensures { IfOk result (λ text. IsOf world.now asked.what (string_bytes text)) }
 {
     let survey = Survey::of(alloc, world)?;
@@ -86,4 +86,15 @@ pub fn facts_of(alloc: Global, world: &World, asked: Asked) -> Result<String, No
     text.push_str(&between)?;
     text.push_str(&after)?;
     Ok(text)
+}
+
+/// The text that [`show_script`](crate::show_script) writes of a world: its progress, and the facts of it that are asked for. `asked.at` is
+/// not looked at. At `NoMemory` there is no text. The world stays as it is.
+pub fn facts_of(alloc: Global, world: &World, asked: Asked) -> Result<String, NoMemory>
+    ensures { IfOk result (λ text. IsText asked.form world.now asked.what (string_bytes text)) }
+{
+    match asked.form {
+        Form::Lines => text_of(alloc, world, asked),
+        Form::Json => object_of(alloc, world, asked),
+    }
 }

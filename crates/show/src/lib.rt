@@ -1,4 +1,4 @@
-//! What a world holds at a line of a script, one line of text for each fact.
+//! What a world holds at a line of a script, one line of text for each fact, or all in one JSON object.
 //!
 //! [`show_script`] runs a script up to a line, and writes the facts that it is asked for: what the processors wait for, what the next reads,
 //! acts, installs and serves would take, which pages are owed, the frames on the wires, and the pages of both nodes. `specs/Shown.antt`
@@ -14,6 +14,7 @@ mod cpus;
 mod cut;
 mod facts;
 mod flight;
+mod json;
 mod owed;
 mod pages;
 mod queues;
@@ -23,4 +24,4 @@ mod what;
 
 pub use crate::facts::facts_of;
 pub use crate::run::show_script;
-pub use crate::what::{Asked, Span, What};
+pub use crate::what::{Asked, Form, Span, What};

@@ -9,7 +9,7 @@ use std::alloc::Global;
 use world::World;
 
 /// Where the copy of an owed page of the source is.
-fn place_of(world: &World, survey: &Survey, origin: PageNo) -> &'static str
+pub(crate) fn place_of(world: &World, survey: &Survey, origin: PageNo) -> &'static str
     ensures { IsPlace result.now }
 {
     if survey.arrived.contains(origin) {

@@ -2,7 +2,10 @@
 
 use crate::what::Span;
 use mig_base::schedule::Side;
-use mig_base::{Area, HIGH_PAGE, NoMemory, PAGE_BYTES, PAGE_SIZE, PageNo, Prot, page_address};
+use mig_base::{
+    Addr, Area, HIGH_PAGE, NoMemory, PAGE_BYTES, PAGE_SIZE, PageNo, Prot, page_address,
+};
+use std::alloc::Global;
 use uffd_ioctl::Space;
 use world::World;
 
@@ -42,40 +45,44 @@ impl Pages {
             end: self.end.min(area.first.saturating_add(area.count)),
         }
     }
-
-    /// How many they are.
-    fn count(self) -> u32 {
-        self.end.saturating_sub(self.first)
-    }
 }
 
-/// Appends the words of a page that are not 0, each with its address: the first of them, and how many there are more.
-fn write_words(text: &mut String, page: PageNo, bytes: &[u8; PAGE_BYTES]) -> Result<(), NoMemory> {
-    let mut found = 0usize;
+/// The words of a page that are not 0, each with its address.
+pub(crate) fn words_of(
+    alloc: Global,
+    page: PageNo,
+    bytes: &[u8; PAGE_BYTES],
+) -> Result<Vec<(Addr, u64)>, NoMemory> {
+    let mut words = Vec::new(alloc);
     for (index, chunk) in bytes.chunks_exact(WORD).enumerate() {
         let mut word = [0u8; WORD];
         word.copy_from_slice(chunk);
         let value = u64::from_le_bytes(word);
         if value != 0 {
-            if found < MOST_WORDS {
-                let addr = page_address(page).saturating_add((index as u64).saturating_mul(8));
-                write!(text, ", 0x{addr:x} has 0x{value:x}")?;
-            }
-            found = found.saturating_add(1);
+            let addr = page_address(page).saturating_add((index as u64).saturating_mul(8));
+            words.push((addr, value))?;
         }
     }
-    if found == 0 {
+    Ok(words)
+}
+
+/// Appends the first of the words of a page that are not 0, and how many there are more.
+fn write_words(text: &mut String, words: &[(Addr, u64)]) -> Result<(), NoMemory> {
+    for (addr, value) in words.iter().take(MOST_WORDS) {
+        write!(text, ", 0x{addr:x} has 0x{value:x}")?;
+    }
+    if words.is_empty() {
         write!(text, ", zeros")?;
     }
-    if found > MOST_WORDS {
-        let more = found.saturating_sub(MOST_WORDS);
+    if words.len() > MOST_WORDS {
+        let more = words.len().saturating_sub(MOST_WORDS);
         write!(text, ", and {more} words more")?;
     }
     Ok(())
 }
 
 /// The word of a protection.
-fn word_of(prot: Prot) -> &'static str {
+pub(crate) fn word_of(prot: Prot) -> &'static str {
     match prot {
         Prot::NoAccess => "none",
         Prot::Read => "r",
@@ -94,6 +101,19 @@ fn registration(space: &Space, page: PageNo) -> &'static str {
     }
 }
 
+/// What the source knows of a page: it is still to be pushed, was pushed and is owed, or is as it was sent.
+pub(crate) fn place_in_source(world: &World, page: PageNo) -> Option<&'static str> {
+    if world.remaining().contains(page) {
+        Some("to push")
+    } else if world.owed().home(page).is_some() {
+        Some("pushed")
+    } else if world.dirty_log().clean().contains(page) {
+        Some("clean")
+    } else {
+        None
+    }
+}
+
 /// Appends what only one of the nodes knows of a page.
 fn write_of_node(
     text: &mut String,
@@ -103,12 +123,8 @@ fn write_of_node(
 ) -> Result<(), NoMemory> {
     match node {
         Side::Source => {
-            if world.remaining().contains(page) {
-                write!(text, ", to push")?;
-            } else if world.owed().home(page).is_some() {
-                write!(text, ", pushed")?;
-            } else if world.dirty_log().clean().contains(page) {
-                write!(text, ", clean")?;
+            if let Some(place) = place_in_source(world, page) {
+                write!(text, ", {place}")?;
             }
         }
         Side::Destination => {
@@ -122,7 +138,7 @@ fn write_of_node(
 }
 
 /// The address space of a node.
-fn space_of(world: &World, node: Side) -> &Space {
+pub(crate) fn space_of(world: &World, node: Side) -> &Space {
     match node {
         Side::Source => world.source_space(),
         Side::Destination => world.destination_space(),
@@ -152,51 +168,55 @@ fn write_page(
                 ", present"
             };
             write!(text, "{protected}")?;
-            write_words(text, page, bytes)?;
+            write_words(text, &words_of(*text.allocator(), page, bytes)?)?;
         }
     }
     write!(text, "\n")?;
     Ok(())
 }
 
-/// How many of some pages are in one of these areas.
-fn count_in(areas: &[Area], pages: Pages) -> u32 {
-    let mut count = 0u32;
-    for area in areas {
-        count = count.saturating_add(pages.within(area).count());
+/// The pages of a range that a node has mapped, each with its protection.
+pub(crate) fn mapped_pages(
+    alloc: Global,
+    world: &World,
+    node: Side,
+    range: Option<Span>,
+) -> Result<Vec<(PageNo, Prot)>, NoMemory> {
+    let pages = Pages::of(range);
+    let mut mapped = Vec::new(alloc);
+    for area in space_of(world, node).areas()?.areas() {
+        let within = pages.within(area);
+        for page in within.first..within.end {
+            mapped.push((page, area.prot))?;
+        }
     }
-    count
+    Ok(mapped)
 }
 
-/// Appends the line of each of some pages of a node that is in one of these areas.
-fn write_areas(
+/// Appends the line of each of some pages of a node that are mapped.
+fn write_mapped(
     text: &mut String,
     world: &World,
     node: Side,
-    areas: &[Area],
-    pages: Pages,
+    mapped: &[(PageNo, Prot)],
 ) -> Result<(), NoMemory> {
-    for area in areas {
-        let mapped = pages.within(area);
-        for page in mapped.first..mapped.end {
-            write_page(text, world, node, page, area.prot)?;
-        }
+    for (page, prot) in mapped {
+        write_page(text, world, node, *page, *prot)?;
     }
     Ok(())
 }
 
 /// Appends how many pages of a range each node has mapped, and each of them.
 pub(crate) fn write_pages(
+    alloc: Global,
     text: &mut String,
     world: &World,
     range: Option<Span>,
 ) -> Result<(), NoMemory> {
-    let pages = Pages::of(range);
-    let source = world.source_space().areas()?;
-    let destination = world.destination_space().areas()?;
-    let at_source = count_in(source.areas(), pages);
-    let at_destination = count_in(destination.areas(), pages);
+    let source = mapped_pages(alloc, world, Side::Source, range)?;
+    let destination = mapped_pages(alloc, world, Side::Destination, range)?;
+    let (at_source, at_destination) = (source.len(), destination.len());
     write!(text, "pages source {at_source} dest {at_destination}\n")?;
-    write_areas(text, world, Side::Source, source.areas(), pages)?;
-    write_areas(text, world, Side::Destination, destination.areas(), pages)
+    write_mapped(text, world, Side::Source, &source)?;
+    write_mapped(text, world, Side::Destination, &destination)
 }

@@ -52,9 +52,9 @@ fn write_facts<W: Write>(
     world: &World,
     asked: Asked,
 ) -> Result<(), RunFault>
-    ensures ok { OnOk result (Writes world.now asked.what (W.contents writer.old)
+    ensures ok { OnOk result (Writes world.now asked (W.contents writer.old)
         (W.contents writer.new)) }
-    ensures fault { IfErr result (λ fault. WriteStops world.now asked.what fault
+    ensures fault { IfErr result (λ fault. WriteStops world.now asked fault
         (W.contents writer.old) (W.contents writer.new)) }
 {
     let text = facts_of(alloc, world, asked)?;
@@ -85,8 +85,8 @@ fn show_input<W: Write>(
 }
 
 /// Reads a script, makes the steps of its lines up to the one that is asked for on a new world of `cpus` processors, 1 to 16, and writes
-/// facts of that world, each in a line of its own: its progress, and then those that are asked for. Lines after it are not run, right or
-/// wrong. False, and nothing is written, if the script has fewer lines.
+/// facts of that world, each in a line of its own or all in one JSON object: its progress, and then those that are asked for. Lines after it
+/// are not run, right or wrong. False, and nothing is written, if the script has fewer lines.
 ///
 /// A wrong line ends it as it ends [`run_script`](engine::run_script). The whole input is read before the first step, and nothing is written
 /// before all facts are known: at any fault but a write fault nothing is written.

@@ -60,10 +60,20 @@ pub struct Span {
     pub end: Addr,
 }
 
+/// How the facts are written.
+#[derive(Clone, Copy, Debug, PartialEq, Eq)]
+pub enum Form {
+    /// A line of text for each.
+    Lines,
+    /// All in one JSON object, in a line of its own.
+    Json,
+}
+
 /// What is asked for.
 #[derive(Clone, Copy)]
 pub struct Asked {
     pub what: What,
+    pub form: Form,
     /// The number of the last line that is run; that of the last line of the script where none is given.
     pub at: Option<u64>,
     /// The range whose pages are shown; all where none is given.

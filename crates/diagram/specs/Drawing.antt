@@ -1,4 +1,4 @@
--- What is written for a script.
+-- What is written as a picture.
 use Rattle.std.specs.Prelude.{ℕ, List, Option}
 use Rattle.std.specs.Io.KnownBytes.{Appends}
 use Rattle.diagram.specs.Trees.{IsPicture}
