@@ -100,7 +100,7 @@ api-logged one on offer key quiet own offers none accepted =
     logged-rule one key on (answered (call.Api on 0xaa event_features) (Features all_features offer)) (rules.shaken one.kernel one.name one.object 0xaa event_features (Features all_features offer)) (handshaken one.space 0xaa event_features)
     own refl refl refl refl (shaken-keeps one offer) quiet
     (subst (λ error. Takes (rules.shaken one.kernel one.name one.object 0xaa event_features (answer_of_api offer (answered_by error all_features))) (handshaken one.space 0xaa event_features) one.name) accepted
-    (api-taken one.space one.kernel one.name one.object 0xaa event_features offer one.agree offers none))
+    (api-taken one.space one.kernel one.name one.object 0xaa event_features offer one.agree offers (λ off. none)))
 
 -- UFFDIO_REGISTER
 

@@ -88,7 +88,7 @@ may_shake_now : (e a w o : Bool) → e ≡ false → a ≡ true → w ≡ true �
 may_shake_now e a w o he ha hw ho = grind (arith, nat_tests)
 
 shakes : (space : Space) (kernel : Kernel) (name : ℕ) (object : Object) (api features ioctls : ℕ) (a u e : Bool) → Agree space kernel name object → is_offer 0x14d ioctls ≡ true → eqb api 0xaa ≡ not a → has_unknown is_feature features ≡ u → is_enabled object ≡ e →
-    space.object.faults ≡ [] → IsSoundSpace (record space { object = enabled_with space.object features }) →
+    (space.object.enabled ≡ false → space.object.faults ≡ []) → IsSoundSpace (record space { object = enabled_with space.object features }) →
     let errors : List (Bool × Errno) = (a, Errno.Einval) ∷ (u, Errno.Einval) ∷ (e, Errno.Einval) ∷ [] in
     Takes (shaken kernel name object api features (answer_of_api ioctls (answered_by (first_holding errors) 0x14d))) (left_by (first_holding errors) space (record space { object = enabled_with space.object features })) name
 shakes space kernel name object api features ioctls true u e agree offer ha hu he none sound =
@@ -103,14 +103,14 @@ shakes space kernel name object api features ioctls false false false agree offe
       kernel = new;
       object = record object { features = Some features };
       taken = ap (λ b. allowed b new) (may_shake_now (is_enabled object) (eqb api 0xaa) (is_within features 0x14d) (is_offer 0x14d ioctls) he ha (within features hu) offer);
-      agree = agree-noted _ _ (record space { object = enabled_with space.object features }) _ name (record object { features = Some features }) (agree-shaken space kernel name object features agree none sound);
+      agree = agree-noted _ _ (record space { object = enabled_with space.object features }) _ name (record object { features = Some features }) (agree-shaken space kernel name object features agree (none (sym (is-enabled agree) ∙ he)) sound);
     }
 
 twice_not : (b : Bool) → b ≡ not (not b)
 twice_not true = refl
 twice_not false = refl
 
-pub api-taken : (space : Space) (kernel : Kernel) (name : ℕ) (object : Object) (api features ioctls : ℕ) → Agree space kernel name object → is_offer 0x14d ioctls ≡ true → space.object.faults ≡ [] →
+pub api-taken : (space : Space) (kernel : Kernel) (name : ℕ) (object : Object) (api features ioctls : ℕ) → Agree space kernel name object → is_offer 0x14d ioctls ≡ true → (space.object.enabled ≡ false → space.object.faults ≡ []) →
     Takes (shaken kernel name object api features (answer_of_api ioctls (handshake_answer space api features))) (handshaken space api features) name
 api-taken space kernel name object api features ioctls agree offer none =
     shakes space kernel name object api features ioctls (not (eqb api 0xaa)) (has_unknown is_feature features) space.object.enabled agree offer (twice_not (eqb api 0xaa)) refl (is-enabled agree) none (IsSoundSpace-enabled space features agree.sound)

@@ -1,6 +1,7 @@
-//! The rules of a kernel allow what the object of the model answers: each ioctl that the model answers is one that a kernel may answer so.
-//! What is known of the kernel's object afterwards agrees with the model's. The other way round nothing is said: a kernel may also answer
-//! otherwise. `specs/Agreement.antt` says what agrees.
+//! The rules of a kernel allow what the object of the model answers: each ioctl and each read(2), and the log of a destination's calls. What
+//! is known of the kernel's object afterwards agrees with the model's. The other way round nothing is said: a kernel may also answer
+//! otherwise. `specs/Agreement.antt` says what agrees, `Reading.antt` how messages are read and threads wait, `Handlers.antt` what the nodes'
+//! handlers call, and `Logs.antt` what the log of a destination is.
 //!
 //! Each law is a function with an empty body, whose contract is the law.
 #![tactic(auto)]
@@ -23,11 +24,13 @@ ghost use Rattle.kernel_laws.specs.Logs.{Arrival, HasRun, HaveNoMapCalls, IsLogg
 ghost use Rattle.kernel_laws.specs.Reading.{EventNext, FaultNext, NoneNext, Trying, fails_to_read, makes, reads_event, reads_fault};
 
 /// A kernel may answer each ioctl as the model does, whether it is refused, or done in part or whole. The range ends in the model's address
-/// space, no page fault is unread at the handshake, the buffer of UFFDIO_COPY is where any process may have memory, and a range that is registered has no holes.
+/// space, no page fault is unread before the handshake, the buffer of UFFDIO_COPY is where any process may have memory, and a range that is
+/// registered has no holes.
 /// The model returns no word of ioctls: any that a kernel may return takes its place.
 pub fn a_kernel_may_answer_so()
     ensures api { (one : Counterparts) (api features ioctls : ℕ) →
-        rules.is_offer model.all_features ioctls ≡ true → one.space.object.faults ≡ [] →
+        rules.is_offer model.all_features ioctls ≡ true →
+        (one.space.object.enabled ≡ false → one.space.object.faults ≡ []) →
         Takes (rules.shaken one.kernel one.name one.object api features
         (answer_of_api ioctls (model.handshake_answer one.space api features)))
         (model.handshaken one.space api features) one.name }
