@@ -34,8 +34,9 @@ def put_or_end(connection, data):
 
 
 class Relay:
-    """cuts: for each connection, in the order in which they are accepted, None or ("out" or "in", a number of bytes): it is cut once these have
-    gone to the listener, or have come from it; with a third word, "swallow", it stays open then, and what follows is swallowed. Later ones are whole. delay: in seconds, of each byte in both directions."""
+    """cuts: for each connection, in the order in which they are accepted, None or ("out" or "in", a number of bytes): it
+    is cut once these have gone to the listener, or have come from it; with a third word, "swallow", it stays open then,
+    and what follows is swallowed. Later ones are whole. delay: in seconds, of each byte in both directions."""
 
     def __init__(self, target, listen=("127.0.0.1", 0), cuts=(), delay=0.0):
         self.target, self.cuts, self.delay = target, list(cuts), delay
@@ -95,6 +96,9 @@ class Relay:
         return lambda data: waiting.put((time.monotonic() + self.delay, data))
 
     def close(self):
+        """Ends the thread that accepts: close(2) alone would leave it in accept(2)."""
+        with contextlib.suppress(OSError):
+            self.server.shutdown(socket.SHUT_RDWR)
         self.server.close()
 
 

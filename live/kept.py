@@ -88,8 +88,9 @@ def plans_that_differ(program):
 
 
 def is_sanitized(program):
-    """A sanitizer takes terabytes of address space itself."""
-    return b"__asan_init" in pathlib.Path(program).read_bytes()
+    """A sanitizer takes terabytes of address space itself, and has its own allocator."""
+    program = pathlib.Path(program).read_bytes()
+    return b"__asan_init" in program or b"__tsan_init" in program
 
 
 def limited(bytes_of_space):

@@ -29,12 +29,12 @@ def faults(file, call, error):
 
 
 class Faulty:
-    """A migration of which one side has calls that fail from this phase on, while a file is there."""
+    """A migration of which one side's first slice has calls that fail from this phase on, while a file is there."""
 
-    def __init__(self, program, side, call, error, folder, plan=POSTCOPY, phase="destination running"):
+    def __init__(self, program, side, call, error, folder, plan=POSTCOPY, phase="destination running", slices=()):
         self.file = pathlib.Path(folder, "faulty")
         around = {side: faults(self.file, call, error)}
-        self.both = hurt.Watched(program, plan, memory=[*kept.SMALL, *kept.QUICK], around=around)
+        self.both = hurt.Watched(program, plan, memory=[*kept.SMALL, *kept.QUICK, *slices], around=around)
         self.side = getattr(self.both, side)
         self.both.at(phase)
         self.file.touch()

@@ -2,10 +2,12 @@
 slices that do not fit, and more threads than the nodes have places. Each case returns what is wrong, or None."""
 
 import signal
+import tempfile
 import time
 
 import hurt
 import kept
+import lacking
 import pair
 
 SLICES = ["--slices", "3"]
@@ -13,6 +15,7 @@ GUEST = [*hurt.MEMORY, *SLICES]
 QUICK = ["--silence", "1"]
 # Of each slice its part.
 PRECOPY = ["--rounds", "1", "--rate", "300"]
+CALL = "UFFDIO_COPY of page"
 
 
 def killed(both, side):
@@ -126,6 +129,26 @@ def a_slice_that_comes_late(program):
     return wrong or (None if breaks == len(cuts) else f"{breaks} breaks")
 
 
+def a_slice_that_is_held(program):
+    """By an answer that nobody expects: the others get all their pages, and the guest runs on with these."""
+    if kept.is_sanitized(program):
+        return None
+    with tempfile.TemporaryDirectory(prefix="live-") as folder:
+        faulty = lacking.Faulty(program, "dest", lacking.COPY, lacking.EINVAL, folder, hurt.SLOW, slices=SLICES)
+        source, dest = faulty.both.source, faulty.both.dest
+        is_held = dest.says(pair.HELD)
+        source.order("push-rate 0")
+        have_ended = [dest.says(f"slice {number}: destination: ended") for number in (1, 2)]
+        found = dest.order("status")
+        is_right = is_held and all(have_ended) and found["left"] and CALL in found["stopped_by"]
+        dest.order("abandon")
+        said = dest.end()
+        source.order("abandon")
+        gone = source.end()
+    wrong = hurt.expect([("destination", said, pair.REFUSED, CALL), ("source", gone, pair.LOST, "")])
+    return wrong or (None if is_right else f"{have_ended}, {found}")
+
+
 def slices_that_differ(program):
     plan = ["--memory", "4M", "--threads", "2"]
     two = [*plan, "--slices", "2"]
@@ -147,5 +170,6 @@ def more_threads_than_places(program):
 CASES = (
     a_destination_that_dies_before_the_switch, another_destination_before_the_switch,
     another_destination_after_the_switch, another_source_before_the_switch, a_source_that_dies_after_the_switch,
-    cancelled_before_the_switch, not_cancelled_after_the_switch, a_stopped_side, a_slice_that_comes_late, slices_that_differ, more_threads_than_places,
+    cancelled_before_the_switch, not_cancelled_after_the_switch, a_stopped_side, a_slice_that_comes_late,
+    a_slice_that_is_held, slices_that_differ, more_threads_than_places,
 )

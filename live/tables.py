@@ -23,7 +23,7 @@ def cell(values):
     if not values:
         return ""
     digits = 0 if statistics.median(values) >= 100 else 2
-    return f"{statistics.median(values):,.{digits}f} ({min(values):,.{digits}f} to {max(values):,.{digits}f})"
+    return f"{statistics.median(values):,.{digits}f} ({min(values):,.{digits}f}\N{EN DASH}{max(values):,.{digits}f})"
 
 
 def row(name, runs, keys):

@@ -220,7 +220,7 @@ static struct place *place_of_thread(struct watch *watch, uint32_t thread)
         if (!it->asleep && !empty)
             empty = it;
     }
-    if (!free_places(watch))
+    if (!empty || !free_places(watch))
         return NULL;
     *empty = (struct place){ .thread = thread };
     return empty;

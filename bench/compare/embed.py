@@ -1,7 +1,8 @@
 #!/usr/bin/env python3
-"""Tests the library of dist/, which ./postmig library builds: from C with the address and the undefined-behaviour sanitizer, with each
-allocation refused in turn, from Python and from Rust; builds and runs the programs of examples/embed; and measures a million lines beside
-the program. Prints what it did, and stops at the first fault with the status 1. What the machine lacks is left out, and said.
+"""Tests the library of dist/, which ./postmig library builds: from C with the address and the undefined-behaviour
+sanitizer, with each allocation refused in turn, from several threads, from Python and from Rust; builds and runs the
+programs of examples/embed; and measures a million lines beside the program. Prints what it did, and stops at the first
+fault with the status 1. What the machine lacks is left out, and said.
 
 python3 bench/compare/embed.py [--loads N]
 """
@@ -82,8 +83,22 @@ def in_c(work, loads):
     inside = built(work / "inside", "-g", "-fsanitize=address,undefined", TOP / "bench/embed/inside.c")
     print("C:", run(inside, *(script for script, _ in SCRIPTS)).decode().strip())
     inside_the_program(work, inside)
+    in_threads(work)
     fast = built(work / "fast", "-O2", TOP / "bench/embed/lines.c")
     print("C:", run(fast, loads).decode().strip().split("\n")[-1])
+
+
+def in_threads(work):
+    """A handle is one thread's. The thread sanitizer does not look into the library; drd does."""
+    scripts = [script for script, _ in SCRIPTS]
+    sanitized = built(work / "threads-sanitized", "-g", "-fsanitize=thread", TOP / "bench/embed/threads.c", "-pthread")
+    print("C, with the thread sanitizer:", run(sanitized, 30, *scripts).decode().strip())
+    threads = built(work / "threads", "-g", TOP / "bench/embed/threads.c", "-pthread")
+    if shutil.which("valgrind"):
+        said = run("valgrind", "-q", "--tool=drd", "--error-exitcode=1", threads, 3, *scripts)
+        print("C, under valgrind's drd:", said.decode().strip())
+    else:
+        print("C, under valgrind's drd: left out, there is none")
 
 
 def inside_the_program(work, inside):

@@ -12,17 +12,19 @@ GREATEST = 2**64 - 1
 
 
 class Parser(argparse.ArgumentParser):
-    """argparse has status 2 for a wrong option, which is here that of a machine that cannot replay, and prints its usage as well."""
+    """argparse has status 2 for a wrong option, which is in conformance/ that of a machine that cannot replay, and prints its usage as well."""
 
-    def __init__(self, description):
-        super().__init__(prog=f"conformance/{pathlib.Path(sys.argv[0]).name}", description=description)
+    def __init__(self, description, status=1):
+        script = pathlib.Path(sys.argv[0]).absolute()
+        super().__init__(prog=f"{script.parent.name}/{script.name}", description=description)
+        self.status = status
 
     def parse_args(self, args=None, namespace=None):
         """Options may stand between the arguments."""
         return self.parse_intermixed_args(args, namespace)
 
     def error(self, message):
-        self.exit(1, f"{self.prog}: {message}\n")
+        self.exit(self.status, f"{self.prog}: {message}\n")
 
 
 def number(least, most):
@@ -32,6 +34,22 @@ def number(least, most):
         return int(text)
 
     return read
+
+
+def file(text):
+    """The path of a program."""
+    if not os.access(text, os.X_OK) or os.path.isdir(text):
+        raise argparse.ArgumentTypeError(f"there is no program {text!r}")
+    return text
+
+
+def named(parser, words, names, is_all=False):
+    """Those of the names that have one of these words in them, or with is_all each of them. Without words it is all."""
+    unknown = [word for word in words if not any(word in name for name in names)]
+    found = [name for name in names if not words or (all if is_all else any)(word in name for word in words)]
+    if unknown or not found:
+        parser.error(f"no case has {' or '.join(unknown) or ' and '.join(words)} in its name")
+    return found
 
 
 def seeds(text):
@@ -78,6 +96,8 @@ def one_of(names):
 
 def start(main):
     """Ends the program with the status of `main`; by what stops it, without a trace of the stack."""
+    if sys.stdout is None:
+        sys.exit("the standard output is closed")
     try:
         status = main()
         sys.stdout.flush()
@@ -85,6 +105,10 @@ def start(main):
         status = 130
     except BrokenPipeError:
         # Nobody reads the output any more: what is left of it goes nowhere.
+        os.dup2(os.open(os.devnull, os.O_WRONLY), sys.stdout.fileno())
+        status = 1
+    except OSError as fault:
+        print(f"{pathlib.Path(sys.argv[0]).name}: {fault}", file=sys.stderr)
         os.dup2(os.open(os.devnull, os.O_WRONLY), sys.stdout.fileno())
         status = 1
     sys.exit(status)
