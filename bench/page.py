@@ -1,6 +1,7 @@
 """Puts what a script has measured or found into its part of a page of docs/, between two comments that name the part, or into a page of
 dist/, which is not kept in the repository."""
 
+import argparse
 import os
 import pathlib
 import platform
@@ -21,6 +22,16 @@ def machine():
 def environment():
     """The environment that the launcher gives the program: huge pages for the allocator, where the kernel has them, and one arena for all threads."""
     return {"GLIBC_TUNABLES": "glibc.malloc.hugetlb=1:glibc.malloc.arena_max=1", **os.environ}
+
+
+def option(*allowed):
+    """The option of a script's command line that takes one of these at most, or None. --help writes the script's own text."""
+    text = sys.modules["__main__"].__doc__
+    parser = argparse.ArgumentParser(description=text, formatter_class=argparse.RawDescriptionHelpFormatter)
+    choice = parser.add_mutually_exclusive_group() if allowed else parser
+    for name in allowed:
+        choice.add_argument(name, dest="option", action="store_const", const=name)
+    return getattr(parser.parse_args(), "option", None)
 
 
 def end(faults, summary):

@@ -125,6 +125,7 @@ def drawn():
 
 
 def main():
+    page.option()
     page.keep(PICTURE, drawn())
 
 

@@ -55,6 +55,7 @@ def names_of(place):
 
 
 def main():
+    page.option()
     found, faults, count = checklists(PAGE.read_text().splitlines()), [], 0
     known = tracked()
     for name, grep, text in found:

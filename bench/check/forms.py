@@ -56,6 +56,7 @@ def faults_of(name, pieces):
 
 
 def main():
+    page.option()
     faults, found = [], list(rows(DECISIONS.read_text(), FORMS))
     for number, cells in found:
         calls, pieces = CODE.findall(cells[0]), CODE.findall(cells[2])

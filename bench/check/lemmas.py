@@ -7,7 +7,6 @@ With --write the list goes to dist/LEMMAS.md. The status is 1 where a file has n
 """
 
 import re
-import sys
 
 import shared  # noqa: F401
 
@@ -50,7 +49,7 @@ def write():
 
 
 def main():
-    if sys.argv[1:] == ["--write"]:
+    if page.option("--write"):
         write()
     every = [it for crate in CRATES_OF_LEMMAS for it in files(crate)]
     faults = [f"{it.relative_to(page.TOP)}: no sentence at its head" for it in every if not head_of(it)]

@@ -48,6 +48,7 @@ def fault(file, text, target):
 
 
 def main():
+    page.option()
     faults, count = [], 0
     for file in pages():
         for number, line in enumerate(file.read_text().splitlines(), 1):

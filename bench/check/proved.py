@@ -13,7 +13,6 @@ or no clause at all.
 """
 
 import re
-import sys
 
 import shared  # noqa: F401
 
@@ -110,7 +109,7 @@ def faults_of(cell, known):
 
 
 def main():
-    if sys.argv[1:] == ["--write"]:
+    if page.option("--write"):
         write()
     faults, known, count = [], {}, 0
     product = tower.product()

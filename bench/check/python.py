@@ -88,6 +88,7 @@ print(f"python: {count} examples, two nodes, a decoder and a listing, by the ins
 
 
 def main():
+    page.option()
     if subprocess.run([page.TOP / "postmig", "sources", "postmig_c"], capture_output=True, text=True).stdout.strip().endswith("not proved"):
         print("python: left out, there is no library of these sources: ./postmig library --build makes it")
         return 0

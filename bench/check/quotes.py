@@ -39,6 +39,7 @@ def quotes(file):
 
 
 def main():
+    page.option()
     found, faults = 0, []
     for file in links.pages():
         for quoted, whole, block in quotes(file):

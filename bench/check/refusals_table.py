@@ -11,7 +11,6 @@ That an order has NoMemory exactly where the contract allows it, and only names 
 import collections
 import functools
 import re
-import sys
 
 import shared  # noqa: F401
 
@@ -274,9 +273,10 @@ def write():
 
 
 def main():
-    if sys.argv[1:] == ["--write"]:
+    wanted = page.option("--write", "--check")
+    if wanted == "--write":
         write()
-    elif sys.argv[1:] == ["--check"]:
+    elif wanted == "--check":
         text()
     else:
         print(text())

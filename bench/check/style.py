@@ -80,6 +80,7 @@ def c_faults(names):
 
 
 def main():
+    page.option()
     names = tracked()
     python, c = [it for it in names if is_python(it)], [it for it in names if pathlib.PurePath(it).suffix in (".c", ".h")]
     faults = [fault for name in python for fault in faults_of(name)] + c_faults(c)
