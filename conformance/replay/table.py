@@ -55,17 +55,15 @@ def beside(result):
 
 
 def of_page(result):
-    """Both tables for docs/LINUX.md."""
-    yield "| | lines | " + " | ".join(KINDS) + " |"
-    yield "|---|" + "---:|" * (1 + len(KINDS))
+    """A list for docs/LINUX.md: what the lines were, by section, and what was looked at beside them. The last section has all kinds."""
+    sections = []
     for title, counts, _ in rows(result):
-        if counts is None:
-            yield f"| **{title}** |" + " |" * (1 + len(KINDS))
-            continue
-        figures = " | ".join(f"{counts[kind]:,}" for kind in KINDS)
-        yield f"| {f'`{title.strip()}`' if title.startswith(' ') else title} | {sum(counts[kind] for kind in KINDS):,} | {figures} |"
-    yield ""
-    yield "| Looked at beside the lines | times |"
-    yield "|---|---:|"
-    for what, count in figures_of(result):
-        yield f"| {what} | {count:,} |"
+        is_tag, is_sum = title.startswith(" "), title == "All"
+        if not is_tag:
+            sections.append((f"All {sum(counts.values()):,} lines" if is_sum else title, []))
+        if counts is not None:
+            kinds = [kind for kind in KINDS if counts[kind] or is_sum]
+            figures = ", ".join(f"{kind} {counts[kind]:,}" for kind in kinds)
+            sections[-1][1].append(f"`{title.strip()}` {figures}" if is_tag else figures)
+    yield from (f"- **{title}**: {'; '.join(found)}." for title, found in sections)
+    yield f"- **Beside the lines**: {'; '.join(f'{what} {count:,}' for what, count in figures_of(result))}."

@@ -1,6 +1,6 @@
 //! The text of each fault, as `Display` writes it. Numbers stand for all others.
 //!
-//! `docs/REFUSALS.md` has these lines as a table (`bench/check/faults.py --write`).
+//! `bench/check/faults.py` finds a fault that has no line here.
 
 use call_log::LogFault;
 use engine::RunFault;
